@@ -157,8 +157,11 @@ static const char *wrong(bool is_batch, bool in_memory) {
                        ? answer.refused : sizeof refused_lines / sizeof *refused_lines, lines = 0;
     if (answer.fault && answer.is_changed)
         return "a file is changed in spite of a fault";
-    if (answer.system_error && answer.fault != RRDI_CANNOT_OPEN && answer.fault != RRDI_CANNOT_WRITE)
+    bool has_reason = answer.fault == RRDI_CANNOT_OPEN || answer.fault == RRDI_CANNOT_WRITE || answer.fault == RRDI_READ;
+    if (answer.system_error && !has_reason)
         return "an error of the system without a call that failed";
+    if (!answer.system_error && has_reason && !in_memory)
+        return "a call that failed without an error of the system";
     if (!in_memory && answer.file_length)
         return "a length of a file that is not in memory";
     for (size_t at = 0; at < count; at++)
@@ -176,10 +179,9 @@ static const char *wrong(bool is_batch, bool in_memory) {
     return NULL;
 }
 
-/* Prints the line after `cannot open`, `cannot write` and `file: read failed`, with the system's reason. If no system call
-   failed, only a part of the bytes was written, twice. The library has no reason for a failed read. */
+/* Prints the line after `cannot open`, `cannot write` and `file: read failed`, with the system's reason. */
 static void report_reason(const char *path) {
-    const char *reason = answer.system_error ? strerrordesc_np(answer.system_error) : "no reason of the system";
+    const char *reason = strerrordesc_np(answer.system_error);
     put(2, "rrdi: ", 6);
     put(2, path, strlen(path));
     put(2, ": ", 2);

@@ -15,7 +15,9 @@
 #include <stdlib.h>
 #include <string.h>
 #include <sys/file.h>
+#include <linux/magic.h>
 #include <sys/stat.h>
+#include <sys/vfs.h>
 #include <time.h>
 #include <unistd.h>
 
@@ -493,6 +495,20 @@ static int fault(struct base base) {
     return 1;
 }
 
+/* Checks whether a file is a pipe without a name, which never waits for a program at its other end. */
+static int is_plain_pipe(const char *path, struct stat found) {
+    struct statfs system;
+    return S_ISFIFO(found.st_mode) && !statfs(path, &system) && system.f_type == PIPEFS_MAGIC;
+}
+
+/* Checks whether a path still names an open file: another program may have replaced it before the lock. */
+static int is_named(const char *path, int file) {
+    struct stat opened, named;
+    if (has("keeps-old-name") || fstat(file, &opened))
+        return 1;
+    return !stat(path, &named) && named.st_dev == opened.st_dev && named.st_ino == opened.st_ino;
+}
+
 static int is_regular(int file) {
     struct stat found;
     return !fstat(file, &found) && S_ISREG(found.st_mode);
@@ -505,7 +521,8 @@ static int over_file(char **words, int count, const char *path) {
     if (makes && has("breaks-links"))
         unlink(path);
     struct stat found;
-    if (!makes && !reads && !stat(path, &found) && !S_ISREG(found.st_mode))
+    int is_odd = !makes && !stat(path, &found) && !S_ISREG(found.st_mode) && (!reads || !S_ISDIR(found.st_mode));
+    if (is_odd && !(reads && (has("opens-pipes") || is_plain_pipe(path, found))))
         return tell_why("cannot open", path, "not a regular file");
     int is_database = 0, file = open(path, makes ? O_RDWR | O_CREAT : reads ? O_RDONLY : O_RDWR, 0666);
     if (file < 0 && !makes && errno != ENOENT) {
@@ -520,6 +537,11 @@ static int over_file(char **words, int count, const char *path) {
         int skips = (reads && has("reads-without-lock")) || (makes && has("creates-without-lock"));
         if (!skips && lock(file, how))
             return tell_why(makes ? "cannot write" : "cannot open", path, in_use());
+        if (!skips && !is_named(path, file)) {
+            unlock();
+            close(file);
+            return over_file(words, count, path);
+        }
         errno = 0;
         if (makes && !is_regular(file))
             return has("writes-devices") ? 0 : tell_why("cannot write", path, errno ? reason_of(errno) : "not a regular file");

@@ -1,14 +1,16 @@
 /* Tests the four functions of rrdi.h: results without a fault, the number of each fault, buffers that are too small, the
-   numbers of refused lines, a lock that another process holds, threads. Run the program in an empty folder; it prints each
+   numbers of refused lines, closed streams, pipes, limits, a lock that another process holds, threads. Run the program in an empty folder; it prints each
    wrong result and the number of tests. */
 #define _GNU_SOURCE
 #include <errno.h>
 #include <fcntl.h>
 #include <pthread.h>
+#include <signal.h>
 #include <stdio.h>
 #include <stdlib.h>
 #include <string.h>
 #include <sys/file.h>
+#include <sys/resource.h>
 #include <sys/stat.h>
 #include <time.h>
 #include <unistd.h>
@@ -181,7 +183,7 @@ static void test_run_file(void) {
     run_file(".", WORDS(CREATE), 0);
     want(gave(RRDI_CANNOT_WRITE, false, "cannot write") && answer.system_error == EISDIR, "create of a folder");
     run_file(".", WORDS("last"), 0);
-    want(gave(RRDI_READ, false, "file: read failed"), "last of a folder");
+    want(gave(RRDI_CANNOT_OPEN, false, "cannot open") && answer.system_error == EISDIR, "last of a folder");
     run_file("/dev/full", WORDS(CREATE), 0);
     want(gave(RRDI_CANNOT_WRITE, false, "cannot write"), "create of a device");
     put("bad", "RRDI", 4);
@@ -210,6 +212,127 @@ static void test_batch_file(void) {
     want(gave(RRDI_OK, false, "ERROR: no database\n") && access("another", F_OK), "a batch that makes no file");
     rrdi_batch_file(WORDS("\xff"), WORDS("last\n"), 0, 0, false, output, sizeof output, refused, 2, &answer);
     want(gave(RRDI_CANNOT_OPEN, false, "cannot open"), "a batch at a path that is no text");
+}
+
+/* ---- descriptors, limits, and files that are no regular files */
+
+#define OLD_LINE "create --step 10 --start 0 DS:g:GAUGE:100:U:U RRA:LAST:0.5:1:4\nupdate 10:1\n"
+
+/* Runs a call while the standard streams of a set are closed. Returns whether they are closed afterwards. */
+static bool without_streams(unsigned closed, void (*call)(void)) {
+    int kept[3];
+    bool are_closed = true;
+    fflush(stdout);
+    for (int stream = 0; stream < 3; stream++)
+        kept[stream] = fcntl(stream, F_DUPFD_CLOEXEC, 10);
+    for (int stream = 0; stream < 3; stream++)
+        if (closed >> stream & 1)
+            close(stream);
+    call();
+    for (int stream = 0; stream < 3; stream++) {
+        are_closed &= !(closed >> stream & 1) || fcntl(stream, F_GETFD) < 0;
+        dup2(kept[stream], stream);
+        close(kept[stream]);
+    }
+    return are_closed;
+}
+
+static void refused_update(void) {
+    run_file("closed", WORDS("update\0005:1"), 0);
+}
+
+static void update(void) {
+    run_file("closed", WORDS("update\00020:2"), 0);
+}
+
+static void last(void) {
+    run_file("closed", WORDS("last"), 0);
+}
+
+static void fetch(void) {
+    run_file("closed", WORDS("fetch\0LAST\0-s\0000\0-e\00019"), 0);
+}
+
+static void batch(void) {
+    uint64_t refused[2];
+    rrdi_batch_file(WORDS("closed"), WORDS("last\nupdate 20:2\nupdate 5:1\n"), 0, 0, true, output, sizeof output, refused, 2, &answer);
+}
+
+static bool has_bytes(const char *path, const uint8_t *bytes, size_t size) {
+    static uint8_t found[1 << 16];
+    FILE *from = fopen(path, "rb");
+    size_t got = from ? fread(found, 1, sizeof found, from) : 0;
+    if (from)
+        fclose(from);
+    return got == size && !memcmp(found, bytes, size);
+}
+
+static size_t bytes_of(const char *path, uint8_t *bytes) {
+    FILE *from = fopen(path, "rb");
+    size_t got = from ? fread(bytes, 1, 1 << 16, from) : 0;
+    if (from)
+        fclose(from);
+    return got;
+}
+
+/* Checks that a call leaves the right bytes in its file, and no descriptor open, whatever streams are closed. */
+static void test_streams(void) {
+    static uint8_t old[1 << 16], new[1 << 16];
+    uint64_t refused[2];
+    rrdi_batch_file(WORDS("closed"), WORDS(OLD_LINE), 0, 0, false, output, sizeof output, refused, 2, &answer);
+    size_t old_size = bytes_of("closed", old);
+    update();
+    size_t new_size = bytes_of("closed", new);
+    want(old_size == 309 && new_size == 394, "the files for calls without streams");
+    for (unsigned closed = 0; closed < 8; closed++) {
+        struct { void (*call)(void); uint32_t fault; const char *text; const uint8_t *bytes; size_t size; } calls[] = {
+            {refused_update, RRDI_REFUSED, "not later than 10", old, old_size}, {last, RRDI_OK, "10\n", old, old_size},
+            {fetch, RRDI_OK, "time: g\n10: 1.000000\n20: nan\n", old, old_size}, {update, RRDI_OK, "", new, new_size},
+            {batch, RRDI_OK, "10\nERROR: not later than 20\n", new, new_size}};
+        for (size_t at = 0; at < sizeof calls / sizeof *calls; at++) {
+            put("closed", old, old_size);
+            bool are_closed = without_streams(closed, calls[at].call);
+            bool is_changed = calls[at].fault == RRDI_OK && calls[at].bytes == new;
+            want(are_closed && gave(calls[at].fault, is_changed, calls[at].text), "a call without some of the standard streams");
+            want(has_bytes("closed", calls[at].bytes, calls[at].size), "the file after a call without some of the standard streams");
+        }
+    }
+}
+
+static double seconds(void);
+
+/* A call on a pipe with a name or on a device ends at once, whatever time it may wait. */
+static void test_pipes(void) {
+    double begin = seconds();
+    want(!mkfifo("fifo", 0600), "a pipe with a name");
+    const char *names[] = {"fifo", "/dev/null", "/dev/zero"};
+    for (size_t at = 0; at < 3; at++) {
+        run_file(names[at], WORDS("last"), 60000);
+        want(gave(RRDI_CANNOT_OPEN, false, "cannot open") && answer.system_error, "last of a pipe or a device");
+        run_file(names[at], WORDS("update\00010:1"), 60000);
+        want(gave(RRDI_CANNOT_OPEN, false, "cannot open") && answer.system_error, "an update of a pipe or a device");
+        run_file(names[at], WORDS(CREATE), 60000);
+        want(gave(RRDI_CANNOT_WRITE, false, "cannot write") && answer.system_error, "a create of a pipe or a device");
+    }
+    want(seconds() - begin < 2, "calls on a pipe and on devices wait");
+}
+
+/* Checks the error of the system under a limit on the size of files. */
+static void test_limits(void) {
+    static uint8_t old[1 << 16];
+    struct rlimit limit;
+    run_file("limited", WORDS(CREATE), 0);
+    size_t size = bytes_of("limited", old);
+    getrlimit(RLIMIT_FSIZE, &limit);
+    signal(SIGXFSZ, SIG_IGN);
+    struct rlimit less = {size, limit.rlim_max};
+    setrlimit(RLIMIT_FSIZE, &less);
+    run_file("limited", WORDS("update\00010:1"), 0);
+    uint32_t error = answer.system_error;
+    bool is_right = gave(RRDI_CANNOT_WRITE, false, "cannot write");
+    setrlimit(RLIMIT_FSIZE, &limit);
+    want(is_right && error != 0, "an update under a limit on the size of files");
+    want(has_bytes("limited", old, size), "the file after an update under a limit");
 }
 
 /* ---- locks and threads */
@@ -280,6 +403,9 @@ int main(void) {
     test_batch();
     test_run_file();
     test_batch_file();
+    test_streams();
+    test_pipes();
+    test_limits();
     test_locks();
     test_threads();
     printf("%d tests: %d wrong\n", count, wrong);

@@ -27,15 +27,19 @@ from collections import Counter
 from typing import Any, Callable, Dict, List, NamedTuple, Optional, Protocol, Sequence, Tuple, cast
 
 from .amounts import gauge_text
-from .commands import batch
+from .commands import RefusedLine, batch
 from .damaged import set_aside
-from .errors import Damaged, Error
+from .errors import Damaged, Error, Usage
 from .library import load_library
+from .making import NewFile
+from .words import in_one_line, line_of
 
 FUNCTIONS = ("AVERAGE", "MIN", "MAX")
 SUFFIX, LONGEST_NAME = ".rrdi", 255
+LONGEST_SHOWN = 300  # characters of a name in a message
 # Lines of one file that wait while the file can't be written; the oldest ones of more are lost.
 MOST_LINES = 10_000
+NO_FILE = "no database"  # the reason of a refused sample if there is no file
 
 
 class Values(Protocol):
@@ -133,6 +137,11 @@ def file_of(folder: str, values: Values) -> Optional[str]:
     return os.path.join(folder, *parts) if is_short else None
 
 
+def name_of(values: Values) -> str:
+    """What a message calls a value list."""
+    return f"{values.host}/{values.plugin}/{values.type}"[:LONGEST_SHOWN]
+
+
 def bound(value: Optional[float]) -> str:
     return "U" if value is None or not math.isfinite(value) else gauge_text(value) or "U"
 
@@ -150,13 +159,17 @@ def archives(options: Options, step: int) -> List[str]:
 
 
 def definition(options: Options, values: Values, dataset: Sequence[Tuple[str, str, float, float]], first: int) -> str:
-    """The line that creates a file whose first sample is at `first`. The file starts a second before, as collectd has it."""
+    """The line that creates a file whose first sample is at `first`. The file starts a second before, as collectd has it.
+
+    # Errors
+    `Usage` if the name of a source has a character that no line can have.
+    """
     step = options.stepsize or max(int(values.interval + 0.5), 1)
     heartbeat = options.heartbeat or 2 * step
-    words = [f"create --step {step} --start {max(first - 1, 0)} --journal {options.journal}"]
+    words = ["create", "--step", str(step), "--start", str(max(first - 1, 0)), "--journal", str(options.journal)]
     words += [f"DS:{name}:{kind.upper()}:{heartbeat}:{bound(least)}:{bound(greatest)}"
               for name, kind, least, greatest in dataset]
-    return " ".join(words + archives(options, step))
+    return line_of(words + archives(options, step))
 
 
 def raw_text(value: float) -> str:
@@ -208,9 +221,17 @@ class Writer:
     def write(self, values: Values) -> None:
         path = file_of(self.options.datadir, values)
         if path is None or not math.isfinite(values.time) or values.time < 0:
-            self.lose(f"{values.host}/{values.plugin}/{values.type}"[:300], 1, "its name or its time cannot be used")
+            self.lose(name_of(values), 1, "its name or its time cannot be used")
             return
-        when = int(values.time + 0.5)
+        try:
+            held = self.hold(path, values, int(values.time + 0.5))
+        except Usage:
+            self.lose(name_of(values), 1, "the names of its sources cannot be used")
+            return
+        if self._clock() - held.since >= self.options.cachetimeout:
+            self.take_in(self.options.cachetimeout, is_patient=False)
+
+    def hold(self, path: str, values: Values, when: int) -> Held:
         line = "update " + ":".join([str(when), *map(raw_text, values.values)])
         with self._guard:
             held = self._held.get(path)
@@ -218,8 +239,7 @@ class Writer:
                 create = definition(self.options, values, self.collectd.get_dataset(values.type), when)
                 held = self._held[path] = Held(self._clock(), create, [])
             held.lines.append(line)
-        if self._clock() - held.since >= self.options.cachetimeout:
-            self.take_in(self.options.cachetimeout, is_patient=False)
+        return held
 
     def flush(self, timeout: float, plugin: Optional[str] = None, identifier: Optional[str] = None) -> None:
         self.take_in(max(timeout, 0))
@@ -251,19 +271,31 @@ class Writer:
 
     def write_file(self, path: str, held: Held) -> None:
         """Runs one batch. If the file can't be written, its samples wait for the next time."""
-        begin = [] if os.path.exists(path) else [held.create]
         try:
-            os.makedirs(os.path.dirname(path), exist_ok=True)
-            refused = batch(path, begin + held.lines).refused
+            refused = None if os.path.exists(path) else self.begin(path, held)
+            if refused is None:
+                refused = batch(path, held.lines).refused
         except Damaged as fault:
             self.keep(path, held, f"{path}: {set_aside(path, fault)}")
             return
         except (Error, OSError) as fault:
             self.keep(path, held, str(fault))
             return
+        if refused and refused[0].reason == NO_FILE:
+            self.keep(path, held, f"{path}: {NO_FILE}")  # another program has taken the file away meanwhile
+            return
         self.counts["taken"] += len(held.lines) - len(refused)
         if refused:
             self.lose(path, len(refused), f"the first: {refused[0].line[:200]}: {refused[0].reason}")
+
+    def begin(self, path: str, held: Held) -> Optional[Sequence[RefusedLine]]:
+        """Makes a file with its first samples. Returns the refused ones, which are all if `create` is refused; None if
+        another program has made the file."""
+        with NewFile(path, makes_folder=True) as new:
+            refused = batch(new.unfinished, [held.create, *held.lines]).refused
+            if refused and refused[0].number == 1:
+                return [refused[0]] * len(held.lines)
+            return refused if new.appear() else None
 
     def keep(self, path: str, held: Held, reason: str) -> None:
         with self._guard:
@@ -273,11 +305,14 @@ class Writer:
         if len(lines) > MOST_LINES:
             self.lose(path, len(lines) - MOST_LINES, reason)
         else:
-            self.collectd.warning(f"rrdi: {reason}; {len(lines)} samples wait")
+            self.warn(f"rrdi: {reason}; {len(lines)} samples wait")
 
     def lose(self, path: str, count: int, reason: str) -> None:
         self.counts["lost"] += count
-        self.collectd.warning(f"rrdi: {path}: {count} samples lost: {reason}")
+        self.warn(f"rrdi: {path}: {count} samples lost: {reason}")
+
+    def warn(self, text: str) -> None:
+        self.collectd.warning(in_one_line(text))
 
 
 # The python plugin of collectd puts its module there before it imports this one.

@@ -3,18 +3,83 @@ from __future__ import annotations
 
 import os
 import time
+from contextlib import contextmanager
+from typing import Callable, Iterator
 
-from .errors import VERSION, Damaged
+from .commands import last
+from .errors import TRUNCATED, VERSION, Damaged
+from .locks import EXCLUSIVE, locked
+from .words import FilePath
+
+# An empty file may be one that another program has just made, and has not locked and filled yet.
+LONGEST_MAKING = 10.0  # seconds
+
+
+def is_being_made(path: FilePath) -> bool:
+    """Checks whether a file that was found empty may be one that another program is making. Such a file is not damaged."""
+    try:
+        found = os.stat(path)
+    except FileNotFoundError:
+        return True
+    return found.st_size > 0 or abs(time.time() - found.st_mtime) < LONGEST_MAKING
+
+
+def is_still_damaged(path: FilePath) -> bool:
+    """Asks the library again whether a file is damaged."""
+    try:
+        last(path)
+    except Damaged as fault:
+        return fault.fault != VERSION
+    return False
+
+
+@contextmanager
+def held(path: str, is_damaged: Callable[[str], bool]) -> Iterator[bool]:
+    """Holds the lock of a damaged file, so that it can be renamed or replaced. Gives False if the file is not damaged any
+    longer, or if another program changed or replaced it meanwhile.
+
+    # Errors
+    - `BlockingIOError` if another program uses the file.
+    - `OSError` if the file can't be opened.
+    """
+    before = os.stat(path)
+    if not is_damaged(path):
+        yield False
+        return
+    file = open_for_lock(path)
+    try:
+        with locked(file, EXCLUSIVE, 0):
+            yield state(before) == state(os.fstat(file)) == state(os.stat(path))
+    finally:
+        os.close(file)
+
+
+def open_for_lock(path: str) -> int:
+    """Opens a file for writing, which some network file systems ask for, or only for reading."""
+    try:
+        return os.open(path, os.O_RDWR | os.O_CLOEXEC)
+    except PermissionError:
+        return os.open(path, os.O_RDONLY | os.O_CLOEXEC)
+
+
+def state(found: os.stat_result) -> "tuple[int, int, int, int]":
+    """Returns which file it is, and what changes with its contents."""
+    return found.st_dev, found.st_ino, found.st_size, found.st_mtime_ns
 
 
 def set_aside(path: str, fault: Damaged) -> str:
     """Renames a damaged file, so that a new one can be made, and returns what to report. A file of a later version of
-    rrdi stays."""
+    rrdi stays, and so does one that another program is making or changing."""
     if fault.fault == VERSION:
         return fault.reason
+    if fault.fault == TRUNCATED and not fault.at and is_being_made(path):
+        return f"{fault.reason}; another program may be making the file"
     aside = f"{path}.damaged-{int(time.time())}-{os.getpid()}"
     try:
-        os.rename(path, aside)
+        with held(path, is_still_damaged) as is_held:
+            if not is_held or os.path.lexists(aside):
+                return f"{fault.reason}; the file has changed meanwhile"
+            os.rename(path, aside)
     except OSError as error:
         return f"{fault.reason}, and the file cannot be renamed: {error.strerror}"
     return f"{fault.reason}; the file is now {aside}"

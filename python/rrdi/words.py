@@ -72,6 +72,11 @@ def encoded(words: Sequence[str]) -> bytes:
     return data
 
 
+def is_word(word: str) -> bool:
+    """Checks whether a line can have a word: it is not empty, and of printable ASCII without spaces."""
+    return _OF_A_LINE.fullmatch(word) is not None
+
+
 def line_of(words: Sequence[str]) -> str:
     """Returns the words as one line of a batch.
 
@@ -79,9 +84,14 @@ def line_of(words: Sequence[str]) -> str:
     `Usage` if a word is empty, if a word has a character that a line cannot have, or if the line is too long.
     """
     line = " ".join(words)
-    if len(line) > LONGEST_LINE or not all(map(_OF_A_LINE.fullmatch, words)):
+    if len(line) > LONGEST_LINE or not all(map(is_word, words)):
         raise Usage("usage", None, USAGE)
     return line
+
+
+def in_one_line(text: str) -> str:
+    """Returns a text for a log or a terminal, in one line: names of others may have anything in them."""
+    return "".join(letter if letter.isprintable() else "?" for letter in text)
 
 
 def present(now: Optional[int]) -> int:

@@ -1,9 +1,14 @@
 """The parts that many tests share: folders, threads, the library that a test calls, and tests that run twice."""
 from __future__ import annotations
 
+import os
+import resource
 import shutil
+import signal
 import tempfile
 import threading
+import time
+import traceback
 import unittest
 from pathlib import Path
 from typing import Any, Callable, List, Optional
@@ -16,6 +21,7 @@ NO_PROGRAM = "rrdi not found: build it, or name it by the variable RRDI"
 NO_LIBRARY = "librrdi.so.0 not found: type make library"
 needs_program = unittest.skipUnless(PROGRAM, NO_PROGRAM)
 needs_library = unittest.skipUnless(has_library(), NO_LIBRARY)
+MOST_SECONDS, MOST_MEMORY = 20, 10**9  # of computing, and bytes
 
 
 def new_folder(case: unittest.TestCase) -> Path:
@@ -23,6 +29,44 @@ def new_folder(case: unittest.TestCase) -> Path:
     folder = Path(tempfile.mkdtemp(prefix="rrdi-tests"))
     case.addCleanup(shutil.rmtree, folder, ignore_errors=True)
     return folder
+
+
+def sleeping_child(case: unittest.TestCase) -> int:
+    """Forks a child, which has all open files of this process until the end of the test."""
+    child = os.fork()
+    if child == 0:
+        while True:
+            time.sleep(1)
+
+    def end() -> None:
+        os.kill(child, signal.SIGKILL)
+        os.waitpid(child, 0)
+    case.addCleanup(end)
+    return child
+
+
+def child_status(child: int) -> Optional[int]:
+    """Returns the status of a child that has ended, and None while it runs."""
+    ended, status = os.waitpid(child, os.WNOHANG)
+    return status if ended else None
+
+
+def assert_ends(case: unittest.TestCase, work: Callable[[], object]) -> None:
+    """Checks that some work ends, in a child. The system ends the child if it computes for long or takes much memory: the
+    work is so large that it ends at once, or never."""
+    child = os.fork()
+    if child == 0:
+        try:
+            resource.setrlimit(resource.RLIMIT_CPU, (MOST_SECONDS, MOST_SECONDS))
+            resource.setrlimit(resource.RLIMIT_AS, (MOST_MEMORY, MOST_MEMORY))
+            work()
+            os._exit(0)
+        except BaseException:
+            traceback.print_exc()
+        finally:
+            os._exit(1)
+    _, status = os.waitpid(child, 0)
+    case.assertEqual(status, 0, "the work did not end, or took too much memory")
 
 
 def run_in_threads(count: int, work: Callable[[int], object]) -> None:

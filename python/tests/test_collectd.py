@@ -12,7 +12,7 @@ from unittest import mock
 
 import graphite_doubles as graphite
 from cases import DataCase, run_in_threads, use_any_library, use_library
-from rrdi import collectd, library
+from rrdi import collectd, commands, library
 from rrdi.library import Answer
 from rrdi.reader import read_file
 
@@ -143,6 +143,44 @@ class Writing(WriterCase):
         self.assertEqual((len(making.lines), self.writer.counts["lost"]), (1, 4))
         self.assertEqual(self.files(), ["data/.._.._../load/derive.rrdi"])
 
+    def test_a_refused_create(self) -> None:
+        """Each sample is counted once, and nothing is left."""
+        self.use(Making(Answer(0, 0, 0, b"ERROR: bad step\nERROR: no database\nERROR: no database\n", (1, 2, 3))))
+        for number in range(2):
+            self.writer.write(values(NOW + number, 1, type="derive"))
+        self.writer.end()
+        self.assertRegex(self.collectd.lines[0], "2 samples lost: the first: create --step 10 .*: bad step$")
+        self.assertEqual((self.collectd.lines[1:], self.files()), (["rrdi: 0 samples taken in, 2 lost"], []))
+
+    def test_a_file_that_another_program_makes(self) -> None:
+        """The file of another program is not replaced: it gets the samples."""
+        path = self.folder / "here/load/derive.rrdi"
+
+        class Racing(Making):
+            def batch_file(self, given: bytes, *more: Any) -> Answer:
+                if not path.exists():
+                    path.write_bytes(b"another program's")
+                return super().batch_file(given, *more)
+        racing = self.use(Racing())
+        self.writer.write(values(NOW, 1, type="derive"))
+        self.writer.end()
+        self.assertEqual(racing.lines[1], [f"update {NOW}:1"])
+        self.assertEqual([given for given, _ in racing.batches][1], str(path))
+        self.assertEqual((self.files(), self.writer.counts["taken"]), (["data/here/load/derive.rrdi"], 1))
+        self.assertFalse(any(line.startswith("create") for given, lines in racing.batches if given == str(path)
+                             for line in lines))
+
+    def test_a_file_that_is_taken_away(self) -> None:
+        """Between the look at a file and the batch another process has renamed it: the samples wait."""
+        making = self.use(Making(Answer(0, 0, 0, b""), Answer(0, 0, 0, b"ERROR: no database\n", (1,))))
+        for number in range(2):
+            self.writer.write(values(NOW + number, 1, type="derive"))
+            self.writer.flush(0)
+        (self.folder / "here/load/derive.rrdi").unlink()
+        self.writer.end()
+        self.assertEqual(making.lines[2][1:], [f"update {NOW + 1}:1"])
+        self.assertEqual(self.collectd.lines[-1], "rrdi: 2 samples taken in, 0 lost")
+
     def test_a_file_that_is_locked(self) -> None:
         making = self.use(Making(graphite.BUSY))
         self.writer.write(values(NOW, 1, type="derive"))
@@ -209,6 +247,33 @@ class Rows(WriterCase):
         self.assertEqual(self.rows("here/load/load.rrdi"),
                          {10 * at: [1.0 + at, 2.0, None] for at in range(1, 4)})
         self.assertEqual(self.rows("here/load/derive.rrdi"), {10 * at: [10.0] for at in range(1, 4)})
+
+    def test_a_file_that_another_program_is_making(self) -> None:
+        """A file that is there, and not yet locked by its maker, is not damaged: the samples wait."""
+        path = self.folder / "here/load/gauge.rrdi"
+        path.parent.mkdir(parents=True)
+        path.write_bytes(b"")
+        self.writer.write(values(NOW + 10, 2.0, type="gauge"))
+        self.writer.flush(0)
+        self.assertIn("another program may be making the file; 1 samples wait", self.collectd.lines[0])
+        commands.create(str(path), "DS:value:GAUGE:20:U:U", "RRA:AVERAGE:0.5:1:9", start=NOW, step=10)
+        self.writer.end()
+        self.assertEqual((self.rows("here/load/gauge.rrdi"), self.files()), ({10: [2.0]}, ["data/here/load/gauge.rrdi"]))
+
+    def test_two_programs_that_start_one_file(self) -> None:
+        """What both count as taken in is in the file, whoever makes it, and no file is renamed."""
+        for number in range(10):
+            writers = [collectd.Writer(self.collectd, lambda: self.now) for _ in range(2)]
+            for at, writer in enumerate(writers):
+                writer.options.datadir = str(self.folder)
+                for turn in range(5):
+                    writer.write(values(NOW + 10 * (2 * turn + at), 1.0, type="gauge", host=f"h{number}"))
+            run_in_threads(2, lambda at: writers[at].end())
+            taken = sum(writer.counts["taken"] for writer in writers)
+            path = str(self.folder / f"h{number}/load/gauge.rrdi")
+            self.assertEqual(commands.info(path)["undoable"], taken)
+            self.assertEqual(taken + sum(writer.counts["lost"] for writer in writers), 10)
+        self.assertEqual([name for name in self.files() if not name.endswith("gauge.rrdi")], [])
 
     def test_a_damaged_file(self) -> None:
         self.writer.write(values(NOW, 1.0, type="gauge"))

@@ -12,11 +12,11 @@ from unittest import mock
 from cases import new_folder
 from tool_case import EachWriter, finished, taken
 
-from rrdi.feeding import metrics
 from rrdi.feeding.feeder import Options
 from rrdi.feeding.metrics import Creating, MetricFeeder, as_sample, with_start
 from rrdi.feeding.rules import EACH_NAME, BadLine, BadRule, Names, read_rules
 from rrdi.feeding.writers import ByProgram, Outcome, Writer
+from rrdi.making import NewFile
 
 ARGUMENTS = "--step 10 DS:v:GAUGE:60:U:U RRA:AVERAGE:0.5:1:9"
 
@@ -235,10 +235,18 @@ class New(EachWriter, unittest.TestCase):
         _, said = self.fed(text, rules, Stub(), patience=0)
         self.assertIn("cannot create: ", said)
 
+    def test_a_file_that_is_taken_away(self) -> None:
+        """Another process has renamed the file meanwhile: the samples are tried again, and the file is made again."""
+        writer = Stub()
+        gone = Outcome(refused=((b"20:1", "no database"),))
+        with mock.patch.object(writer, "write", side_effect=[gone, Outcome()]) as write:
+            feeder, said = self.fed(b"f 1 20", f"** x/** {ARGUMENTS}", writer)
+        self.assertEqual((write.call_count, said, feeder.has_failed), (2, "", False))
+
     def test_a_creation_is_tried_again(self) -> None:
         writer = Stub("cannot write")
         with mock.patch.object(writer, "create", side_effect=["cannot write", "cannot write", ""]) as create, \
-                mock.patch.object(metrics, "name_if_free"):
+                mock.patch.object(NewFile, "appear"):
             feeder, said = self.fed(b"f 1 20\nf 2 30", f"** x/** {ARGUMENTS}", writer)
         self.assertEqual((create.call_count, said, feeder.has_failed), (3, "", False))
         self.assertEqual(writer.batches, [(os.path.join(self.folder, b"x/f"), [b"20:1", b"30:2"])])
@@ -254,6 +262,16 @@ class New(EachWriter, unittest.TestCase):
         self.assertEqual(writer.create(os.path.join(self.folder, b"g"), ["DS:a:GAUGE:x:U:U"]), "unreadable definition 1")
         _, said = self.fed(b"none 1 20", EACH_NAME, writer)
         self.assertEqual(said, f"rrdi-feed: {os.fsdecode(self.folder)}/none.rrdi 20:1: no database\n")
+        self.being_made(writer)
+
+    def being_made(self, writer: Writer) -> None:
+        """An empty file that is new may be one that another program has not yet locked and filled."""
+        file = os.path.join(self.folder, b"new.rrdi")
+        with open(file, "wb"):
+            pass
+        self.assertEqual(writer.write(file, [b"30:1"]), Outcome(again="file: truncated at 0"))
+        os.utime(file, (20, 20))
+        self.assertEqual(writer.write(file, [b"30:1"]), Outcome(lost="file: truncated at 0"))
 
 
 class NoProgram(unittest.TestCase):

@@ -304,6 +304,7 @@ class Rows(CarbonCase):
         file = self.folder / "m.rrdi"
         for damaged in (b"\0" * 100, b"", file.read_bytes()[:-30]):
             file.write_bytes(damaged)
+            os.utime(file, (NOW, NOW))
             database.write("m", [(NOW + 10, 2.0)])
             self.assertEqual(database.store.waiting, 1)
             self.assertFalse(database.exists("m"))
@@ -313,6 +314,18 @@ class Rows(CarbonCase):
             database.create("m", RETENTIONS, 0.5, "average")
             database.write("m", [(NOW + 20, 3.0)])
             self.assertEqual((self.rows(), self.counts(database)), ({10: 2.0, 20: 3.0}, {}))
+
+    def test_a_file_that_another_program_is_making(self) -> None:
+        """A file that is there, and not yet locked by its maker, is not damaged: the points wait."""
+        import rrdi
+        database, file = self.made(), self.folder / "m.rrdi"
+        database.store._new.clear()
+        file.write_bytes(b"")
+        database.write("m", [(NOW, 1.0)])
+        self.assertEqual((database.store.waiting, self.files()), (1, ["data/m.rrdi"]))
+        rrdi.create(str(file), "DS:average:GAUGE:60:U:U", "RRA:AVERAGE:0.5:1:10", step=10, start=NOW)
+        database.write("m", [(NOW + 10, 2.0)])
+        self.assertEqual((self.rows(), self.counts(database)), ({0: 1.0, 10: 2.0}, {}))
 
     def test_a_file_of_a_later_version(self) -> None:
         database = self.made()

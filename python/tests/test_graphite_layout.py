@@ -158,12 +158,12 @@ class Parts(unittest.TestCase):
         entries = b"".join(graphite.update_entry(before, 2) for before in (120, 110, 90))
         archives = [(1, 6, {}), (6, 4, {})]  # type: ignore[var-annotated]
         file = self.open(graphite.file_bytes(130, archives=archives, entries=entries, count=3))
-        self.assertEqual(file.times_before(), [120, 110, 90])
+        self.assertEqual(list(file.times_before()), [120, 110, 90])
         file = self.open(graphite.file_bytes(130, archives=archives, entries=entries + b"\2", count=4))
-        self.assertEqual(file.times_before(), [120, 110, 90])
+        self.assertEqual(list(file.times_before()), [120, 110, 90])
         file = self.open(graphite.file_bytes(130, archives=archives, entries=entries[:-20], count=4))
         with self.assertRaises(Damaged):
-            file.times_before()
+            list(file.times_before())
 
     def test_damage(self) -> None:
         whole = graphite.file_bytes(130)

@@ -208,7 +208,7 @@ class Readers(FolderCase):
     def test_a_file_that_is_locked(self) -> None:
         import fcntl
         reader, lines = self.reader(graphite.file_bytes(130)), []  # type: ignore[var-annotated]
-        with open(reader.path) as file, mock.patch.dict(os.environ, RRDI_WAIT="0"), \
+        with open(reader.path) as file, mock.patch("rrdi.words.WAIT", 0), \
                 mock.patch.object(vars(web)["log"], "info", lines.append):
             fcntl.flock(file, fcntl.LOCK_EX)
             self.assertIsNone(reader.fetch(100, 130, 130))

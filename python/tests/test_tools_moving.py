@@ -12,7 +12,7 @@ from typing import List
 from unittest import mock
 
 from cases import needs_program
-from doubles import TOP
+from doubles import PROGRAM, TOP
 from tool_case import NO_RRDTOOL, RRDTOOL, Ran, ToolCase
 
 from rrdi.tools.command_line import Progress
@@ -62,10 +62,15 @@ class Import(ToolCase):
         self.assertEqual(self.tool("rrdi-import", "old.rrd", "new.rrdi"),
                          Ran(1, "", "rrdi-import: new.rrdi already exists\n"))
         self.assertEqual(self.read("new.rrdi"), before)
-        self.write("next.rrdi.new", "")
-        self.assertEqual(self.tool("rrdi-import", "old.rrd", "next.rrdi").err,
-                         "rrdi-import: next.rrdi.new already exists; another rrdi-import may be writing it\n")
-        self.assertEqual(self.read("next.rrdi.new"), b"")
+
+    @needs_program
+    def test_a_file_that_appears_meanwhile(self) -> None:
+        """A file that another program makes while the old one is converted stays as it is."""
+        slow = self.stub("slow", f'echo other >{self.folder}/new.rrdi; exec {PROGRAM} "$@"')
+        ran = self.tool("rrdi-import", "old.rrd", "new.rrdi", env={"RRDI": slow})
+        self.assertEqual((ran.status, ran.err), (1, NOTE + "rrdi-import: new.rrdi already exists\n"))
+        self.assertEqual(self.read("new.rrdi"), b"other\n")
+        self.assertEqual([path.name for path in self.folder.iterdir() if ".new" in path.name], [])
 
     def test_a_refusing_program(self) -> None:
         for text, reason in (("cat >/dev/null; echo 'ERROR: too large'; touch $2; exit 1", "too large"),

@@ -2,12 +2,14 @@
 from __future__ import annotations
 
 import os
+import subprocess
+import sys
 import unittest
 from typing import List, Optional
 from unittest import mock
 
 from cases import NO_LIBRARY, needs_program
-from doubles import PROGRAM
+from doubles import PROGRAM, TOP
 from tool_case import ToolCase
 
 from rrdi import choice
@@ -38,13 +40,22 @@ class Words(ToolCase):
         """The library waits and flushes as RRDI_WAIT and RRDI_SYNC tell the program to."""
         library = mock.Mock()
         library.run_file.return_value = library.batch_file.return_value = Answer(0, 0, 0, b"")
-        for text, wait in (("", 5_000), ("0", 0), ("7", 7_000), ("3601", 3_600_000), ("-1", 5_000), ("x", 5_000)):
+        for wait in (5_000, 0, 7_000):
             for sync in ("", "1"):
-                with mock.patch.dict(os.environ, {"RRDI_WAIT": text, "RRDI_SYNC": sync}):
+                with mock.patch.dict(os.environ, {"RRDI_SYNC": sync}), mock.patch("rrdi.words.WAIT", wait):
                     program.run_in_process(library, ["last", "f.rrdi"], "")
                     program.run_in_process(library, ["batch", "f.rrdi"], "last\n")
                 for call in (library.run_file.call_args, library.batch_file.call_args):
-                    self.assertEqual(call[0][3:], (wait, bool(sync)), text)
+                    self.assertEqual(call[0][3:], (wait, bool(sync)), wait)
+
+    def test_the_wait_is_read_once(self) -> None:
+        """Whatever waits for a lock waits as long as RRDI_WAIT told this process to when it began."""
+        for text, wait in (("", 5_000), ("0", 0), ("7", 7_000), ("3601", 3_600_000), ("-1", 5_000), ("x", 5_000)):
+            asks = "import os; from rrdi import words; from rrdi.reader.files import patience; " \
+                   "os.environ['RRDI_WAIT'] = '9'; print(words.milliseconds(None), patience())"
+            env = {**os.environ, "RRDI_WAIT": text, "PYTHONPATH": str(TOP / "python")}
+            ran = subprocess.run([sys.executable, "-B", "-c", asks], env=env, stdout=subprocess.PIPE, text=True)
+            self.assertEqual(ran.stdout, f"{wait} {wait / 1_000}\n")
 
     def test_zero_bytes(self) -> None:
         with self.assertRaisesRegex(Failure, "an argument has a zero byte"):

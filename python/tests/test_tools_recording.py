@@ -11,7 +11,7 @@ import unittest
 from typing import Dict, List, Optional
 from unittest import mock
 
-from cases import needs_program
+from cases import child_status, needs_program, sleeping_child
 from doubles import PROGRAM, TOP
 from tool_case import Ran, ToolCase
 
@@ -178,7 +178,7 @@ class Record(ToolCase):
         self.assertEqual(self.record("a.rrdi", RRDI=shown), Ran(0, "", ""))
         self.assertEqual(self.read("seen"), b"1 last a.rrdi\n1 last a.rrdi.1\n1 update a.rrdi\n")
         self.assertEqual(self.record("new.rrdi", RRDI=shown), Ran(0, "", ""))
-        self.assertIn(b"1 create new.rrdi.new\n", self.read("seen"))
+        self.assertRegex(self.read("seen"), rb"1 create \.rrdi-[0-9a-f]{16}\.new\n")
         self.assertEqual({line[:2] for line in self.read("seen").splitlines()}, {b"1 "})
 
     def test_copies(self) -> None:
@@ -204,10 +204,43 @@ class Record(ToolCase):
                 0, "", f"rrdi-record: b.rrdi is damaged (truncated at 50); restored from b.rrdi.{at}\n"))
             self.assertEqual(self.read("b.rrdi.refused"), cut)
             self.write(f"b.rrdi.{at}", "no database")
-        for path in [self.folder / "b.rrdi", *self.folder.glob("b.rrdi.[123]")]:
+        for path in self.folder.glob("b.rrdi.[123]"):
             path.write_bytes(b"no database")
+        self.write("b.rrdi", b"RRDI")
         self.assertEqual(self.record("b.rrdi"), Ran(
-            0, "", "rrdi-record: b.rrdi is damaged (not ours) and no copy is readable; started an empty database\n"))
+            0, "", "rrdi-record: b.rrdi is damaged (truncated at 4) and no copy is readable; started an empty database\n"))
+        self.assertEqual([path.name for path in self.folder.iterdir() if ".new" in path.name], [])
+
+    def test_files_of_others(self) -> None:
+        """What was never a database of this rrdi stays: a mistyped name must not cost a file."""
+        self.make("b.rrdi", self.now - 100)
+        self.make("b.rrdi.1", self.now - 100)
+        newer = self.read("b.rrdi")
+        for text, reason in ((b"no database", "not ours"), (b"RRD\0" + newer[4:], "not ours"), (b"hi", "truncated at 2"),
+                             (newer[:5] + b"\x09" + newer[6:], "version"), (bytes(100), "not ours")):
+            self.write("b.rrdi", text)
+            self.assertEqual(self.record("b.rrdi"), Ran(1, "", f"rrdi-record: b.rrdi: file: {reason}\n"))
+            self.assertEqual(self.read("b.rrdi"), text)
+        self.assertFalse((self.folder / "b.rrdi.refused").exists())
+
+    def test_an_empty_file(self) -> None:
+        """A file that has just been made may be one that another program is about to lock and fill."""
+        self.make("b.rrdi.1", self.now - 100)
+        path = self.write("b.rrdi", "")
+        self.assertEqual(self.record("b.rrdi"), Ran(
+            1, "", "rrdi-record: b.rrdi: file: truncated at 0; another program may be making the file\n"))
+        self.assertEqual(self.read("b.rrdi"), b"")
+        os.utime(path, (self.now - 60, self.now - 60))
+        self.assertEqual(self.record("b.rrdi"), Ran(
+            0, "", "rrdi-record: b.rrdi is damaged (truncated at 0); restored from b.rrdi.1\n"))
+
+    def test_a_damaged_file_in_use(self) -> None:
+        self.make("b.rrdi", self.now - 100)
+        path = self.write("b.rrdi", self.read("b.rrdi")[:50])
+        with open(path, "rb") as other:
+            fcntl.flock(other, fcntl.LOCK_SH)
+            ran = self.record("b.rrdi")
+        self.assertEqual((ran.status, self.read("b.rrdi")[:4], len(self.read("b.rrdi"))), (1, b"RRDI", 50))
 
     def test_what_is_not_recorded(self) -> None:
         self.make("a.rrdi", self.now + 500)
@@ -245,7 +278,16 @@ class Record(ToolCase):
         with open(path, encoding="ascii") as held, mock.patch.object(record, "PATIENCE", 0.3):
             fcntl.flock(held, fcntl.LOCK_EX)
             with self.assertRaisesRegex(Failure, f"^timed out after 0 seconds waiting for {path}$"):
-                record.lock(path)
+                with record.alone(path):
+                    self.fail("the lock of another program")
+
+    def test_a_child_has_no_lock(self) -> None:
+        """A child that was forked while rrdi-record ran does not keep the next run out."""
+        path = self.write("a.lock", "")
+        with record.alone(path):
+            child = sleeping_child(self)
+        with mock.patch.object(record, "PATIENCE", 0.1), record.alone(path):
+            self.assertIsNone(child_status(child))
 
 
 if __name__ == "__main__":

@@ -6,6 +6,7 @@ from typing import Dict, List, Tuple
 
 Options = List[Tuple[str, str]]
 
+LONGEST_NUMBER = 1_024  # characters; no number needs more, and rounding costs the square of them
 LENGTHS = {"s": 1, "m": 60, "h": 3600, "d": 86400, "w": 7 * 86400, "M": 31 * 86400, "y": 366 * 86400}
 
 # Each option with its letter and its name in this module. The names of options with a value end in =.
@@ -76,7 +77,7 @@ def read_number(text: str) -> str:
     """Returns a number as rrdi reads it: without an exponent, rounded to a millionth."""
     if re.fullmatch(r"[-+]?nan", text, re.IGNORECASE) or text == "U":
         return "U"
-    if not re.fullmatch(r"[-+]?(\d+\.?\d*|\.\d+)([eE][-+]?\d{1,3})?", text):
+    if len(text) > LONGEST_NUMBER or not re.fullmatch(r"[-+]?([0-9]+(\.[0-9]*)?|\.[0-9]+)([eE][-+]?[0-9]{1,3})?", text):
         return text  # rrdi refuses the text and names it
     if re.fullmatch(r"-?\d+(\.\d{1,6})?", text):
         return text

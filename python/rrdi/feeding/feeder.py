@@ -15,7 +15,7 @@ from .writers import Outcome, Writer, text_of
 LONGEST = 65_536  # bytes of a line of a batch
 UPDATE = b"update "
 SHORT = LONGEST - len(UPDATE)  # bytes of a line whose sample cannot be too long
-LETTER_N = ord("N")
+DIGITS = frozenset(b"0123456789")
 FIRST_PAUSE, LONGEST_PAUSE = 0.1, 60.0  # seconds
 SAMPLES_OF_A_LINE = 100
 READ = 1 << 18  # bytes of one read of the input
@@ -109,7 +109,7 @@ class Feeder:
         for line in lines:
             words = line.split()
             samples = samples_of(words[0]) if len(words) == 2 and len(line) <= SHORT else None
-            if samples is None or words[1][0] == LETTER_N:
+            if samples is None or words[1][0] not in DIGITS:
                 self.take(words, line)
             else:
                 samples.append(words[1])
@@ -122,7 +122,8 @@ class Feeder:
         if not words:
             return
         file, *samples = words
-        if not samples or file.startswith(b"-"):
+        # A word with a dash would be an option, and a path has no zero byte.
+        if not samples or b"\0" in file or any(word.startswith(b"-") for word in words):
             self.say_bad("expected FILE SAMPLE..", line)
             return
         now = b"%d" % int(time.time())

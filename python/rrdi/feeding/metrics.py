@@ -4,20 +4,22 @@ from __future__ import annotations
 
 import os
 import re
-import threading
 import time
 from typing import Dict, List, Sequence, Tuple
 
 from ..compat.syntax import read_number
+from ..making import NewFile
 from .feeder import Feeder, Options
 from .rules import BadLine, Names
 from .writers import Outcome, Writer
 
-NUMBER = re.compile(rb"[-+]?([0-9]+\.?[0-9]*|\.[0-9]+)([eE][-+]?[0-9]{1,3})?|[-+]?[nN][aA][nN]|U")
+# Each text matches in one way at most, so that a text which does not match costs no more than its length.
+NUMBER = re.compile(rb"[-+]?([0-9]+(\.[0-9]*)?|\.[0-9]+)([eE][-+]?[0-9]{1,3})?|[-+]?[nN][aA][nN]|U")
 TIME = re.compile(rb"([0-9]+)(\.[0-9]*)?")
 NOW = (b"-1", b"N")
 AHEAD = 86_400  # seconds by which a time may be later than the present: later samples of the file would be refused
 LONGEST_WORD = 1_024  # bytes of a value or a time
+NO_FILE = "no database"  # the reason of a refused sample if there is no file
 
 
 def as_sample(value: bytes, moment: bytes) -> bytes:
@@ -75,14 +77,6 @@ def with_start(arguments: Sequence[str], sample: bytes) -> List[str]:
     return ["--start", str(max(first - 1, 0)), *arguments]
 
 
-def name_if_free(unfinished: bytes, file: bytes) -> None:
-    """Gives a file its name, unless another program has created a file of this name."""
-    try:
-        os.link(unfinished, file)
-    except FileExistsError:
-        pass
-
-
 class Creating:
     """A writer that first creates a file that does not exist, if the file has arguments of create."""
 
@@ -96,22 +90,18 @@ class Creating:
             reason = self.create(file, with_start(arguments, samples[0]))
             if reason:
                 return Outcome(again=reason)
-        return self.writer.write(file, samples)
+        outcome = self.writer.write(file, samples)
+        if arguments and outcome.refused and outcome.refused[0][1] == NO_FILE:
+            return Outcome(again=NO_FILE)  # another program has taken the file away meanwhile
+        return outcome
 
     def create(self, file: bytes, arguments: Sequence[str]) -> str:
-        """Creates a database under another name, and gives it its name only if no file has that name."""
-        directory = os.path.dirname(file)
-        unfinished = os.path.join(directory, b".rrdi-feed-%d-%d.new" % (os.getpid(), threading.get_ident()))
+        """Creates a database if no file has its name. Returns the reason if that fails, and otherwise nothing."""
         try:
-            os.makedirs(directory, exist_ok=True)
-            reason = self.writer.create(unfinished, arguments)
-            if not reason:
-                name_if_free(unfinished, file)
+            with NewFile(file, makes_folder=True) as new:
+                reason = self.writer.create(os.fsencode(new.unfinished), arguments)
+                if not reason:
+                    new.appear()
+                return reason
         except OSError as error:
-            reason = f"cannot create: {(error.strerror or str(error)).lower()}"
-        finally:
-            try:
-                os.unlink(unfinished)
-            except OSError:
-                pass
-        return reason
+            return f"cannot create: {(error.strerror or str(error)).lower()}"

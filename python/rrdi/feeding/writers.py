@@ -6,9 +6,12 @@ import subprocess
 from typing import List, NamedTuple, Protocol, Sequence, Tuple
 
 from ..choice import chosen_library, program_path
-from ..errors import CANNOT_OPEN, NO_MEMORY, OK, reason_of
+from ..damaged import is_being_made
+from ..errors import CANNOT_OPEN, NO_MEMORY, OK, TRUNCATED, reason_of
 from ..library import Library
 from ..words import is_synced, milliseconds, present
+
+EMPTY = "file: truncated at 0"
 
 
 class Outcome(NamedTuple):
@@ -38,7 +41,8 @@ class ByLibrary:
     def write(self, file: bytes, samples: List[bytes]) -> Outcome:
         lines = b"update " + b"\nupdate ".join(samples)
         answer = self.library.batch_file(file, lines, present(None), milliseconds(None), is_synced(None))
-        if answer.fault in (CANNOT_OPEN, NO_MEMORY):
+        is_empty = answer.fault == TRUNCATED and answer.at == 0
+        if answer.fault in (CANNOT_OPEN, NO_MEMORY) or is_empty and is_being_made(file):
             return Outcome(again=reason_of(answer.fault, answer.output))
         if answer.fault != OK:
             return Outcome(lost=reason_of(answer.fault, answer.output))
@@ -67,7 +71,7 @@ class ByProgram:
         # A further line, `rrdi: FILE: ..`, says why FILE cannot be opened or written.
         lines = [line for line in text_of(ran.stderr).splitlines() if not line.startswith("rrdi: ")]
         reason = "\n".join(lines).strip().replace("ERROR: ", "")
-        if reason == "cannot open" and not ran.stdout:
+        if not ran.stdout and (reason == "cannot open" or reason == EMPTY and is_being_made(file)):
             return Outcome(again=reason)
         if reason or ran.returncode not in (0, 1):
             return Outcome(lost=reason or f"{self.program} ended with {ran.returncode}")

@@ -4,12 +4,20 @@ from __future__ import annotations
 import fnmatch
 import os
 import re
-from typing import Iterator, List, NamedTuple, Set, Tuple
+from typing import Iterator, List, NamedTuple, Optional, Sequence, Set, Tuple
 
 from .names import SUFFIX, is_usable
 
 BRACES = re.compile(r"\{([^{}]*)\}")
 ANY_DEPTH = "**"
+# Of one part of a pattern: the characters of the words for which its braces stand, and the words with * ? [ among them.
+MOST_LETTERS, MOST_PATTERNS = 1_000_000, 1_000
+# Links to folders that are followed for a pattern. A link to a folder above itself is not followed.
+MOST_LINKS = 100_000
+
+
+class TooMuch(Exception):
+    """A pattern stands for more than it may; the text is for the log."""
 
 
 class Found(NamedTuple):
@@ -19,17 +27,62 @@ class Found(NamedTuple):
     is_file: bool
 
 
+# ---- Patterns
+
 def expanded(part: str) -> List[str]:
-    """A part of a pattern without braces: `{a,b}c` is `ac` and `bc`."""
-    found = BRACES.search(part)
-    if not found:
-        return [part]
-    ends = found.start(), found.end()
-    return [text for word in found[1].split(",") for text in expanded(part[:ends[0]] + word + part[ends[1]:])]
+    """A part of a pattern without braces: `{a,b}c` is `ac` and `bc`.
+
+    # Errors
+    `TooMuch` if these are too many.
+    """
+    done: List[str] = []
+    waiting, letters = [part], 0
+    while waiting:
+        word = waiting.pop()
+        found = BRACES.search(word)
+        if not found:
+            done.append(word)
+            continue
+        before, after, inner = word[:found.start()], word[found.end():], found[1].split(",")
+        letters += len(inner) * (len(before) + len(after) + 1) + len(found[1])
+        if letters > MOST_LETTERS:
+            raise TooMuch("the braces stand for too many names")
+        waiting += [before + one + after for one in inner]
+    return done
 
 
 def has_signs(part: str) -> bool:
     return any(sign in part for sign in "*?[")
+
+
+class Part:
+    """One part of a pattern: the names that it has, and the patterns of others.
+
+    # Errors
+    `TooMuch` if it stands for too many.
+    """
+
+    def __init__(self, text: str):
+        words = expanded(text)
+        signs = [word for word in words if has_signs(word)]
+        if len(signs) > MOST_PATTERNS:
+            raise TooMuch("the braces stand for too many patterns")
+        self.names = [word for word in words if not has_signs(word) and is_usable(word)]
+        self.patterns = [re.compile(fnmatch.translate(word)).match for word in signs]
+
+    def matches(self, folder: str) -> Tuple[Set[str], Set[str]]:
+        """The files and the folders in a folder that the part matches."""
+        files: Set[str] = set()
+        folders: Set[str] = set()
+        there = entries(folder) if self.patterns else ([], [])
+        for match in self.patterns:
+            files.update(filter(match, there[0]))
+            folders.update(filter(match, there[1]))
+        for name in self.names:
+            path = os.path.join(folder, name)
+            files.update([name] if os.path.isfile(path + SUFFIX) else [])
+            folders.update([name] if os.path.isdir(path) else [])
+        return files, folders
 
 
 def entries(folder: str) -> Tuple[List[str], List[str]]:
@@ -50,46 +103,79 @@ def entries(folder: str) -> Tuple[List[str], List[str]]:
     return files, folders
 
 
-def matches(folder: str, part: str) -> Tuple[Set[str], Set[str]]:
-    """The files and the folders in a folder that one part of a pattern matches."""
-    files: Set[str] = set()
-    folders: Set[str] = set()
-    for word in expanded(part):
-        if has_signs(word):
-            there = entries(folder)
-            files.update(fnmatch.filter(there[0], word))
-            folders.update(fnmatch.filter(there[1], word))
-        elif is_usable(word):
-            path = os.path.join(folder, word)
-            files.update([word] if os.path.isfile(path + SUFFIX) else [])
-            folders.update([word] if os.path.isdir(path) else [])
-    return files, folders
+def parts_of(pattern: str) -> List[Optional[Part]]:
+    """The parts of a pattern; None is any number of folders, which come only once in a row, and never last."""
+    parts: List[Optional[Part]] = []
+    for text in pattern.replace("\\", "").split("."):
+        if text != ANY_DEPTH:
+            parts.append(Part(text))
+        elif not parts or parts[-1] is not None:
+            parts.append(None)
+    return parts if parts[-1] is not None else [*parts, Part("*")]
 
 
-def walk(top: str, relative: str, parts: List[str]) -> Iterator[Found]:
-    """What the parts of a pattern match below a folder; with `**` the same may come twice."""
-    part, rest = parts[0], parts[1:]
-    folder = os.path.join(top, relative)
-    if part == ANY_DEPTH:
-        yield from walk(top, relative, rest or ["*"])
-        for name in sorted(entries(folder)[1]):
-            yield from walk(top, os.path.join(relative, name), parts)
-        return
-    files, folders = matches(folder, part)
-    if rest:
-        for name in sorted(folders):
-            yield from walk(top, os.path.join(relative, name), rest)
-        return
-    for name in sorted(files):
-        yield Found(os.path.join(relative, name + SUFFIX), True)
-    for name in sorted(folders):
-        yield Found(os.path.join(relative, name), False)
+# ---- Folders
+
+class Walk:
+    """Goes through the folders in which the parts of a pattern match, once for each folder and part.
+
+    # Errors
+    `TooMuch` if too many links are followed.
+    """
+
+    def __init__(self, top: str, parts: Sequence[Optional[Part]]):
+        self.top, self.parts, self.links = top, parts, 0
+        self.waiting: List[Tuple[str, int]] = [("", 0)]  # folders, with the part that is looked for there
+        self.seen: Set[Tuple[str, int]] = set()
+
+    def found(self) -> Iterator[Found]:
+        while self.waiting:
+            relative, at = self.waiting.pop()
+            if (relative, at) in self.seen:
+                continue
+            self.seen.add((relative, at))
+            part, folder = self.parts[at], os.path.join(self.top, relative)
+            if part is None:
+                self.enter(relative, entries(folder)[1], at)
+                self.waiting.append((relative, at + 1))
+                continue
+            files, folders = part.matches(folder)
+            if at + 1 < len(self.parts):
+                self.enter(relative, folders, at + 1)
+                continue
+            yield from (Found(os.path.join(relative, name + SUFFIX), True) for name in sorted(files))
+            yield from (Found(os.path.join(relative, name), False) for name in sorted(folders))
+
+    def enter(self, relative: str, names: "Sequence[str] | Set[str]", at: int) -> None:
+        """Adds folders to those in which a part is looked for, the first name last."""
+        paths = (os.path.join(relative, name) for name in sorted(names, reverse=True))
+        self.waiting += [(path, at) for path in paths if self.may_enter(path)]
+
+    def may_enter(self, relative: str) -> bool:
+        """Checks that a folder is no link to a folder above it: two of these would lead to folders without an end."""
+        if not os.path.islink(os.path.join(self.top, relative)):
+            return True
+        self.links += 1
+        if self.links > MOST_LINKS:
+            raise TooMuch("too many links")
+        return not self.leads_up(relative)
+
+    def leads_up(self, relative: str) -> bool:
+        try:
+            target, above = os.stat(os.path.join(self.top, relative)), relative
+            while above:
+                above = os.path.dirname(above)
+                if os.path.samestat(target, os.stat(os.path.join(self.top, above))):
+                    return True
+        except OSError:
+            return True
+        return False
 
 
 def find(top: str, pattern: str) -> Iterator[Found]:
-    """What a pattern matches below a data folder, each once. No part of a pattern leaves the folder."""
-    seen: Set[Found] = set()
-    for found in walk(top, "", pattern.replace("\\", "").split(".")):
-        if found not in seen:
-            seen.add(found)
-            yield found
+    """What a pattern matches below a data folder, each once. No part of a pattern leaves the folder.
+
+    # Errors
+    `TooMuch` if the pattern stands for too much.
+    """
+    return Walk(top, parts_of(pattern)).found()

@@ -6,6 +6,8 @@ import time
 from collections import Counter
 from typing import Callable, Dict, Mapping
 
+from ..words import in_one_line
+
 # What each count is of. All but the first count points that were lost.
 KINDS: Dict[str, str] = {
     "rewritten": "came late, and were put in by revert",
@@ -48,8 +50,7 @@ class Losses:
         if left_out:
             self._log(f"rrdi: {left_out} more lines were left out")
         if is_shown:
-            # A name may have anything in it, a new line too.
-            self._log("".join(letter if letter.isprintable() else "?" for letter in text))
+            self._log(in_one_line(text))
 
     def take(self) -> Dict[str, int]:
         """Returns the counts of all kinds, and begins again with 0."""

@@ -8,6 +8,7 @@ from typing import Callable, Dict, Iterable, List, Mapping, NamedTuple, Optional
 from ..commands import batch
 from ..damaged import set_aside
 from ..errors import Damaged, Error
+from ..making import NewFile
 from ..reader.selected import Front, OpenFile
 from .late import plan
 from .layout import Template
@@ -114,23 +115,15 @@ class Store:
             self.losses.add(metric, left_out)
 
     def _begin(self, path: str, slots: Slots, new: Template) -> Optional[Tried]:
-        """Makes a file under another name, which is linked to its own when it is whole. None if there is a file."""
-        folder, start = os.path.dirname(path), new.start(min(slots))
-        fresh = os.path.join(folder, f".{os.getpid()}.new")
+        """Makes a file with its first slots. None if there is a file."""
+        start = new.start(min(slots))
         lines = [Line(new.create(start), ())]
         lines += lines_of(slots, start, new.step, new.has_zeros, self.options.journal)
-        os.makedirs(folder, exist_ok=True)
-        remove(fresh)
-        try:
-            tried = give(fresh, 0, lines, slots, {})
-            if not os.path.exists(fresh):
+        with NewFile(path, makes_folder=True) as fresh:
+            tried = give(fresh.unfinished, 0, lines, slots, {})
+            if not fresh.is_filled():
                 return Tried({}, {"refused": len(slots)}, tried.reason)
-            os.link(fresh, path)
-            return tried
-        except FileExistsError:
-            return None
-        finally:
-            remove(fresh)
+            return tried if fresh.appear() else None
 
 
 def read_front(path: str) -> Front:
@@ -148,13 +141,6 @@ def put(path: str, slots: Slots, front: Optional[Front]) -> Tried:
     counts = {"rewritten": chosen.put_in, "late": chosen.lost}
     lines = lines_of(chosen.slots, chosen.last, front.step, front.sources > 1, front.depth)
     return give(path, chosen.reverts, lines, chosen.slots, counts)
-
-
-def remove(path: str) -> None:
-    try:
-        os.unlink(path)
-    except FileNotFoundError:
-        pass
 
 
 def give(path: str, reverts: int, lines: List[Line], slots: Slots, counts: Mapping[str, int]) -> Tried:

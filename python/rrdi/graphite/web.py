@@ -22,10 +22,12 @@ from graphite.readers.utils import BaseReader, merge_with_carbonlink
 
 from ..errors import Error
 from ..reader.selected import OpenFile
-from .finding import find
+from ..words import in_one_line
+from .finding import TooMuch, find
 from .names import metric_of, path_of
 from .series import read_series
 
+LONGEST_SHOWN = 300  # characters of a pattern in the log
 TimeInfo = Tuple[int, int, int]
 
 
@@ -64,7 +66,7 @@ class RrdiReader(BaseReader):  # type: ignore[misc]
         return (found.start, found.end, found.step), values
 
     def complain(self, fault: Exception) -> None:
-        log.info(f"rrdi: cannot read {self.path}: {fault}")
+        log.info(in_one_line(f"rrdi: cannot read {self.path}: {fault}"))
 
 
 class RrdiFinder(BaseFinder):  # type: ignore[misc]
@@ -89,9 +91,12 @@ class RrdiFinder(BaseFinder):  # type: ignore[misc]
                 yield LeafNode(metric, RrdiReader(path, metric))
 
     def find_matching(self, folder: str, pattern: str) -> Iterable[Any]:
-        for found in find(folder, pattern):
-            metric = metric_of(found.relative)
-            if found.is_file:
-                yield LeafNode(metric, RrdiReader(os.path.join(folder, found.relative), metric))
-            else:
-                yield BranchNode(metric)
+        try:
+            for found in find(folder, pattern):
+                metric = metric_of(found.relative)
+                if found.is_file:
+                    yield LeafNode(metric, RrdiReader(os.path.join(folder, found.relative), metric))
+                else:
+                    yield BranchNode(metric)
+        except TooMuch as reason:
+            log.info(f"rrdi: {pattern[:LONGEST_SHOWN]!r}: {reason}")

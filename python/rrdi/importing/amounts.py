@@ -26,7 +26,7 @@ def as_text(amount: int | None) -> str:
 
 def raw_value(kind: str, text: str) -> str | None:
     """Returns the last raw value of a COUNTER or a DERIVE if rrdi accepts the value."""
-    if not re.fullmatch(r"\d+" if kind == "COUNTER" else r"-?\d+", text):
+    if not re.fullmatch("[0-9]{1,20}" if kind == "COUNTER" else "-?[0-9]{1,20}", text):
         return None
     if kind == "COUNTER":
         return text if int(text) < 2**64 else None

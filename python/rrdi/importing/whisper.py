@@ -7,7 +7,7 @@ from __future__ import annotations
 
 import math
 import struct
-from typing import Callable, Dict, Iterator, List, NamedTuple, Optional, Tuple
+from typing import BinaryIO, Callable, Dict, Iterator, List, NamedTuple, Optional, Tuple
 
 from ..amounts import gauge_text
 from ..graphite.layout import METHODS, WITH_ZEROS, check_retentions, template
@@ -44,11 +44,13 @@ class OldWhisper(NamedTuple):
     archives: List[OldArchive]  # the finest first
 
 
-def read_points(data: bytes, offset: int, seconds: int, rows: int) -> Dict[int, float]:
+def read_points(file: BinaryIO, offset: int, seconds: int, rows: int) -> Dict[int, float]:
     """The points of an archive that belong to its newest round."""
-    if offset + rows * POINT.size > len(data):
+    file.seek(offset)
+    data = file.read(rows * POINT.size)
+    if len(data) < rows * POINT.size:
         raise Refusal("the file is shorter than its header says")
-    found = {when: value for when, value in POINT.iter_unpack(data[offset:offset + rows * POINT.size]) if when > 0}
+    found = {when: value for when, value in POINT.iter_unpack(data) if when > 0}
     newest = max(found, default=0)
     return {when: value for when, value in found.items() if when > newest - rows * seconds and when % seconds == 0}
 
@@ -61,7 +63,12 @@ def read_whisper(path: str) -> OldWhisper:
     - `OSError` if the file can't be read.
     """
     with open(path, "rb") as file:
-        data = file.read()
+        return read_open(file)
+
+
+def read_open(file: BinaryIO) -> OldWhisper:
+    """Reads an open file of whisper: its header, and the archives that the header names."""
+    data = file.read(HEAD.size + MOST_ARCHIVES * ARCHIVE.size)
     try:
         number, _, xff, count = HEAD.unpack_from(data)
         if number not in NUMBERS or not 1 <= count <= MOST_ARCHIVES or not 0 <= xff <= 1:
@@ -76,7 +83,7 @@ def read_whisper(path: str) -> OldWhisper:
         check_retentions([(seconds, rows) for _, seconds, rows in infos])
     except (ValueError, ZeroDivisionError) as error:
         raise Refusal(str(error)) from None
-    archives = [OldArchive(seconds, rows, read_points(data, offset, seconds, rows)) for offset, seconds, rows in infos]
+    archives = [OldArchive(seconds, rows, read_points(file, offset, seconds, rows)) for offset, seconds, rows in infos]
     return OldWhisper(method, xff, sorted(archives, key=lambda archive: archive.seconds))
 
 
@@ -87,14 +94,15 @@ Stretch = Tuple[int, Optional[str]]  # its end, and the value of each step up to
 
 def spans(archives: List[OldArchive]) -> List[Tuple[OldArchive, int, int]]:
     """The archives that have points, the finest last, each with the time that it gives. A finer archive begins with a
-    whole point of the coarser one."""
+    whole point of the coarser one. Between two archives may be a time of which none has points: long after a point with
+    a wrong time, for example."""
     having = [archive for archive in archives if archive.values]
     found: List[Tuple[OldArchive, int, int]] = []
     end = having[0].end if having else 0
     for archive, coarser in zip(having, [*having[1:], None]):
         begin = archive.begin if coarser is None else -(-archive.begin // coarser.seconds) * coarser.seconds
         if begin < end:
-            found.insert(0, (archive, max(begin, 0), end))
+            found.insert(0, (archive, max(begin, 0), min(end, archive.end)))
             end = begin
     return found
 
@@ -104,17 +112,24 @@ def stretches(old: OldWhisper, note: Callable[[str], None]) -> List[Stretch]:
     found: List[Stretch] = []
     lost, step = 0, old.archives[0].seconds
     for archive, begin, end in spans(old.archives):
+        if found and found[-1][0] < begin:
+            add(found, begin, None)
         for slot in range(begin, end, archive.seconds):
             value = archive.values.get(slot, math.nan)
             text = gauge_text(value * step / archive.seconds if old.method == "sum" else value)
             lost += text is None and not math.isnan(value)
-            if found and found[-1][1] == text:
-                found[-1] = (slot + archive.seconds, text)
-            else:
-                found.append((slot + archive.seconds, text))
+            add(found, slot + archive.seconds, text)
     if lost:
         note(f"{lost} values that are too large for rrdi became unknown")
     return found
+
+
+def add(found: List[Stretch], end: int, text: Optional[str]) -> None:
+    """Adds a stretch, or lengthens the last one if it has the same value."""
+    if found and found[-1][1] == text:
+        found[-1] = (end, text)
+    else:
+        found.append((end, text))
 
 
 def first_time(old: OldWhisper) -> int:

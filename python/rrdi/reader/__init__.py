@@ -3,12 +3,12 @@ from __future__ import annotations
 
 from ..amounts import MILLION, Millionths
 from ..errors import Damaged
-from .files import lock_shared, read, read_bytes, read_file
+from .files import opened, read, read_bytes, read_file, settled
 from .pieces import FUNCTIONS, LATEST, TOP, TYPES, UNKNOWN, VERSIONS, Parts, Reader
-from .undo import checksum, settled
+from .undo import Stored, checksum
 
 # The reason why bytes are not a database.
 Fault = Damaged
 
 __all__ = ["FUNCTIONS", "LATEST", "MILLION", "TOP", "TYPES", "UNKNOWN", "VERSIONS", "Damaged", "Fault", "Millionths",
-           "Parts", "Reader", "checksum", "lock_shared", "read", "read_bytes", "read_file", "settled"]
+           "Parts", "Reader", "Stored", "checksum", "opened", "read", "read_bytes", "read_file", "settled"]

@@ -1,13 +1,28 @@
 """Reads files that other programs may change at the same time."""
 from __future__ import annotations
 
-import errno
-import fcntl
-import time
+import os
+from contextlib import contextmanager
+from typing import Iterator
 
-from ..words import wait_of_environment
+from ..errors import Damaged
+from ..locks import SHARED, close, locked, open_locked
+from ..words import milliseconds
 from .pieces import Parts, Reader
-from .undo import settled
+from .undo import Stored
+
+
+def settled(data: bytes) -> bytes:
+    """Returns the bytes that a file with these bytes stands for: others, if a change of a database was broken off."""
+    stored = Stored.of_bytes(data)
+    if not stored.is_marked:
+        return data
+    reader = Reader(stored)
+    try:
+        reader.database()
+    except Damaged:
+        return data
+    return stored[0:reader.at]
 
 
 def read(data: bytes) -> Parts:
@@ -16,27 +31,12 @@ def read(data: bytes) -> Parts:
     # Errors
     `Damaged` if the bytes represent no database.
     """
-    return Reader(settled(data)).database()
+    return Reader(Stored.of_bytes(data)).database()
 
 
-def lock_shared(file: int) -> None:
-    """Takes a shared lock on an open file, as rrdi does for reading. Takes no lock if the file system has none.
-
-    # Errors
-    `OSError` if another program holds the lock for longer than RRDI_WAIT seconds, 5 by default.
-    """
-    until = time.monotonic() + wait_of_environment() / 1_000
-    pause = 0.001
-    while True:
-        try:
-            return fcntl.flock(file, fcntl.LOCK_SH | fcntl.LOCK_NB)
-        except OSError as error:
-            if error.errno != errno.EWOULDBLOCK:
-                return None
-            if time.monotonic() >= until:
-                raise OSError(errno.EWOULDBLOCK, "cannot open: another program holds its lock") from None
-        time.sleep(pause)
-        pause = min(2 * pause, 0.05)
+def patience() -> float:
+    """Returns the seconds for which a reader waits for the lock of a file: those of RRDI_WAIT, or 5."""
+    return milliseconds(None) / 1_000
 
 
 def read_bytes(path: str) -> bytes:
@@ -46,15 +46,32 @@ def read_bytes(path: str) -> bytes:
     `OSError` if the file cannot be opened, locked or read.
     """
     with open(0 if path == "-" else path, "rb", closefd=path != "-") as file:
-        lock_shared(file.fileno())
-        return file.read()
+        with locked(file.fileno(), SHARED, patience()):
+            return file.read()
+
+
+@contextmanager
+def opened(path: str) -> Iterator[Stored]:
+    """Opens a file under a shared lock, and gives it up at the end of the block.
+
+    # Errors
+    `OSError` if the file cannot be opened, locked or read.
+    """
+    file = open_locked(path, SHARED, patience())
+    try:
+        yield Stored.of_file(file)
+    finally:
+        close(file)
 
 
 def read_file(path: str) -> Parts:
-    """Returns the database in a file, by names.
+    """Returns the database in a file, by names; - is standard input.
 
     # Errors
     - `OSError` if the file cannot be opened, locked or read.
     - `Damaged` if the file is not a database.
     """
-    return read(read_bytes(path))
+    if path == "-" or not os.path.isfile(path):  # a pipe is read to its end
+        return read(read_bytes(path))
+    with opened(path) as stored:
+        return Reader(stored).database()

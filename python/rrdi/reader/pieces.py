@@ -2,10 +2,11 @@
 from __future__ import annotations
 
 import struct
-from typing import Any, Dict, List, Optional, Tuple
+from typing import Any, Dict, List, Optional, Tuple, Union
 
 from ..amounts import MILLION, Millionths
 from ..errors import BAD_BLOCK, BAD_ENTRY, NOT_OURS, TRAILING, TRUNCATED, VERSION, Damaged
+from .undo import Stored
 
 Parts = Dict[str, Any]
 
@@ -34,10 +35,14 @@ def bound(field: bytes) -> Optional[Millionths]:
     return None if amount(field) == UNKNOWN else amount(field)
 
 
+def not_ours() -> Damaged:
+    return Damaged("file: not ours", None, NOT_OURS)
+
+
 class Reader:
     """Takes the pieces in their order, and checks each piece against the preceding pieces."""
 
-    def __init__(self, data: bytes):
+    def __init__(self, data: Union[bytes, Stored]):
         self.data, self.at, self.piece_at, self.entry = data, 0, 0, 0
 
     def take(self, spelling: str) -> Tuple[Any, ...]:
@@ -45,7 +50,7 @@ class Reader:
         if self.at + size > len(self.data):
             raise Damaged(f"file: truncated at {len(self.data)}", None, TRUNCATED, len(self.data))
         self.piece_at, self.at = self.at, self.at + size
-        return struct.unpack_from(spelling, self.data, self.piece_at)
+        return struct.unpack(spelling, self.data[self.piece_at:self.at])
 
     def check(self, *rules: bool) -> None:
         if all(rules):
@@ -119,7 +124,7 @@ class Reader:
     def outline(self) -> Parts:
         """Takes all pieces before the first cell: the settings, and what is unfinished."""
         if self.take("4s") != (b"RRDI",):
-            raise Damaged("file: not ours", None, NOT_OURS)
+            raise not_ours()
         version, = self.take(">H")
         if version not in VERSIONS:
             raise Damaged("file: version", None, VERSION)
@@ -142,6 +147,24 @@ class Reader:
                 "entries": entries, "sources": sources, "archives": archives}
 
     def database(self) -> Parts:
+        """Takes all pieces.
+
+        # Errors
+        `Damaged` with the first fault.
+        """
+        marked = self.data if isinstance(self.data, Stored) and self.data.is_marked else None
+        try:
+            found = self.pieces()
+            if self.at < len(self.data) and not (marked and marked.may_end_at(self.at)):
+                raise Damaged(f"file: trailing at {self.at}", None, TRAILING, self.at)
+            return found
+        except Damaged:
+            if marked:  # the mark is not that of a database
+                raise not_ours() from None
+            raise
+
+    def pieces(self) -> Parts:
+        """Takes the pieces of a database, whatever follows them."""
         found = self.outline()
         version, last, entries = found["version"], found["last_time"], found.pop("entries")
         sources, archives = found["sources"], found["archives"]
@@ -158,8 +181,6 @@ class Reader:
             tag, = self.take("B")
             self.check(1 <= tag <= len(changes))
             journal.append(changes[tag - 1](then))
-        if self.at < len(self.data):
-            raise Damaged(f"file: trailing at {self.at}", None, TRAILING, self.at)
         return {**found, "journal": journal}
 
     def update(self, archives: List[Parts]) -> Parts:

@@ -5,20 +5,19 @@ database that the next command of rrdi would find.
 """
 from __future__ import annotations
 
-import os
 import struct
 from types import TracebackType
 from typing import Dict, Iterator, List, NamedTuple, Optional, Tuple, Type
 
 from ..amounts import Millionths
 from ..errors import TRUNCATED, Damaged
-from .files import lock_shared
-from .pieces import UNKNOWN, VERSIONS, Reader
-from .undo import settled
+from ..locks import SHARED, close, open_locked
+from .files import patience
+from .pieces import UNKNOWN, VERSIONS, Parts, Reader, not_ours
+from .undo import MARK, Stored
 
-FIRST_READ = 4_096
-LONGEST_OUTLINE = 200_000  # bytes; more than 64 sources and 128 archives take
-SOURCE, HEAD, PARTIAL, CELL = 97, 13, 20, 16  # bytes of a piece
+VERSION_END = 6  # the bytes before the header
+PARTIAL, CELL = 20, 16  # bytes of a piece
 UPDATE = 1  # the tag of a journal entry
 
 Cells = List[Optional[Millionths]]
@@ -74,22 +73,17 @@ class OpenFile:
     """
 
     def __init__(self, path: str):
-        self.file = os.open(path, os.O_RDONLY | os.O_CLOEXEC)
+        self.file = open_locked(path, SHARED, patience())
         try:
-            lock_shared(self.file)
-            self._whole: Optional[bytes] = None
-            self._first = os.pread(self.file, FIRST_READ, 0)
-            if self._first[:4] != b"RRDI":
-                self._whole = settled(self._read(0, os.fstat(self.file).st_size))
-                self._first = self._whole[:FIRST_READ]
+            self._stored = Stored.of_file(self.file)
             self.front = self._read_front()
             self._outline: Optional[Outline] = None
         except BaseException:
-            os.close(self.file)
+            self.close()
             raise
 
     def close(self) -> None:
-        os.close(self.file)
+        close(self.file)
 
     def __enter__(self) -> OpenFile:
         return self
@@ -122,56 +116,56 @@ class OpenFile:
             lowest += length
         return found
 
-    def times_before(self) -> List[int]:
-        """Returns the last time before each update of the journal, the newest first, up to an entry of another kind."""
-        outline, count = self.outline(), self.front.sources
-        data = self._part(outline.cells_end, self._size() - outline.cells_end)
-        times: List[int] = []
-        at = 0
-        try:
-            for _ in range(self.front.entries):
-                if data[at] != UPDATE:
-                    break
-                times.append(struct.unpack_from(">Q", data, at + 1)[0])
-                at += 9 + 36 * count
-                for _ in outline.archives:
-                    at += PARTIAL * count
-                    at += 4 + CELL * count * int(struct.unpack_from(">I", data, at)[0])
-        except (IndexError, struct.error):
-            raise _truncated(self._size()) from None
-        return times
+    def times_before(self) -> Iterator[int]:
+        """Yields the last time before each update of the journal, the newest first, up to an entry of another kind.
+        Reads the entries as far as they are asked for, and none of their rows."""
+        outline, count, at = self.outline(), self.front.sources, self.outline().cells_end
+        self._check_end(at)
+        for _ in range(self.front.entries):
+            if self._part(at, 1)[0] != UPDATE:
+                break
+            before, = struct.unpack(">Q", self._part(at + 1, 8))
+            at += 9 + 36 * count
+            for _ in outline.archives:
+                rows, = struct.unpack(">I", self._part(at + PARTIAL * count, 4))
+                at += PARTIAL * count + 4 + CELL * count * rows
+            self._check_end(at)
+            yield before
 
     # ---- Bytes
 
-    def _size(self) -> int:
-        return os.fstat(self.file).st_size if self._whole is None else len(self._whole)
-
-    def _read(self, at: int, length: int) -> bytes:
-        return os.pread(self.file, length, at)
+    def _check_end(self, at: int) -> None:
+        if at > len(self._stored):
+            raise _truncated(len(self._stored))
 
     def _part(self, at: int, length: int) -> bytes:
-        data = self._read(at, length) if self._whole is None else self._whole[at:at + length]
+        data = self._stored[at:at + length]
         if len(data) < length:
-            raise _truncated(self._size())
+            raise _truncated(len(self._stored))
         return data
 
+    def _taken_outline(self, reader: Reader) -> Parts:
+        """Takes the pieces before the first cell; under a mark that no database has, the file is not one."""
+        try:
+            return reader.outline()
+        except Damaged:
+            if self._stored.is_marked:
+                raise not_ours() from None
+            raise
+
     def _read_front(self) -> Front:
-        reader = Reader(self._first)
-        if self._first[:4] == b"RRDI" and len(self._first) >= 6 and reader.data[5] in VERSIONS:
-            reader.at = 6
-            return Front(*reader.take(VERSIONS[self._first[5]][0]))
-        reader.outline()
-        raise _truncated(len(self._first))
+        begin = self._stored[:VERSION_END]
+        if begin[:4] == MARK and len(begin) == VERSION_END and begin[5] in VERSIONS:
+            reader = Reader(self._stored)
+            reader.at = VERSION_END
+            return Front(*reader.take(VERSIONS[begin[5]][0]))
+        self._taken_outline(Reader(self._stored))
+        raise _truncated(len(self._stored))
 
     def _read_outline(self) -> Outline:
-        front, begin = self.front, 6 + struct.calcsize(VERSIONS[self._first[5]][0])
-        length = begin + SOURCE * front.sources + front.archives * (HEAD + PARTIAL * front.sources)
-        data = self._first
-        if length > len(data):
-            data = self._part(0, min(length, LONGEST_OUTLINE))
-        reader = Reader(data)
-        found, archives = reader.outline(), []
-        at = length
+        reader, front = Reader(self._stored), self.front
+        found, archives = self._taken_outline(reader), []
+        at = reader.at
         for archive, rows in zip(found["archives"], reader.row_counts):
             partial = tuple((part["known_steps"], part["value"]) for part in archive["preparations"])
             archives.append(Archive(archive["function"], archive["steps"], int(archive["xff"]), rows,

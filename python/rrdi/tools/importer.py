@@ -22,10 +22,13 @@ from typing import Iterator, List, NamedTuple, Optional
 from ..importing.batch import batch_of
 from ..importing.dump import Refusal, read_file
 from ..importing.whisper import read_whisper, whisper_batch
+from ..making import NewFile
+from ..words import in_one_line
 from . import program, rrdtool_program
 from .command_line import Failure, Progress, Tool, WrongArguments, called_name, run, say
 
 WHISPER = ".wsp"
+LONGEST_NOTE = 1_000  # characters
 
 
 class Arguments(NamedTuple):
@@ -37,7 +40,7 @@ class Arguments(NamedTuple):
 def read_arguments(words: List[str]) -> Arguments:
     journal = None
     if words[:1] == ["--journal"]:
-        if len(words) < 2 or not re.fullmatch("[0-9]+", words[1]):
+        if len(words) < 2 or not re.fullmatch("[0-9]{1,12}", words[1]):
             raise WrongArguments
         journal, words = words[1], words[2:]
     if not 1 <= len(words) <= 2 or any(not word or word.startswith("-") for word in words):
@@ -45,11 +48,14 @@ def read_arguments(words: List[str]) -> Arguments:
     return Arguments(journal, words[0], words[1] if len(words) == 2 else None)
 
 
+def note(text: str) -> None:
+    """Reports what cannot be converted, in one line, whatever the old file's texts have in them."""
+    shown = text if len(text) <= LONGEST_NOTE else f"{text[:LONGEST_NOTE]}.."
+    say(called_name(TOOL), in_one_line(shown))
+
+
 def lines_of(arguments: Arguments) -> Iterator[str]:
     """Reads the old file and yields the lines of the batch."""
-    def note(text: str) -> None:
-        say(called_name(TOOL), text)
-
     if arguments.old.endswith(WHISPER):
         yield from whisper_batch(read_whisper(arguments.old), arguments.journal, note)
         return
@@ -67,21 +73,15 @@ def make(new: str, lines: Iterator[str]) -> None:
     """Creates a database with a batch. The database gets its name when it is complete."""
     if os.path.lexists(new):
         raise Failure(f"{new} already exists")
-    unfinished = new + ".new"
-    if os.path.lexists(unfinished):
-        raise Failure(f"{unfinished} already exists; another rrdi-import may be writing it")
     given, progress = [], Progress("converting")
     for line in lines:
         given.append(line)
         progress.show(len(given))
     progress.end()
-    try:
-        program.batch(unfinished, given)
-        os.rename(unfinished, new)
-    except BaseException:
-        if os.path.lexists(unfinished):
-            os.unlink(unfinished)
-        raise
+    with NewFile(new) as made:
+        program.batch(made.unfinished, given)
+        if not made.appear():
+            raise Failure(f"{new} already exists")
 
 
 def convert(words: List[str]) -> int:

@@ -51,8 +51,8 @@ def read_outline(file: str) -> Outline:
     # Errors
     `Failure` if the file cannot be opened, locked or read, or is not a database.
     """
-    with reporting(file):
-        reading = WithoutRows(reader.settled(reader.read_bytes(file)))
+    with reporting(file), reader.opened(file) as stored:
+        reading = WithoutRows(stored)
         return as_outline(reading.database(), reading.first_row or 0)
 
 

@@ -10,7 +10,7 @@ from typing import TYPE_CHECKING, Dict, Iterable, List, NamedTuple, Optional, Tu
 
 from ..choice import chosen_library, program_path
 from ..errors import CANNOT_WRITE, NO_MEMORY, OK, USAGE
-from ..words import LONGEST_LINE, sync_of_environment, wait_of_environment
+from ..words import LONGEST_LINE, milliseconds, sync_of_environment
 from .command_line import Failure, error_text
 
 if TYPE_CHECKING:
@@ -87,7 +87,7 @@ def as_bytes(text: str) -> bytes:
 def run_in_process(library: "Library", words: List[str], given: str) -> Ran:
     """Runs a command, or a batch, by the library. The result is the same as the program's."""
     name, file, *others = words
-    now, wait, syncs = int(time.time()), wait_of_environment(), sync_of_environment()
+    now, wait, syncs = int(time.time()), milliseconds(None), sync_of_environment()
     answer: "Answer"
     if name == "batch":
         answer = library.batch_file(as_bytes(file), as_bytes(given), now, wait, syncs)

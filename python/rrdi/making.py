@@ -1,0 +1,86 @@
+"""Makes files, and never in place of another file.
+
+A file is filled under another name in the same folder, and a link gives it its own name when it is whole. A link fails if
+there is a file of this name. So nobody sees half a file, and of two programs that make one file the first one counts.
+"""
+from __future__ import annotations
+
+import errno
+import os
+import secrets
+from types import TracebackType
+from typing import Optional, Type
+
+from .words import FilePath
+
+# What link(2) answers if a file system has no links.
+NO_LINKS = frozenset({errno.EPERM, errno.EOPNOTSUPP, errno.ENOTSUP, errno.ENOSYS, errno.EMLINK})
+
+
+class NewFile:
+    """A file that is being made. What is left under `unfinished` is removed at the end.
+
+        with NewFile("a/b.rrdi") as new:
+            rrdi.create(new.unfinished, ..)
+            is_made = new.appear()
+
+    If `path` is a link to a file that does not exist, that file is made. `makes_folder` makes the folder too.
+
+    # Errors
+    `OSError` if the folder can't be made.
+    """
+
+    def __init__(self, path: FilePath, makes_folder: bool = False):
+        named = os.fsdecode(path)
+        self.path = os.path.realpath(named) if os.path.islink(named) else named
+        folder = os.path.dirname(self.path)
+        self.unfinished = os.path.join(folder, f".rrdi-{secrets.token_hex(8)}.new")
+        if makes_folder and folder:
+            os.makedirs(folder, exist_ok=True)
+
+    def __enter__(self) -> NewFile:
+        return self
+
+    def __exit__(self, kind: Optional[Type[BaseException]], error: Optional[BaseException],
+                 trace: Optional[TracebackType]) -> None:
+        try:
+            os.unlink(self.unfinished)
+        except OSError:  # it has its name, or there never was one
+            pass
+
+    def is_filled(self) -> bool:
+        """Checks whether there is something under the other name: a refused `create` leaves no file."""
+        return os.path.exists(self.unfinished)
+
+    def appear(self) -> bool:
+        """Gives the file its name. Returns False if a file has that name: that file stays as it is.
+
+        # Errors
+        `OSError` if the system refuses the name.
+        """
+        try:
+            os.link(self.unfinished, self.path)
+        except FileExistsError:
+            return False
+        except OSError as error:
+            if error.errno not in NO_LINKS:
+                raise
+            return self._take_name()
+        return True
+
+    def replace(self) -> None:
+        """Gives the file its name, in place of a file that has it. The caller holds the lock of that file.
+
+        # Errors
+        `OSError` if the system refuses the name.
+        """
+        os.rename(self.unfinished, self.path)
+
+    def _take_name(self) -> bool:
+        """Gives the file its name where there are no links: takes the name by an empty file, and replaces that one."""
+        try:
+            os.close(os.open(self.path, os.O_WRONLY | os.O_CREAT | os.O_EXCL | os.O_CLOEXEC))
+        except FileExistsError:
+            return False
+        os.rename(self.unfinished, self.path)
+        return True

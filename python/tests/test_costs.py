@@ -1,0 +1,204 @@
+"""Tests that no input costs more than its size: lines, rules, patterns and files that are made to cost much. They count what
+is done, or do what would never end."""
+from __future__ import annotations
+
+import os
+import random
+import re
+import struct
+import unittest
+from pathlib import Path
+from typing import List, Optional
+from unittest import mock
+
+import graphite_doubles as graphite
+from cases import DataCase, assert_ends
+from rrdi import errors, reader
+from rrdi.compat.syntax import LONGEST_NUMBER, read_number
+from rrdi.feeding.metrics import NUMBER
+from rrdi.feeding.rules import Names, read_rules, texts_of_stars
+from rrdi.graphite import finding
+from rrdi.importing.whisper import read_whisper, whisper_batch
+from rrdi.reader import undo
+from rrdi.reader.selected import OpenFile
+
+MANY = 1_000_000
+GIGABYTES = 3 * 2**30
+NOW = 1_700_000_400
+
+
+class Numbers(unittest.TestCase):
+    def test_a_long_line(self) -> None:
+        for digits in (b"1" * MANY, b"1" * MANY + b"." + b"1" * MANY, b"." + b"1" * MANY):
+            assert_ends(self, lambda: self.assertIsNone(NUMBER.fullmatch(digits + b"x")))
+        self.assertIsNotNone(NUMBER.fullmatch(b"1" * MANY))
+
+    def test_a_long_number(self) -> None:
+        for text in ("1" * MANY + "x", "1" * MANY + "e5", "0." + "1" * MANY, "1" * (LONGEST_NUMBER + 1)):
+            assert_ends(self, lambda: self.assertEqual(read_number(text), text))
+        self.assertEqual(read_number("0." + "0" * (LONGEST_NUMBER - 3) + "1"), "0")
+
+
+def by_expression(pattern: str, name: bytes) -> Optional[List[bytes]]:
+    """The texts of the stars, by a regular expression."""
+    texts = {"*": rb"([^.]+)", "**": rb"(.+)"}
+    parts = [piece for piece in re.split(r"(\*\*?)", pattern) if piece]
+    found = re.fullmatch(b"".join(texts.get(part, re.escape(part.encode())) for part in parts), name, re.DOTALL)
+    return list(found.groups()) if found else None
+
+
+class Rules(unittest.TestCase):
+    def test_many_stars(self) -> None:
+        for pattern, name in (("*a" * 12 + "b", "a" * 1_000), ("*a*b." * 10 + "c", "aab" * 30 + ".b" * 30),
+                              ("**-" + "*a" * 12 + "*", "a" * 500 + "." + "a" * 500 + "."), ("*a" * 200 + "b", "a" * 1_000)):
+            rules = read_rules(f"{pattern} x{re.sub('[^*]+', '-', pattern)}y\n** **")
+            assert_ends(self, lambda: Names(b"/d", rules[:1]).rules[0].path(name.encode()))
+
+    def test_each_star_takes_as_much_as_before(self) -> None:
+        """Random patterns and names: the texts are those of the regular expression with the same stars."""
+        chance, matched = random.Random(5), 0
+        for _ in range(20_000):
+            pattern = re.sub(r"\*\*\*+", "**", "".join(chance.choice(["a", "b", ".", "*", "*", "**"])
+                                                          for _ in range(chance.randrange(1, 8))))
+            if pattern.count("**") > 1:
+                continue
+            name = "".join(chance.choice("aab.") for _ in range(chance.randrange(0, 12))).encode()
+            pieces = [piece.encode() for piece in re.split(r"(\*\*?)", pattern) if piece]
+            wanted = by_expression(pattern, name)
+            self.assertEqual(texts_of_stars(pieces, name), wanted, (pattern, name))
+            matched += wanted is not None
+        self.assertGreater(matched, 1_000)
+
+
+class Patterns(DataCase):
+    """Patterns of Graphite, and folders that links lead to. What is counted is how often a folder is listed."""
+
+    def found(self, pattern: str) -> List[str]:
+        with mock.patch.object(finding, "entries", side_effect=finding.entries) as self.listed:
+            return sorted(found.relative for found in finding.find(str(self.folder), pattern) if found.is_file)
+
+    def put(self, *names: str) -> None:
+        for name in names:
+            path = self.folder / (name + ".rrdi")
+            path.parent.mkdir(parents=True, exist_ok=True)
+            path.write_bytes(b"")
+
+    def test_braces(self) -> None:
+        self.put("ab", "abab")
+        for pattern in ("{a,b}" * 18, "{a,b}" * 5_000, "{" + "," * 2_000_000 + "}", "a.{{a,b}" + "{c,d}" * 40 + "}.c",
+                        "{" + ",".join(f"{number}*" for number in range(1_001)) + "}"):
+            assert_ends(self, lambda: self.assertRaises(finding.TooMuch, self.found, pattern))
+        self.assertEqual(self.found("{a,b}" * 4), ["abab.rrdi"])
+        # A folder is listed once, however many patterns the braces stand for.
+        self.assertEqual(self.found("{" + ",".join(f"{number}*" for number in range(900)) + ",a*}"), ["ab.rrdi", "abab.rrdi"])
+        self.assertEqual(self.listed.call_count, 1)
+        names = "{" + ",".join(f"host-{number}" for number in range(20_000)) + ",ab}"
+        self.assertEqual(self.found(names), ["ab.rrdi"])
+
+    def test_links_that_loop(self) -> None:
+        self.put("x", "f/y")
+        for name in ("a", "b", "c"):
+            (self.folder / name).symlink_to(".")
+            (self.folder / "f" / name).symlink_to("..")
+        self.assertEqual(self.found("**"), ["f/y.rrdi", "x.rrdi"])
+        self.assertLess(self.listed.call_count, 10)
+        self.assertEqual(self.found("**.{x,y}"), ["f/y.rrdi", "x.rrdi"])
+        for part in ("*", "{a,b,c}", "[a-c]"):
+            self.assertEqual(self.found(f"{part}." * 40 + "x"), [])
+            self.assertLess(self.listed.call_count, 10)
+
+    def test_links_to_other_folders(self) -> None:
+        """Each name is found that a link gives; only loops are left out."""
+        self.put("hosts/w1/load")
+        for rack in ("r1", "r2"):
+            (self.folder / rack).mkdir()
+            (self.folder / rack / "w1").symlink_to("../hosts/w1")
+        names = ["hosts/w1/load.rrdi", "r1/w1/load.rrdi", "r2/w1/load.rrdi"]
+        self.assertEqual(self.found("**"), names)
+        self.assertEqual(self.found("*.w1.load"), names)
+        with mock.patch.object(finding, "MOST_LINKS", 1), self.assertRaises(finding.TooMuch):
+            self.found("**")
+
+    def test_any_depth_again_and_again(self) -> None:
+        self.put("a/" * 60 + "x")
+        self.assertEqual(self.found("**.a." * 12 + "**.x"), ["a/" * 60 + "x.rrdi"])
+        self.assertLess(self.listed.call_count, 60 * 60)
+        self.found("**." * 500 + "x")
+        self.assertLess(self.listed.call_count, 100)
+
+
+class Whisper(DataCase):
+    def lines(self, data: bytes, length: int = 0) -> List[str]:
+        path = self.folder / "m.wsp"
+        path.write_bytes(data)
+        if length:
+            os.truncate(path, length)
+        return list(whisper_batch(read_whisper(str(path)), None, lambda text: None))
+
+    def test_a_wrong_time(self) -> None:
+        """A point of the year 2106 in the finer archive; the coarser one has the true ones."""
+        seconds, rows = 1, 10
+        head = struct.pack("!2LfL", 1, 10**6, 0.5, 2) + struct.pack("!6L", 40, seconds, rows, 40 + 12 * rows, 2, 20)
+        fine = struct.pack("!Ld", 2**32 - 1, 5.0).ljust(12 * rows, b"\0")
+        coarse = b"".join(struct.pack("!Ld", NOW + 2 * number, number) for number in range(20))
+        assert_ends(self, lambda: self.lines(head + fine + coarse))
+        samples = self.lines(head + fine + coarse)[1].split()[1:]
+        self.assertEqual(samples[:2], [f"{NOW + 2}:0.000000", f"{NOW + 4}:1.000000"])
+        self.assertEqual(samples[-2:], [f"{2**32 - 1}:U", f"{2**32}:5.000000"])
+
+    def test_a_sparse_file(self) -> None:
+        data = struct.pack("!2LfL3L", 1, 10**6, 0.5, 1, 28, 10, 2) + struct.pack("!LdLd", NOW, 1.0, NOW + 10, 2.0)
+        assert_ends(self, lambda: self.assertEqual(len(self.lines(data, GIGABYTES)), 3))
+
+
+class Files(DataCase):
+    """Files with few bytes on the disk and a great length. What is counted is the bytes that are read."""
+
+    def setUp(self) -> None:
+        super().setUp()
+        self.path, self.count = str(self.folder / "f.rrdi"), 0
+
+    def write(self, data: bytes, length: int = GIGABYTES) -> None:
+        Path(self.path).write_bytes(data)
+        os.truncate(self.path, max(length, len(data)))
+        self.count = 0
+
+    def counting(self) -> "mock._patch[object]":
+        def read_at(file: int, at: int, count: int) -> bytes:
+            data = os.pread(file, count, at)
+            self.count += len(data)
+            return data
+        return mock.patch.object(undo, "read_at", read_at)
+
+    def test_a_journal(self) -> None:
+        entry = graphite.update_entry(120, 1)
+        self.write(graphite.file_bytes(130, entries=entry, count=16))
+        with self.counting(), OpenFile(self.path) as file:
+            self.assertEqual(list(file.times_before()), [120])
+        self.assertLess(self.count, 20_000)
+        # Only as many entries are read as are asked for, and none of their rows.
+        entries = b"".join(graphite.update_entry(before, 1) for before in range(10_000, 0, -1))
+        self.write(graphite.file_bytes(10_010, entries=entries, count=10_000, depth=10_000), 0)
+        with self.counting(), OpenFile(self.path) as file:
+            self.assertEqual(next(iter(file.times_before())), 10_000)
+        self.assertLess(self.count, 20_000)
+
+    def test_what_is_no_database(self) -> None:
+        for mark in (b"RRDX", b"RRDC", b"RRDc", b"RRDUndo\0" + bytes(8), b"RRDUndo\0" + b"\xff" * 8, b"RRDI\0\2", b""):
+            self.write(mark)
+            with self.counting():
+                with self.assertRaises(errors.Damaged):
+                    reader.read_file(self.path)
+                with self.assertRaises(errors.Damaged):
+                    OpenFile(self.path).outline()
+            self.assertLess(self.count, 50_000, mark)
+
+    def test_a_database_with_a_tail(self) -> None:
+        self.write(graphite.file_bytes(130))
+        with self.counting(), self.assertRaises(errors.Damaged) as raised:
+            reader.read_file(self.path)
+        self.assertEqual((str(raised.exception), self.count < 50_000), ("file: trailing at 256", True))
+
+
+if __name__ == "__main__":
+    unittest.main()
