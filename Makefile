@@ -25,6 +25,12 @@ MANUALS_OF_C = $(DESTDIR)$(PREFIX)/share/man/man3
 BINARIES = $(DESTDIR)$(PREFIX)/bin
 MANUALS = $(DESTDIR)$(PREFIX)/share/man/man1
 COMPLETIONS = $(DESTDIR)$(PREFIX)/share/bash-completion/completions
+COMPLETIONS_OF_FISH = $(DESTDIR)$(PREFIX)/share/fish/vendor_completions.d
+# Where below PREFIX zsh looks for completions; for packages of Debian it is share/zsh/vendor-completions.
+ZSHDIR = share/zsh/site-functions
+COMPLETIONS_OF_ZSH = $(DESTDIR)$(PREFIX)/$(ZSHDIR)
+UNITS = $(DESTDIR)$(PREFIX)/lib/systemd/system
+ACCOUNTS = $(DESTDIR)$(PREFIX)/lib/sysusers.d
 SHARED = $(DESTDIR)$(PREFIX)/share/rrdi
 PYTHON = $(SHARED)/python
 # Where below PREFIX the link to the Python package goes: Debian's python3 looks there if PREFIX is /usr.
@@ -32,7 +38,7 @@ PYTHONDIR = lib/python3/dist-packages
 MODULES = $(DESTDIR)$(PREFIX)/$(PYTHONDIR)
 
 VERSION := $(shell cat VERSION)
-PACKAGE := out/rrdi_$(VERSION)
+PACKAGE = $(BUILD)/rrdi_$(VERSION)
 MAINTAINER := Bengcodla maintainers <maintainers@users.noreply.bengcodla.example>
 
 # Not empty if the library is to be installed: its archive was built, or was passed.
@@ -73,36 +79,57 @@ $(PROGRAM):
 	@echo "make: $@ not found; run make first, or pass PROGRAM=path" >&2
 	@false
 
+# The directories of an installation. install notes in share/rrdi/directories which of them were not there, each without
+# DESTDIR, and uninstall removes these if they are empty. A package has no use for that file.
+DIRECTORIES = "$(BINARIES)" "$(MANUALS)" "$(COMPLETIONS)" "$(COMPLETIONS_OF_ZSH)" "$(COMPLETIONS_OF_FISH)" "$(MODULES)" \
+	"$(UNITS)" "$(ACCOUNTS)" "$(SHARED)" $(if $(HAS_LIBRARY),"$(HEADERS)" "$(LIBRARIES)/pkgconfig" "$(MANUALS_OF_C)" "$(PRIVATE)")
+NOTED = $(SHARED)/directories
+
+# Programs find a library that was installed only after ldconfig has read its directory; that takes root, and no DESTDIR.
+UPDATE_LIBRARIES = $(if $(DESTDIR),,if [ "$$(id -u)" = 0 ]; then $(LDCONFIG); fi)
+LDCONFIG = ldconfig
+
+# $(call manual,PAGE): a manual page as it is installed, where docs and examples are in other directories.
+manual = sed -e 's|^\.Pa docs/|.Pa $(PREFIX)/share/rrdi/docs/|' -e 's|^\.Pa examples/|.Pa $(PREFIX)/share/rrdi/examples/|' \
+	-e 's|< docs/|< $(PREFIX)/share/rrdi/docs/|' $(1) | gzip -9n
+
 install: install-program $(if $(HAS_LIBRARY),install-library)
 	@$(if $(HAS_LIBRARY),,echo "make: $(ARCHIVE) not found, so the C library is not installed; make library builds it" >&2)
 
-install-library: link-library
-	install -d "$(HEADERS)" "$(LIBRARIES)/pkgconfig" "$(MANUALS_OF_C)"
+install-directories:
+	@install -d "$(DESTDIR)/"
+	@made=$$(for directory in $(DIRECTORIES); do \
+		while [ ! -d "$$directory" ]; do echo "$${directory#"$(DESTDIR)"}"; directory=$$(dirname "$$directory"); done; \
+	done) && install -d $(DIRECTORIES) && { [ -z "$$made" ] || echo "$$made" >> "$(NOTED)"; }
+	@if [ -e "$(NOTED)" ]; then LC_ALL=C sort -u -o "$(NOTED)" "$(NOTED)" && chmod 644 "$(NOTED)"; fi
+
+install-library: link-library install-directories
 	install -m 644 $(BUILD)/librrdi.so.0 $(BUILD)/librrdi.a "$(LIBRARIES)"
 	ln -sf librrdi.so.0 "$(LIBRARIES)/librrdi.so"
 	install -m 644 include/rrdi.h "$(HEADERS)"
 	sed -e 's|@PREFIX@|$(PREFIX)|' -e 's|@LIBDIR@|$(LIBDIR)|' -e 's|@VERSION@|$(VERSION)|' include/rrdi.pc.in \
 		> "$(LIBRARIES)/pkgconfig/rrdi.pc"
 	chmod 644 "$(LIBRARIES)/pkgconfig/rrdi.pc"
-	sed -e 's|^\.Pa docs/|.Pa $(PREFIX)/share/rrdi/docs/|' -e 's|^\.Pa examples/|.Pa $(PREFIX)/share/rrdi/examples/|' \
-		docs/rrdi.3 > "$(MANUALS_OF_C)/rrdi.3"
-	chmod 644 "$(MANUALS_OF_C)/rrdi.3"
-	for name in $(EXPORTS); do ln -sf rrdi.3 "$(MANUALS_OF_C)/$$name.3"; done
+	rm -f "$(MANUALS_OF_C)/rrdi.3" $(EXPORTS:%="$(MANUALS_OF_C)/%.3")
+	$(call manual,docs/rrdi.3) > "$(MANUALS_OF_C)/rrdi.3.gz"
+	chmod 644 "$(MANUALS_OF_C)/rrdi.3.gz"
+	for name in $(EXPORTS); do ln -sf rrdi.3.gz "$(MANUALS_OF_C)/$$name.3.gz"; done
+	-@$(UPDATE_LIBRARIES)
 
-install-program: $(PROGRAM)
-	install -d "$(BINARIES)" "$(MANUALS)" "$(COMPLETIONS)" "$(SHARED)/docs" "$(SHARED)/examples"
+# Earlier versions installed the pages of the program and the library without compression, and `man` would show those.
+install-program: $(PROGRAM) install-directories
+	install -d "$(SHARED)/docs" "$(SHARED)/examples"
 	install -m 755 "$(PROGRAM)" "$(BINARIES)/rrdi"
-	sed -e 's|^\.Pa docs/|.Pa $(PREFIX)/share/rrdi/docs/|' -e 's|^\.Pa examples/|.Pa $(PREFIX)/share/rrdi/examples/|' \
-		-e 's|< docs/|< $(PREFIX)/share/rrdi/docs/|' docs/rrdi.1 > "$(MANUALS)/rrdi.1"
-	chmod 644 "$(MANUALS)/rrdi.1"
+	rm -f "$(MANUALS)/rrdi.1"
+	$(call manual,docs/rrdi.1) > "$(MANUALS)/rrdi.1.gz"
+	chmod 644 "$(MANUALS)/rrdi.1.gz"
 	install -m 644 examples/rrdi.bash "$(COMPLETIONS)/rrdi"
 	install -m 644 README.md CHANGELOG.md CONTRIBUTING.md LICENSE* VERSION "$(SHARED)"
-	install -m 644 docs/*.md docs/*.png docs/*.svg docs/rrdi.1 docs/rrdi.3 docs/first-session.txt "$(SHARED)/docs"
-	@for folder in compat rrdi rrdi/compat rrdi/feeding rrdi/graphite rrdi/importing rrdi/reader; do \
-		install -d "$(PYTHON)/$$folder" && install -m 644 python/$$folder/*.py "$(PYTHON)/$$folder" || exit 1; \
+	install -m 644 $(wildcard docs/*.md docs/*.png docs/*.svg) docs/rrdi.1 docs/rrdi.3 docs/first-session.txt "$(SHARED)/docs"
+	@find python/compat python/rrdi -name '*.py' | while read -r file; do \
+		install -D -m 644 "$$file" "$(SHARED)/$$file" || exit 1; \
 	done
 	install -m 644 python/rrdi/py.typed "$(PYTHON)/rrdi"
-	install -d "$(MODULES)"
 	ln -sfnr "$(PYTHON)/rrdi" "$(MODULES)/rrdi"
 	@for file in examples/*; do \
 		if [ -d "$$file" ]; then continue; fi; \
@@ -111,17 +138,22 @@ install-program: $(PROGRAM)
 	done
 
 uninstall:
-	rm -f "$(BINARIES)/rrdi" "$(MANUALS)/rrdi.1" "$(COMPLETIONS)/rrdi" "$(MODULES)/rrdi"
+	rm -f "$(BINARIES)/rrdi" "$(MANUALS)/rrdi.1" "$(MANUALS)/rrdi.1.gz" "$(COMPLETIONS)/rrdi" "$(MODULES)/rrdi"
 	rm -f "$(HEADERS)/rrdi.h" "$(LIBRARIES)/pkgconfig/rrdi.pc" "$(LIBRARIES)/librrdi.a" "$(LIBRARIES)/librrdi.so" \
-		"$(LIBRARIES)/librrdi.so.0" "$(MANUALS_OF_C)/rrdi.3" $(EXPORTS:%="$(MANUALS_OF_C)/%.3")
-	rm -rf "$(SHARED)"
+		"$(LIBRARIES)/librrdi.so.0" "$(MANUALS_OF_C)/rrdi.3" $(EXPORTS:%="$(MANUALS_OF_C)/%.3") \
+		"$(MANUALS_OF_C)/rrdi.3.gz" $(EXPORTS:%="$(MANUALS_OF_C)/%.3.gz")
+	@made=$$(LC_ALL=C sort -r "$(NOTED)" 2>/dev/null); rm -rf "$(SHARED)"; \
+	echo "$$made" | while read -r directory; do \
+		[ -z "$$directory" ] || rmdir "$(DESTDIR)$$directory" 2>/dev/null || :; \
+	done
+	-@$(UPDATE_LIBRARIES)
 
-# Four packages, as Debian wants them: the program with its documents and scripts, the shared library, what is needed to build
+# Packages, as Debian wants them: the program with its documents and scripts, the shared library, what is needed to build
 # with it, and the link by which Python finds the package, whose code is with the scripts that need it.
 # Each folder is a part of an installation below /usr, with a copyright, which has the licenses, and a changelog.
-RUNTIME := out/librrdi0_$(VERSION)
-DEVELOPMENT := out/librrdi-dev_$(VERSION)
-OF_PYTHON := out/python3-rrdi_$(VERSION)
+RUNTIME = $(BUILD)/librrdi0_$(VERSION)
+DEVELOPMENT = $(BUILD)/librrdi-dev_$(VERSION)
+OF_PYTHON = $(BUILD)/python3-rrdi_$(VERSION)
 MULTIARCH = $(shell $(CC) -print-multiarch)
 TRIPLET = usr/lib/$(MULTIARCH)
 
@@ -135,6 +167,7 @@ define finish
 		'Maintainer: $(MAINTAINER)' "Installed-Size: $$(du -sk --apparent-size $(1)/usr | cut -f 1)" "Depends: $(4)" \
 		'Section: $(3)' 'Priority: optional' $(5) > $(1)/DEBIAN/control
 	cd $(1) && find usr -type f | LC_ALL=C sort | xargs -d '\n' md5sum > DEBIAN/md5sums
+	find $(1)/DEBIAN $(1)/usr/share/doc -type f ! -name '*inst' ! -name '*rm' -exec chmod 644 {} +
 	dpkg-deb --root-owner-group --build $(1) $(1)_$$(dpkg --print-architecture).deb
 	rm -rf $(1)
 endef
@@ -152,7 +185,7 @@ ABOUT_PYTHON = 'Description: round-robin time-series database with exact undo (P
 	' The package rrdi runs the commands of rrdi in a process of Python, by librrdi.' \
 	' Its functions are those of the module rrdtool, and a module of that name can' \
 	' be put in its place.'
-ABOUT_PACKAGE = 'Suggests: collectd-core, gnuplot-nox, graphite-carbon, graphite-web, python3, rrdtool' \
+ABOUT_PACKAGE = 'Suggests: collectd-core, gnuplot-nox, graphite-carbon, graphite-web, rrdtool' \
 	'Description: round-robin time-series database with exact undo' \
 	' A file has a fixed number of rows: new rows replace the oldest rows, and' \
 	' coarser archives keep averages, minimums and maximums. The commands have the' \
@@ -166,14 +199,12 @@ GLIBC = $$(grep -ao 'GLIBC_[0-9.]*' $(1) | sed 's/GLIBC_//' | sort -V | tail -n 
 
 deb: $(PROGRAM) link-library
 	rm -rf $(PACKAGE) $(RUNTIME) $(DEVELOPMENT) $(OF_PYTHON)
-	$(MAKE) --no-print-directory install PREFIX=/usr LIBDIR=lib/$(MULTIARCH) DESTDIR=$(PACKAGE) PROGRAM="$(PROGRAM)"
+	$(MAKE) --no-print-directory install PREFIX=/usr LIBDIR=lib/$(MULTIARCH) ZSHDIR=share/zsh/vendor-completions \
+		DESTDIR=$(PACKAGE) PROGRAM="$(PROGRAM)"
 	strip --remove-section=.comment $(PACKAGE)/usr/bin/rrdi
 	strip --remove-section=.comment --strip-unneeded $(PACKAGE)/$(TRIPLET)/librrdi.so.0
 	strip --strip-unneeded $(PACKAGE)/$(TRIPLET)/librrdi.a
-	rm $(PACKAGE)/usr/share/rrdi/LICENSE*
-	gzip -9n $(PACKAGE)/usr/share/man/man1/rrdi.1 $(PACKAGE)/usr/share/man/man3/rrdi.3
-	for name in $(EXPORTS); do rm $(PACKAGE)/usr/share/man/man3/$$name.3; \
-		ln -s rrdi.3.gz $(PACKAGE)/usr/share/man/man3/$$name.3.gz; done
+	rm $(PACKAGE)/usr/share/rrdi/LICENSE* $(PACKAGE)/usr/share/rrdi/directories
 	install -d $(RUNTIME)/$(TRIPLET) $(RUNTIME)/DEBIAN $(DEVELOPMENT)/usr/share/man $(DEVELOPMENT)/usr/lib
 	mv $(PACKAGE)/$(TRIPLET)/librrdi.so.0 $(RUNTIME)/$(TRIPLET)
 	printf '%s\n' 'librrdi 0 librrdi0 (>= $(VERSION))' > $(RUNTIME)/DEBIAN/shlibs
@@ -181,17 +212,15 @@ deb: $(PROGRAM) link-library
 	mv $(PACKAGE)/usr/lib/$(MULTIARCH) $(DEVELOPMENT)/usr/lib
 	install -d $(OF_PYTHON)/usr/lib $(PACKAGE)/DEBIAN
 	mv $(PACKAGE)/usr/lib/python3 $(OF_PYTHON)/usr/lib
-	rmdir --ignore-fail-on-non-empty $(PACKAGE)/usr/lib
-	printf '%s\n' '#!/bin/sh' 'set -e' 'find /usr/share/rrdi/python -name __pycache__ -exec rm -rf {} +' > $(PACKAGE)/DEBIAN/prerm
-	chmod 755 $(PACKAGE)/DEBIAN/prerm
+	install -m 755 tools/debian/postinst tools/debian/prerm $(PACKAGE)/DEBIAN
 	mv $(PACKAGE)/usr/include $(DEVELOPMENT)/usr
 	mv $(PACKAGE)/usr/share/man/man3 $(DEVELOPMENT)/usr/share/man
 	$(call finish,$(RUNTIME),librrdi0,libs,libc6 (>= $(call GLIBC,$(RUNTIME)/$(TRIPLET)/librrdi.so.0)),$(ABOUT_RUNTIME))
 	$(call finish,$(DEVELOPMENT),librrdi-dev,libdevel,librrdi0 (= $(VERSION)),$(ABOUT_DEVELOPMENT))
 	$(call finish,$(OF_PYTHON),python3-rrdi,python,python3 (>= 3.8)$(COMMA) rrdi (= $(VERSION))$(COMMA) librrdi0 (>= $(VERSION)),$(ABOUT_PYTHON))
-	$(call finish,$(PACKAGE),rrdi,utils,libc6 (>= $(call GLIBC,"$(PROGRAM)")),$(ABOUT_PACKAGE))
+	$(call finish,$(PACKAGE),rrdi,utils,libc6 (>= $(call GLIBC,"$(PROGRAM)"))$(COMMA) python3 (>= 3.8),$(ABOUT_PACKAGE))
 
-.PHONY: all library link-library install install-library install-program uninstall deb
+.PHONY: all library link-library install install-directories install-library install-program uninstall deb
 
 # The tools, and what Perl and C programs of RRDtool's users record by.
 include tools/tools.mk

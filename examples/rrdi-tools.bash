@@ -4,7 +4,7 @@
 
 # Completes options, or files whose names have one of the given endings, or directories.
 _rrdi_tool() {
-    local current=${COMP_WORDS[COMP_CWORD]} tool=${COMP_WORDS[0]##*/} options='--help' ends='' end
+    local current=${COMP_WORDS[COMP_CWORD]} tool=${COMP_WORDS[0]##*/} options='--help --version' ends='' end
     COMPREPLY=()
     case $tool in
         rrdi-import)
@@ -35,7 +35,7 @@ _rrdi_tool() {
         rrdi-record) ends='rrdi' ;;
         rrdi-feed)
             options='--seconds --jobs --held --patience --graphite --rules'
-            ((COMP_CWORD > 1)) || options="--help $options"
+            ((COMP_CWORD > 1)) || options="--help --version $options"
             case ${COMP_WORDS[COMP_CWORD - 1]} in
                 --seconds | --jobs | --held | --patience) return 0 ;;
                 --graphite) ;;
@@ -51,7 +51,7 @@ _rrdi_tool() {
             esac
             ;;
         rrdi-graph)
-            options='--help --start --end --title --vertical-label --width --height'
+            options='--help --version --start --end --title --vertical-label --width --height'
             ((COMP_CWORD > 1)) && ends='' || ends='png svg pdf'
             ;;
         rrdi-rrdtool)

@@ -3,6 +3,7 @@
 #
 #     make record                            links out/librrdi-record.so, if the C library is there
 TOOLS = $(notdir $(wildcard tools/rrdi-*))
+UNIT_NAMES = $(notdir $(wildcard tools/systemd/*.service tools/systemd/*.socket tools/systemd/*.timer))
 BUILD ?= out
 RECORDER = $(BUILD)/librrdi-record.so
 PRIVATE = $(DESTDIR)$(PREFIX)/lib/rrdi
@@ -18,31 +19,41 @@ $(RECORDER): librrd/record.c include/rrdi.h $(BUILD)/librrdi.a
 	$(CC) -std=c11 -O2 -Wall -Wextra -fPIC -fvisibility=hidden -shared -s -o $@ -Iinclude \
 		-Wl,--exclude-libs,ALL -Wl,-z,relro,-z,now librrd/record.c $(BUILD)/librrdi.a
 
-# Each name on the PATH is a link into the shared folder, where the package is.
-install-tools: $(if $(HAS_LIBRARY),$(RECORDER))
-	install -d "$(BINARIES)" "$(MANUALS)" "$(COMPLETIONS)" "$(SHARED)/tools" "$(SHARED)/perl"
-	install -d "$(SHARED)/python/rrdi/tools/rrdtool"
-	install -m 644 python/rrdi/tools/*.py "$(SHARED)/python/rrdi/tools"
-	install -m 644 python/rrdi/tools/rrdtool/*.py "$(SHARED)/python/rrdi/tools/rrdtool"
+# Each name on the PATH is a link into the shared folder, where the package is. So are the completions of zsh and fish,
+# which ask bash's.
+install-tools: $(if $(HAS_LIBRARY),$(RECORDER)) install-directories
+	install -d "$(SHARED)/tools/completion" "$(SHARED)/perl"
 	install -m 755 tools/rrdi-* "$(SHARED)/tools"
+	install -m 755 tools/completion/offers "$(SHARED)/tools/completion"
+	install -m 644 tools/completion/_rrdi tools/completion/rrdi.fish "$(SHARED)/tools/completion"
+	ln -sfnr "$(SHARED)/tools/completion/_rrdi" "$(COMPLETIONS_OF_ZSH)/_rrdi"
+	for name in rrdi $(TOOLS); do \
+		ln -sfnr "$(SHARED)/tools/completion/rrdi.fish" "$(COMPLETIONS_OF_FISH)/$$name.fish"; \
+	done
+	for unit in $(UNIT_NAMES); do \
+		sed 's|@PREFIX@|$(PREFIX)|g' tools/systemd/$$unit > "$(UNITS)/$$unit" && chmod 644 "$(UNITS)/$$unit" || exit 1; \
+	done
+	install -m 644 tools/systemd/rrdi.conf "$(ACCOUNTS)"
 	install -m 644 perl/RRDs.pm "$(SHARED)/perl"
 	@for tool in $(TOOLS); do \
 		ln -sf ../share/rrdi/tools/$$tool "$(BINARIES)/$$tool" && \
-		sed -e 's|^\.Pa docs/|.Pa $(PREFIX)/share/rrdi/docs/|' docs/$$tool.1 | gzip -9n > "$(MANUALS)/$$tool.1.gz" && \
+		$(call manual,docs/$$tool.1) > "$(MANUALS)/$$tool.1.gz" && \
 		chmod 644 "$(MANUALS)/$$tool.1.gz" && \
 		install -m 644 examples/rrdi-tools.bash "$(COMPLETIONS)/$$tool" || exit 1; \
 	done
-	@if [ -e $(RECORDER) ]; then install -d "$(PRIVATE)" && install -m 644 $(RECORDER) "$(PRIVATE)"; fi
+	$(if $(HAS_LIBRARY),install -m 644 $(RECORDER) "$(PRIVATE)")
 
 uninstall-tools:
 	rm -f $(TOOLS:%="$(BINARIES)/%") $(TOOLS:%="$(MANUALS)/%.1.gz") $(TOOLS:%="$(COMPLETIONS)/%")
+	rm -f "$(COMPLETIONS_OF_ZSH)/_rrdi" "$(COMPLETIONS_OF_FISH)/rrdi.fish" $(TOOLS:%="$(COMPLETIONS_OF_FISH)/%.fish")
+	rm -f $(UNIT_NAMES:%="$(UNITS)/%") "$(ACCOUNTS)/rrdi.conf"
 	rm -rf "$(PRIVATE)"
 
 .PHONY: record install-tools uninstall-tools
 
 # Debian's package that puts the Perl module in the place of RRDtool's for all programs, also for those in taint mode, which
 # ignore PERL5LIB.
-OF_PERL = out/librrds-perl-rrdi_$(VERSION)
+OF_PERL = $(BUILD)/librrds-perl-rrdi_$(VERSION)
 ABOUT_PERL = 'Provides: librrds-perl (= 1.7.2)' 'Conflicts: librrds-perl' 'Replaces: librrds-perl' \
 	'Description: round-robin time-series database with exact undo (Perl module RRDs)' \
 	' The module has the functions of RRDtool'\''s module RRDs, and runs them on databases' \

@@ -3,7 +3,7 @@
     import rrdi
 
     rrdi.create("room.rrdi", "DS:temp:GAUGE:60:U:U", "RRA:AVERAGE:0.5:1:360", step=10)
-    rrdi.update("room.rrdi", "N:21.5")
+    rrdi.update("room.rrdi", ("N", 21.5))
     (start, end, step), names, rows = rrdi.fetch("room.rrdi", "AVERAGE")
 
 The functions have the names, arguments and results of Python's module `rrdtool`. docs/python.md lists the functions.
@@ -18,19 +18,20 @@ if TYPE_CHECKING:
     from .commands import (Batch, RefusedLine, batch, create, fetch, first, info, last, lastupdate, resize, revert, tune,
                            update)
     from .database import Database, RefusedLines
-    from .errors import (Busy, CannotOpen, CannotRead, CannotWrite, Damaged, Error, NoDatabase, OperationalError,
-                         OutOfMemory, ProgrammingError, Refused, Unreadable, Usage)
+    from .errors import (BadSample, Busy, CannotOpen, CannotRead, CannotWrite, Damaged, Error, Exists, NoDatabase,
+                         OperationalError, OutOfMemory, ProgrammingError, Refused, Unreadable, Usage)
     from .library import library_path, load_library
     from .memory import Ran, RanBatch, run, run_batch
     from .reader import Fault, Reader, read, read_file
+    from .samples import Sample
 
 __version__ = "0.2.0"
 
-__all__ = ["Batch", "Busy", "CannotOpen", "CannotRead", "CannotWrite", "Damaged", "Database", "Error", "Fault",
-           "Millionths", "NoDatabase", "OperationalError", "OutOfMemory", "ProgrammingError", "Ran", "RanBatch",
-           "Reader", "Refused", "RefusedLine", "RefusedLines", "Unreadable", "Usage", "batch", "create", "fetch",
-           "first", "info", "last", "lastupdate", "library_path", "load_library", "read", "read_file", "resize",
-           "revert", "run", "run_batch", "tune", "update"]
+__all__ = ["BadSample", "Batch", "Busy", "CannotOpen", "CannotRead", "CannotWrite", "Damaged", "Database", "Error",
+           "Exists", "Fault", "Millionths", "NoDatabase", "OperationalError", "OutOfMemory", "ProgrammingError", "Ran",
+           "RanBatch", "Reader", "Refused", "RefusedLine", "RefusedLines", "Sample", "Unreadable", "Usage", "batch",
+           "create", "fetch", "first", "info", "last", "lastupdate", "library_path", "load_library", "read", "read_file",
+           "resize", "revert", "run", "run_batch", "tune", "update"]
 
 # The modules and their names. A module is imported when a program first asks for one of its names, so that a tool, or a
 # program that only reads, imports what it uses.
@@ -38,11 +39,12 @@ _HOMES = {name: module for module, names in {
     "amounts": "Millionths",
     "commands": "Batch RefusedLine batch create fetch first info last lastupdate resize revert tune update",
     "database": "Database RefusedLines",
-    "errors": "Busy CannotOpen CannotRead CannotWrite Damaged Error NoDatabase OperationalError OutOfMemory "
-              "ProgrammingError Refused Unreadable Usage",
+    "errors": "BadSample Busy CannotOpen CannotRead CannotWrite Damaged Error Exists NoDatabase OperationalError "
+              "OutOfMemory ProgrammingError Refused Unreadable Usage",
     "library": "library_path load_library",
     "memory": "Ran RanBatch run run_batch",
-    "reader": "Fault Reader read read_file"}.items() for name in names.split()}
+    "reader": "Fault Reader read read_file",
+    "samples": "Sample"}.items() for name in names.split()}
 
 
 def __getattr__(name: str) -> object:

@@ -15,6 +15,13 @@ class Millionths(int):
         return f"{'-' * (self < 0)}{abs(self) // MILLION}.{abs(self) % MILLION:06}"
 
 
+def shortened(text: str) -> str:
+    """Returns a number without zeros at the end of its fraction. A COUNTER takes no number with a point."""
+    if "." in text:
+        text = text.rstrip("0").rstrip(".")
+    return "0" if text == "-0" else text
+
+
 def gauge_text(value: float) -> Optional[str]:
     """Writes a float as a value of a GAUGE, rounded to six decimals; None if rrdi takes no such value."""
     if not math.isfinite(value) or abs(value) >= LARGEST:

@@ -3,12 +3,14 @@
 Like the program, each function opens and locks the file, reads the file once, writes a changed file once, and closes the
 file. All functions take these keywords:
 
-- `now`: the present time in seconds since 1970; by default the clock's time.
+- `now`: the present time; by default the clock's time.
 - `busy_timeout`: the seconds to wait if another program holds the file's lock. The default is the variable RRDI_WAIT,
   or 5.
 
 Functions that change a file also take `sync`: True flushes the change to the disk. The default is True if the variable
 RRDI_SYNC is 1.
+
+A time is in seconds since 1970 or a datetime with a zone, and a span is in seconds or a timedelta.
 
 # Errors
 A failed function raises a subclass of `Error` in `rrdi.errors`; the file is then unchanged. A function raises `OSError`
@@ -16,14 +18,21 @@ if the C library cannot be loaded.
 """
 from __future__ import annotations
 
+import datetime
 import os
-from typing import Iterable, List, NamedTuple, Optional, Tuple, Type, Union, overload
+from decimal import Decimal
+from typing import Callable, Iterable, List, NamedTuple, Optional, Tuple, Type, TypeVar, Union, overload
 
-from .errors import OK, USAGE, Usage, error_of, reason_of
+from .errors import CANNOT_WRITE, OK, USAGE, Error, Exists, Refused, Unreadable, Usage, error_of, reason_of
 from .fetching import fetched
 from .library import Answer, the_library
-from .results import Info, LastUpdate, Table, Value, info_of, last_update
-from .words import FilePath, Words, encoded, encoded_path, flat, is_synced, milliseconds, options, present
+from .results import AnyNumber, Info, LastUpdate, Table, Value, info_of, last_update
+from .samples import Sample, sample_words
+from .times import Span, Time, moment, span_word, time_word
+from .words import FilePath, Words, encoded, encoded_path, flat, is_synced, milliseconds, options
+
+Filled = TypeVar("Filled")
+
 
 class RefusedLine(NamedTuple):
     """A refused line of a batch: its number (the first line is 1), the line, and the reason."""
@@ -42,49 +51,113 @@ class Batch(NamedTuple):
 
 def _failed(answer: Answer, path: FilePath) -> Exception:
     """Returns the exception for the fault of an answer."""
-    return error_of(answer.fault, reason_of(answer.fault, answer.output), os.fsdecode(path), answer.at, answer.system_error)
+    reason = reason_of(answer.fault, answer.output)
+    return error_of(answer.fault, reason, os.fsdecode(path), answer.at, answer.system_error)
 
 
-def run_on(path: FilePath, words: List[str], now: Optional[int] = None, busy_timeout: Optional[float] = None,
+def run_on(path: FilePath, words: List[str], now: Optional[Time] = None, busy_timeout: Optional[float] = None,
            sync: Optional[bool] = None) -> str:
     """Runs one command on the file at `path`, and returns its output."""
-    answer = the_library().run_file(encoded_path(path), encoded(words), present(now), milliseconds(busy_timeout),
+    answer = the_library().run_file(encoded_path(path), encoded(words), moment(now), milliseconds(busy_timeout),
                                     is_synced(sync))
     if answer.fault != OK:
         raise _failed(answer, path)
     return answer.output.decode()
 
 
+def run_explained(path: FilePath, words: List[str], now: Optional[Time] = None, busy_timeout: Optional[float] = None,
+                  sync: Optional[bool] = None) -> str:
+    """Does the same as `run_on`, but an error also says which sample, value or time was wrong."""
+    try:
+        return run_on(path, words, now, busy_timeout, sync)
+    except (Refused, Unreadable) as error:
+        from .explaining import explain  # here, since most commands succeed
+        explain(error, words, lambda question: run_on(path, question, now, 0, None))
+        raise
+
+
 # ---- Changes
 
-def create(path: FilePath, *definitions: Words, step: Optional[int] = None, start: Optional[int] = None,
-           journal: Optional[int] = None, now: Optional[int] = None, busy_timeout: Optional[float] = None,
-           sync: Optional[bool] = None) -> None:
-    """Creates a database with data sources (`DS:..`) and archives (`RRA:..`). Replaces a file that is at `path`."""
-    words = ["create", *options(step=step, start=start, journal=journal), *flat(definitions)]
-    run_on(path, words, now, busy_timeout, sync)
-
-
-def update(path: FilePath, *samples: Words, template: Optional[str] = None, now: Optional[int] = None,
+def create(path: FilePath, *definitions: Words, step: Optional[Span] = None, start: Optional[Time] = None,
+           journal: Optional[int] = None, overwrite: bool = False, exist_ok: bool = False, now: Optional[Time] = None,
            busy_timeout: Optional[float] = None, sync: Optional[bool] = None) -> None:
-    """Adds samples (`TIME:VALUE..`), all or none."""
+    """Creates a database with data sources (`DS:..`) and archives (`RRA:..`), whole or not at all.
+
+    `overwrite` replaces a file that is at `path`, whatever it contains; `revert` does not bring it back. `exist_ok`
+    keeps a database that is at `path`, as it is.
+
+    # Errors
+    `Exists`, a `FileExistsError`, if there is a file, and neither is True.
+    """
+    words = creation(definitions, step, start, journal, overwrite, exist_ok)
+    if overwrite:
+        run_explained(path, words, now, busy_timeout, sync)
+    elif make_at(path, lambda new: run_explained(new, words, now, busy_timeout, sync)) is None:
+        if not exist_ok:
+            raise Exists(os.fsdecode(path))
+        last(path, now=now, busy_timeout=busy_timeout)  # fails if the file is no database
+
+
+def creation(definitions: Iterable[Words], step: Optional[Span], start: Optional[Time], journal: Optional[int],
+             overwrite: bool, exist_ok: bool) -> List[str]:
+    """Returns the words that create a database.
+
+    # Errors
+    `ValueError` if a file is both to be replaced and to be kept.
+    """
+    if overwrite and exist_ok:
+        raise ValueError("overwrite=True replaces a file, exist_ok=True keeps it: give one of them")
+    return ["create", *options(step=span_word(step), start=time_word(start), journal=journal), *flat(definitions)]
+
+
+def make_at(path: FilePath, fill: Callable[[str], Filled]) -> Optional[Filled]:
+    """Calls `fill` with another name, gives the whole file its name `path`, and returns what `fill` returned.
+
+    Returns None if there is a file at `path`, which stays as it is. `fill` may leave no file.
+    """
+    if os.path.exists(encoded_path(path)):
+        return None
+    from .making import NewFile  # here, since most calls make no file
+    with NewFile(path) as new:
+        try:
+            filled = fill(new.unfinished)
+        except Error as error:
+            error.path = os.fsdecode(path)
+            raise
+        try:
+            return filled if not new.is_filled() or new.appear() else None
+        except OSError as error:
+            raise error_of(CANNOT_WRITE, "cannot write", os.fsdecode(path), 0, error.errno or 0) from None
+
+
+def update(path: FilePath, *samples: Sample, template: Optional[str] = None, now: Optional[Time] = None,
+           busy_timeout: Optional[float] = None, sync: Optional[bool] = None) -> None:
+    """Adds samples, all or none. A sample is a text `TIME:VALUE..`, or a tuple of a time and values.
+
+    In a tuple, the time is a time or `"N"`, and a value is an int, a float, a Decimal, a Fraction or a `Millionths`,
+    which is rounded to six decimals (half to even). None and nan are unknown, and a text is sent as it is.
+
+    # Errors
+    `BadSample`, a `ValueError`, if no database can take a time or a value of a tuple. Then nothing is sent.
+    """
     words = ["update"] if template is None else ["update", f"--template={template}"]
-    run_on(path, words + flat(samples), now, busy_timeout, sync)
+    words += sample_words(samples, path)
+    run_explained(path, words, now, busy_timeout, sync)
 
 
-def tune(path: FilePath, *words: Words, now: Optional[int] = None, busy_timeout: Optional[float] = None,
+def tune(path: FilePath, *words: Words, now: Optional[Time] = None, busy_timeout: Optional[float] = None,
          sync: Optional[bool] = None) -> None:
     """Changes the settings of data sources, or adds or removes an archive."""
     run_on(path, ["tune", *flat(words)], now, busy_timeout, sync)
 
 
-def resize(path: FilePath, *words: Words, now: Optional[int] = None, busy_timeout: Optional[float] = None,
+def resize(path: FilePath, *words: Words, now: Optional[Time] = None, busy_timeout: Optional[float] = None,
            sync: Optional[bool] = None) -> None:
     """Changes the number of rows of an archive in the file at `path`: adds (GROW) or removes (SHRINK) `rows` rows."""
     run_on(path, ["resize", *flat(words)], now, busy_timeout, sync)
 
 
-def revert(path: FilePath, *, now: Optional[int] = None, busy_timeout: Optional[float] = None,
+def revert(path: FilePath, *, now: Optional[Time] = None, busy_timeout: Optional[float] = None,
            sync: Optional[bool] = None) -> None:
     """Undoes the newest change."""
     run_on(path, ["revert"], now, busy_timeout, sync)
@@ -92,64 +165,76 @@ def revert(path: FilePath, *, now: Optional[int] = None, busy_timeout: Optional[
 
 # ---- Questions
 
-def first(path: FilePath, *words: Words, rraindex: Optional[int] = None, now: Optional[int] = None,
+def first(path: FilePath, *words: Words, rraindex: Optional[int] = None, now: Optional[Time] = None,
           busy_timeout: Optional[float] = None) -> int:
     """Returns the time of the oldest row of an archive, in seconds since 1970."""
     return int(run_on(path, ["first", *options(rraindex=rraindex), *flat(words)], now, busy_timeout, None))
 
 
-def last(path: FilePath, *, now: Optional[int] = None, busy_timeout: Optional[float] = None) -> int:
+def last(path: FilePath, *, now: Optional[Time] = None, busy_timeout: Optional[float] = None) -> int:
     """Returns the time of the last sample, or the start, in seconds since 1970."""
     return int(run_on(path, ["last"], now, busy_timeout, None))
 
 
-def info(path: FilePath, *, now: Optional[int] = None, busy_timeout: Optional[float] = None) -> Info:
-    """Returns the settings by RRDtool's names, and `journal` and `undoable` by rrdi's."""
-    return info_of(run_on(path, ["info"], now, busy_timeout, None), os.fsdecode(path))
+def info(path: FilePath, *, values: Type[AnyNumber] = Decimal, now: Optional[Time] = None,
+         busy_timeout: Optional[float] = None) -> Info:
+    """Returns the settings by RRDtool's names, and `journal` and `undoable` by rrdi's.
+
+    `values` is the type of the bounds and of xff, as in `fetch`.
+    """
+    return info_of(run_on(path, ["info"], now, busy_timeout, None), os.fsdecode(path), values)
 
 
 @overload
-def lastupdate(path: FilePath, *, now: Optional[int] = ...,
-               busy_timeout: Optional[float] = ...) -> LastUpdate[float]: ...
+def lastupdate(path: FilePath, *, tz: Optional[datetime.tzinfo] = ..., now: Optional[Time] = ...,
+               busy_timeout: Optional[float] = ...) -> LastUpdate[Decimal]: ...
 
 
 @overload
-def lastupdate(path: FilePath, *, values: Type[Value], now: Optional[int] = ...,
+def lastupdate(path: FilePath, *, values: Type[Value], tz: Optional[datetime.tzinfo] = ..., now: Optional[Time] = ...,
                busy_timeout: Optional[float] = ...) -> LastUpdate[Value]: ...
 
 
-def lastupdate(path: FilePath, *, values: type = float, now: Optional[int] = None,
-               busy_timeout: Optional[float] = None) -> object:
+def lastupdate(path: FilePath, *, values: type = Decimal, tz: Optional[datetime.tzinfo] = None,
+               now: Optional[Time] = None, busy_timeout: Optional[float] = None) -> object:
     """Returns the last raw values: `{"date": datetime, "ds": {name: value}}`; an unknown value is None.
 
-    `values` is as in `fetch`. The date is a local time without a zone, as in Python's module `rrdtool`.
+    `values` is as in `fetch`. The date is in the zone `tz`; without one it is a local time without a zone, as in
+    Python's module `rrdtool`.
     """
-    return last_update(run_on(path, ["lastupdate"], now, busy_timeout, None), values)
+    return last_update(run_on(path, ["lastupdate"], now, busy_timeout, None), values, tz)
 
 
 @overload
-def fetch(path: FilePath, function: Words, *words: Words, resolution: Optional[int] = ..., start: Optional[int] = ...,
-          end: Optional[int] = ..., now: Optional[int] = ...,
-          busy_timeout: Optional[float] = ...) -> Table[float]: ...
+def fetch(path: FilePath, function: Words, *words: Words, resolution: Optional[Span] = ..., start: Optional[Time] = ...,
+          end: Optional[Time] = ..., now: Optional[Time] = ...,
+          busy_timeout: Optional[float] = ...) -> Table[Decimal]: ...
 
 
 @overload
-def fetch(path: FilePath, function: Words, *words: Words, values: Type[Value], resolution: Optional[int] = ...,
-          start: Optional[int] = ..., end: Optional[int] = ..., now: Optional[int] = ...,
+def fetch(path: FilePath, function: Words, *words: Words, values: Type[Value], resolution: Optional[Span] = ...,
+          start: Optional[Time] = ..., end: Optional[Time] = ..., now: Optional[Time] = ...,
           busy_timeout: Optional[float] = ...) -> Table[Value]: ...
 
 
-def fetch(path: FilePath, function: Words, *words: Words, values: type = float, resolution: Optional[int] = None,
-          start: Optional[int] = None, end: Optional[int] = None, now: Optional[int] = None,
+def fetch(path: FilePath, function: Words, *words: Words, values: type = Decimal, resolution: Optional[Span] = None,
+          start: Optional[Time] = None, end: Optional[Time] = None, now: Optional[Time] = None,
           busy_timeout: Optional[float] = None) -> object:
     """Returns rows of one archive: `((start, end, step), names, rows)`. A row is a tuple; an unknown value is None.
 
-    Row n ends at start + (n + 1) * step. `values` is the type of the values: `float`, which rounds, `decimal.Decimal`,
-    which is exact, or `Millionths`, an `int`, which is exact.
+    Row n ends at start + (n + 1) * step. `values` is the type of the values: `decimal.Decimal`, which is exact,
+    `Millionths`, an `int`, which is exact too, or `float`, which rounds to about 16 digits.
     """
-    time = present(now)
-    asked = [*options(resolution=resolution, start=start, end=end), *flat([function, *words])]
-    return fetched(lambda line: run_on(path, line, time, busy_timeout, None), asked, time, values)
+    time = moment(now)
+    asked = fetch_words(function, words, resolution, start, end)
+    return fetched(lambda line: run_explained(path, line, time, busy_timeout, None), asked, time, values)
+
+
+def fetch_words(function: Words, words: Iterable[Words], resolution: Optional[Span], start: Optional[Time],
+                end: Optional[Time]) -> List[str]:
+    """Returns the words of a fetch, without its name."""
+    named = options(resolution=span_word(resolution), start=time_word(start), end=time_word(end))
+    return [*named, *flat([function, *words])]
 
 
 # ---- Lines
@@ -177,7 +262,7 @@ def refused_lines(lines: List[str], answer: Answer) -> Tuple[RefusedLine, ...]:
     return tuple(RefusedLine(number, lines[number - 1], reason) for number, reason in zip(answer.refused, reasons))
 
 
-def batch(path: FilePath, lines: Union[str, Iterable[str]], *, now: Optional[int] = None,
+def batch(path: FilePath, lines: Union[str, Iterable[str]], *, now: Optional[Time] = None,
           busy_timeout: Optional[float] = None, sync: Optional[bool] = None) -> Batch:
     """Runs lines as `rrdi batch FILE` does: locks the file, reads the file once, and writes the file once.
 
@@ -185,7 +270,7 @@ def batch(path: FilePath, lines: Union[str, Iterable[str]], *, now: Optional[int
     """
     given = lines_of(lines)
     text = "\n".join(given).encode(errors="surrogateescape")
-    answer = the_library().batch_file(encoded_path(path), text, present(now), milliseconds(busy_timeout),
+    answer = the_library().batch_file(encoded_path(path), text, moment(now), milliseconds(busy_timeout),
                                       is_synced(sync))
     if answer.fault != OK:
         raise _failed(answer, path)

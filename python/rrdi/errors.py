@@ -8,7 +8,7 @@ from __future__ import annotations
 
 import errno
 import os
-from typing import Dict, Optional, Type
+from typing import Dict, Optional, Tuple, Type
 
 # The library's numbers. docs/embedding.md has the table.
 OK, NO_ROOM, NO_MEMORY = 0, 1, 2
@@ -21,19 +21,23 @@ class Error(Exception):
 
     `reason` is the program's text after `ERROR: `, `path` the file (None in memory), `fault` the library's number,
     `at` the byte, or the number of the journal entry, at which a file is damaged, and `system_error` the number
-    (`errno`) of the system's reason if the file cannot be opened or written.
+    (`errno`) of the system's reason if the file cannot be opened or written. `detail` says more, such as which value of
+    which sample is wrong; it may be empty.
     """
 
     def __init__(self, reason: str, path: Optional[str] = None, fault: int = 0, at: Optional[int] = None,
-                 system_error: int = 0):
+                 system_error: int = 0, detail: str = ""):
         super().__init__(reason)
         self.reason, self.path, self.fault, self.at, self.system_error = reason, path, fault, at, system_error
+        self.detail = detail
 
     def __str__(self) -> str:
         if self.system_error in (errno.EAGAIN, errno.EWOULDBLOCK):
             why = ": another program holds its lock"
         else:
             why = f": {os.strerror(self.system_error)}" if self.system_error else ""
+        if self.detail:
+            why += f"{'; ' if why else ': '}{self.detail}"
         return f"{self.path}: {self.reason}{why}" if self.path is not None else self.reason + why
 
 
@@ -57,6 +61,13 @@ class Refused(OperationalError):
     """The database refuses a command, and is unchanged. docs/errors.md has the reasons."""
 
 
+class BadSample(Refused, ValueError):
+    """No database can take a time or a value of a sample, such as inf. Raised before anything is sent."""
+
+    def __init__(self, reason: str, path: Optional[str] = None, detail: str = ""):
+        super().__init__(reason, path, REFUSED, detail=detail)
+
+
 class NoDatabase(OperationalError):
     """There is no file, or, in memory, no database."""
 
@@ -75,6 +86,19 @@ class CannotRead(OperationalError):
 
 class CannotWrite(OperationalError):
     """The file cannot be written. It holds the old database; if undoing the change failed too, the old or the new one."""
+
+
+class Exists(CannotWrite, FileExistsError):
+    """There is a file already, which `create` replaces only if it is told to."""
+
+    errno = errno.EEXIST
+
+    def __init__(self, path: str):
+        super().__init__("cannot write", path, CANNOT_WRITE, None, errno.EEXIST,
+                         "overwrite=True replaces it, exist_ok=True keeps it")
+
+    def __reduce__(self) -> Tuple[object, ...]:
+        return Exists, (self.path,)
 
 
 class Damaged(OperationalError):

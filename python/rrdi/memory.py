@@ -5,9 +5,11 @@ import errno
 from typing import Iterable, NamedTuple, Optional, Tuple, Union
 
 from .commands import RefusedLine, lines_of, refused_lines
-from .errors import CANNOT_OPEN, OK, error_of, reason_of
+from .errors import CANNOT_OPEN, OK, Error, error_of, reason_of
 from .library import Answer, the_library
-from .words import Words, encoded, flat, present
+from .samples import Sample, sample_words
+from .times import Time, moment
+from .words import encoded, flat
 
 
 class Ran(NamedTuple):
@@ -28,7 +30,7 @@ class RanBatch(NamedTuple):
     refused: Tuple[RefusedLine, ...]
 
 
-def _failed(answer: Answer) -> Exception:
+def _failed(answer: Answer) -> Error:
     """Returns the exception for the fault of an answer. In memory, `cannot open` means that there is no database."""
     number = errno.ENOENT if answer.fault == CANNOT_OPEN else 0
     found = error_of(answer.fault, reason_of(answer.fault, answer.output), None, answer.at, number)
@@ -36,28 +38,34 @@ def _failed(answer: Answer) -> Exception:
     return found
 
 
-def run(data: Optional[bytes], *words: Words, now: Optional[int] = None) -> Ran:
+def run(data: Optional[bytes], *words: Sample, now: Optional[Time] = None) -> Ran:
     """Runs one command on the bytes of a database, or on none: `run(None, "create", ..)`. Reads and writes no file.
+
+    The samples of an `update` may be tuples, as in `rrdi.update`.
 
     # Errors
     A subclass of `Error` in `rrdi.errors`.
     """
-    answer = the_library().run(data, encoded(flat(words)), present(now))
+    given = sample_words(words) if words[:1] == ("update",) else flat(words)  # type: ignore[arg-type]
+    answer = the_library().run(data, encoded(given), moment(now))
     if answer.fault != OK:
-        raise _failed(answer)
+        from .explaining import explain  # here, since most commands succeed
+        error = _failed(answer)
+        explain(error, given, lambda question: run(data, *question, now=now).output)
+        raise error
     changed = data if answer.data is None else answer.data
     assert changed is not None, "without a database rrdi accepts `create` alone"
     return Ran(changed, answer.output.decode())
 
 
-def run_batch(data: Optional[bytes], lines: Union[str, Iterable[str]], *, now: Optional[int] = None) -> RanBatch:
+def run_batch(data: Optional[bytes], lines: Union[str, Iterable[str]], *, now: Optional[Time] = None) -> RanBatch:
     """Runs lines as `rrdi batch` reads them on the bytes of a database, or on none.
 
     # Errors
     A subclass of `Error` in `rrdi.errors` if no line was run. A refused line is in `refused`.
     """
     given = lines_of(lines)
-    answer = the_library().batch(data, "\n".join(given).encode(errors="surrogateescape"), present(now))
+    answer = the_library().batch(data, "\n".join(given).encode(errors="surrogateescape"), moment(now))
     if answer.fault != OK:
         raise _failed(answer)
     changed = data if answer.data is None else answer.data

@@ -6,12 +6,13 @@ from decimal import Decimal
 from typing import (TYPE_CHECKING, Callable, Dict, Generic, List, NamedTuple, Optional, Tuple, Type, TypedDict, TypeVar,
                     Union)
 
-from .amounts import MILLION, Millionths
+from .amounts import MILLION, Millionths, shortened
 
 Value = TypeVar("Value", float, Decimal, Millionths)
 Row = Tuple[Optional[Value], ...]
 Table = Tuple[Tuple[int, int, int], Tuple[str, ...], List[Tuple[Optional[Value], ...]]]
-Info = Dict[str, Union[str, int, float, None]]
+AnyNumber = Union[float, Decimal]  # a Millionths is an int
+Info = Dict[str, Union[str, int, float, Decimal, None]]
 UNKNOWN = frozenset({"nan", "U"})
 
 if TYPE_CHECKING:
@@ -37,7 +38,7 @@ def _millionths(word: str) -> Millionths:
     return Millionths(word.replace(".", "")) if "." in word else Millionths(int(word) * MILLION)
 
 
-_CONVERSIONS: Dict[type, Callable[[str], object]] = {float: float, Decimal: Decimal, Millionths: _millionths}
+_CONVERSIONS: Dict[type, Callable[[str], AnyNumber]] = {float: float, Decimal: Decimal, Millionths: _millionths}
 
 
 def conversion(values: Type[Value]) -> Callable[[str], Value]:
@@ -46,10 +47,15 @@ def conversion(values: Type[Value]) -> Callable[[str], Value]:
     # Errors
     `TypeError` if `values` is not float, Decimal or Millionths.
     """
+    return any_conversion(values)  # type: ignore[return-value]
+
+
+def any_conversion(values: type) -> Callable[[str], AnyNumber]:
+    """Does the same as `conversion` for a type that the checker does not know."""
     found = _CONVERSIONS.get(values)
     if found is None:
         raise TypeError(f"values must be float, Decimal or Millionths, not {values!r}")
-    return found  # type: ignore[return-value]
+    return found
 
 
 def rows_of(text: str) -> Rows:
@@ -70,51 +76,48 @@ def table(rows: Rows, step: int, values: Type[Value]) -> Table[Value]:
     return (rows.times[0] - step, rows.times[-1], step), rows.names, cells
 
 
-def last_update(text: str, values: Type[Value]) -> LastUpdate[Value]:
-    """Returns the time of the last sample, in the local time zone, and the last raw value of each source."""
+def last_update(text: str, values: Type[Value], tz: Optional[datetime.tzinfo] = None) -> LastUpdate[Value]:
+    """Returns the time of the last sample, and the last raw value of each source.
+
+    The time is in the zone `tz`. For None it is a local time without a zone.
+    """
     convert, rows = conversion(values), rows_of(text)
     last = {name: None if word in UNKNOWN else convert(word) for name, word in zip(rows.names, rows.words[0])}
-    return {"date": datetime.datetime.fromtimestamp(rows.times[0]), "ds": last}
+    return {"date": datetime.datetime.fromtimestamp(rows.times[0], tz), "ds": last}
 
 
 # ---- info
 
-_OF_A_SOURCE = {"minimal_heartbeat": int, "min": float, "max": float}
-_OF_AN_ARCHIVE = {"rows": "rows", "steps": "pdp_per_row", "xff": "xff", "cf": "cf"}
+_NAMES = {"last_raw": "last_ds", "steps": "pdp_per_row"}  # RRDtool's names, where they differ
 
 
-def _shortened(word: str) -> str:
-    """Returns a number without zeros at the end of its fraction, as in a sample."""
-    return word.rstrip("0").rstrip(".") if "." in word else word
+def info_of(text: str, filename: str, values: Type[AnyNumber] = float) -> Info:
+    """Returns the settings by RRDtool's names, and the settings of the journal by rrdi's own names.
 
-
-def info_of(text: str, filename: str) -> Info:
-    """Returns the settings by RRDtool's names, and the settings of the journal by rrdi's own names."""
+    `values` is the type of the bounds and of xff.
+    """
     found: Info = {"filename": filename}
+    convert = any_conversion(values)
     names: Dict[str, str] = {}
     for line in text.splitlines():
         key, _, word = line.partition(" = ")
         owner, _, name = key.partition(".")
-        if owner.startswith("ds["):
-            number = owner[3:-1]
-            if name == "name":
-                names[number] = word
-                found[f"ds[{word}].index"] = int(number)
-            else:
-                _add_setting(found, f"ds[{names[number]}]", name, word)
-        elif owner.startswith("rra["):
-            kind: Callable[[str], Union[str, int, float]] = {"cf": str, "xff": float}.get(name, int)
-            found[f"{owner}.{_OF_AN_ARCHIVE[name]}"] = kind(word)
+        if owner.startswith("ds[") and name == "name":
+            names[owner] = f"ds[{word}]"
+            found[f"ds[{word}].index"] = int(owner[3:-1])
+        elif name:
+            found[f"{names.get(owner, owner)}.{_NAMES.get(name, name)}"] = _setting(name, word, convert)
         else:
             found[key] = int(word)
     return found
 
 
-def _add_setting(found: Info, owner: str, name: str, word: str) -> None:
-    """Adds one setting of a source."""
+def _setting(name: str, word: str, convert: Callable[[str], AnyNumber]) -> Union[str, int, AnyNumber, None]:
+    """Returns one setting of a source or an archive."""
+    if name in ("type", "cf"):
+        return word
     if name == "last_raw":
-        found[f"{owner}.last_ds"] = _shortened(word)
-    elif name == "type":
-        found[f"{owner}.type"] = word
-    else:
-        found[f"{owner}.{name}"] = None if word == "U" else _OF_A_SOURCE[name](word)
+        return shortened(word)
+    if name in ("min", "max", "xff"):
+        return None if word == "U" else convert(word)
+    return int(word)

@@ -256,7 +256,8 @@ class Rows(WriterCase):
         self.writer.write(values(NOW + 10, 2.0, type="gauge"))
         self.writer.flush(0)
         self.assertIn("another program may be making the file; 1 samples wait", self.collectd.lines[0])
-        commands.create(str(path), "DS:value:GAUGE:20:U:U", "RRA:AVERAGE:0.5:1:9", start=NOW, step=10)
+        commands.create(str(path), "DS:value:GAUGE:20:U:U", "RRA:AVERAGE:0.5:1:9", start=NOW, step=10,
+                        overwrite=True)
         self.writer.end()
         self.assertEqual((self.rows("here/load/gauge.rrdi"), self.files()), ({10: [2.0]}, ["data/here/load/gauge.rrdi"]))
 

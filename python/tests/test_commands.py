@@ -14,59 +14,32 @@ from decimal import Decimal
 from typing import Any, List
 from unittest import mock
 
-from cases import WithLibrary, WithProgram, new_folder, run_in_threads, use_library
+from cases import WithLibrary, WithProgram, run_in_threads
+from file_case import BOTH, LAST, OfFiles
 
 import rrdi
 from rrdi import words
 from rrdi.errors import OK
 from rrdi.library import Answer
 
-LAST = 1_600_000_030
-BOTH = ("DS:g:GAUGE:100:-10:U", "DS:c:COUNTER:100:0:50", "RRA:AVERAGE:0.5:1:4", "RRA:MAX:0.25:2:4")
-
-
-class OfFiles:
-    """Tests in a folder of their own. A class of tests adds which library they call."""
-
-    def setUp(self: Any) -> None:
-        self.folder = new_folder(self)
-        self.file = self.folder / "f.rrdi"
-        use_library(self, self.library())
-
-    def create(self: Any, *definitions: str) -> Any:
-        rrdi.create(self.file, *(definitions or BOTH), step=10, start=1_600_000_000)
-        return self.file
-
-    def fill(self: Any) -> Any:
-        self.create()
-        rrdi.update(self.file, "1600000010:1.5:5", "1600000020:U:8", "1600000030:-2.25:15")
-        return self.file
-
-    def refuses(self: Any, kind: type, reason: str, call: Any, *words: Any, **options: Any) -> Any:
-        """A call raises this exception with this reason, and the file stays as it is."""
-        before = self.file.read_bytes() if self.file.exists() else None
-        with self.assertRaises(kind) as raised:
-            call(*words, **options)
-        self.assertIs(type(raised.exception), kind)
-        self.assertEqual(raised.exception.reason, reason)
-        self.assertEqual(self.file.read_bytes() if self.file.exists() else None, before)
-        return raised.exception
-
 
 class Commands(OfFiles):
     def test_fetch(self: Any) -> None:
         file = self.fill()
         found = rrdi.fetch(file, "AVERAGE", "--start", "1600000000", "--end", "1600000029")
-        self.assertEqual(found, ((1_600_000_000, LAST, 10), ("g", "c"), [(1.5, None), (None, 0.3), (-2.25, 0.7)]))
+        rows = [(Decimal("1.5"), None), (None, Decimal("0.3")), (Decimal("-2.25"), Decimal("0.7"))]
+        self.assertEqual(found, ((1_600_000_000, LAST, 10), ("g", "c"), rows))
         self.assertEqual(rrdi.fetch(file, "AVERAGE", start=1_600_000_000, end=1_600_000_029), found)
         self.assertEqual(rrdi.fetch(file, ["AVERAGE", "-s", 1_600_000_000], ["-e", "1600000029"]), found)
         self.assertEqual(rrdi.fetch(os.fsencode(file), "AVERAGE", "-s1600000000", "-e=1600000029"), found)
 
-    def test_fetch_exactly(self: Any) -> None:
+    def test_numbers_of_other_types(self: Any) -> None:
         file = self.fill()
-        _, _, rows = rrdi.fetch(file, "AVERAGE", start=1_600_000_000, end=1_600_000_029, values=Decimal)
-        self.assertEqual(rows, [(Decimal("1.5"), None), (None, Decimal("0.3")), (Decimal("-2.25"), Decimal("0.7"))])
-        self.assertEqual(str(rows[2][0]), "-2.250000")
+        _, _, rows = rrdi.fetch(file, "AVERAGE", start=1_600_000_000, end=1_600_000_029)
+        self.assertEqual((type(rows[2][0]), str(rows[2][0])), (Decimal, "-2.250000"))
+        self.assertEqual(rrdi.fetch(file, "AVERAGE", start=1_600_000_000, end=1_600_000_029, values=Decimal)[2], rows)
+        _, _, floats = rrdi.fetch(file, "AVERAGE", start=1_600_000_000, end=1_600_000_029, values=float)
+        self.assertEqual((floats, type(floats[2][0])), ([(1.5, None), (None, 0.3), (-2.25, 0.7)], float))
         _, _, whole = rrdi.fetch(file, "AVERAGE", start=1_600_000_000, end=1_600_000_029, values=rrdi.Millionths)
         self.assertEqual(whole, [(1_500_000, None), (None, 300_000), (-2_250_000, 700_000)])
         self.assertEqual(str(whole[2][0]), "-2.250000")
@@ -75,7 +48,7 @@ class Commands(OfFiles):
 
     def test_fetch_of_a_single_row(self: Any) -> None:
         file = self.fill()
-        one = ((1_600_000_010, 1_600_000_020, 10), ("g", "c"), [(None, 0.3)])
+        one = ((1_600_000_010, 1_600_000_020, 10), ("g", "c"), [(None, Decimal("0.3"))])
         for words in (["-s", "1600000010", "-e", "1600000010"], ["--start=1600000010", "--end=1600000019"],
                       ["-s1600000010", "-e", "1600000012", "-r", "10"], ["-e=1600000019", "-s=1600000011"]):
             self.assertEqual(rrdi.fetch(file, "AVERAGE", *words), one, words)
@@ -83,7 +56,7 @@ class Commands(OfFiles):
         found = rrdi.fetch(file, "MAX", "--", start=1_600_000_000, end=1_600_000_010)
         self.assertEqual(found[0], (1_600_000_000, 1_600_000_020, 20))
         # Rows of more than a day: the start is a day before the end.
-        rrdi.create(file, "DS:g:GAUGE:9:U:U", "RRA:LAST:0:1000:5", step=1_000, start=0)
+        rrdi.create(file, "DS:g:GAUGE:9:U:U", "RRA:LAST:0:1000:5", step=1_000, start=0, overwrite=True)
         self.assertEqual(rrdi.fetch(file, "LAST", end=1_500_000)[0], (1_000_000, 2_000_000, 1_000_000))
         self.assertEqual(rrdi.fetch(file, "LAST", end=80_000)[0], (0, 1_000_000, 1_000_000))
 
@@ -105,26 +78,35 @@ class Commands(OfFiles):
     def test_lastupdate(self: Any) -> None:
         file = self.fill()
         date = datetime.datetime.fromtimestamp(LAST)
-        self.assertEqual(rrdi.lastupdate(file), {"date": date, "ds": {"g": -2.25, "c": 15.0}})
-        self.assertIsInstance(rrdi.lastupdate(file)["ds"]["c"], float)
-        found = rrdi.lastupdate(file, values=Decimal)["ds"]
-        self.assertEqual({name: str(value) for name, value in found.items()}, {"g": "-2.250000", "c": "15"})
+        found = rrdi.lastupdate(file)
+        self.assertEqual(found, {"date": date, "ds": {"g": Decimal("-2.25"), "c": 15}})
+        self.assertEqual({name: str(value) for name, value in found["ds"].items()}, {"g": "-2.250000", "c": "15"})
+        self.assertIsInstance(rrdi.lastupdate(file, values=float)["ds"]["c"], float)
         self.assertEqual(rrdi.lastupdate(file, values=rrdi.Millionths)["ds"], {"g": -2_250_000, "c": 15_000_000})
         rrdi.update(file, "1600000040:U:18446744073709551615")
-        self.assertEqual(rrdi.lastupdate(file, values=Decimal)["ds"], {"g": None, "c": Decimal(2**64 - 1)})
+        self.assertEqual(rrdi.lastupdate(file)["ds"], {"g": None, "c": 2**64 - 1})
 
     def test_info(self: Any) -> None:
         wanted = {
             "filename": str(self.fill()), "step": 10, "last_update": LAST, "journal": 16, "undoable": 1,
-            "ds[g].index": 0, "ds[g].type": "GAUGE", "ds[g].minimal_heartbeat": 100, "ds[g].min": -10.0,
+            "ds[g].index": 0, "ds[g].type": "GAUGE", "ds[g].minimal_heartbeat": 100, "ds[g].min": Decimal(-10),
             "ds[g].max": None, "ds[g].last_ds": "-2.25", "ds[c].index": 1, "ds[c].type": "COUNTER",
-            "ds[c].minimal_heartbeat": 100, "ds[c].min": 0.0, "ds[c].max": 50.0, "ds[c].last_ds": "15",
-            "rra[0].cf": "AVERAGE", "rra[0].rows": 4, "rra[0].pdp_per_row": 1, "rra[0].xff": 0.5,
-            "rra[1].cf": "MAX", "rra[1].rows": 4, "rra[1].pdp_per_row": 2, "rra[1].xff": 0.25}
+            "ds[c].minimal_heartbeat": 100, "ds[c].min": Decimal(0), "ds[c].max": Decimal(50), "ds[c].last_ds": "15",
+            "rra[0].cf": "AVERAGE", "rra[0].rows": 4, "rra[0].pdp_per_row": 1, "rra[0].xff": Decimal("0.5"),
+            "rra[1].cf": "MAX", "rra[1].rows": 4, "rra[1].pdp_per_row": 2, "rra[1].xff": Decimal("0.25")}
         found = rrdi.info(self.file)
         self.assertEqual(found, wanted)
         self.assertEqual({key: type(value) for key, value in found.items()},
                          {key: type(value) for key, value in wanted.items()})
+        floats = {key: float(value) if isinstance(value, Decimal) else value for key, value in wanted.items()}
+        self.assertEqual({key: (value, type(value)) for key, value in rrdi.info(self.file, values=float).items()},
+                         {key: (value, type(value)) for key, value in floats.items()})
+        millionths = rrdi.info(self.file, values=rrdi.Millionths)
+        self.assertEqual((millionths["ds[g].min"], millionths["rra[1].xff"]), (-10_000_000, 250_000))
+        with self.assertRaises(TypeError):
+            rrdi.info(self.file, values=str)  # type: ignore[arg-type]
+        rrdi.tune(self.file, "--maximum", f"g:{2**64 - 1}")
+        self.assertEqual(rrdi.info(self.file)["ds[g].max"], 2**64 - 1)
         rrdi.update(self.file, "1600000040:100:U")
         self.assertEqual((rrdi.info(self.file)["ds[g].last_ds"], rrdi.info(self.file)["ds[c].last_ds"]), ("100", "U"))
 
@@ -151,10 +133,11 @@ class Commands(OfFiles):
         found = rrdi.info(self.file)
         self.assertEqual((found["step"], found["journal"]), (300, 16))
         self.assertLessEqual(abs(rrdi.last(self.file) - time.time() + 10), 30)
-        rrdi.create(self.file, "DS:g:GAUGE:9:U:U", "RRA:LAST:0:1:5", "--journal", "3", step=7, start=70)
+        rrdi.create(self.file, "DS:g:GAUGE:9:U:U", "RRA:LAST:0:1:5", "--journal", "3", step=7, start=70,
+                    overwrite=True)
         found = rrdi.info(self.file)
         self.assertEqual((found["step"], found["journal"], found["last_update"]), (7, 3, 70))
-        rrdi.create(self.file, "DS:g:GAUGE:9:U:U", "RRA:LAST:0:1:5", journal=4)
+        rrdi.create(self.file, "DS:g:GAUGE:9:U:U", "RRA:LAST:0:1:5", journal=4, overwrite=True)
         self.assertEqual(rrdi.info(self.file)["journal"], 4)
 
     def test_refusals(self: Any) -> None:
@@ -167,7 +150,7 @@ class Commands(OfFiles):
         self.refuses(rrdi.Refused, "bad span", rrdi.fetch, file, "MAX", start=20, end=10)
         self.refuses(rrdi.Refused, "nothing to tune", rrdi.tune, file)
         self.refuses(rrdi.Refused, "shrinks too far", rrdi.resize, file, 0, "SHRINK", 4)
-        self.refuses(rrdi.Refused, "no archive", rrdi.create, file, "DS:g:GAUGE:9:U:U")
+        self.refuses(rrdi.Refused, "no archive", rrdi.create, file, "DS:g:GAUGE:9:U:U", overwrite=True)
         rrdi.revert(file)
         error = self.refuses(rrdi.Refused, "nothing to revert", rrdi.revert, file)
         self.assertEqual((error.fault, error.at, str(error)), (13, None, f"{file}: nothing to revert"))
@@ -261,7 +244,8 @@ class Commands(OfFiles):
             self.assertLess(time.monotonic() - begin, 2)
             self.assertEqual(str(error), f"{file}: cannot open: another program holds its lock")
             self.refuses(rrdi.Busy, "cannot open", rrdi.update, file, "1600000040:1:2", busy_timeout=0)
-            self.refuses(rrdi.Busy, "cannot write", rrdi.create, file, *BOTH, busy_timeout=0)
+            self.refuses(rrdi.Busy, "cannot write", rrdi.create, file, *BOTH, busy_timeout=0,
+                         overwrite=True)
             begin = time.monotonic()
             self.refuses(rrdi.Busy, "cannot open", rrdi.last, file, busy_timeout=1)
             self.assertGreater(time.monotonic() - begin, 0.9)
@@ -336,9 +320,11 @@ class Batches(OfFiles):
                  "time: g\n1600000010: 1.000000\n1600000020: 3.000000\n"
         self.assertEqual(ran.output, wanted)
         self.assertEqual(rrdi.info(file)["undoable"], 2)
-        rrdi.create(file, "DS:g:GAUGE:100:U:U", "RRA:AVERAGE:0.5:1:4", step=10, start=1_600_000_000)
+        file.unlink()
+        self.create("DS:g:GAUGE:100:U:U", "RRA:AVERAGE:0.5:1:4")
         self.assertEqual(rrdi.batch(file, "\n".join(lines)), ran)
-        rrdi.create(file, "DS:g:GAUGE:100:U:U", "RRA:AVERAGE:0.5:1:4", step=10, start=1_600_000_000)
+        file.unlink()
+        self.create("DS:g:GAUGE:100:U:U", "RRA:AVERAGE:0.5:1:4")
         self.assertEqual(rrdi.batch(file, (line + "\n" for line in lines)).output, wanted)
 
     def test_batch_without_a_file(self: Any) -> None:
@@ -351,6 +337,7 @@ class Batches(OfFiles):
     def test_faults_of_a_batch(self: Any) -> None:
         self.file.write_bytes(b"other bytes")
         self.refuses(rrdi.Damaged, "file: not ours", rrdi.batch, self.file, ["last"])
+        self.file.unlink()
         self.fill()
         with open(self.file, "rb") as other:
             fcntl.flock(other, fcntl.LOCK_EX)
@@ -388,9 +375,10 @@ class Databases(OfFiles):
             self.assertEqual(rrdi.last(file), 1_600_000_010)
             database.update("1600000020:U:8")
             self.assertEqual(database.fetch("AVERAGE", start=1_600_000_000, end=1_600_000_019),
-                             ((1_600_000_000, 1_600_000_020, 10), ("g", "c"), [(1.5, None), (None, 0.3)]))
+                             ((1_600_000_000, 1_600_000_020, 10), ("g", "c"),
+                              [(Decimal("1.5"), None), (None, Decimal("0.3"))]))
             database.update("1600000030:-2.25:15")
-            one = database.fetch("AVERAGE", start=1_600_000_020, end=1_600_000_020, values=Decimal)
+            one = database.fetch("AVERAGE", start=1_600_000_020, end=1_600_000_020)
             self.assertEqual(one, ((1_600_000_020, LAST, 10), ("g", "c"), [(Decimal("-2.25"), Decimal("0.7"))]))
             database.revert()
             self.assertEqual(database.lastupdate()["ds"], {"g": None, "c": 8.0})
@@ -495,7 +483,8 @@ class InMemory(OfFiles):
         data = rrdi.run(None, "create", "--step", "10", "--start", "0", "DS:g:GAUGE:99:U:U", "RRA:LAST:0:1:3").data
         faults: List[Any] = [(None, rrdi.NoDatabase, ["last"], "cannot open"),
                              (data, rrdi.Refused, ["revert"], "nothing to revert"),
-                             (data, rrdi.Unreadable, ["update", "x"], "unreadable sample 1"),
+                             (data, rrdi.Unreadable, ["update", "x"],
+                              "unreadable sample 1: 'x' has no value; write TIME:VALUE"),
                              (data, rrdi.Usage, ["graph"], "usage"), (data, rrdi.Usage, [], "usage"),
                              (data[:9], rrdi.Damaged, ["last"], "file: truncated at 9"),
                              (b"", rrdi.Damaged, ["last"], "file: truncated at 0")]

@@ -323,7 +323,8 @@ class Rows(CarbonCase):
         file.write_bytes(b"")
         database.write("m", [(NOW, 1.0)])
         self.assertEqual((database.store.waiting, self.files()), (1, ["data/m.rrdi"]))
-        rrdi.create(str(file), "DS:average:GAUGE:60:U:U", "RRA:AVERAGE:0.5:1:10", step=10, start=NOW)
+        rrdi.create(str(file), "DS:average:GAUGE:60:U:U", "RRA:AVERAGE:0.5:1:10", step=10, start=NOW,
+                    overwrite=True)
         database.write("m", [(NOW + 10, 2.0)])
         self.assertEqual((self.rows(), self.counts(database)), ({0: 1.0, 10: 2.0}, {}))
 

@@ -100,7 +100,7 @@ class SetAside(DataCase):
     def test_a_file_that_is_whole_again(self: Any) -> None:
         """Between the fault and the renaming another program has replaced the file, or made it again in its place."""
         fault = self.cut()
-        commands.create(self.file, *DEFINITIONS, start=0)
+        commands.create(self.file, *DEFINITIONS, start=0, overwrite=True)
         self.assertEqual(damaged.set_aside(self.file, fault), "file: truncated at 100; the file has changed meanwhile")
         self.assertEqual(self.aside(), [])
 

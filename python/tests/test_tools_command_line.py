@@ -29,6 +29,16 @@ class Installed(unittest.TestCase):
         self.assertEqual(scripts.splitlines(), [f'{name} = "{module}:main"' for name, module in modules.items()])
 
 
+class Versions(ToolCase):
+    def test_each_tool_prints_the_version(self) -> None:
+        version = (TOP / "VERSION").read_text().strip()
+        for name in sorted(path.name for path in (TOP / "tools").glob("rrdi-*")):
+            with self.subTest(name=name):
+                # rrdi-rrdtool answers as RRDtool does.
+                wanted = "RRDtool 1.7.2 (rrdi-rrdtool, on rrdi's files)" if name == "rrdi-rrdtool" else f"{name} {version}"
+                self.assertEqual(self.tool(name, "--version"), Ran(0, f"{wanted}\n", ""))
+
+
 class Ends(ToolCase):
     def end(self, act: str, *words: str, stdout: "str | None" = None) -> Ran:
         text = TOOL.format(python=str(TOP / "python"), act=act)

@@ -17,6 +17,8 @@ import importlib
 import shutil
 import sys
 
+from .. import __version__
+
 # Debian's path, if carbon-cache is not on the PATH.
 CARBON_CACHE = "/usr/bin/carbon-cache"
 
@@ -35,6 +37,9 @@ def start() -> None:
 def main() -> int:
     if any(word in ("-h", "--help") for word in sys.argv[1:]):
         print((__doc__ or "").strip())
+        return 0
+    if sys.argv[1:2] == ["--version"]:
+        print(f"rrdi-carbon-cache {__version__}")
         return 0
     try:
         start()

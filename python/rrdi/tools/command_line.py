@@ -5,6 +5,8 @@ import sys
 import time
 from typing import Callable, List, NamedTuple, Optional
 
+from .. import __version__
+
 
 class Failure(Exception):
     """The reason why a tool failed; the text is a line for the user."""
@@ -15,12 +17,14 @@ class WrongArguments(Exception):
 
 
 class Tool(NamedTuple):
-    """A tool: its installed name, the line of its arguments, its help, and the function that runs it."""
+    """A tool: its installed name, the line of its arguments, its help, the function that runs it, and what it prints as its
+    version, if that is not rrdi's."""
 
     name: str
     usage: str
     help: Optional[str]
     run: Callable[[List[str]], int]
+    version: str = ""
 
 
 def called_name(tool: Tool) -> str:
@@ -53,6 +57,9 @@ def run(tool: Tool, words: Optional[List[str]] = None) -> int:
     try:
         if words[:1] in (["-h"], ["--help"]):
             print((tool.help or "").strip())
+            status = 0
+        elif words[:1] == ["--version"]:
+            print(tool.version or f"{tool.name} {__version__}")
             status = 0
         else:
             status = tool.run(words)

@@ -123,7 +123,7 @@ def run_words(words: List[str]) -> int:
     return 1
 
 
-TOOL = Tool("rrdi-rrdtool", USAGE, __doc__, run_words)
+TOOL = Tool("rrdi-rrdtool", USAGE, __doc__, run_words, VERSION)
 
 
 def main() -> int:

@@ -1,0 +1,186 @@
+"""Finds which sample, value or time of a refused command was wrong; the program's text names at most the sample."""
+from __future__ import annotations
+
+import re
+from typing import Callable, Dict, List, NamedTuple, Optional, Sequence
+
+from .amounts import LARGEST
+from .errors import Error, Refused, Unreadable
+from .fetching import take_option
+from .samples import LEAST, MOST, why_bad_time
+from .times import LATEST
+
+# A number in a sample, as the program reads it.
+NUMBER = re.compile(r"-?\d{1,20}(\.\d{1,6})?", re.ASCII)
+AS_NUMBERS = "update also takes (time, value, ..) tuples of numbers, which it rounds"
+# The options of a command that are times.
+TIMES = {"create": [("-b", "--start")], "fetch": [("-s", "--start"), ("-e", "--end")]}
+WHOLE = "whole numbers without a point"
+
+Ask = Callable[[List[str]], str]
+
+
+class Source(NamedTuple):
+    """The name and the type of a source."""
+
+    name: str
+    type: str
+
+
+class Given(NamedTuple):
+    """The samples of an update, each as its time and its values, and the names of its template."""
+
+    samples: List[List[str]]
+    template: Optional[List[str]]
+
+
+def explain(error: Error, words: Sequence[str], ask: Optional[Ask] = None) -> None:
+    """Adds to the error of a command what was wrong with its words, as far as they show it.
+
+    `ask` runs a question about the same database, which names its sources.
+    """
+    if not words or not isinstance(error, (Refused, Unreadable)):
+        return
+    if words[0] == "update":
+        _explain_update(error, given_of(words[1:]), ask)
+    elif words[0] in TIMES and error.reason in ("bad time", "bad start"):
+        error.detail = _why_bad_option(words)
+
+
+def _explain_update(error: Error, given: Given, ask: Optional[Ask]) -> None:
+    if error.reason.startswith("unreadable sample "):
+        number = int(error.reason.rpartition(" ")[2])
+        error.detail = why_unreadable(given.samples[number - 1]) if number <= len(given.samples) else ""
+    elif error.reason == "bad time":
+        error.detail = _why_bad_time(given)
+    elif error.reason.startswith("not later than "):
+        error.detail = _why_not_later(given, int(error.reason.rpartition(" ")[2]), ask)
+    elif error.reason == "wrong number of values":
+        error.detail = _why_wrong_number(given, ask)
+    elif error.reason == "bad value":
+        error.detail = _why_bad_value(given, ask)
+
+
+def given_of(words: Sequence[str]) -> Given:
+    """Returns the samples and the template of the words of an update."""
+    template, others = take_option(list(words), "-t", "--template")
+    samples = [word.split(":") for word in others if word != "--"]
+    return Given(samples, None if template is None else template.split(":"))
+
+
+def shown(text: str) -> str:
+    """Returns a text in quotes; of a long text the beginning."""
+    return repr(text) if len(text) <= 40 else f"{text[:20]!r}.. ({len(text)} characters)"
+
+
+# ---- A sample that cannot be read
+
+def why_unreadable(sample: List[str]) -> str:
+    """Returns what cannot be read in a sample: its time, or the first value that is no number."""
+    time, *values = sample
+    if not values:
+        return f"{shown(time)} has no value; write TIME:VALUE"
+    if time != "N" and not re.fullmatch(r"\d{1,20}", time, re.ASCII):
+        return f"its time is {shown(time)}, not whole seconds since 1970 or N"
+    for number, value in enumerate(values, 1):
+        if value != "U" and not NUMBER.fullmatch(value):
+            return f"its value {number} is {why_no_number(value)}"
+    return ""
+
+
+def why_no_number(text: str) -> str:
+    """Returns a text that is no number of rrdi, and what to write instead."""
+    if not text:
+        return "empty; U is unknown"
+    if text.lower() in ("nan", "none", "null", "-nan", "+nan", "u", "unknown"):
+        return f"{shown(text)}; U is unknown"
+    if re.fullmatch(r"[+-]?\d*,\d+", text):
+        return f"{shown(text)}; write {shown(text.replace(',', '.'))}, with a point"
+    if re.fullmatch(r"[+-]?(\d+\.?\d*|\.\d+)[eE][+-]?\d+", text):
+        return f"{shown(text)}, with an exponent; {AS_NUMBERS}"
+    if re.fullmatch(r"-?\d*\.\d{7,}", text):
+        return f"{shown(text)}, with more than six decimals; {AS_NUMBERS}"
+    if re.fullmatch(r"-?\d+(\.\d+)?", text):
+        return f"{shown(text)}, with more than 20 digits"
+    return f"{shown(text)}; a value is a number, such as 21.5 or -3, or U for unknown"
+
+
+# ---- A sample that the database refuses
+
+def _seconds(sample: List[str]) -> Optional[int]:
+    """Returns the time of a sample. For N there is none, because the program takes it from its clock."""
+    return int(sample[0]) if re.fullmatch(r"\d+", sample[0], re.ASCII) else None
+
+
+def _why_bad_time(given: Given) -> str:
+    for number, sample in enumerate(given.samples, 1):
+        seconds = _seconds(sample)
+        if seconds is not None and seconds > LATEST:
+            return why_bad_time(f"sample {number} has the time", seconds)
+    return ""
+
+
+def _why_bad_option(words: Sequence[str]) -> str:
+    for letter, name in TIMES[words[0]]:
+        value, _ = take_option(list(words[1:]), letter, name)
+        if value is not None and int(value) > LATEST:
+            return why_bad_time(f"{name} is", int(value))
+    return ""
+
+
+def _why_not_later(given: Given, before: int, ask: Optional[Ask]) -> str:
+    """Says which of several samples is too early: the first one, or one that follows a sample of the time `before`."""
+    last = _answer(ask, "last").strip() if len(given.samples) > 1 else ""
+    if not last:
+        return ""
+    times = [_seconds(sample) for sample in given.samples]
+    for number, (earlier, time) in enumerate(zip([int(last), *times], times), 1):
+        if time is not None and earlier == before and time <= before:
+            return f"sample {number} has the time {time}"
+    return ""
+
+
+def _answer(ask: Optional[Ask], question: str) -> str:
+    """Returns the output of a question about the database; an empty text if there is no answer."""
+    try:
+        return ask([question]) if ask is not None else ""
+    except Error:
+        return ""
+
+
+def _sources(ask: Optional[Ask]) -> List[Source]:
+    """Returns the sources of the database, or none if it does not answer."""
+    found = re.findall(r"^ds\[\d+\]\.name = (.*)\nds\[\d+\]\.type = (.*)$", _answer(ask, "info"), re.MULTILINE)
+    return [Source(name, type) for name, type in found]
+
+
+def _why_wrong_number(given: Given, ask: Optional[Ask]) -> str:
+    names = given.template or [source.name for source in _sources(ask)]
+    wanted = f"{len(names)} {'is' if len(names) == 1 else 'are'} wanted: {', '.join(names)}"
+    for number, sample in enumerate(given.samples, 1):
+        count = len(sample) - 1
+        if names and count != len(names):
+            return f"sample {number} has {count} value{'s' * (count != 1)}, {wanted}"
+    return ""
+
+
+def _why_bad_value(given: Given, ask: Optional[Ask]) -> str:
+    types: Dict[str, str] = dict(_sources(ask))
+    names = given.template or list(types)
+    for number, sample in enumerate(given.samples, 1):
+        for at, (name, value) in enumerate(zip(names, sample[1:]), 1):
+            why = _why_not_taken(types.get(name, ""), value)
+            if why:
+                return f"value {at} of sample {number} is {value}; {name} is of type {types[name]}, which takes {why}"
+    return ""
+
+
+def _why_not_taken(type: str, value: str) -> str:
+    """Returns which values a type of source takes. An empty text if the type takes this value."""
+    if value == "U" or not type:
+        return ""
+    if type in ("GAUGE", "ABSOLUTE"):
+        return "numbers below 10^18" if abs(int(value.partition(".")[0])) >= LARGEST else ""
+    if type == "COUNTER":
+        return "" if "." not in value and 0 <= int(value) <= MOST else f"{WHOLE} from 0 to 2^64 - 1"
+    return "" if "." not in value and LEAST <= int(value) < -LEAST else f"{WHOLE} from -2^63 to 2^63 - 1"
