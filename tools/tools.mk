@@ -69,3 +69,12 @@ deb-perl:
 	$(call finish,$(OF_PERL),librrds-perl-rrdi,perl,perl$(COMMA) rrdi (= $(VERSION)),$(ABOUT_PERL))
 
 .PHONY: deb-perl
+
+# The tools write no bytecode, so that nobody's run changes an installation. Compiling takes as long as all the rest of a
+# call, so an installation has the bytecode from the beginning; packages get it when they are installed.
+install: bytecode
+
+bytecode: install-program install-tools
+	-@$(if $(DESTDIR),,python3 -m compileall -q "$(SHARED)/python")
+
+.PHONY: bytecode

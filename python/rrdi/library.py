@@ -3,7 +3,6 @@
 A call lends the library buffers that belong to the calling thread, so several threads may call at the same time. During a
 call the interpreter's lock is free. docs/embedding.md has the library's own rules.
 """
-from __future__ import annotations
 
 import ctypes
 import os

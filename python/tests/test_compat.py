@@ -92,6 +92,16 @@ class Translations(unittest.TestCase):
             command, *others = words.split()
             self.assertEqual([" ".join(one) for one in translate(command, others, NOW, Questions())], wanted, words)
 
+    def test_no_overwrite(self) -> None:
+        folder = new_folder(self)
+        (folder / "link").symlink_to("nowhere")
+        (folder / "file").touch()
+        for name in ("link", "file"):
+            for option in ("-O", "--no-overwrite"):
+                with self.assertRaisesRegex(Untranslatable, f"{name} already exists"):
+                    words = [option, f"{folder}/{name}", "DS:g:GAUGE:9:U:U", "RRA:MAX:0.5:1:4"]
+                    translate("create", words, NOW, Questions())
+
     def test_what_is_lacking(self) -> None:
         for words, reason in (("graph x.png", "rrdi has no command graph"), ("last", "last needs a FILE"),
                               ("-", "pipe mode is not supported"), ("last f -d x", "last --daemon is not supported"),

@@ -105,14 +105,6 @@ class Package(unittest.TestCase):
         with self.assertRaises(AttributeError):
             getattr(rrdi, "graph")
 
-    def test_packages(self) -> None:
-        """pyproject.toml has each folder of the package."""
-        found = {".".join(path.parent.relative_to(TOP / "python").parts)
-                 for path in (TOP / "python/rrdi").rglob("__init__.py")}
-        listed = [line for line in (TOP / "python/pyproject.toml").read_text().splitlines()
-                  if line.startswith("packages = [\"rrdi\", ")]
-        self.assertEqual(listed, [f"packages = [{', '.join(f'{name!r}' for name in sorted(found))}]".replace("'", '"')])
-
     def test_without_a_library(self) -> None:
         """Without the C library the package can be imported, and its reader works; a command says what is missing."""
         asks = "import rrdi\nfrom rrdi import library\nlibrary.NAMES = ('nothing.so',)\n" \

@@ -122,6 +122,19 @@ show again => RRDs::times('noon 20240101', 'start+1h'); chdir '..'; """ + self.N
             "again: 1704110400; 1704114000; undef", self.SHOWN[:-1]])
         self.assertEqual([path for path in self.folder.rglob("made")], [])
 
+    def test_rrdp(self) -> None:
+        """RRDtool's own module for pipes gets each command's answer."""
+        assert PERL
+        if subprocess.run([PERL, "-MRRDp", "-e", "1"], capture_output=True).returncode:
+            self.skipTest("Perl's RRDp is not installed")
+        ran = self.run_command([PERL, "-MRRDp", "-e", r"""$RRDp::error_mode = 'catch'; RRDp::start(shift);
+for (@ARGV) { RRDp::cmd($_); my $found = RRDp::read(); print defined $found ? $$found : "$RRDp::error\n" }""",
+                                f"{TOP}/tools/rrdi-rrdtool", self.line("graph", "p.png"), TIMES, "cd none", TIMES])
+        self.assertEqual((ran.status, ran.err), (0, ""))
+        self.assertTrue(ran.out.startswith("3x2\n ERROR: 1.5\n OK u:0.00"), ran.out)
+        self.assertTrue(ran.out.endswith("\n1704110400 1704114000\nERROR: chdir none No such file or directory\n"
+                                         "1704110400 1704114000\n"), ran.out)
+
     def test_a_call_in_a_handler(self) -> None:
         """The call that was interrupted fails, and the next ones get their own answers."""
         slow = self.stub("slow", """read line; case $line in *slow*) printf 'OK 5\\n1'; sleep 1 ;; esac; printf 'OK 1\\n7'; read line""")

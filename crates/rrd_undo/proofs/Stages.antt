@@ -1,5 +1,5 @@
 -- The stages of a change.
-use Rattle.std.proofs.Common.{◌≡◌, ◌≢◌, ◌⊎◌, Bool, true, false, IsTrue, ℕ, ◌+◌, ◌-◌, ◌<◌, ◌≤◌, min, List, [], ◌∷◌, length, slice_index, refl, sym, ◌∙◌, ap, inl, inr, arith}
+use Rattle.std.proofs.Common.{◌≡◌, ◌≢◌, ◌⊎◌, Bool, true, false, IsTrue, ℕ, ◌+◌, ◌-◌, ◌<◌, ◌≤◌, min, List, [], ◌∷◌, length, slice_index, refl, sym, ◌∙◌, ap, inl, inr, arith, take, drop, length-take, length-drop, get_or-take, get_or-drop}
 use Rattle.std.proofs.lemmas.Bool.{cases_lt}
 use Rattle.std.proofs.lemmas.List.{ext_get_or}
 use Rattle.std.proofs.lemmas.List.Elements.{All-nil, All-same, All-weaker}
@@ -187,6 +187,27 @@ put_whole new file last first len rest are put =
           ap (slice_index last) (sym there) ∙ put.inside k inside ∙ are.each k (omega (arith, are.len)) ∙ ap (slice_index new) there
       | inr behind ↦ put.outside k (inr (omega arith)) ∙ rest k (omega (arith, are.len, len)) (omega (arith, len))
     ])
+
+-- a page is put in two parts, the first bytes last
+pub parts_put : (cut mid last first : List ℕ) → 4 ≤ length first → ArePut 4 (drop 4 first) cut mid → ArePut 0 (take 4 first) mid last → ArePut 0 first cut last
+parts_put cut mid last first enough rest front =
+    let few : length (take 4 first) ≡ 4 = omega (arith, length-take 4 first) in
+    let more : length (drop 4 first) ≡ length first - 4 = length-drop 4 first in
+    record {
+      len = omega (arith, front.len, rest.len, few, more);
+      inside = λ i low. elim (cases_lt i 4) as (λ _. slice_index last (0 + i) ≡ slice_index first i) [
+        | inl start ↦ front.inside i (omega (arith, few)) ∙ get_or-take 4 first i 0 start
+        | inr behind ↦
+            let here : 4 + (i - 4) ≡ i = omega (arith, behind) in
+            let there : 0 + i ≡ i = omega arith in
+            ap (slice_index last) there ∙ front.outside i (inr (omega (arith, behind, few))) ∙ ap (slice_index mid) (sym here)
+            ∙ rest.inside (i - 4) (omega (arith, low, behind, more)) ∙ get_or-drop 4 first (i - 4) 0 ∙ ap (slice_index first) here
+      ];
+      outside = λ k away. elim away [
+        | inl low ↦ absurd (omega (arith, low))
+        | inr high ↦ front.outside k (inr (omega (arith, high, few, enough))) ∙ rest.outside k (inr (omega (arith, high, more, enough)))
+      ];
+    }
 
 pub invalid_end : (new file cut last first : List ℕ) (n done : ℕ) → n ≡ length new → length new ≤ done → AreAt new 0 (min 4096 (length new)) first → ArePutBelow done new file
     → IsSized n file cut → ArePut 0 first cut last → last ≡ new

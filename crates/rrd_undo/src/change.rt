@@ -16,7 +16,7 @@ use crate::page::{
 };
 use crate::recovery::settle;
 use crate::tail::{Syncs, Tail, finish, put_and_sync, put_front, set_len_and_sync};
-use rrd_tail::{PAGE, undo_mark};
+use rrd_tail::{DATABASE_MARK, PAGE, undo_mark};
 use std::alloc::Global;
 use std::io::{self, Error, ErrorKind};
 
@@ -290,15 +290,20 @@ impl Change {
     }
 
     // Ends a change of a file that is marked invalid.
+    //
+    // The mark is written alone, and last: if the power fails, the disk may have a part of the first page.
     fn end_invalid<F: Bytes>(&mut self, file: &mut F, first: &[u8]) -> io::Result<()>
-        requires { length first.now ≤ 4096 }
+        requires few { length first.now ≤ 4096 }
+        requires enough { 16 ≤ length first.now }
         ensures falls { (s : List ℕ) → IsTrue (F.is_honest s file.new) → IsTrue (F.is_honest s file.old) }
         ensures frame { self.new ≡ self.old }
         ensures ok { OnOk result ((s : List ℕ) → IsTrue (F.is_honest s file.new) → (new : List ℕ) (done : ℕ) → self.old.length ≡ length new → length new ≤ done
             → AreAt new 0 (min 4096 (length new)) first.now → ArePutBelow done new (F.held s file.old) → F.held s file.new ≡ new) }
     {
         set_len_and_sync(file, self.length, self.tail.syncs)?;
-        put_and_sync(file, 0, first, self.tail.syncs)
+        let (mark, rest) = first.split_at(DATABASE_MARK.len());
+        put_and_sync(file, DATABASE_MARK.len(), rest, self.tail.syncs)?;
+        put_and_sync(file, 0, mark, self.tail.syncs)
     }
 
     // Ends a change that one call cannot make.
