@@ -101,10 +101,11 @@ void rrdi_batch(bool has_file, const uint8_t *file, size_t file_length, const ui
                 uint64_t now, uint8_t *new_file, size_t new_file_room, uint8_t *output, size_t output_room,
                 uint64_t *refused_lines, size_t refused_room, struct rrdi_answer *answer) RRDI_NONNULL;
 
-/* Runs one command on the file at a path, as `rrdi COMMAND FILE WORD..` does: locks the file, and writes the file so that a
- * kill loses nothing. With a fault the file has the same database as before; docs/files.md says what RRDI_CANNOT_WRITE may
- * leave if the disk fails. Its bytes may be others: if an earlier change was interrupted, a call repairs the file first, even
- * if it then ends with a fault.
+/* Runs one command on the file at a path, as `rrdi COMMAND FILE WORD..` does: locks the file, and writes it so that a kill
+ * in the middle of a change leaves the old database or the new one (where there was no database, perhaps a damaged file).
+ * With a fault the file has the same database as before; docs/files.md says what RRDI_CANNOT_WRITE may leave if the disk
+ * fails. Its bytes may be others: if an earlier change was interrupted, a call repairs the file first, even if it then ends
+ * with a fault.
  *
  * path             UTF-8, without a zero byte, at most 4,095 bytes.
  * wait             the milliseconds for which the call waits for a lock that another process holds: 0 for one try, at most
