@@ -69,7 +69,8 @@ class Values(unittest.TestCase):
         for value in wrong:
             with self.assertRaises(ValueError) as raised:
                 value_text(value)
-            self.assertRegex(str(raised.exception), "^.{1,40}; a (GAUGE takes numbers|number with a fraction must be) below")
+            text = str(raised.exception)
+            self.assertRegex(text, "^.{1,40}; a (GAUGE takes numbers|number with a fraction must be) below")
 
     def test_other_types(self) -> None:
         wrong: List[Any] = [True, False, b"1", {"g": 1}, [1], 1j, datetime.datetime.now(), Index()]
@@ -161,7 +162,8 @@ class Updates(OfFiles):
         wanted: List[Tuple[Any, str]] = [
             ((1_600_000_040, math.inf, 1), "bad value: value 1 of sample 2 is inf, which is no number; None is unknown"),
             ((1_600_000_040, 1, 10**300), "bad value: value 2 of sample 2 is a number of more than 40 digits; "
-             "a GAUGE takes numbers below 10^18, a COUNTER whole numbers up to 2^64 - 1, a DERIVE whole numbers from -2^63 on"),
+             "a GAUGE takes numbers below 10^18, a COUNTER whole numbers up to 2^64 - 1, a DERIVE whole numbers from "
+             "-2^63 on"),
             ((1_600_000_040, Decimal("1e18") + Decimal("0.5"), 1), "bad value: value 1 of sample 2 is "
              "1000000000000000000.5; a number with a fraction must be below 10^18"),
             ((naive, 1, 2), "bad time: sample 2: the datetime 2020-09-13 12:27:20 has no zone; write "
