@@ -6,7 +6,7 @@
     rrdi.update("room.rrdi", ("N", 21.5))
     (start, end, step), names, rows = rrdi.fetch("room.rrdi", "AVERAGE")
 
-The functions have the names, arguments and results of Python's module `rrdtool`. docs/python.md lists the functions.
+The functions have the names of Python's module `rrdtool`, and results of the same form. docs/python.md lists them.
 `rrdi.reader` reads files without the C library; `rrdi.compat.rrdtool` takes RRDtool's own syntax.
 """
 from __future__ import annotations

@@ -145,9 +145,17 @@ class InBlocks(Creating):
             with database:
                 database.create(*ONE)
                 raise ZeroDivisionError
-        database.create(*ONE, start=5)
         self.assertEqual(self.files(), [])
-        self.assertEqual((database.last(), self.files()), (5, ["f.rrdi"]))
+        rrdi.create(self.file, *ONE, start=5)
+        database.update("6:1")
+        self.assertEqual(database.last(), 6)
+
+    def test_changes_after_a_create(self: Any) -> None:
+        with rrdi.Database(self.file) as database:
+            database.create(*ONE, start=5)
+            self.assertEqual((database.last(), self.files()), (5, ["f.rrdi"]))
+            database.update("6:1")
+        self.assertEqual(rrdi.last(self.file), 6)
 
     def test_another_program_makes_the_file_meanwhile(self: Any) -> None:
         self.make_meanwhile(lambda: self.file.write_bytes(OTHERS))
@@ -164,10 +172,13 @@ class InBlocks(Creating):
         chosen = self.library() or library.load_library()
         self.make_meanwhile(lambda: chosen.run_file(os.fsencode(self.file), "\0".join(
             ["create", "--start=5", *BOTH]).encode(), 0, 0, False))
-        with rrdi.Database(self.file) as database:
-            database.create(*ONE, exist_ok=True)
-            database.update("6:1:2")
-        self.assertEqual((rrdi.last(self.file), self.files()), (6, ["f.rrdi"]))
+        database = rrdi.Database(self.file)
+        database.tune("--heartbeat", "g:7")
+        database.create(*ONE, exist_ok=True)
+        database.update("6:1:2")
+        database.flush()
+        self.assertEqual((rrdi.last(self.file), rrdi.info(self.file)["ds[g].minimal_heartbeat"]), (6, 7))
+        self.assertEqual(self.files(), ["f.rrdi"])
 
     def test_times(self: Any) -> None:
         begin = datetime.datetime(2020, 9, 13, 12, 26, 40, tzinfo=datetime.timezone.utc)

@@ -60,13 +60,17 @@ class Values(unittest.TestCase):
         self.check([(None, "U"), (math.nan, "U"), (Decimal("nan"), "U"), (Decimal("-sNaN"), "U")])
 
     def test_beyond_the_limits(self) -> None:
-        wrong: List[Any] = [math.inf, -math.inf, Decimal("inf"), 1e300, -1e19, 2**64, -2**63 - 1, 10**5_000,
+        for value in (math.inf, -math.inf, Decimal("inf"), Decimal("-inf")):
+            with self.assertRaisesRegex(ValueError, "(?i)^-?inf(inity)?, which is no number; None is unknown$"):
+                value_text(value)
+        wrong: List[Any] = [1e300, 2.0**64, -1e19, 2**64, -2**63 - 1, 10**5_000,
                             Decimal("1E+9999999"), Decimal(-2**64), Decimal("1e18") + Decimal("0.5"), Fraction(10**40),
                             Fraction(10**18) + Fraction(1, 2), rrdi.Millionths(10**24 + 1)]
         for value in wrong:
             with self.assertRaises(ValueError) as raised:
                 value_text(value)
-            self.assertLess(len(str(raised.exception)), 200)
+            text = str(raised.exception)
+            self.assertRegex(text, "^.{1,40}; a (GAUGE takes numbers|number with a fraction must be) below")
 
     def test_other_types(self) -> None:
         wrong: List[Any] = [True, False, b"1", {"g": 1}, [1], 1j, datetime.datetime.now(), Index()]
@@ -158,7 +162,8 @@ class Updates(OfFiles):
         wanted: List[Tuple[Any, str]] = [
             ((1_600_000_040, math.inf, 1), "bad value: value 1 of sample 2 is inf, which is no number; None is unknown"),
             ((1_600_000_040, 1, 10**300), "bad value: value 2 of sample 2 is a number of more than 40 digits; "
-             "a GAUGE takes numbers below 10^18, a COUNTER whole numbers up to 2^64 - 1, a DERIVE whole numbers from -2^63 on"),
+             "a GAUGE takes numbers below 10^18, a COUNTER whole numbers up to 2^64 - 1, a DERIVE whole numbers from "
+             "-2^63 on"),
             ((1_600_000_040, Decimal("1e18") + Decimal("0.5"), 1), "bad value: value 1 of sample 2 is "
              "1000000000000000000.5; a number with a fraction must be below 10^18"),
             ((naive, 1, 2), "bad time: sample 2: the datetime 2020-09-13 12:27:20 has no zone; write "
@@ -211,6 +216,7 @@ class Errors(OfFiles):
         for sample, text in (
                 ("1,5", "its value 2 is '1,5'; write '1.5', with a point"),
                 ("1e3", f"its value 2 is '1e3', with an exponent; {numbers}"),
+                ("-1.5E+3", f"its value 2 is '-1.5E+3', with an exponent; {numbers}"),
                 ("1e-07", f"its value 2 is '1e-07', with an exponent; {numbers}"),
                 ("0.3333333", f"its value 2 is '0.3333333', with more than six decimals; {numbers}"),
                 ("", "its value 2 is empty; U is unknown"), ("nan", "its value 2 is 'nan'; U is unknown"),
@@ -254,7 +260,7 @@ class Errors(OfFiles):
         detail = "is 1600000040000; if these are milliseconds, write 1600000040"
         calls: List[Tuple[str, Any]] = [
             ("bad time: --start", lambda: rrdi.fetch(file, "MAX", start=late)),
-            ("bad time: --end", lambda: rrdi.fetch(file, "MAX", "-e", late)),
+            ("bad time: --end", lambda: rrdi.fetch(file, "MAX", "-e", late, start=1_600_000_000)),
             ("bad time: --end", lambda: rrdi.Database(file).fetch("MAX", end=late)),
             ("bad start: --start", lambda: rrdi.create(file, "DS:g:GAUGE:9:U:U", "RRA:MAX:0:1:3", start=late,
                                                        overwrite=True))]
@@ -286,6 +292,8 @@ class Errors(OfFiles):
             self.says(rrdi.Refused, f"bad value: {text}", (1_600_000_040, *sample))
         self.says(rrdi.Refused, f"bad value: value 2 of sample 2 is 0.5; c is of type COUNTER, which takes {whole} 0 to "
                                 "2^64 - 1", (1_600_000_040, 1, 2), (1_600_000_041, 1, 0.5), template="g:c")
+        self.says(rrdi.Refused, f"bad value: value 1 of sample 1 is 0.5; c is of type COUNTER, which takes {whole} 0 to "
+                                "2^64 - 1", (1_600_000_040, 0.5, 0.5), template="c:g")
 
     def test_of_lines_and_in_memory(self: Any) -> None:
         with self.assertRaises(rrdi.RefusedLines) as raised:
