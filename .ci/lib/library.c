@@ -314,7 +314,7 @@ static void test_pipes(void) {
         run_file(names[at], WORDS(CREATE), 60000);
         want(gave(RRDI_CANNOT_WRITE, false, "cannot write") && answer.system_error, "a create of a pipe or a device");
     }
-    want(seconds() - begin < 2, "calls on a pipe and on devices wait");
+    want(seconds() - begin < 10, "calls on a pipe and on devices wait");
 }
 
 /* Checks the error of the system under a limit on the size of files. */
