@@ -47,7 +47,7 @@ class Lanes:
                 left.remove(key)
                 if all(self.ended[it] for it in tasks[key].waits):
                     self.running[key] = time.monotonic()
-                    threading.Thread(target=self.work, args=(key, tasks[key])).start()
+                    threading.Thread(target=self.work, args=(key, tasks[key]), daemon=True).start()
                 else:
                     self.ended[key] = False
         return self.ended
