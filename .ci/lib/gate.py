@@ -96,6 +96,10 @@ def passed_in(step: Step, lines: list[str]) -> int:
     return counted(step, lines) if step.words[0] == BUGS.words[0] else 0
 
 
+def minutes(seconds: float) -> str:
+    return f"{int(seconds) // 60}:{int(seconds) % 60:02}"
+
+
 @dataclass
 class Check:
     """A run of the full check."""
@@ -119,9 +123,11 @@ class Check:
         if started is None:
             return False
         lines = self.shown(started, step)
+        seconds = time.monotonic() - begin
+        print(f"run: {step.name} took {minutes(seconds)}", flush=True)
         with self.lock:
             self.running.remove(started)
-            self.times.append((step.name, time.monotonic() - begin))
+            self.times.append((step.name, seconds))
             is_well = self.is_well(step, started.returncode, lines)
             self.passed += passed_in(step, lines) if is_well else 0
         return is_well
@@ -185,7 +191,7 @@ class Check:
     def last_lines(self, begin: float) -> list[str]:
         """Returns the time of each step, and the last line."""
         rows = [*self.times, ("all, some beside each other", time.monotonic() - begin)]
-        times = [f"{int(seconds) // 60:5}:{int(seconds) % 60:02}  {name}" for name, seconds in rows]
+        times = [f"{minutes(seconds):>8}  {name}" for name, seconds in rows]
         return [f"run: minutes of each step, on {len(os.sched_getaffinity(0))} processors", *times,
                 f"{self.passed} passed, {self.failed} failed"]
 
