@@ -9,7 +9,7 @@ import re
 from pathlib import Path
 from typing import NamedTuple
 
-FUNCTION = re.compile(r"^(\s*)(?:pub(?:\([^)]*\))?\s+)?(const\s+)?(?:unsafe\s+)?fn\s+(\w+)")
+FUNCTION = re.compile(r'^(\s*)(?:pub(?:\([^)]*\))?\s+)?(const\s+)?(?:unsafe\s+)?(?:extern\s+"\w+"\s+)?fn\s+(\w+)')
 IMPL = re.compile(r"^(\s*)(?:unsafe\s+)?impl\b(.*)\{\s*$")
 # The line of a function in what a check says: its name, and the verdict if the function is refused.
 LINE = re.compile(r"(?m)^fn (\S+): (.*)$")

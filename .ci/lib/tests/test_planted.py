@@ -30,13 +30,18 @@ const fn one(
     let seven = 7;
     seven
 }
+
+pub extern "C" fn called_from_c(x: u8) -> u8 {
+    x
+}
 """
 LINES = SOURCE.split("\n")
 
 
 class Bodies(unittest.TestCase):
     def test_the_function_of_a_line(self) -> None:
-        for at, wanted in ((6, (0, 8, "twice")), (4, None), (3, None), (9, None), (13, (11, 16, "show")), (23, None), (18, None)):
+        for at, wanted in ((6, (0, 8, "twice")), (4, None), (3, None), (9, None), (13, (11, 16, "show")), (22, None), (18, None),
+                           (27, (26, 28, "called_from_c"))):
             self.assertEqual(body_at(LINES, at), wanted, at)
 
     def test_the_owner_of_a_method(self) -> None:
