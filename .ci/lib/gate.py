@@ -1,24 +1,34 @@
 """Runs the full check, and ends at the first step that fails.
 
-    .ci/run
+    .ci/run [--alone]
 
-The steps are:
+These three rows of steps run beside each other:
 
-- .ci/self-tests tries the scripts of this folder themselves.
-- .ci/run-cases runs the worked batches and some random batches.
-- `rt ci` tries every proof, planted bug, test and program of the repository.
-- .ci/run-built tries the program that `rt ci` has built.
+- `rt ci` tries every proof, test and program, in a copy of the repository without the planted bugs.
+- .ci/try-planted-bugs tries the planted bugs, of the C library's crate too, in a workspace with proofs of its own.
+  library/build then builds the C library in this workspace, and `make record` links the library for programs that record.
+- .ci/self-tests tries the scripts of this folder themselves. .ci/run-cases runs the worked batches and some random ones.
 
-If nothing failed, the last line is the last line of `rt ci`.
-"""
+.ci/run-built then tries the program, the programs of the tests and the C library that these steps have built.
+
+With --alone each planted bug is tried in a check of its own, by the kit's judge (about an hour of one processor more).
+
+The last lines say how long each step took. If nothing failed, the last line has the number of crates that were proved, of
+tests that passed, and of planted bugs that the prover refused in this run. The status is 0 if nothing failed."""
 from __future__ import annotations
 
 import argparse
 import os
 import re
 import shutil
+import signal
 import subprocess
 import tempfile
+import threading
+import time
+from contextlib import redirect_stdout, suppress
+from dataclasses import dataclass, field
+from io import StringIO
 from pathlib import Path
 from typing import NamedTuple
 
@@ -27,19 +37,35 @@ from lib.self_test import SelfTest, answering
 from lib.tally import number_tried
 
 TOP = Path(__file__).resolve().parent.parent.parent
-# The last line of `rt ci`: the numbers of passes and failures.
-PASSED = re.compile(r"(\d+) passed, 0 failed\b")
+# The last line of `rt ci`: the numbers of passes and failures. And the last line of the tests of a crate.
+PASSED = re.compile(r"^(\d+) passed, 0 failed\b")
+TESTS = re.compile(r"^test result: ok\. (\d+) passed; 0 failed\b")
+# What a word of a step stands for: the copy without planted bugs, and the workspace of the planted bugs.
+COPY, WORKSPACE = "COPY", "WORKSPACE"
 
 
 class Step(NamedTuple):
-    """A command of the full check, and the minimum number in its last line."""
+    """A command of the full check, the minimum number in its last line, and the tools without which it is left out."""
     words: tuple[str, ...]
-    least: int
+    least: int = 0
+    tools: tuple[str, ...] = ()
+    folder: str = ""
+
+    @property
+    def name(self) -> str:
+        return " ".join(word for word in self.words if word != WORKSPACE and not word.startswith("--in"))
 
 
-STEPS = (Step((".ci/self-tests",), 200), Step((".ci/run-cases",), 80), Step(("rt", "ci"), 1), Step((".ci/run-built", "--lacking"), 8))
+RT = Step(("rt", "ci"), 1, folder=COPY)
+BUGS = Step((".ci/try-planted-bugs", "--in", WORKSPACE), 150)
+LINKING = ("make", "cc", "ld", "objcopy")
+ROWS = ((RT,), (BUGS, Step(("library/build", WORKSPACE)), Step(("make", "record"), tools=LINKING)),
+        (Step((".ci/self-tests",), 200), Step((".ci/run-cases",), 80)))
+LAST = Step((".ci/run-built", "--lacking"), 8)
+# What `rt ci` builds, and .ci/run-built tries.
+BUILT = re.compile(r"crates/(rrdi/out/rrdi|(tests_\w+)/out/\2_tests)")
 # Debian's packages of the tools that the scripts need, by the names of the tools.
-PACKAGES = {"strace": "strace", "cc": "gcc"}
+PACKAGES = {"strace": "strace", "cc": "gcc", "make": "make", "objcopy": "binutils"}
 
 
 def install_tools() -> None:
@@ -54,95 +80,262 @@ def install_tools() -> None:
         print(f"run: {' '.join(lacking)} could not be installed: {error}")
 
 
-def counted(words: tuple[str, ...], last: str) -> int:
+def counted(step: Step, lines: list[str]) -> int:
     """Returns the number in a command's last line; 0 if something failed."""
-    if words == ("rt", "ci"):
+    last = lines[-1] if lines else ""
+    if step.words == RT.words:
         found = PASSED.search(last)
         return int(found[1]) if found else 0
     return number_tried(last)
 
 
-def run(step: Step, top: Path) -> str | None:
-    """Runs a command, shows its output, and returns its last line. Returns none if the command failed or tried too
-    little."""
-    last = ""
-    with subprocess.Popen(step.words, cwd=top, stdout=subprocess.PIPE, stderr=subprocess.STDOUT, text=True) as ran:
-        for line in ran.stdout:
-            print(line, end="", flush=True)
-            last = line.strip() or last
-    if ran.returncode != 0:
-        print(f"run: {' '.join(step.words)} ended with status {ran.returncode}")
-        return None
-    if counted(step.words, last) < step.least:
-        print(f"run: {' '.join(step.words)} tried less than {step.least}: {last!r}")
-        return None
-    return last
+def passed_in(step: Step, lines: list[str]) -> int:
+    """Returns how many crates, tests and planted bugs a step adds to the last line of the full check."""
+    if step.words == RT.words:
+        return counted(step, lines) + sum(int(found[1]) for found in map(TESTS.search, lines) if found)
+    return counted(step, lines) if step.words[0] == BUGS.words[0] else 0
 
 
-def run_all(top: Path) -> int:
-    told = ""
-    for step in STEPS:
-        last = run(step, top)
-        if last is None:
-            return 1
-        told = last if step.words == ("rt", "ci") else told
-    print(told)
-    return 0
+def minutes(seconds: float) -> str:
+    return f"{int(seconds) // 60}:{int(seconds) % 60:02}"
+
+
+@dataclass
+class Check:
+    """A run of the full check."""
+    top: Path
+    folders: dict[str, Path]
+    passed: int = 0
+    failed: int = 0
+    times: list[tuple[str, float]] = field(default_factory=list)
+    running: list[subprocess.Popen[str]] = field(default_factory=list)
+    lock: threading.Lock = field(default_factory=threading.Lock)
+
+    def run(self, step: Step) -> bool:
+        """Runs a step, shows its output, and returns whether it went well and tried enough. The output of `rt ci` is shown
+        as it comes, and that of the steps beside it once they have ended."""
+        lacking = [tool for tool in step.tools if not shutil.which(tool)]
+        if lacking:
+            print(f"left out: {step.name}: {', '.join(lacking)} not installed", flush=True)
+            return True
+        begin = time.monotonic()
+        started = self.start(step)
+        if started is None:
+            return False
+        lines = self.shown(started, step)
+        seconds = time.monotonic() - begin
+        print(f"run: {step.name} took {minutes(seconds)}", flush=True)
+        with self.lock:
+            self.running.remove(started)
+            self.times.append((step.name, seconds))
+            is_well = self.is_well(step, started.returncode, lines)
+            self.passed += passed_in(step, lines) if is_well else 0
+        return is_well
+
+    def start(self, step: Step) -> subprocess.Popen[str] | None:
+        """Starts a step in a group of processes of its own; none if another step has failed."""
+        words = [str(self.folders.get(word, word)) for word in step.words]
+        with self.lock:
+            if self.failed:
+                return None
+            self.running.append(subprocess.Popen(words, cwd=self.folders.get(step.folder, self.top), text=True, errors="replace",
+                                                 stdin=subprocess.DEVNULL, stdout=subprocess.PIPE, stderr=subprocess.STDOUT,
+                                                 start_new_session=True))
+            return self.running[-1]
+
+    def shown(self, started: subprocess.Popen[str], step: Step) -> list[str]:
+        """Shows the output of a step, and returns its lines."""
+        lines = []
+        is_live = step in (RT, LAST)
+        for line in started.stdout or ():
+            lines.append(line.rstrip("\n"))
+            if is_live:
+                print(line, end="", flush=True)
+        started.wait()
+        if not is_live:
+            print("\n".join([f"== {step.name}", *lines]), flush=True)
+        return [line.strip() for line in lines if line.strip()]
+
+    def is_well(self, step: Step, status: int, lines: list[str]) -> bool:
+        """Checks how a step has ended. After the first step that fails, the steps beside it are ended."""
+        if status == 0 and counted(step, lines) >= step.least:
+            return True
+        if not self.failed:
+            why = f"ended with status {status}" if status else f"tried less than {step.least}: {lines[-1:]}"
+            self.fail(f"{step.name} {why}")
+        return False
+
+    def fail(self, why: str) -> None:
+        """Reports the first failure, and ends the steps that run."""
+        self.failed = 1
+        print(f"run: {why}", flush=True)
+        for it in self.running:
+            with suppress(ProcessLookupError):
+                os.killpg(it.pid, signal.SIGTERM)
+
+    def row(self, steps: tuple[Step, ...]) -> None:
+        """Runs steps one after another, until one fails. A step that cannot be started has failed."""
+        try:
+            all(self.run(step) for step in steps)
+        except OSError as error:
+            with self.lock:
+                self.fail(str(error))
+
+    def beside(self, rows: tuple[tuple[Step, ...], ...]) -> None:
+        threads = [threading.Thread(target=self.row, args=(steps,)) for steps in rows]
+        for thread in threads:
+            thread.start()
+        for thread in threads:
+            thread.join()
+
+    def last_lines(self, begin: float) -> list[str]:
+        """Returns the time of each step, and the last line."""
+        rows = [*self.times, ("all, some beside each other", time.monotonic() - begin)]
+        times = [f"{minutes(seconds):>8}  {name}" for name, seconds in rows]
+        return [f"run: minutes of each step, on {len(os.sched_getaffinity(0))} processors", *times,
+                f"{self.passed} passed, {self.failed} failed"]
+
+
+def copy_without_bugs(top: Path, folder: Path) -> None:
+    """Copies the files of the repository that git does not ignore, except the planted bugs."""
+    listed = subprocess.run(["git", "-c", "safe.directory=*", "ls-files", "-z", "--cached", "--others", "--exclude-standard"],
+                            cwd=top, capture_output=True, text=True, check=True).stdout
+    for name in filter(None, listed.split("\0")):
+        if not re.match(r"crates/[^/]+/must-fail/", name) and os.path.lexists(top / name):
+            (folder / name).parent.mkdir(parents=True, exist_ok=True)
+            shutil.copy2(top / name, folder / name, follow_symlinks=False)
+    subprocess.run(["git", "init", "-q"], cwd=folder, check=True)
+
+
+def take_built(folder: Path, top: Path) -> None:
+    """Takes the programs that `rt ci` has built in the copy."""
+    for path in folder.glob("crates/*/out/*"):
+        name = str(path.relative_to(folder))
+        if BUILT.fullmatch(name):
+            (top / name).parent.mkdir(parents=True, exist_ok=True)
+            shutil.copy2(path, top / name)
+
+
+def run_all(top: Path, is_alone: bool = False) -> int:
+    """Runs all steps, and returns the status."""
+    begin = time.monotonic()
+    folder = Path(tempfile.mkdtemp(prefix="rrdi-check-"))
+    check = Check(top, {COPY: folder / "copy", WORKSPACE: folder / "workspace"})
+    try:
+        for it in check.folders.values():
+            it.mkdir()
+        copy_without_bugs(top, check.folders[COPY])
+        bugs = BUGS._replace(words=(*BUGS.words, *["--alone"] * is_alone))
+        check.beside(tuple(tuple(bugs if it == BUGS else it for it in steps) for steps in ROWS))
+        take_built(check.folders[COPY], top)
+    finally:
+        shutil.rmtree(folder, ignore_errors=True)
+    if not check.failed:
+        check.row((LAST,))
+    print("\n".join(check.last_lines(begin)), flush=True)
+    return 1 if check.failed or not check.passed else 0
 
 
 def main(options: argparse.Namespace) -> int:
     install_tools()
-    return run_all(TOP)
+    return run_all(TOP, options.alone)
 
 
-def gate(folder: Path, name: str, status: int = 0, out: str | None = None) -> int:
-    """Returns the status of the full check in a repository in which each command except the named one ends well."""
-    texts = {"self-tests": "300 tests: 0 wrong\n", "run-cases": "91 batches: 0 wrong\n", "rt": "rt: ok\n17 passed, 0 failed\n",
-             "run-built": "10 scripts: 0 wrong\n"}
-    (folder / ".ci").mkdir(exist_ok=True)
-    for command, text in texts.items():
-        place = folder if command == "rt" else folder / ".ci"
-        is_named = command == name
-        answering(place, command, status if is_named else 0, text if out is None or not is_named else out)
-    return run_all(folder)
+# What the commands of the steps print if all is well.
+TEXTS = {"rt": "test result: ok. 41 passed; 0 failed; 0 ignored\nrt: ok\n17 passed, 0 failed\n", "make": "", "library/build": "",
+         ".ci/self-tests": "300 tests: 0 wrong\n", ".ci/run-cases": "91 batches: 0 wrong\n", ".ci/run-built": "10 scripts: 0 wrong\n",
+         ".ci/try-planted-bugs": "154 planted bugs, 12 crates proved: 0 wrong\n"}
+# `rt ci` must find the sources and no planted bug, and builds the program.
+BUILDS = ("test -f crates/rrdi/src/main.rt && test ! -e crates/rrdi/must-fail || exit 1; mkdir crates/rrdi/out; "
+          "echo built >crates/rrdi/out/rrdi")
 
 
-def whole(folder: Path, name: str) -> int:
-    """Returns the status of .ci/run in a repository in which the named command fails."""
-    for part in ("run", "lib"):
-        copy = shutil.copytree if part == "lib" else shutil.copy
-        copy(TOP / ".ci" / part, folder / ".ci" / part)
-    gate(folder, name, 1)
-    return subprocess.run(["sh", folder / ".ci/run"], capture_output=True, check=False).returncode
+def repository(folder: Path, command: str, status: int = 0, out: str | None = None, more: str = "") -> None:
+    """Makes a repository in which each command except the named one ends well."""
+    for name in ("crates/rrdi/src/main.rt", "crates/rrdi/must-fail/a.edit", "library/rrdi_c", ".ci/lib"):
+        (folder / name).parent.mkdir(parents=True, exist_ok=True)
+    (folder / "crates/rrdi/src/main.rt").write_text("")
+    (folder / "crates/rrdi/must-fail/a.edit").write_text("")
+    subprocess.run(["git", "init", "-q"], cwd=folder, check=True)
+    for name, text in TEXTS.items():
+        is_named = name == command
+        script = answering(folder, name, status if is_named else 0, text if out is None or not is_named else out,
+                           more=more if is_named else BUILDS if name == "rt" else "")
+        Path(script).chmod(0o755)
+
+
+def gate(command: str = "", status: int = 0, out: str | None = None, more: str = "") -> tuple[int, list[str], bool]:
+    """Returns the status and the lines of the full check in a repository in which each command except the named one ends
+    well, and whether the program was built."""
+    with tempfile.TemporaryDirectory() as folder:
+        repository(Path(folder), command, status, out, more)
+        was, said = os.environ["PATH"], StringIO()
+        os.environ["PATH"] = f"{folder}:{was}"
+        try:
+            with redirect_stdout(said):
+                ended = run_all(Path(folder))
+        finally:
+            os.environ["PATH"] = was
+        return ended, said.getvalue().strip().split("\n"), Path(folder, "crates/rrdi/out/rrdi").is_file()
+
+
+def whole(command: str, *words: str) -> subprocess.CompletedProcess[str]:
+    """Runs .ci/run itself, in a repository in which the named command fails."""
+    with tempfile.TemporaryDirectory() as folder:
+        repository(Path(folder), command, 1)
+        shutil.copy(TOP / ".ci/run", Path(folder, ".ci/run"))
+        shutil.copytree(TOP / ".ci/lib", Path(folder, ".ci/lib"))
+        return subprocess.run(["sh", f"{folder}/.ci/run", *words], capture_output=True, text=True, check=False,
+                              env={**os.environ, "PATH": f"{folder}:{os.environ['PATH']}"})
+
+
+def test_order(test: SelfTest) -> None:
+    """Tests what runs beside what, and that a failure ends the other steps."""
+    begin = time.monotonic()
+    ended, lines, _ = gate(".ci/self-tests", 1, more="sleep 1")
+    test.want(ended == 1 and time.monotonic() - begin < 30, f"a step fails: {lines}")
+    begin = time.monotonic()
+    with tempfile.TemporaryDirectory() as folder:
+        slow = answering(folder, "slow", more="sleep 100")
+        check = Check(Path(folder), {})
+        with redirect_stdout(StringIO()):
+            check.beside(((Step((slow,)), Step((slow,))), (Step(("false",)),)))
+        test.want(check.failed == 1 and time.monotonic() - begin < 30, "a failure ends the slow steps beside it")
+        test.want(len(check.times) == 2, f"no step begins after a failure: {check.times}")
+        check = Check(Path(folder), {})
+        said = StringIO()
+        with redirect_stdout(said):
+            check.row((Step(("false",), tools=("no-such-tool",)), Step(("no-such-command",))))
+        test.want("left out: false: no-such-tool" in said.getvalue() and check.failed == 1, f"missing tools: {said.getvalue()}")
 
 
 def self_test() -> int:
     test = SelfTest("run")
-    with tempfile.TemporaryDirectory() as folder:
-        os.environ["PATH"] = f"{folder}:{os.environ['PATH']}"
-        place = Path(folder)
-        test.want(gate(place, "") == 0, "nothing fails")
-        for name in ("self-tests", "run-cases", "rt", "run-built"):
-            test.want(gate(place, name, 1) == 1, f"{name} fails")
-            test.want(gate(place, name, 0, "") == 1, f"{name} prints nothing")
-            test.want(gate(place, name, 0, "0 tests: 0 wrong\n") == 1, f"{name} tries nothing")
-        test.want(gate(place, "rt", 0, "16 passed, 1 failed\n") == 1, "a crate fails, with status 0")
-    for name, wanted in (("", 0), ("run-built", 1)):
-        with tempfile.TemporaryDirectory() as folder:
-            os.environ["PATH"] = f"{folder}:{os.environ['PATH']}"
-            (Path(folder) / ".ci").mkdir()
-            status = whole(Path(folder), name)
-            test.want(status == wanted, f".ci/run, {name or 'nothing'} fails: status {status}")
-    test.want([step.words[0] for step in STEPS] == [".ci/self-tests", ".ci/run-cases", "rt", ".ci/run-built"], "the order")
-    test.want(all(step.least > 0 for step in STEPS), "each step has a least number")
-    helped = subprocess.run(["sh", TOP / ".ci/run", "--help"], capture_output=True, text=True, check=False)
-    test.want(helped.returncode == 0 and "full check" in helped.stdout, "a shell can read .ci/run")
+    ended, lines, is_built = gate()
+    test.want((ended, lines[-1], is_built) == (0, "212 passed, 0 failed", True), f"nothing fails: {lines[-8:]}")
+    test.want(all(any(f"  {name}" in line for line in lines[-9:-1]) for name in TEXTS), f"the times of the steps: {lines[-9:]}")
+    for name in TEXTS:
+        ended, lines, _ = gate(name, 1)
+        test.want(ended == 1 and lines[-1].endswith(" 1 failed"), f"{name} fails: {lines[-3:]}")
+        if TEXTS[name]:
+            test.want(gate(name, 0, "")[0] == 1, f"{name} prints nothing")
+            test.want(gate(name, 0, "0 tests: 0 wrong\n")[0] == 1, f"{name} tries nothing")
+    test.want(gate("rt", 0, "16 passed, 1 failed\n")[0] == 1, "a crate fails, with status 0")
+    test_order(test)
+    for name, wanted in (("", 0), (".ci/run-built", 1)):
+        ran = whole(name)
+        test.want(ran.returncode == wanted, f".ci/run, {name or 'nothing'} fails: {ran.stdout}{ran.stderr}")
+    ran = whole("", "--help")
+    test.want(ran.returncode == 0 and "full check" in ran.stdout, "a shell can read .ci/run")
+    steps = [step for row in (*ROWS, (LAST,)) for step in row]
+    test.want(all(step.least > 0 for step in steps if step.words[0] not in ("library/build", "make")), "each script has a least number")
     return test.end()
 
 
 def parser() -> command_line.Parser:
     parser = command_line.parser_of(__doc__)
     parser.prog = ".ci/run"
+    parser.add_argument("--alone", action="store_true", help="try each planted bug alone, by the kit's judge")
     return parser
 
 

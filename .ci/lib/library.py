@@ -66,6 +66,13 @@ def build(folder: str | Path, archive: str | Path) -> Library:
     return Library(path)
 
 
+def build_recorder(library: Library, archive: str | Path) -> Path:
+    """Links the library for programs that record, as `make record` does, beside the library."""
+    subprocess.run(["make", "--no-print-directory", "-s", "-C", str(TOP), "record", f"BUILD={library.folder}",
+                    f"ARCHIVE={Path(archive).resolve()}"], check=True)
+    return library.folder / "librrdi-record.so"
+
+
 def names(path: Path, *options: str) -> set[str]:
     """Returns the names that `nm` lists, without their versions."""
     listed = subprocess.run(["nm", *options, str(path)], capture_output=True, text=True, check=True).stdout
