@@ -23,6 +23,8 @@
 #define PATH "net.rrdi"
 #define THREADS 4
 #define UPDATES 50
+/* A call that waits for a pipe without an end is ended after this time. */
+#define MOST_SECONDS 60
 
 static int count, wrong;
 static uint8_t file[1 << 16], new_file[1 << 16], output[1 << 16];
@@ -404,7 +406,9 @@ int main(void) {
     test_run_file();
     test_batch_file();
     test_streams();
+    alarm(MOST_SECONDS);
     test_pipes();
+    alarm(0);
     test_limits();
     test_locks();
     test_threads();
