@@ -25,6 +25,8 @@
 #define UPDATES 50
 /* A call that waits for a pipe without an end is ended after this time. */
 #define MOST_SECONDS 60
+/* The microseconds in which a call in another thread comes to wait for a lock. */
+#define WAITED 300000
 
 static int count, wrong;
 static uint8_t file[1 << 16], new_file[1 << 16], output[1 << 16];
@@ -301,6 +303,42 @@ static void test_streams(void) {
     }
 }
 
+static bool were_closed;
+
+static void *update_later(void *of) {
+    (void)of;
+    run_file("closed", WORDS("update\00020:2"), 60000);
+    return NULL;
+}
+
+/* Runs a call that waits for a lock, while another thread writes to each of the streams that are closed. */
+static void write_to_streams(void) {
+    int other = open("closed", O_RDWR), kept = fcntl(other, F_DUPFD_CLOEXEC, 10);
+    pthread_t thread;
+    close(other);
+    if (kept < 0 || flock(kept, LOCK_EX) || pthread_create(&thread, NULL, update_later, NULL))
+        exit(3);
+    usleep(WAITED);
+    were_closed = true;
+    for (int stream = 0; stream < 3; stream++)
+        were_closed &= write(stream, "text", 4) < 0;
+    close(kept);
+    pthread_join(thread, NULL);
+}
+
+/* Checks that the file of a call that waits is no standard stream, so that no text of another thread gets into the file. */
+static void test_written_streams(void) {
+    static uint8_t old[1 << 16], new[1 << 16];
+    put("closed", old, 0);
+    run_file("closed", WORDS(CREATE), 0);
+    size_t old_size = bytes_of("closed", old);
+    update();
+    size_t new_size = bytes_of("closed", new);
+    put("closed", old, old_size);
+    want(without_streams(7, write_to_streams) && were_closed, "a file that is a standard stream");
+    want(gave(RRDI_OK, true, "") && has_bytes("closed", new, new_size), "a file while another thread writes to closed streams");
+}
+
 static double seconds(void);
 
 /* A call on a pipe with a name or on a device ends at once, whatever time it may wait. */
@@ -406,6 +444,7 @@ int main(void) {
     test_run_file();
     test_batch_file();
     test_streams();
+    test_written_streams();
     alarm(MOST_SECONDS);
     test_pipes();
     alarm(0);
