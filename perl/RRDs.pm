@@ -361,8 +361,8 @@ of RRDtool's own module are not. The texts of C<PRINT> are tainted.
 
 =item RRDI_RRDTOOL
 
-The program to run instead of rrdi-rrdtool. Without this variable, the module looks for rrdi-rrdtool in its own
-installation and on the PATH.
+The program to run instead of rrdi-rrdtool, with the arguments C<--exact --lengths ->. Without this variable, the module
+looks for rrdi-rrdtool in its own installation and on the PATH.
 
 =item RRDI
 
