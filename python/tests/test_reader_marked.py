@@ -127,7 +127,7 @@ class Marked(DataCase):
 
     def test_forged_records(self) -> None:
         """The record must be that of a database: its length, the first bytes, and the shape for the length."""
-        for data in (cut_with_record(SMALL, 12), cut_with_record(SMALL, first=b"NOPE" + SMALL[4:16])):
+        for data in (cut_with_record(SMALL, 12), cut_with_record(SMALL, len(SMALL) - 1, b"NOPE" + SMALL[4:16])):
             self.check(data, SMALL)  # no record, so what follows the database does not count
         self.check(cut_with_record(SMALL, len(SMALL) - 1), cut_with_record(SMALL, len(SMALL) - 1))
         self.check(cut_with_record(SMALL, shape=128), cut_with_record(SMALL, shape=128))
@@ -212,8 +212,9 @@ class Locks(DataCase):
                 if is_read:
                     self.assertEqual(reader.read_file(self.path)["last_time"], 130)
                 else:
-                    with self.assertRaises(OSError):
+                    with self.assertRaises(OSError) as raised:
                         reader.read_file(self.path)
+                    self.assertEqual(raised.exception.errno, number)
 
 
 if __name__ == "__main__":
