@@ -75,6 +75,6 @@ deb-perl:
 install: bytecode
 
 bytecode: install-program install-tools
-	-@$(if $(DESTDIR),,python3 -m compileall -q "$(SHARED)/python")
+	-@$(if $(DESTDIR),,umask 022; python3 -m compileall -q "$(SHARED)/python")
 
 .PHONY: bytecode
