@@ -20,7 +20,6 @@ from __future__ import annotations
 
 import datetime
 import os
-from decimal import Decimal
 from typing import Callable, Iterable, List, NamedTuple, Optional, Tuple, Type, TypeVar, Union, overload
 
 from .errors import CANNOT_WRITE, OK, USAGE, Error, Exists, Refused, Unreadable, Usage, error_of, reason_of
@@ -176,7 +175,7 @@ def last(path: FilePath, *, now: Optional[Time] = None, busy_timeout: Optional[f
     return int(run_on(path, ["last"], now, busy_timeout, None))
 
 
-def info(path: FilePath, *, values: Type[AnyNumber] = Decimal, now: Optional[Time] = None,
+def info(path: FilePath, *, values: Type[AnyNumber] = float, now: Optional[Time] = None,
          busy_timeout: Optional[float] = None) -> Info:
     """Returns the settings by RRDtool's names, and `journal` and `undoable` by rrdi's.
 
@@ -187,7 +186,7 @@ def info(path: FilePath, *, values: Type[AnyNumber] = Decimal, now: Optional[Tim
 
 @overload
 def lastupdate(path: FilePath, *, tz: Optional[datetime.tzinfo] = ..., now: Optional[Time] = ...,
-               busy_timeout: Optional[float] = ...) -> LastUpdate[Decimal]: ...
+               busy_timeout: Optional[float] = ...) -> LastUpdate[float]: ...
 
 
 @overload
@@ -195,7 +194,7 @@ def lastupdate(path: FilePath, *, values: Type[Value], tz: Optional[datetime.tzi
                busy_timeout: Optional[float] = ...) -> LastUpdate[Value]: ...
 
 
-def lastupdate(path: FilePath, *, values: type = Decimal, tz: Optional[datetime.tzinfo] = None,
+def lastupdate(path: FilePath, *, values: type = float, tz: Optional[datetime.tzinfo] = None,
                now: Optional[Time] = None, busy_timeout: Optional[float] = None) -> object:
     """Returns the last raw values: `{"date": datetime, "ds": {name: value}}`; an unknown value is None.
 
@@ -208,7 +207,7 @@ def lastupdate(path: FilePath, *, values: type = Decimal, tz: Optional[datetime.
 @overload
 def fetch(path: FilePath, function: Words, *words: Words, resolution: Optional[Span] = ..., start: Optional[Time] = ...,
           end: Optional[Time] = ..., now: Optional[Time] = ...,
-          busy_timeout: Optional[float] = ...) -> Table[Decimal]: ...
+          busy_timeout: Optional[float] = ...) -> Table[float]: ...
 
 
 @overload
@@ -217,13 +216,13 @@ def fetch(path: FilePath, function: Words, *words: Words, values: Type[Value], r
           busy_timeout: Optional[float] = ...) -> Table[Value]: ...
 
 
-def fetch(path: FilePath, function: Words, *words: Words, values: type = Decimal, resolution: Optional[Span] = None,
+def fetch(path: FilePath, function: Words, *words: Words, values: type = float, resolution: Optional[Span] = None,
           start: Optional[Time] = None, end: Optional[Time] = None, now: Optional[Time] = None,
           busy_timeout: Optional[float] = None) -> object:
     """Returns rows of one archive: `((start, end, step), names, rows)`. A row is a tuple; an unknown value is None.
 
-    Row n ends at start + (n + 1) * step. `values` is the type of the values: `decimal.Decimal`, which is exact,
-    `Millionths`, an `int`, which is exact too, or `float`, which rounds to about 16 digits.
+    Row n ends at start + (n + 1) * step. `values` is the type of the values: `float`, which rounds, `decimal.Decimal`,
+    which is exact, or `Millionths`, an `int`, which is exact.
     """
     time = moment(now)
     asked = fetch_words(function, words, resolution, start, end)

@@ -3,7 +3,6 @@ from __future__ import annotations
 
 import datetime
 import os
-from decimal import Decimal
 from types import TracebackType
 from typing import List, NamedTuple, Optional, Sequence, Tuple, Type, overload
 
@@ -142,29 +141,29 @@ class Database:
         """Returns the time of the last sample, as `rrdi.last`."""
         return int(self._ask(["last"]))
 
-    def info(self, *, values: Type[AnyNumber] = Decimal) -> Info:
+    def info(self, *, values: Type[AnyNumber] = float) -> Info:
         """Returns the settings, as `rrdi.info`."""
         return info_of(self._ask(["info"]), self.path, values)
 
     @overload
-    def lastupdate(self, *, tz: Optional[datetime.tzinfo] = ...) -> LastUpdate[Decimal]: ...
+    def lastupdate(self, *, tz: Optional[datetime.tzinfo] = ...) -> LastUpdate[float]: ...
 
     @overload
     def lastupdate(self, *, values: Type[Value], tz: Optional[datetime.tzinfo] = ...) -> LastUpdate[Value]: ...
 
-    def lastupdate(self, *, values: type = Decimal, tz: Optional[datetime.tzinfo] = None) -> object:
+    def lastupdate(self, *, values: type = float, tz: Optional[datetime.tzinfo] = None) -> object:
         """Returns the last raw values, as `rrdi.lastupdate`."""
         return last_update(self._ask(["lastupdate"]), values, tz)
 
     @overload
     def fetch(self, function: Words, *words: Words, resolution: Optional[Span] = ..., start: Optional[Time] = ...,
-              end: Optional[Time] = ...) -> Table[Decimal]: ...
+              end: Optional[Time] = ...) -> Table[float]: ...
 
     @overload
     def fetch(self, function: Words, *words: Words, values: Type[Value], resolution: Optional[Span] = ...,
               start: Optional[Time] = ..., end: Optional[Time] = ...) -> Table[Value]: ...
 
-    def fetch(self, function: Words, *words: Words, values: type = Decimal, resolution: Optional[Span] = None,
+    def fetch(self, function: Words, *words: Words, values: type = float, resolution: Optional[Span] = None,
               start: Optional[Time] = None, end: Optional[Time] = None) -> object:
         """Returns rows of one archive, as `rrdi.fetch`."""
         return fetched(self._ask, fetch_words(function, words, resolution, start, end), moment(self.now), values)

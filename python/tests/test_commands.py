@@ -27,19 +27,16 @@ class Commands(OfFiles):
     def test_fetch(self: Any) -> None:
         file = self.fill()
         found = rrdi.fetch(file, "AVERAGE", "--start", "1600000000", "--end", "1600000029")
-        rows = [(Decimal("1.5"), None), (None, Decimal("0.3")), (Decimal("-2.25"), Decimal("0.7"))]
-        self.assertEqual(found, ((1_600_000_000, LAST, 10), ("g", "c"), rows))
+        self.assertEqual(found, ((1_600_000_000, LAST, 10), ("g", "c"), [(1.5, None), (None, 0.3), (-2.25, 0.7)]))
         self.assertEqual(rrdi.fetch(file, "AVERAGE", start=1_600_000_000, end=1_600_000_029), found)
         self.assertEqual(rrdi.fetch(file, ["AVERAGE", "-s", 1_600_000_000], ["-e", "1600000029"]), found)
         self.assertEqual(rrdi.fetch(os.fsencode(file), "AVERAGE", "-s1600000000", "-e=1600000029"), found)
 
-    def test_numbers_of_other_types(self: Any) -> None:
+    def test_fetch_exactly(self: Any) -> None:
         file = self.fill()
-        _, _, rows = rrdi.fetch(file, "AVERAGE", start=1_600_000_000, end=1_600_000_029)
-        self.assertEqual((type(rows[2][0]), str(rows[2][0])), (Decimal, "-2.250000"))
-        self.assertEqual(rrdi.fetch(file, "AVERAGE", start=1_600_000_000, end=1_600_000_029, values=Decimal)[2], rows)
-        _, _, floats = rrdi.fetch(file, "AVERAGE", start=1_600_000_000, end=1_600_000_029, values=float)
-        self.assertEqual((floats, type(floats[2][0])), ([(1.5, None), (None, 0.3), (-2.25, 0.7)], float))
+        _, _, rows = rrdi.fetch(file, "AVERAGE", start=1_600_000_000, end=1_600_000_029, values=Decimal)
+        self.assertEqual(rows, [(Decimal("1.5"), None), (None, Decimal("0.3")), (Decimal("-2.25"), Decimal("0.7"))])
+        self.assertEqual(str(rows[2][0]), "-2.250000")
         _, _, whole = rrdi.fetch(file, "AVERAGE", start=1_600_000_000, end=1_600_000_029, values=rrdi.Millionths)
         self.assertEqual(whole, [(1_500_000, None), (None, 300_000), (-2_250_000, 700_000)])
         self.assertEqual(str(whole[2][0]), "-2.250000")
@@ -48,7 +45,7 @@ class Commands(OfFiles):
 
     def test_fetch_of_a_single_row(self: Any) -> None:
         file = self.fill()
-        one = ((1_600_000_010, 1_600_000_020, 10), ("g", "c"), [(None, Decimal("0.3"))])
+        one = ((1_600_000_010, 1_600_000_020, 10), ("g", "c"), [(None, 0.3)])
         for words in (["-s", "1600000010", "-e", "1600000010"], ["--start=1600000010", "--end=1600000019"],
                       ["-s1600000010", "-e", "1600000012", "-r", "10"], ["-e=1600000019", "-s=1600000011"]):
             self.assertEqual(rrdi.fetch(file, "AVERAGE", *words), one, words)
@@ -78,35 +75,35 @@ class Commands(OfFiles):
     def test_lastupdate(self: Any) -> None:
         file = self.fill()
         date = datetime.datetime.fromtimestamp(LAST)
-        found = rrdi.lastupdate(file)
-        self.assertEqual(found, {"date": date, "ds": {"g": Decimal("-2.25"), "c": 15}})
-        self.assertEqual({name: str(value) for name, value in found["ds"].items()}, {"g": "-2.250000", "c": "15"})
-        self.assertIsInstance(rrdi.lastupdate(file, values=float)["ds"]["c"], float)
+        self.assertEqual(rrdi.lastupdate(file), {"date": date, "ds": {"g": -2.25, "c": 15.0}})
+        self.assertIsInstance(rrdi.lastupdate(file)["ds"]["c"], float)
+        found = rrdi.lastupdate(file, values=Decimal)["ds"]
+        self.assertEqual({name: str(value) for name, value in found.items()}, {"g": "-2.250000", "c": "15"})
         self.assertEqual(rrdi.lastupdate(file, values=rrdi.Millionths)["ds"], {"g": -2_250_000, "c": 15_000_000})
         rrdi.update(file, "1600000040:U:18446744073709551615")
-        self.assertEqual(rrdi.lastupdate(file)["ds"], {"g": None, "c": 2**64 - 1})
+        self.assertEqual(rrdi.lastupdate(file, values=Decimal)["ds"], {"g": None, "c": Decimal(2**64 - 1)})
 
     def test_info(self: Any) -> None:
         wanted = {
             "filename": str(self.fill()), "step": 10, "last_update": LAST, "journal": 16, "undoable": 1,
-            "ds[g].index": 0, "ds[g].type": "GAUGE", "ds[g].minimal_heartbeat": 100, "ds[g].min": Decimal(-10),
+            "ds[g].index": 0, "ds[g].type": "GAUGE", "ds[g].minimal_heartbeat": 100, "ds[g].min": -10.0,
             "ds[g].max": None, "ds[g].last_ds": "-2.25", "ds[c].index": 1, "ds[c].type": "COUNTER",
-            "ds[c].minimal_heartbeat": 100, "ds[c].min": Decimal(0), "ds[c].max": Decimal(50), "ds[c].last_ds": "15",
-            "rra[0].cf": "AVERAGE", "rra[0].rows": 4, "rra[0].pdp_per_row": 1, "rra[0].xff": Decimal("0.5"),
-            "rra[1].cf": "MAX", "rra[1].rows": 4, "rra[1].pdp_per_row": 2, "rra[1].xff": Decimal("0.25")}
+            "ds[c].minimal_heartbeat": 100, "ds[c].min": 0.0, "ds[c].max": 50.0, "ds[c].last_ds": "15",
+            "rra[0].cf": "AVERAGE", "rra[0].rows": 4, "rra[0].pdp_per_row": 1, "rra[0].xff": 0.5,
+            "rra[1].cf": "MAX", "rra[1].rows": 4, "rra[1].pdp_per_row": 2, "rra[1].xff": 0.25}
         found = rrdi.info(self.file)
         self.assertEqual(found, wanted)
         self.assertEqual({key: type(value) for key, value in found.items()},
                          {key: type(value) for key, value in wanted.items()})
-        floats = {key: float(value) if isinstance(value, Decimal) else value for key, value in wanted.items()}
-        self.assertEqual({key: (value, type(value)) for key, value in rrdi.info(self.file, values=float).items()},
-                         {key: (value, type(value)) for key, value in floats.items()})
+        exact = {key: Decimal(value) if isinstance(value, float) else value for key, value in wanted.items()}
+        self.assertEqual({key: (value, type(value)) for key, value in rrdi.info(self.file, values=Decimal).items()},
+                         {key: (value, type(value)) for key, value in exact.items()})
         millionths = rrdi.info(self.file, values=rrdi.Millionths)
         self.assertEqual((millionths["ds[g].min"], millionths["rra[1].xff"]), (-10_000_000, 250_000))
         with self.assertRaises(TypeError):
             rrdi.info(self.file, values=str)  # type: ignore[arg-type]
         rrdi.tune(self.file, "--maximum", f"g:{2**64 - 1}")
-        self.assertEqual(rrdi.info(self.file)["ds[g].max"], 2**64 - 1)
+        self.assertEqual(rrdi.info(self.file, values=Decimal)["ds[g].max"], 2**64 - 1)
         rrdi.update(self.file, "1600000040:100:U")
         self.assertEqual((rrdi.info(self.file)["ds[g].last_ds"], rrdi.info(self.file)["ds[c].last_ds"]), ("100", "U"))
 
@@ -375,10 +372,9 @@ class Databases(OfFiles):
             self.assertEqual(rrdi.last(file), 1_600_000_010)
             database.update("1600000020:U:8")
             self.assertEqual(database.fetch("AVERAGE", start=1_600_000_000, end=1_600_000_019),
-                             ((1_600_000_000, 1_600_000_020, 10), ("g", "c"),
-                              [(Decimal("1.5"), None), (None, Decimal("0.3"))]))
+                             ((1_600_000_000, 1_600_000_020, 10), ("g", "c"), [(1.5, None), (None, 0.3)]))
             database.update("1600000030:-2.25:15")
-            one = database.fetch("AVERAGE", start=1_600_000_020, end=1_600_000_020)
+            one = database.fetch("AVERAGE", start=1_600_000_020, end=1_600_000_020, values=Decimal)
             self.assertEqual(one, ((1_600_000_020, LAST, 10), ("g", "c"), [(Decimal("-2.25"), Decimal("0.7"))]))
             database.revert()
             self.assertEqual(database.lastupdate()["ds"], {"g": None, "c": 8.0})

@@ -194,7 +194,7 @@ class Updates(OfFiles):
             database.update((1_600_000_010, 1 / 3, 5), (1_600_000_020, None, 8.0))
             database.update((1_600_000_030, Decimal("0.1")), template="g")
         self.assertEqual(rrdi.fetch(self.file, "AVERAGE", start=1_600_000_000, end=1_600_000_029)[2],
-                         [(Decimal("0.333333"), None), (None, Decimal("0.3")), (Decimal("0.1"), None)])
+                         [(0.333333, None), (None, 0.3), (0.1, None)])
         data = rrdi.run(None, "create", "--step", "10", "--start", "0", "DS:g:GAUGE:99:U:U", "RRA:LAST:0:1:3").data
         data, _ = rrdi.run(data, "update", (10, 1 / 3), [(20, 2)], "30:3")
         self.assertEqual(rrdi.run(data, "fetch", "LAST", "-s", 0, "-e", 29).output,

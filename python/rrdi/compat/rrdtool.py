@@ -119,7 +119,7 @@ def fetch(*words: Words) -> Table[float]:
         (_, file, *others), = _translated("fetch", words)
         if not others:
             raise OperationalError("fetch needs a FUNCTION", file)
-        return commands.fetch(file, *others, values=float)
+        return commands.fetch(file, *others)
 
 
 def first(*words: Words) -> int:
