@@ -121,7 +121,7 @@ class Patterns(DataCase):
 
     def test_any_depth_again_and_again(self) -> None:
         self.put("a/" * 60 + "x")
-        self.assertEqual(self.found("**.a." * 12 + "**.x"), ["a/" * 60 + "x.rrdi"])
+        self.assertEqual(self.found("**.a." * 4 + "**.x"), ["a/" * 60 + "x.rrdi"])
         self.assertLess(self.listed.call_count, 60 * 60)
         self.found("**." * 500 + "x")
         self.assertLess(self.listed.call_count, 100)

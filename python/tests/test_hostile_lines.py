@@ -245,6 +245,7 @@ class Collectd(LineCase):
             for name in ("host", "plugin", "plugin_instance", "type_instance"):
                 self.collectd.lines.clear()
                 begin, lines = self.written(self.values(**{name: word}))
+                self.writer.write(self.values(**{name: word, "time": -1.0}))  # a message has the name
                 self.assertTrue(all(text.isprintable() for text in self.collectd.lines), ascii(word[:60]))
                 self.only("update", 1, lines, word)
                 for line in begin:
