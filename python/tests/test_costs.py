@@ -121,8 +121,8 @@ class Patterns(DataCase):
 
     def test_any_depth_again_and_again(self) -> None:
         self.put("a/" * 60 + "x")
-        self.assertEqual(self.found("**.a." * 4 + "**.x"), ["a/" * 60 + "x.rrdi"])
-        self.assertLess(self.listed.call_count, 60 * 60)
+        self.assertEqual(self.found("**.a." * 2 + "**.x"), ["a/" * 60 + "x.rrdi"])
+        self.assertLess(self.listed.call_count, 10 * 60)
         self.found("**." * 500 + "x")
         self.assertLess(self.listed.call_count, 100)
 
