@@ -99,9 +99,8 @@ impl<F: DiskFile> FileBytes<F> {
         self.locked.is_locked()
     }
 
-    // Finds the database that the file stands for, if the file has a mark.
-    fn find_standing(&mut self) -> io::Result<Option<Standing>> {
-        let length = self.len()?;
+    // Finds the database that the file, which has `length` bytes, stands for, if the file has a mark.
+    fn find_standing(&self, length: usize) -> io::Result<Option<Standing>> {
         Standing::find(self.alloc, self.locked.file(), length, self.front.bytes())
     }
 
@@ -112,10 +111,10 @@ impl<F: DiskFile> FileBytes<F> {
     ///
     /// A call failed, or memory ran out. The file then still stands for the same database.
     pub(crate) fn settle(&mut self) -> io::Result<()> {
-        let Some(standing) = self.find_standing()? else {
+        let length = self.len()?;
+        let Some(standing) = self.find_standing(length)? else {
             return Ok(());
         };
-        let length = self.len()?;
         if let Some(end) = standing.unrecorded_end(length) {
             // The file keeps its cut mark, and `settle` then finds the database alone.
             self.set_len(end)?;
@@ -173,12 +172,13 @@ impl<F: DiskFile> FileBytes<F> {
     /// # Errors
     ///
     /// A read failed, or memory ran out.
-    pub(crate) fn into_standing_source(mut self) -> io::Result<Source<F>> {
-        // A call that failed may have left other bytes than those that were read.
-        let length = self.locked.file().length()?;
-        self.length = Some(length);
-        self.read_front(length)?;
-        match self.find_standing()? {
+    pub(crate) fn into_standing_source(self) -> io::Result<Source<F>> {
+        // After an interrupted write that could not be taken back, the first bytes are those in memory.
+        let length = match self.owed {
+            Some(owed) => owed.length,
+            None => self.locked.file().length()? as usize,
+        };
+        match self.find_standing(length)? {
             Some(standing) => Ok(Source::Standing(self.locked, standing, 0)),
             None => Ok(self.into_source()),
         }
