@@ -44,8 +44,12 @@ pub(crate) struct Standing {
     without_record: Option<Shape>,
 }
 
-// Reads the record at byte `at` of a file, if there is one.
-fn record_at<F: DiskFile>(file: &F, at: usize) -> io::Result<Option<Record>> {
+// Reads the record at byte `at` of a file, if there is one. The system refuses to read at the greatest offsets, which a
+// forged mark may have.
+fn record_at<F: DiskFile>(file: &F, file_length: usize, at: usize) -> io::Result<Option<Record>> {
+    if at >= file_length {
+        return Ok(None);
+    }
     let mut bytes = [0; RECORD_SIZE];
     let count = get(file, &mut bytes, at as u64)?;
     Ok(Record::read(at, &bytes[..count]))
@@ -60,7 +64,7 @@ fn last_record<F: DiskFile>(
     if file_length % PAGE != shape.size() {
         return Ok(None);
     }
-    match record_at(file, file_length.saturating_sub(shape.size()))? {
+    match record_at(file, file_length, file_length.saturating_sub(shape.size()))? {
         Some(last) if Shape::for_length(last.length) == shape => Ok(Some(last)),
         _ => Ok(None),
     }
@@ -166,9 +170,10 @@ impl Standing {
     fn under_undo<F: DiskFile>(
         alloc: Global,
         file: &F,
+        file_length: usize,
         tail: usize,
     ) -> io::Result<Option<Standing>> {
-        let Some(old) = record_at(file, tail)? else {
+        let Some(old) = record_at(file, file_length, tail)? else {
             return Ok(None);
         };
         let Some(slots) = find_slots(alloc, file, tail, old.length / PAGE + 1)? else {
@@ -193,7 +198,7 @@ impl Standing {
         match read_mark(first) {
             None => Ok(None),
             Some(Mark::Cut(shape)) => Standing::under_cut(alloc, file, file_length, shape, first),
-            Some(Mark::Undo(tail)) => Standing::under_undo(alloc, file, tail),
+            Some(Mark::Undo(tail)) => Standing::under_undo(alloc, file, file_length, tail),
         }
     }
 
