@@ -1,4 +1,4 @@
--- Glue: the state of a file at each stage of a change (own).
+-- Definition: what a file stands for after a call of a writer has failed; and, as glue, the state of a file at each stage of a change (own).
 use Rattle.std.specs.Prelude.{◌≡◌, ◌⊎◌, ℕ, ◌+◌, ◌-◌, ◌<◌, ◌≤◌, min, List, length, slice_index, ⊤}
 use Rattle.rrd_tail.specs.Marks.{undo_mark}
 use Rattle.rrd_tail.specs.Settled.{settled}
