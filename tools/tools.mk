@@ -56,9 +56,9 @@ uninstall-tools:
 OF_PERL = $(BUILD)/librrds-perl-rrdi_$(VERSION)
 ABOUT_PERL = 'Provides: librrds-perl (= 1.7.2)' 'Conflicts: librrds-perl' 'Replaces: librrds-perl' \
 	'Description: round-robin time-series database with exact undo (Perl module RRDs)' \
-	' The module has the functions of RRDtool'\''s module RRDs, and runs them on databases' \
-	' of rrdi. While this package is installed, all Perl programs on the machine that use' \
-	' RRDs, such as Munin, MRTG and Smokeping, use rrdi.'
+	' The module has the functions of RRDtool'\''s module RRDs, and runs them on' \
+	' databases of rrdi. While this package is installed, all Perl programs on the' \
+	' machine that use RRDs, such as Munin, MRTG and Smokeping, use rrdi.'
 
 deb: deb-perl
 
