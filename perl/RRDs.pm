@@ -127,8 +127,9 @@ sub _read {
     my $pipe = $from;  # a call in a handler of a signal may close it, and start another process
     no warnings 'closed';
     my $head = readline $pipe;
-    return unless defined $head and $head =~ /^(OK|ERROR)((?: \d{1,9})*)\n\z/;
+    return unless defined $head and $head =~ /^(OK|ERROR)([ \d]*)\n\z/;
     my ($status, @lengths) = ($1, split ' ', $2);
+    return if grep { length > 9 } @lengths;
     my @texts;
     for my $length (@lengths) {
         my $text = _bytes($pipe, $length);

@@ -104,11 +104,19 @@ sub show { my ($name, @found) = @_; print "$name: ", join('; ', map { text($_) }
         self.assertEqual(found, "graphv: {" + "|".join(f"{key}={value}" for key, value in pairs) + "}; undef\n" + self.SHOWN)
 
     def test_a_program_that_answers_in_another_form(self) -> None:
-        for text in ("OK u:0.00 s:0.00 r:0.00", "ERROR: none", "5\\nOK 1\\n7", "OK 5\\n7", "OK -1\\n7", "", "OK 1 x\\n7"):
+        for text in ("OK u:0.00 s:0.00 r:0.00", "ERROR: none", "5\\nOK 1\\n7", "OK 5\\n7", "OK -1\\n7", "", "OK 1 x\\n7",
+                     "OK 100000000000\\n7"):
             odd = self.stub("odd", f"read line; printf '{text}\\n'")
             script = "show last => RRDs::last('f'); show again => RRDs::last('f');"
             self.assertEqual(self.perl(script, f"-I{TOP}/perl", env={"RRDI_RRDTOOL": odd}),
                              "".join(f"{name}: undef; {odd} ended; is it installed?\n" for name in ("last", "again")))
+
+    def test_many_rows(self) -> None:
+        texts = ["0 10", " a", "", *(f"{10 * at}: {at}.5" for at in range(1, 100_001))]
+        self.write("answer", with_lengths("OK", list(texts)))
+        many = self.stub("many", f"read line; cat {self.folder}/answer; read line")
+        script = "my (undef, $step, $names, $rows) = RRDs::fetch('f', 'MAX'); show rows => $step, scalar @$rows, $rows->[-1];"
+        self.assertEqual(self.perl(script, f"-I{TOP}/perl", env={"RRDI_RRDTOOL": many}), "rows: 10; 100000; [100000.5]; undef\n")
 
     def test_words_make_no_line(self) -> None:
         """The words of a call, and the name of its directory, stay one line."""
