@@ -186,9 +186,14 @@ class Shown(unittest.TestCase):
             progress = Progress("lines")
             progress.show(1_234_567)
             progress.end()
-        seen = os.read(terminal, 1_000).decode()
+        seen = b""
+        try:
+            while data := os.read(terminal, 1_000):  # the text may come in parts
+                seen += data
+        except OSError:  # the other end is closed
+            pass
         os.close(terminal)
-        self.assertEqual(seen, "\rlines: 1,234,567\x1b[K\r\x1b[K")
+        self.assertEqual(seen.decode(), "\rlines: 1,234,567\x1b[K\r\x1b[K")
 
 
 @needs_program
