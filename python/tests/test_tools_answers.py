@@ -34,8 +34,8 @@ class Forms(unittest.TestCase):
 
 
 @unittest.skipUnless(CC, "there is no C compiler cc")
-class WithGrapher(ToolCase):
-    """The pipe with a library in RRDtool's place that prints any text."""
+class GrapherCase(ToolCase):
+    """Tests with a library in RRDtool's place that prints any text."""
 
     def setUp(self) -> None:
         super().setUp()
@@ -48,11 +48,15 @@ class WithGrapher(ToolCase):
     def prints() -> List[str]:
         return ["PRINT:a:" + text.replace(":", "\\:") for text in HOSTILE]
 
-    def pipe(self, line: str, *words: str) -> Ran:
-        return self.tool("rrdi-rrdtool", *words, "-", given=f"{line}\n{TIMES}\n")
-
     def line(self, command: str, picture: str) -> str:
         return f"{command} {picture} " + " ".join(f"'{word}'" for word in self.prints())
+
+
+class WithGrapher(GrapherCase):
+    """The pipe."""
+
+    def pipe(self, line: str, *words: str) -> Ran:
+        return self.tool("rrdi-rrdtool", *words, "-", given=f"{line}\n{TIMES}\n")
 
     def test_a_pipe(self) -> None:
         for command in ("graph", "graphv"):
@@ -78,7 +82,7 @@ class WithGrapher(ToolCase):
 
 
 @unittest.skipUnless(PERL, "perl is not installed")
-class PerlAnswers(WithGrapher):
+class PerlAnswers(GrapherCase):
     SHOW = r"""use RRDs; use strict; use Scalar::Util 'tainted';
 sub text { my ($v) = @_; return !defined $v ? 'undef' : ref $v eq 'ARRAY' ? '[' . join('|', map { text($_) } @$v) . ']'
     : ref $v eq 'HASH' ? '{' . join('|', map { "$_=" . text($v->{$_}) } sort keys %$v) . '}' : tainted($v) ? "tainted $v" : $v }
