@@ -167,13 +167,14 @@ impl<F: DiskFile> FileBytes<F> {
     }
 
     /// Returns the place of the bytes that the file stands for, or of its own bytes if it stands for no database. The
-    /// file is not changed.
+    /// file is not changed, except that a write that was interrupted before is taken back.
     ///
     /// # Errors
     ///
     /// A read failed, or memory ran out.
-    pub(crate) fn into_standing_source(self) -> io::Result<Source<F>> {
-        // After an interrupted write that could not be taken back, the first bytes are those in memory.
+    pub(crate) fn into_standing_source(mut self) -> io::Result<Source<F>> {
+        // If an interrupted write cannot be taken back, the first bytes are still those in memory.
+        let _mended = self.mend();
         let length = match self.owed {
             Some(owed) => owed.length,
             None => self.locked.file().length()? as usize,
