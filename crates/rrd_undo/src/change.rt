@@ -398,24 +398,11 @@ impl Change {
         put_and_sync(file, 0, &undo_mark(self.tail.offset), self.tail.syncs)
     }
 
-    // Leaves the first `count` of the new bytes in the file.
-    fn leave_front<F: Bytes>(&self, file: &mut F, first: &[u8], count: usize) -> io::Result<()>
-        ensures falls { (s : List ℕ) → IsTrue (F.is_honest s file.new) → IsTrue (F.is_honest s file.old) }
-    {
-        file.set_len(count)?;
-        file.put_whole(0, front_page(&first[..count.min(first.len())]))
-    }
-
     /// Undoes the change, after a call that failed.
     ///
-    /// A file that was not a database and whose old bytes are not in memory keeps the first `count` of the new bytes
-    /// instead. `first` is the new first page.
-    pub(crate) fn take_back<F: Bytes>(
-        &mut self,
-        file: &mut F,
-        first: &[u8],
-        count: usize,
-    ) -> io::Result<()>
+    /// A file that was not a database and whose old bytes are not in memory is left empty instead: it must not get the
+    /// mark of a database, since a sync that failed may have lost some of the new pages.
+    pub(crate) fn take_back<F: Bytes>(&mut self, file: &mut F) -> io::Result<()>
         ensures falls { (s : List ℕ) → IsTrue (F.is_honest s file.new) → IsTrue (F.is_honest s file.old) }
         ensures ok { OnOk result ((s : List ℕ) → IsTrue (F.is_honest s file.new) → (old : List ℕ) → CanRestore old → IsBroken old self.old (F.held s file.old) → F.held s file.new ≡ old) }
         ensures stands { (s : List ℕ) → IsTrue (F.is_honest s file.new) → (old : List ℕ) → IsDatabase old → IsBroken old self.old (F.held s file.old)
@@ -434,9 +421,7 @@ impl Change {
             }
             // The next program that opens the file does the rest.
             Stage::Committed => Err(Error::from(ErrorKind::InvalidInput)),
-            Stage::Invalid if MIN_DATABASE_SIZE <= self.old_length => self.leave_front(
-                file, first, count,
-            ),
+            Stage::Invalid if MIN_DATABASE_SIZE <= self.old_length => file.set_len(0),
             Stage::Unkept | Stage::Invalid => self.restore(file),
         }
     }

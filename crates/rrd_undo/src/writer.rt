@@ -106,7 +106,6 @@ impl Pages {
             return Err(Error::from(ErrorKind::FileTooLarge));
         };
         if count != self.change.length {
-            // `take_back` counts the bytes of the pages that were written: an incomplete page must not be written.
             return Err(Error::from(ErrorKind::InvalidInput));
         }
         self.end_page(file)?;
@@ -120,8 +119,7 @@ impl Pages {
         ensures stands { (s : List ℕ) → IsTrue (F.is_honest s file.new) → (old new : List ℕ) → IsDatabase old → IsBroken old self.old.change (F.held s file.old)
             → StandsForEither old new (F.held s file.old) → StandsForEither old new (F.held s file.new) }
     {
-        let count = self.done.min(self.change.length.saturating_sub(1));
-        self.change.take_back(file, &self.first, count)
+        self.change.take_back(file)
     }
 }
 
@@ -241,8 +239,7 @@ impl<F: Bytes + Drop> PageWriter<F> {
 
     /// Takes the change back, after a call that failed.
     ///
-    /// The file has its old bytes again. A file that was not a database and had 16 bytes or more is left with the first
-    /// part of the new bytes instead.
+    /// The file has its old bytes again. A file that was not a database and had 16 bytes or more is left empty instead.
     ///
     /// # Errors
     ///

@@ -84,21 +84,30 @@ fn change_of(alloc: Global, file: Failing, new: &[u8], syncs: Syncs) -> Outcome 
     }
 }
 
-// The file has its old bytes again, or a front of the new ones, if it was no database and isn't all in memory.
-fn is_taken_back(bytes: &[u8], old: &[u8], new: &[u8]) -> bool {
+// The file has its old bytes again, or is empty, if it was no database and isn't all in memory.
+fn is_taken_back(bytes: &[u8], old: &[u8]) -> bool {
     let is_kept = old.len() < 16 || old.starts_with(&DATABASE_MARK);
-    bytes == old || !is_kept && new.starts_with(bytes)
+    bytes == old || !is_kept && bytes.is_empty()
 }
 
-// An outcome is right. Taking back fails only if the first page was put and the file got longer by that.
-fn is_right(alloc: Global, outcome: Outcome, old: &[u8], new: &[u8]) -> Result<bool, Fail> {
+// An outcome is right. Taking back fails only if the file stands for the new bytes: the first page was put and the file
+// got longer by that, or a call failed after the commit, which is an error if syncs were asked for.
+fn is_right(
+    alloc: Global,
+    outcome: Outcome,
+    old: &[u8],
+    new: &[u8],
+    syncs: Syncs,
+) -> Result<bool, Fail> {
     Ok(match outcome {
         Outcome::NotBegun => true,
         Outcome::Ended(bytes) => settled_bytes(alloc, bytes)?.as_slice() == new,
-        Outcome::TakenBack(bytes) => is_taken_back(&bytes, old, new),
-        Outcome::Left(bytes) => bytes.as_slice() == new
-            && old.len() < new.len()
-            && new.len() <= PAGE,
+        Outcome::TakenBack(bytes) => is_taken_back(&bytes, old),
+        Outcome::Left(bytes) => {
+            let is_longer_page = old.len() < new.len() && new.len() <= PAGE;
+            let is_new = settled_bytes(alloc, bytes)?.as_slice() == new;
+            is_new && (is_longer_page || syncs == Syncs::Ordered)
+        }
     })
 }
 
@@ -117,7 +126,7 @@ fn assert_each_failure(
     for calls in 0..CALLS {
         let file = Failing::new(Vec::from_slice(alloc, old)?, failure, calls);
         let outcome = change_of(alloc, file, new, syncs);
-        assert!(rt; is_right(alloc, outcome, old, new)?, "{calls}");
+        assert!(rt; is_right(alloc, outcome, old, new, syncs)?, "{calls}");
     }
     Ok(())
 }
