@@ -149,7 +149,7 @@ for (@ARGV) { RRDp::cmd($_); my $found = RRDp::read(); print defined $found ? $$
 
     def test_a_call_in_a_handler(self) -> None:
         """The call that was interrupted fails, and the next ones get their own answers."""
-        slow = self.stub("slow", """read line; case $line in *slow*) printf 'OK 5\\n1'; sleep 1 ;; esac; printf 'OK 1\\n7'; read line""")
+        slow = self.stub("slow", """read line; case $line in *slow*) printf 'OK 5\\n1'; exec sleep 5 ;; esac; printf 'OK 1\\n7'; read line""")
         script = r"""local $SIG{ALRM} = sub { show inner => RRDs::last('f') }; alarm 1; $| = 1;
 show outer => RRDs::last('slow'); show last => RRDs::last('f');"""
         self.assertEqual(self.perl(script, f"-I{TOP}/perl", env={"RRDI_RRDTOOL": slow}),
