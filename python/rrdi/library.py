@@ -4,6 +4,7 @@ A call lends the library buffers that belong to the calling thread, so several t
 call the interpreter's lock is free. docs/embedding.md has the library's own rules.
 """
 
+# Without `annotations` of __future__: a named tuple whose types are texts makes a tool start a tenth slower.
 import ctypes
 import os
 import threading

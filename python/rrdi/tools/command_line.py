@@ -1,5 +1,6 @@
 """The parts that all tools share: help, messages, exit statuses, and reports of progress."""
 
+# Without `annotations` of __future__: a named tuple whose types are texts makes a tool start a tenth slower.
 import os
 import sys
 import time

@@ -1,5 +1,6 @@
 """RRDtool's texts: the output of `rrdtool fetch`, `lastupdate`, `info` and `updatev`."""
 
+# Without `annotations` of __future__: a named tuple whose types are texts makes a tool start a tenth slower.
 from typing import TYPE_CHECKING, List, NamedTuple, Optional
 
 from ..exponents import exponent
