@@ -18,7 +18,8 @@ EXPORTS = frozenset({"rrdi_run", "rrdi_batch", "rrdi_run_file", "rrdi_batch_file
 # The C functions that a library may call: memory, bytes, files, and errno. None ends the process or handles signals.
 MAY_CALL = frozenset({"malloc", "realloc", "free", "memcpy", "memmove", "memset", "memcmp", "bcmp", "strlen", "__errno_location",
                       "open", "open64", "close", "read", "pread", "pread64", "pwrite", "pwrite64", "lseek", "lseek64",
-                      "ftruncate", "ftruncate64", "fdatasync", "flock", "fcntl", "fcntl64", "statx", "nanosleep"})
+                      "ftruncate", "ftruncate64", "fdatasync", "flock", "fcntl", "fcntl64", "statx", "realpath",
+                      "nanosleep"})
 # The functions of the compiler's own library, the linker and the start files: division of 128 bits, and those of each shared object.
 OF_LINKER = frozenset({"__udivti3", "__cxa_finalize", "__gmon_start__", "_ITM_deregisterTMCloneTable", "_ITM_registerTMCloneTable"})
 
