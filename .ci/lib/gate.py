@@ -112,8 +112,7 @@ class Check:
     lock: threading.Lock = field(default_factory=threading.Lock)
 
     def run(self, step: Step) -> bool:
-        """Runs a step, shows its output, and returns whether it went well and tried enough. The output of `rt ci` is shown
-        as it comes, and that of the steps beside it once they have ended."""
+        """Runs a step, shows its output, and returns whether it went well and tried enough."""
         lacking = [tool for tool in step.tools if not shutil.which(tool)]
         if lacking:
             print(f"left out: {step.name}: {', '.join(lacking)} not installed", flush=True)
@@ -144,17 +143,15 @@ class Check:
             return self.running[-1]
 
     def shown(self, started: subprocess.Popen[str], step: Step) -> list[str]:
-        """Shows the output of a step, and returns its lines."""
+        """Shows the output of a step as it comes, and returns its lines. Lines of steps that run beside `rt ci` have the
+        step's name before them."""
         lines = []
-        is_live = step in (RT, LAST)
+        front = "" if step in (RT, LAST) else f"{Path(step.words[0]).name}: "
         for line in started.stdout or ():
-            lines.append(line.rstrip("\n"))
-            if is_live:
-                print(line, end="", flush=True)
+            lines.append(line.strip())
+            print(f"{front}{line}", end="", flush=True)
         started.wait()
-        if not is_live:
-            print("\n".join([f"== {step.name}", *lines]), flush=True)
-        return [line.strip() for line in lines if line.strip()]
+        return list(filter(None, lines))
 
     def is_well(self, step: Step, status: int, lines: list[str]) -> bool:
         """Checks how a step has ended. After the first step that fails, the steps beside it are ended."""
