@@ -1,1 +1,11 @@
-pub mod Windows
+pub mod Asked
+pub mod Asking
+pub mod Calling
+pub mod Contents
+pub mod FileRuns
+pub mod Fronts
+pub mod Knowing
+pub mod Loaded
+pub mod Replaying
+pub mod Storing
+pub mod OpenRuns

@@ -1,1 +1,15 @@
-pub mod Windows
+pub mod Asked
+pub mod Calls
+pub mod Contents
+pub mod Entries
+pub mod EventCode
+pub mod Events
+pub mod Fronts
+pub mod Known
+pub mod Loading
+pub mod Noting
+pub mod OpenRuns
+pub mod Openings
+pub mod Replayed
+pub mod Runs
+pub mod Storing

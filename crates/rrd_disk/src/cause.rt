@@ -18,16 +18,22 @@ impl Cause {
         }
     }
 
-    /// Returns why the last call failed. Returns `None` if no call failed, or if a later read succeeded.
+    /// Returns why the last call failed. Returns `None` if no call failed.
     ///
-    /// The kind `NotFound` also means that [`rrd_store::Storage::open`] found no file, and `WouldBlock` that another
-    /// program held the lock for as long as the run waited.
+    /// The kind `WouldBlock` means that another program held the lock for as long as the run waited. If nothing is noted
+    /// after [`rrd_store::TaskFault::CannotOpen`], there is no file; after `CannotWrite`, memory ran out before the first
+    /// call that writes.
     pub fn last(&self) -> Option<Error> {
         self.last.get()
     }
 
+    /// Forgets why the last call failed.
+    pub(crate) fn clear(&self) {
+        self.last.set(None);
+    }
+
     /// Notes why a call failed.
-    pub(crate) fn set(&self, error: Error) {
+    pub fn set(&self, error: Error) {
         self.last.set(Some(error));
     }
 
@@ -36,13 +42,5 @@ impl Cause {
         if let Err(error) = ended {
             self.set(*error);
         }
-    }
-
-    /// Notes why a read failed, or that it succeeded.
-    pub(crate) fn note_read(&self, ended: &io::Result<usize>) {
-        self.last.set(match ended {
-            Ok(_) => None,
-            Err(error) => Some(*error),
-        });
     }
 }

@@ -1,8 +1,11 @@
 //! The calls of the system on a file.
+ghost use Rattle.std.specs.Prelude.{◌≡◌, ◌∷◌, List, length, take, IfOk, OnErr, OnOk};
 ghost use Rattle.std.specs.Io.{ReadsAtMost};
+ghost use Rattle.rrd_disk.specs.Calls.{opened, seen};
+ghost use Rattle.rrd_disk.specs.Events.{Event, Got, Measured, Put, PutFailed, SizeFailed, Sized, Streamed, SyncFailed, Synced};
 
 use std::alloc::Global;
-use std::io::{self, Read};
+use std::io;
 
 /// The purpose for which a file is opened.
 #[derive(Clone, Copy, Debug, PartialEq, Eq)]
@@ -51,48 +54,7 @@ pub struct Facts {
 }
 
 /// An open file, which is closed when the value is dropped.
-///
-/// A signal may make any call fail with the kind `Interrupted`. Each error is one of the system's, and its kind says why
-/// the call failed.
-pub trait DiskFile: Read + Drop {
-    /// Returns another handle of the same open file. The two handles share one lock and one position.
-    ///
-    /// # Errors
-    ///
-    /// The system has no more handles.
-    fn again(&self) -> io::Result<Self>
-    where
-        Self: Sized;
-
-    /// Reads bytes from byte `at` on by one call, and returns the number of bytes that were read: 0 at the end of the file.
-    ///
-    /// # Errors
-    ///
-    /// The read failed.
-    fn read_at(&self, bytes: &mut [u8], at: u64) -> io::Result<usize>
-        ensures { ReadsAtMost result bytes.new };
-
-    /// Writes bytes from byte `at` on by one call, and returns the number of bytes that were written.
-    ///
-    /// # Errors
-    ///
-    /// The write failed.
-    fn write_at(&self, bytes: &[u8], at: u64) -> io::Result<usize>;
-
-    /// Returns the length of the file in bytes.
-    ///
-    /// # Errors
-    ///
-    /// The system does not report the length.
-    fn length(&self) -> io::Result<u64>;
-
-    /// Sets the length of the file to `length` bytes: truncates the file, or appends zeros.
-    ///
-    /// # Errors
-    ///
-    /// The file is as it was.
-    fn set_length(&self, length: u64) -> io::Result<()>;
-
+pub trait DiskFile: Drop {
     /// Tries once to lock the file, without waiting. If the call fails, this open file holds no lock.
     ///
     /// # Errors
@@ -108,46 +70,105 @@ pub trait DiskFile: Read + Drop {
     ///
     /// The lock stays until the last handle is closed.
     fn unlock(&self) -> io::Result<()>;
-
-    /// Returns after the disk has stored all bytes that were written.
-    ///
-    /// # Errors
-    ///
-    /// The disk may have stored any part of the bytes.
-    fn sync(&self) -> io::Result<()>;
 }
 
-/// A system that has files.
+/// A system that has files, with the record of the calls on the file of one run.
+///
+/// Each call notes what the call did and what the system answered. A reader of the theorems has to believe that the
+/// bodies of an `impl` make the calls that they note.
+///
+/// A signal may make any call fail with the kind `Interrupted`. Each error is one of the system's, and its kind says why
+/// the call failed.
 pub trait Disk {
+    // The calls so far, the newest first.
+    ghost events: { Self → List Event };
+
     /// An open file of this system.
     type File: DiskFile;
 
     /// Returns the allocator for the bytes of files.
     fn alloc(&self) -> Global;
 
-    /// Opens the file at `path`. A signal may make the call fail with the kind `Interrupted`.
+    /// Opens the file at `path`. Returns `None` if there is no file, or no directory for a new one.
     ///
     /// No standard stream of the process is the open file: the numbers 0 to 2 are for the streams, even if they are
     /// closed.
     ///
     /// # Errors
     ///
-    /// The file cannot be opened for that purpose: `NotFound` if there is no file, or no directory for a new one.
-    fn open(&self, path: &str, opening: Opening) -> io::Result<Self::File>;
+    /// The file cannot be opened for that purpose.
+    fn open(&mut self, path: &str, opening: Opening) -> io::Result<Option<Self::File>>
+        ensures ok { IfOk result (λ file. events self.new ≡ opened opening file ∷ events self.old) }
+        ensures err { OnErr result (events self.new ≡ events self.old) };
 
     /// Returns the facts that the system reports of an open file.
     ///
     /// # Errors
     ///
     /// The system does not report the facts.
-    fn facts(&self, file: &Self::File) -> io::Result<Facts>;
+    fn facts(&mut self, file: &Self::File) -> io::Result<Facts>
+        ensures ok { IfOk result (λ facts. events self.new ≡ Measured facts.length ∷ events self.old) }
+        ensures err { OnErr result (events self.new ≡ events self.old) };
 
-    /// Returns the facts that the system reports of the file at `path`, without opening the file.
+    /// Returns the facts that the system reports of the file at `path`, without opening the file. Returns `None` if there
+    /// is no file.
     ///
     /// # Errors
     ///
-    /// The system does not report the facts: `NotFound` if there is no file.
-    fn facts_at(&self, path: &str) -> io::Result<Facts>;
+    /// The system does not report the facts.
+    fn facts_at(&mut self, path: &str) -> io::Result<Option<Facts>>
+        ensures ok { IfOk result (λ facts. events self.new ≡ seen facts (events self.old)) }
+        ensures err { OnErr result (events self.new ≡ events self.old) };
+
+    /// Checks whether there is a directory at `path`, or something else. Returns `false` only if there is nothing.
+    fn is_there(&self, path: &str) -> bool;
+
+    /// Reads bytes from byte `at` on by one call, and returns the number of bytes that were read: 0 at the end of the file.
+    ///
+    /// # Errors
+    ///
+    /// The read failed.
+    fn read_at(&mut self, file: &Self::File, bytes: &mut [u8], at: u64) -> io::Result<usize>
+        ensures bound { ReadsAtMost result bytes.new }
+        ensures ok { IfOk result (λ n. events self.new ≡ Got at (length bytes.old) (take n bytes.new) ∷ events self.old) }
+        ensures err { OnErr result (events self.new ≡ events self.old) };
+
+    /// Reads the next bytes of a pipe by one call, and returns the number of bytes that were read: 0 at the end.
+    ///
+    /// # Errors
+    ///
+    /// The read failed.
+    fn read_pipe(&mut self, file: &mut Self::File, bytes: &mut [u8]) -> io::Result<usize>
+        ensures bound { ReadsAtMost result bytes.new }
+        ensures ok { OnOk result (events self.new ≡ Streamed ∷ events self.old) }
+        ensures err { OnErr result (events self.new ≡ events self.old) };
+
+    /// Writes bytes from byte `at` on by one call, and returns the number of bytes that were written.
+    ///
+    /// # Errors
+    ///
+    /// The write failed.
+    fn write_at(&mut self, file: &Self::File, bytes: &[u8], at: u64) -> io::Result<usize>
+        ensures ok { IfOk result (λ n. events self.new ≡ Put at bytes.now n ∷ events self.old) }
+        ensures err { OnErr result (events self.new ≡ PutFailed at bytes.now ∷ events self.old) };
+
+    /// Sets the length of the file to `length` bytes: truncates the file, or appends zeros.
+    ///
+    /// # Errors
+    ///
+    /// The file is as it was.
+    fn set_length(&mut self, file: &Self::File, length: u64) -> io::Result<()>
+        ensures ok { OnOk result (events self.new ≡ Sized length ∷ events self.old) }
+        ensures err { OnErr result (events self.new ≡ SizeFailed length ∷ events self.old) };
+
+    /// Returns after the disk has stored all bytes that were written.
+    ///
+    /// # Errors
+    ///
+    /// The disk may have stored any part of the bytes.
+    fn sync(&mut self, file: &Self::File) -> io::Result<()>
+        ensures ok { OnOk result (events self.new ≡ Synced ∷ events self.old) }
+        ensures err { OnErr result (events self.new ≡ SyncFailed ∷ events self.old) };
 
     /// Waits for `milliseconds`.
     fn pause(&self, milliseconds: u64);

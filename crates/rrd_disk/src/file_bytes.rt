@@ -1,237 +1,419 @@
-//! An open file as bytes that are changed. The contracts do not know the bytes of a file on disk.
-use crate::DiskFile;
+//! The file of a run: its bytes, which are read and changed by the calls of the system.
+ghost use Rattle.std.specs.Prelude.{◌≡◌, ◌≤◌, ℕ, IfOk, IsTrue, List, OnOk, length, max, option_map};
+ghost use Rattle.rrd_disk.specs.Calls.{Falls, KeepsHeld, KeepsHeldFor, PlaceStays};
+ghost use Rattle.rrd_disk.specs.Known.{AreAll, Measures, Owes, ShowsBytes};
+ghost use Rattle.rrd_disk.specs.Openings.{HasLength};
+ghost use Rattle.rrd_disk.specs.Replayed.{bytes_after, held_after, is_honest_after};
+ghost use Rattle.rrd_store.specs.Storages.{Held};
+
+use crate::front::Front;
 use crate::locks::LockedFile;
-use crate::once::{get, put, set_length, sync};
-use crate::reader::Source;
-use crate::standing::Standing;
-use crate::window::Window;
-use rrd_undo::{Bytes, PAGE, Syncs, is_marked, settle};
-use std::alloc::Global;
-use std::io::{self, Cursor, Error, ErrorKind};
-use std::rc::Rc;
+use crate::once::{get, get_behind, get_next, measure, open, put, set_length, sync};
+use crate::opening::{Opened, open_locked};
+use crate::{Disk, DiskFile, Opening};
+use rrd_tail::PAGE;
+use rrd_undo::{Bytes, Syncs};
+use std::io::{self, Error, ErrorKind};
 
-/// The maximum number of bytes that one call reads, when a file is opened and for comparison with new bytes. At the
-/// opening a longer file is read up to the end of its first page. Larger buffers cost more: the system provides each
-/// of their pages anew.
-const CHUNK: u64 = 65_536;
+/// The maximum number of bytes that are read when a file is opened: all bytes of a short file. Larger buffers cost more:
+/// the system provides each of their pages anew.
+const FIRST_PART: u64 = 65_536;
 
-/// A write within one page that was interrupted. The next call first takes the write back.
+/// How many times as long each later part is as all parts before it.
+const GROWTH: u64 = 7;
+
+/// A write within one page of which a call wrote only some of the bytes. The next call first takes the write back.
 #[derive(Clone, Copy)]
 struct Owed {
-    // The offset of the write, and the length of the file before the write.
+    // The offset of the write and its number of bytes, and the length of the file before the write.
     at: usize,
-    length: usize,
+    count: usize,
+    length: u64,
 }
 
-/// An open file, locked, as bytes that are changed.
+/// The file that a run opens, with the system whose calls read and change it.
 #[derive(Drop)]
-pub(crate) struct FileBytes<F: DiskFile> {
-    alloc: Global,
-    locked: LockedFile<F>,
+pub(crate) struct FileBytes<D: Disk> {
+    disk: D,
     syncs: Syncs,
+    // The open file; `None` if no file is open.
+    file: Option<LockedFile<D::File>>,
     // The length of the file in bytes, if known.
     length: Option<u64>,
-    // The first bytes, at most one page.
-    front: Window,
-    window: Window,
-    // The bytes of the window from the first byte on, while a reader uses them.
-    lent: Option<Rc<Vec<u8>>>,
+    // The first bytes of the file.
+    front: Front,
     owed: Option<Owed>,
+    ghost shown: { ShowsBytes front.bytes.items (D.Disk.events disk) },
+    ghost measured: { Measures length (D.Disk.events disk) },
+    ghost owing: { Owes owed (D.Disk.events disk) },
 }
 
-impl<F: DiskFile> FileBytes<F> {
-    /// Creates the bytes of a file of `length` bytes. Reads the first page, or all bytes of a short file.
+/// The result of opening the file of a run.
+#[derive(Drop)]
+pub(crate) enum Entry<F: DiskFile> {
+    /// The file is open and locked.
+    Open,
+    /// A pipe without a name, which is only read.
+    Pipe(F),
+    /// There is no file, or no directory for a new one.
+    Missing,
+    /// There is a file that the system does not open for this purpose, for this reason.
+    Refused(Error),
+}
+
+// Returns the error of a call if no file is open.
+fn not_open() -> Error {
+    Error::from(ErrorKind::NotConnected)
+}
+
+// Returns the length of a file after a write up to byte `end`.
+fn longer(length: Option<u64>, end: u64) -> Option<u64>
+    ensures { result ≡ option_map (λ m. max m end) length }
+{
+    match length {
+        Some(length) => Some(length.max(end)),
+        None => None,
+    }
+}
+
+/// Returns how many of the first bytes of a file are read after the first `had` bytes.
+pub(crate) fn longer_front(had: u64) -> u64 {
+    had.saturating_add(had.saturating_mul(GROWTH).max(FIRST_PART))
+}
+
+impl<D: Disk> FileBytes<D> {
+    ghost use Rattle.std.specs.Prelude.{OnErr};
+    ghost use Rattle.rrd_disk.specs.Entries.{SaysEntry};
+    ghost use Rattle.rrd_undo.specs.Calls.{ArePut};
+
+    /// Creates the file of a run, which has opened nothing so far.
+    pub(crate) fn new(disk: D, syncs: Syncs) -> FileBytes<D>
+        ensures { result.disk ≡ disk }
+    {
+        let front = Front::new(disk.alloc());
+        FileBytes {
+            disk,
+            syncs,
+            file: None,
+            length: None,
+            front,
+            owed: None,
+        }
+    }
+
+    /// Closes the file, and returns the system.
+    pub(crate) fn into_disk(self) -> D
+        ensures { result ≡ self.disk }
+    {
+        self.disk
+    }
+
+    /// Returns the system.
+    pub(crate) fn disk(&self) -> &D
+        ensures { result.now ≡ self.now.disk }
+    {
+        &self.disk
+    }
+
+    /// Closes the file, and releases its lock.
+    pub(crate) fn close(&mut self)
+        ensures { self.new.disk ≡ self.old.disk }
+    {
+        self.file = None;
+        self.length = None;
+        self.front.clear();
+        self.owed = None;
+    }
+
+    /// Opens the file at `path`, locks the file, and reads its first part.
     ///
     /// # Errors
     ///
-    /// The read failed, or memory ran out.
-    pub(crate) fn new(
-        alloc: Global,
-        locked: LockedFile<F>,
-        length: u64,
-        syncs: Syncs,
-    ) -> io::Result<FileBytes<F>> {
-        let mut bytes = FileBytes {
-            alloc,
-            locked,
-            syncs,
-            length: Some(length),
-            front: Window::new(alloc),
-            window: Window::new(alloc),
-            lent: None,
-            owed: None,
+    /// The file is no regular file, cannot be locked or read, or memory ran out.
+    pub(crate) fn open(
+        &mut self,
+        path: &str,
+        opening: Opening,
+        wait: u64,
+    ) -> io::Result<Entry<D::File>>
+        ensures falls { Falls (D.events self.old.disk) (D.events self.new.disk) }
+        ensures same { KeepsHeldFor opening (D.events self.old.disk) (D.events self.new.disk) }
+        ensures says { IfOk result (λ entry. SaysEntry entry (D.events self.new.disk)) }
+    {
+        self.close();
+        match open_locked(&mut self.disk, path, opening, wait)? {
+            Opened::Regular(file, length) => {
+                self.file = Some(file);
+                self.length = Some(length);
+                self.read_to(length.min(FIRST_PART))?;
+                Ok(Entry::Open)
+            }
+            Opened::Pipe(file) => Ok(Entry::Pipe(file)),
+            Opened::Missing => Ok(Entry::Missing),
+            Opened::Refused(error) => Ok(Entry::Refused(error)),
+        }
+    }
+
+    /// Checks whether this run may open the file at `path` for writing.
+    pub(crate) fn may_write(&mut self, path: &str) -> bool
+        ensures falls { Falls (D.events self.old.disk) (D.events self.new.disk) }
+        ensures same { KeepsHeld (D.events self.old.disk) (D.events self.new.disk) }
+    {
+        matches!(open(&mut self.disk, path, Opening::Write), Ok(Some(_)))
+    }
+
+    // Returns the length of the file in bytes.
+    fn file_length(&mut self) -> io::Result<u64>
+        ensures falls { Falls (D.events self.old.disk) (D.events self.new.disk) }
+        ensures same { (s : Held) → IsTrue (is_honest_after s (D.events self.new.disk)) → held_after s (D.events self.new.disk) ≡ held_after s (D.events self.old.disk) }
+        ensures place { PlaceStays (D.events self.old.disk) (D.events self.new.disk) }
+        ensures ok { IfOk result (λ n. (s : Held) → IsTrue (is_honest_after s (D.events self.new.disk)) → n ≡ length (bytes_after s (D.events self.new.disk))) }
+    {
+        self.mend()?;
+        if let Some(length) = self.length {
+            return Ok(length);
+        }
+        let Some(file) = &self.file else {
+            return Err(not_open());
         };
-        bytes.read_front(length)?;
-        Ok(bytes)
-    }
-
-    // Reads the first page of a file of `length` bytes, or all bytes of a short file.
-    fn read_front(&mut self, length: u64) -> io::Result<()> {
-        let count = if length <= CHUNK { length } else { PAGE as u64 };
-        self.fill(0, count)?;
-        let read = self.window.bytes();
-        self.front.fill(&read[..read.len().min(PAGE)])
-    }
-
-    // Reads `count` bytes from byte `at` on into the window.
-    fn fill(&mut self, at: usize, count: u64) -> io::Result<()> {
-        let mut bytes = self.take_window();
-        bytes.resize(count as usize, 0)?;
-        let read = get(self.locked.file(), &mut bytes, at as u64)?;
-        bytes.truncate(read);
-        self.window = Window::at(at, bytes);
-        Ok(())
+        let length = measure(&mut self.disk, file.file())?;
+        self.length = Some(length);
+        Ok(length)
     }
 
     /// Checks whether the file has no bytes.
-    pub(crate) fn is_empty(&self) -> bool {
+    pub(crate) fn is_empty(&self) -> bool
+        ensures { IsTrue result → HasLength 0 (D.events self.now.disk) }
+    {
         self.length == Some(0)
-    }
-
-    /// Checks whether the file begins with a mark: a change of a database was interrupted, or the file is another
-    /// program's.
-    pub(crate) fn is_marked(&self) -> bool {
-        is_marked(self.front.bytes())
     }
 
     /// Checks whether this run holds the lock of the file.
     pub(crate) fn is_locked(&self) -> bool {
-        self.locked.is_locked()
+        match &self.file {
+            Some(file) => file.is_locked(),
+            None => false,
+        }
     }
 
-    // Finds the database that the file, which has `length` bytes, stands for, if the file has a mark.
-    fn find_standing(&self, length: usize) -> io::Result<Option<Standing>> {
-        Standing::find(self.alloc, self.locked.file(), length, self.front.bytes())
+    /// Checks whether all bytes of the file are in memory.
+    pub(crate) fn is_whole(&self) -> bool
+        ensures { IsTrue result → AreAll self.now.front.bytes.items (D.events self.now.disk) }
+    {
+        match self.length {
+            Some(length) => length == self.front.len() as u64,
+            None => false,
+        }
     }
 
-    /// Ends an interrupted change of the file, or takes the change back. Writes nothing to a file that stands for no
-    /// database.
+    /// Returns the bytes of the file that are in memory: the first part, or all bytes.
+    pub(crate) fn front(&self) -> &[u8]
+        ensures items { result.now ≡ self.now.front.bytes.items }
+        ensures shown { ShowsBytes result.now (D.events self.now.disk) }
+    {
+        self.front.bytes()
+    }
+
+    // Takes the bytes in memory.
+    fn take_front(&mut self) -> Vec<u8>
+        ensures disk { self.new.disk ≡ self.old.disk }
+        ensures length { self.new.length ≡ self.old.length }
+        ensures bytes { result.items ≡ self.old.front.bytes.items }
+        ensures shown { ShowsBytes result.items (D.events self.old.disk) }
+    {
+        let empty = Front::new(self.disk.alloc());
+        std::mem::replace(&mut self.front, empty).into_bytes()
+    }
+
+    // Reads the bytes of the file that follow those in `bytes`, up to byte `count`, after them. If the file has fewer, the
+    // system has told a wrong length, or another program is changing the file.
+    fn extend(&mut self, bytes: &mut Vec<u8>, count: usize) -> io::Result<()>
+        requires more { length bytes.old.items ≤ count }
+        requires shown { ShowsBytes bytes.old.items (D.events self.old.disk) }
+        ensures falls { Falls (D.events self.old.disk) (D.events self.new.disk) }
+        ensures same { KeepsHeld (D.events self.old.disk) (D.events self.new.disk) }
+        ensures shown { OnOk result (ShowsBytes bytes.new.items (D.events self.new.disk)) }
+    {
+        let Some(file) = &self.file else {
+            return Err(not_open());
+        };
+        let had = bytes.len();
+        bytes.resize(count, 0)?;
+        let read = get_behind(&mut self.disk, file.file(), &mut bytes[..], had)?;
+        bytes.truncate(had + read);
+        if had + read < count {
+            return Err(Error::from(ErrorKind::UnexpectedEof));
+        }
+        Ok(())
+    }
+
+    // Reads the first `count` bytes of the file into memory.
+    fn read_to(&mut self, count: u64) -> io::Result<()>
+        ensures falls { Falls (D.events self.old.disk) (D.events self.new.disk) }
+        ensures same { KeepsHeld (D.events self.old.disk) (D.events self.new.disk) }
+    {
+        let mut bytes = self.take_front();
+        if (bytes.len() as u64) < count {
+            self.extend(&mut bytes, count as usize)?;
+        }
+        self.front = Front::of(bytes);
+        Ok(())
+    }
+
+    /// Reads more bytes of the file into memory, so that each part is some times as long as all parts before it.
     ///
     /// # Errors
     ///
-    /// A call failed, or memory ran out. The file then still stands for the same database.
-    pub(crate) fn settle(&mut self) -> io::Result<()> {
-        let length = self.len()?;
-        let Some(standing) = self.find_standing(length)? else {
-            return Ok(());
-        };
-        if let Some(end) = standing.unrecorded_end(length) {
-            // The file keeps its cut mark, and `settle` then finds the database alone.
-            self.set_len(end)?;
-            self.sync()?;
-        }
-        let mut buffer = Vec::new(self.alloc);
-        let _settled = settle(self, &mut buffer)?;
-        let length = self.len()? as u64;
-        self.read_front(length)
+    /// A call failed, or memory ran out.
+    pub(crate) fn read_more(&mut self) -> io::Result<()>
+        ensures falls { Falls (D.events self.old.disk) (D.events self.new.disk) }
+        ensures same { (s : Held) → IsTrue (is_honest_after s (D.events self.new.disk)) → held_after s (D.events self.new.disk) ≡ held_after s (D.events self.old.disk) }
+    {
+        let length = self.file_length()?;
+        let had = self.front.len() as u64;
+        self.read_to(longer_front(had).min(length))
     }
 
-    // Checks whether the window has all bytes of the file.
-    fn is_whole(&self) -> bool {
-        self.length == Some(self.window.bytes().len() as u64) && !self.window.bytes().is_empty()
-    }
-
-    // Takes the bytes of the window.
-    fn take_window(&mut self) -> Vec<u8> {
-        std::mem::replace(&mut self.window, Window::new(self.alloc)).into_bytes()
-    }
-
-    // Takes back the bytes that a reader used. If the reader still uses the bytes, later calls read them again.
-    fn take_back_lent(&mut self) {
-        let Some(lent) = self.lent.take() else {
-            return;
-        };
-        if let Some(bytes) = Rc::into_inner(lent) {
-            self.window = Window::at(0, bytes);
-        }
-    }
-
-    /// Returns the place of the file's bytes for a reader. The file is changed later, and keeps the bytes that were read.
-    pub(crate) fn source(&mut self) -> io::Result<Source<F>> {
-        if self.is_whole() {
-            if let Ok(bytes) = Rc::new(self.alloc, self.take_window()) {
-                let source = Source::Shared(bytes.clone()?, 0);
-                self.lent = Some(bytes);
-                return Ok(source);
-            }
-        }
-        Ok(Source::Handle(self.locked.file().again()?))
-    }
-
-    /// Returns the place of the file's bytes for a reader. The file is not changed.
-    pub(crate) fn into_source(self) -> Source<F> {
-        if self.is_whole() {
-            return Source::Held(Cursor::new(self.window.into_bytes()));
-        }
-        Source::File(self.locked)
-    }
-
-    /// Returns the place of the bytes that the file stands for, or of its own bytes if it stands for no database. The
-    /// file is not changed, except that a write that was interrupted before is taken back.
+    /// Reads the next bytes of a pipe after those in `bytes`: half as many as all bytes before them, because each part has
+    /// its memory before it is known where the pipe ends. Returns whether the pipe has ended.
     ///
     /// # Errors
     ///
     /// A read failed, or memory ran out.
-    pub(crate) fn into_standing_source(mut self) -> io::Result<Source<F>> {
-        // If an interrupted write cannot be taken back, the first bytes are still those in memory.
-        let _mended = self.mend();
-        let length = match self.owed {
-            Some(owed) => owed.length,
-            None => self.locked.file().length()? as usize,
+    pub(crate) fn read_pipe(&mut self, pipe: &mut D::File, bytes: &mut Vec<u8>) -> io::Result<bool>
+        ensures falls { Falls (D.events self.old.disk) (D.events self.new.disk) }
+        ensures same { KeepsHeld (D.events self.old.disk) (D.events self.new.disk) }
+        ensures none { OnOk result ((s : Held) → IsTrue (is_honest_after s (D.events self.new.disk)) → ⊥) }
+    {
+        let had = bytes.len();
+        let more = (had / 2).max(FIRST_PART as usize);
+        bytes.resize(had.saturating_add(more), 0)?;
+        let wanted = bytes.len() - had;
+        let read = get_next(&mut self.disk, pipe, &mut bytes[had..])?;
+        bytes.truncate(had + read);
+        Ok(read < wanted)
+    }
+
+    // Writes the old bytes back over a write that was cut short.
+    fn put_back(&mut self, owed: Owed) -> io::Result<()>
+        requires { (s : Held) → IsTrue (is_honest_after s (D.events self.old.disk)) → ⊥ }
+        ensures falls { Falls (D.events self.old.disk) (D.events self.new.disk) }
+        ensures place { PlaceStays (D.events self.old.disk) (D.events self.new.disk) }
+    {
+        let Some(file) = &self.file else {
+            return Err(not_open());
         };
-        match self.find_standing(length)? {
-            Some(standing) => Ok(Source::Standing(self.locked, standing, 0)),
-            None => Ok(self.into_source()),
+        let kept = self.front.up_to(owed.at, owed.count);
+        if kept.is_empty() {
+            return Ok(());
         }
+        let Err(failed) = put(&mut self.disk, file.file(), kept, owed.at as u64) else {
+            return Ok(());
+        };
+        // At a limit on the size of files this write is cut short as that one was: the old bytes may be there all the same.
+        let mut found = Vec::new(self.disk.alloc());
+        found.resize(kept.len(), 0)?;
+        let count = get(&mut self.disk, file.file(), &mut found[..], owed.at as u64)?;
+        if count == kept.len() && found[..] == kept[..] {
+            return Ok(());
+        }
+        Err(failed.error)
     }
 
-    // Updates the bytes in memory after a write from byte `at` on.
-    fn note(&mut self, at: usize, bytes: &[u8]) {
-        self.front.put(at, bytes);
-        self.window.put(at, bytes);
-        let end = (at as u64).saturating_add(bytes.len() as u64);
-        self.length = self.length.map(|length| length.max(end));
-    }
-
-    // Takes back an interrupted write within one page, if there is one: restores the old bytes and the old length. The
-    // write was in the first page or after the end of the file.
-    fn mend(&mut self) -> io::Result<()> {
-        self.take_back_lent();
+    /// Takes back a write that was cut short, if there is one: restores the old bytes and the old length.
+    ///
+    /// # Errors
+    ///
+    /// A call failed. The write is then still to be taken back.
+    pub(crate) fn mend(&mut self) -> io::Result<()>
+        ensures falls { Falls (D.events self.old.disk) (D.events self.new.disk) }
+        ensures same { (s : Held) → IsTrue (is_honest_after s (D.events self.new.disk)) → held_after s (D.events self.new.disk) ≡ held_after s (D.events self.old.disk) }
+        ensures place { PlaceStays (D.events self.old.disk) (D.events self.new.disk) }
+    {
         let Some(owed) = self.owed else {
             return Ok(());
         };
-        let kept = self.front.from(owed.at);
-        if !kept.is_empty() {
-            put(self.locked.file(), kept, owed.at as u64)?;
-        }
-        set_length(self.locked.file(), owed.length as u64)?;
-        self.length = Some(owed.length as u64);
+        self.put_back(owed)?;
+        let Some(file) = &self.file else {
+            return Err(not_open());
+        };
+        set_length(&mut self.disk, file.file(), owed.length)?;
+        self.length = Some(owed.length);
         self.owed = None;
         Ok(())
     }
 
-    // Forgets the length of the file, and the bytes of the window.
-    fn forget(&mut self) {
-        self.window.clear();
+    // Reads the old bytes of a write of `count` bytes from byte `at` on into memory, with all bytes before them, so that
+    // the write can be taken back if it is cut short. A write behind the end has no old bytes.
+    fn keep(&mut self, at: usize, count: usize, length: u64) -> io::Result<()>
+        ensures falls { Falls (D.events self.old.disk) (D.events self.new.disk) }
+        ensures same { KeepsHeld (D.events self.old.disk) (D.events self.new.disk) }
+    {
+        if length <= at as u64 {
+            return Ok(());
+        }
+        self.read_to(length.min(at.saturating_add(count).max(PAGE) as u64))
+    }
+
+    // Forgets the length of the file, and its bytes.
+    fn forget(&mut self)
+        ensures disk { self.new.disk ≡ self.old.disk }
+        ensures owed { self.new.owed ≡ self.old.owed }
+    {
+        self.front.clear();
         self.length = None;
+    }
+
+    // Writes bytes from byte `at` on. If the write is cut short, `owed` says how to take it back, if it is to be.
+    fn write(&mut self, at: usize, bytes: &[u8], owed: Option<Owed>) -> io::Result<()>
+        ensures falls { Falls (D.events self.old.disk) (D.events self.new.disk) }
+        ensures place { PlaceStays (D.events self.old.disk) (D.events self.new.disk) }
+        ensures ok { OnOk result ((s : Held) → IsTrue (is_honest_after s (D.events self.new.disk))
+            → ArePut at bytes.now (bytes_after s (D.events self.old.disk)) (bytes_after s (D.events self.new.disk))) }
+        ensures err { OnErr result ((s : Held) → IsTrue (is_honest_after s (D.events self.new.disk))
+            → bytes_after s (D.events self.new.disk) ≡ bytes_after s (D.events self.old.disk)) }
+    {
+        if bytes.is_empty() {
+            // A call that writes no bytes changes nothing, not even the length of the file.
+            return if at == 0 {
+                Ok(())
+            } else {
+                Err(Error::from(ErrorKind::InvalidInput))
+            };
+        }
+        let Some(end) = (at as u64).checked_add(bytes.len() as u64) else {
+            return Err(Error::from(ErrorKind::FileTooLarge));
+        };
+        let Some(file) = &self.file else {
+            return Err(not_open());
+        };
+        match put(&mut self.disk, file.file(), bytes, at as u64) {
+            Ok(()) => {
+                self.front.put(at, bytes);
+                self.length = longer(self.length, end);
+                Ok(())
+            }
+            Err(failed) => {
+                if failed.is_cut_short && owed.is_some() {
+                    self.owed = owed;
+                } else {
+                    self.forget();
+                }
+                Err(failed.error)
+            }
+        }
     }
 }
 
-impl<F: DiskFile> Bytes for FileBytes<F> {
-    ghost use Rattle.std.specs.Prelude.{[], false};
+impl<D: Disk> Bytes for FileBytes<D> {
+    ghost use Rattle.rrd_disk.specs.Asked.{bytes_in, is_honest_in};
 
-    ghost held = { λ _ _. [] };
+    ghost held = { λ s f. bytes_in s (D.Disk.events f.disk) };
 
-    ghost is_honest = { λ _ _. false };
+    ghost is_honest = { λ s f. is_honest_in s (D.Disk.events f.disk) };
 
     fn len(&mut self) -> io::Result<usize> {
-        self.mend()?;
-        if let Some(length) = self.length {
-            return Ok(length as usize);
-        }
-        let length = self.locked.file().length()?;
-        self.length = Some(length);
-        Ok(length as usize)
+        Ok(self.file_length()? as usize)
     }
 
     fn read(&mut self, at: usize, count: usize, into: &mut Vec<u8>) -> io::Result<()> {
@@ -239,50 +421,52 @@ impl<F: DiskFile> Bytes for FileBytes<F> {
         if count == 0 {
             return Ok(());
         }
-        let rest = self.len()?.saturating_sub(at);
-        if rest >= count && self.window.get(at, count).is_none() {
-            self.fill(at, CHUNK.max(count as u64).min(rest as u64))?;
+        self.mend()?;
+        if let Some(bytes) = self.front.get(at, count) {
+            into.extend_from_slice(bytes)?;
+            return Ok(());
         }
-        match self.window.get(at, count) {
-            Some(bytes) => into.extend_from_slice(bytes)?,
-            None => return Err(Error::from(ErrorKind::UnexpectedEof)),
+        let Some(file) = &self.file else {
+            return Err(not_open());
+        };
+        into.resize(count, 0)?;
+        if get(&mut self.disk, file.file(), &mut into[..], at as u64)? < count {
+            return Err(Error::from(ErrorKind::UnexpectedEof));
         }
         Ok(())
     }
 
     fn put(&mut self, at: usize, bytes: &[u8]) -> io::Result<()> {
         self.mend()?;
-        let ended = put(self.locked.file(), bytes, at as u64);
-        match &ended {
-            Ok(()) => self.note(at, bytes),
-            Err(_) => self.forget(),
-        }
-        ended
+        self.write(at, bytes, None)
     }
 
     fn put_whole(&mut self, at: usize, bytes: &[u8]) -> io::Result<()> {
-        let length = self.len()?;
-        let ended = put(self.locked.file(), bytes, at as u64);
-        if ended.is_ok() {
-            self.note(at, bytes);
-        } else {
-            self.owed = Some(Owed { at, length });
+        let length = self.file_length()?;
+        let count = bytes.len();
+        self.keep(at, count, length)?;
+        let ended = self.write(at, bytes, Some(Owed { at, count, length }));
+        if ended.is_err() && self.mend().is_err() {
+            // A call that failed may succeed when it is made again.
             let _mended = self.mend();
         }
         ended
     }
 
     fn append(&mut self, at: usize, bytes: &[u8]) -> io::Result<()> {
-        self.put(at, bytes)
+        self.mend()?;
+        self.write(at, bytes, None)
     }
 
     fn set_len(&mut self, count: usize) -> io::Result<()> {
         self.mend()?;
-        let ended = set_length(self.locked.file(), count as u64);
+        let Some(file) = &self.file else {
+            return Err(not_open());
+        };
+        let ended = set_length(&mut self.disk, file.file(), count as u64);
         match &ended {
             Ok(()) => {
                 self.front.cut(count);
-                self.window.cut(count);
                 self.length = Some(count as u64);
             }
             Err(_) => self.forget(),
@@ -291,9 +475,12 @@ impl<F: DiskFile> Bytes for FileBytes<F> {
     }
 
     fn sync(&mut self) -> io::Result<()> {
+        let Some(file) = &self.file else {
+            return Err(not_open());
+        };
         match self.syncs {
             Syncs::Never => Ok(()),
-            Syncs::Ordered => sync(self.locked.file()),
+            Syncs::Ordered => sync(&mut self.disk, file.file()),
         }
     }
 }

@@ -62,11 +62,6 @@ impl<F: DiskFile> LockedFile<F> {
         &self.file
     }
 
-    /// Returns the open file, to be read on from its position.
-    pub(crate) fn file_mut(&mut self) -> &mut F {
-        &mut self.file
-    }
-
     /// Checks whether this run holds the lock. Without the lock another program may be changing the file.
     pub(crate) fn is_locked(&self) -> bool {
         self.lock_result == LockResult::Taken

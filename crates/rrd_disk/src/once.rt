@@ -1,19 +1,27 @@
 //! Calls of the system that a signal may interrupt, and bytes written by one call.
+ghost use Rattle.std.specs.Prelude.{◌≡◌, ◌+◌, ◌<◌, ◌≤◌, ◌∷◌, IsTrue, length, IfErr, IfOk, OnErr, OnOk, take};
+ghost use Rattle.rrd_disk.specs.Fronts.{Begins};
 ghost use Rattle.std.specs.Io.{ReadsAtMost};
+ghost use Rattle.rrd_disk.specs.Calls.{Falls, IsGot, IsGotAtOnce, KeepsHeld, PlaceStays, opened};
+ghost use Rattle.rrd_disk.specs.Replayed.{bytes_after, held_after, is_honest_after};
+ghost use Rattle.rrd_store.specs.Storages.{Held};
+ghost use Rattle.rrd_undo.specs.Calls.{ArePut, IsSized};
 
-use crate::{Disk, DiskFile, Opening};
+use crate::{Disk, Opening};
 use rrd_fixed::TRIES;
 use std::io::{self, Error, ErrorKind};
 
-/// The maximum number of calls for one write, if a call writes only some of the bytes.
-const WRITES: u32 = 2;
-
-// Repeats a call until no signal interrupts the call, at most `TRIES` times.
-fn uninterrupted<T, C: FnMut() -> io::Result<T>>(mut call: C) -> io::Result<T>
-    requires { C.IsAlwaysCallable call }
+/// Opens the file at `path`. Returns `None` if there is no file, or no directory for a new one.
+pub(crate) fn open<D: Disk>(
+    disk: &mut D,
+    path: &str,
+    opening: Opening,
+) -> io::Result<Option<D::File>>
+    ensures ok { IfOk result (λ file. D.events disk.new ≡ opened opening file ∷ D.events disk.old) }
+    ensures err { OnErr result (D.events disk.new ≡ D.events disk.old) }
 {
     for _ in 0..TRIES {
-        match call() {
+        match disk.open(path, opening) {
             Err(error) if error.kind() == ErrorKind::Interrupted => {}
             ended => return ended,
         }
@@ -21,9 +29,41 @@ fn uninterrupted<T, C: FnMut() -> io::Result<T>>(mut call: C) -> io::Result<T>
     Err(Error::from(ErrorKind::Interrupted))
 }
 
-/// Opens the file at `path`.
-pub(crate) fn open<D: Disk>(disk: &D, path: &str, opening: Opening) -> io::Result<D::File> {
-    uninterrupted(|| disk.open(path, opening))
+// Writes bytes from byte `at` on by one call, and returns the number of bytes that were written.
+fn put_some<D: Disk>(disk: &mut D, file: &D::File, bytes: &[u8], at: u64) -> io::Result<usize>
+    ensures falls { Falls (D.events disk.old) (D.events disk.new) }
+    ensures whole { IfOk result (λ n. (s : Held) → IsTrue (is_honest_after s (D.events disk.new)) → n ≡ length bytes.now) }
+    ensures ok { OnOk result ((s : Held) → IsTrue (is_honest_after s (D.events disk.new)) → 0 < length bytes.now
+        → ArePut at bytes.now (bytes_after s (D.events disk.old)) (bytes_after s (D.events disk.new))) }
+    ensures err { OnErr result (KeepsHeld (D.events disk.old) (D.events disk.new)) }
+    ensures place { PlaceStays (D.events disk.old) (D.events disk.new) }
+{
+    for _ in 0..TRIES {
+        match disk.write_at(file, bytes, at) {
+            Err(error) if error.kind() == ErrorKind::Interrupted => {}
+            ended => return ended,
+        }
+    }
+    Err(Error::from(ErrorKind::Interrupted))
+}
+
+/// The end of a write that failed.
+#[derive(Clone, Copy, Debug)]
+pub(crate) struct PutError {
+    /// The reason.
+    pub(crate) error: Error,
+    /// Whether a call wrote some of the bytes.
+    pub(crate) is_cut_short: bool,
+}
+
+// Returns the error of a write, of which a call wrote some of the bytes.
+fn cut_short(error: Error) -> PutError
+    ensures { IsTrue result.is_cut_short }
+{
+    PutError {
+        error,
+        is_cut_short: true,
+    }
 }
 
 /// Writes all bytes from byte `at` on by one call.
@@ -33,34 +73,81 @@ pub(crate) fn open<D: Disk>(disk: &D, path: &str, opening: Opening) -> io::Resul
 ///
 /// # Errors
 ///
-/// A call failed. The first part of the bytes may be written.
-pub(crate) fn put<F: DiskFile>(file: &F, bytes: &[u8], at: u64) -> io::Result<()> {
-    for _ in 0..WRITES {
-        if uninterrupted(|| file.write_at(bytes, at))? >= bytes.len() {
-            return Ok(());
+/// A call failed, or wrote only some of the bytes.
+pub(crate) fn put<D: Disk>(
+    disk: &mut D,
+    file: &D::File,
+    bytes: &[u8],
+    at: u64,
+) -> Result<(), PutError>
+    requires { 0 < length bytes.now }
+    ensures falls { Falls (D.events disk.old) (D.events disk.new) }
+    ensures ok { OnOk result ((s : Held) → IsTrue (is_honest_after s (D.events disk.new))
+        → ArePut at bytes.now (bytes_after s (D.events disk.old)) (bytes_after s (D.events disk.new))) }
+    ensures err { OnErr result ((s : Held) → IsTrue (is_honest_after s (D.events disk.new))
+        → held_after s (D.events disk.new) ≡ held_after s (D.events disk.old)) }
+    ensures short { IfErr result (λ failed. IsTrue failed.is_cut_short → (s : Held) → IsTrue (is_honest_after s (D.events disk.new)) → ⊥) }
+    ensures place { PlaceStays (D.events disk.old) (D.events disk.new) }
+{
+    match put_some(disk, file, bytes, at) {
+        Ok(count) if count >= bytes.len() => return Ok(()),
+        Ok(_) => {}
+        Err(error) => {
+            return Err(PutError {
+                error,
+                is_cut_short: false,
+            });
         }
     }
-    Err(Error::new(
-        ErrorKind::WriteZero,
-        "no space left, or a limit on the size of files",
-    ))
+    match put_some(disk, file, bytes, at) {
+        Ok(count) if count >= bytes.len() => Ok(()),
+        Ok(_) => Err(cut_short(Error::new(
+            ErrorKind::WriteZero,
+            "no space left, or a limit on the size of files",
+        ))),
+        Err(error) => Err(cut_short(error)),
+    }
 }
 
 // Reads bytes from byte `at` on by one call, and returns the number of bytes that were read.
-fn get_some<F: DiskFile>(file: &F, bytes: &mut [u8], at: u64) -> io::Result<usize> {
-    uninterrupted(|| file.read_at(bytes, at))
+fn get_some<D: Disk>(disk: &mut D, file: &D::File, bytes: &mut [u8], at: u64) -> io::Result<usize>
+    ensures bound { ReadsAtMost result bytes.new }
+    ensures falls { Falls (D.events disk.old) (D.events disk.new) }
+    ensures same { KeepsHeld (D.events disk.old) (D.events disk.new) }
+    ensures ok { IfOk result (λ n. (s : Held) → IsTrue (is_honest_after s (D.events disk.new))
+        → IsGotAtOnce (bytes_after s (D.events disk.old)) at n bytes.new) }
+{
+    for _ in 0..TRIES {
+        match disk.read_at(file, bytes, at) {
+            Err(error) if error.kind() == ErrorKind::Interrupted => {}
+            ended => return ended,
+        }
+    }
+    Err(Error::from(ErrorKind::Interrupted))
 }
 
 /// Reads bytes from byte `at` on until `bytes` is full, or the file ends.
 ///
 /// Returns the number of bytes that were read.
-pub(crate) fn get<F: DiskFile>(file: &F, bytes: &mut [u8], at: u64) -> io::Result<usize>
-    ensures { ReadsAtMost result bytes.new }
+pub(crate) fn get<D: Disk>(
+    disk: &mut D,
+    file: &D::File,
+    bytes: &mut [u8],
+    at: u64,
+) -> io::Result<usize>
+    ensures bound { ReadsAtMost result bytes.new }
+    ensures falls { Falls (D.events disk.old) (D.events disk.new) }
+    ensures same { KeepsHeld (D.events disk.old) (D.events disk.new) }
+    ensures ok { IfOk result (λ n. (s : Held) → IsTrue (is_honest_after s (D.events disk.new))
+        → IsGot (bytes_after s (D.events disk.old)) at n bytes.new) }
 {
     let mut count = 0;
     while count < bytes.len() {
+        let Some(from) = at.checked_add(count as u64) else {
+            return Err(Error::from(ErrorKind::InvalidInput));
+        };
         let rest = bytes.len() - count;
-        let more = get_some(file, &mut bytes[count..], at.saturating_add(count as u64))?;
+        let more = get_some(disk, file, &mut bytes[count..], from)?;
         if more == 0 {
             break;
         }
@@ -69,12 +156,105 @@ pub(crate) fn get<F: DiskFile>(file: &F, bytes: &mut [u8], at: u64) -> io::Resul
     Ok(count)
 }
 
+/// Reads the bytes of the file that belong behind the first `had` bytes of `bytes`, until `bytes` is full, or the file ends.
+///
+/// Returns the number of bytes that were read.
+pub(crate) fn get_behind<D: Disk>(
+    disk: &mut D,
+    file: &D::File,
+    bytes: &mut [u8],
+    had: usize,
+) -> io::Result<usize>
+    requires { had ≤ length bytes.old }
+    ensures bound { IfOk result (λ n. had + n ≤ length bytes.new) }
+    ensures length { length bytes.new ≡ length bytes.old }
+    ensures falls { Falls (D.events disk.old) (D.events disk.new) }
+    ensures same { KeepsHeld (D.events disk.old) (D.events disk.new) }
+    ensures shown { IfOk result (λ n. (s : Held) → IsTrue (is_honest_after s (D.events disk.new))
+        → Begins (bytes_after s (D.events disk.old)) (take had bytes.old) → Begins (bytes_after s (D.events disk.old)) (take (had + n) bytes.new)) }
+    ensures ends { IfOk result (λ n. (s : Held) → IsTrue (is_honest_after s (D.events disk.new))
+        → had + n < length bytes.new → length (bytes_after s (D.events disk.old)) ≤ had + n) }
+{
+    get(disk, file, &mut bytes[had..], had as u64)
+}
+
+// Reads the next bytes of a pipe by one call, and returns the number of bytes that were read: 0 at the end.
+fn get_some_next<D: Disk>(disk: &mut D, file: &mut D::File, bytes: &mut [u8]) -> io::Result<usize>
+    ensures bound { ReadsAtMost result bytes.new }
+    ensures falls { Falls (D.events disk.old) (D.events disk.new) }
+    ensures same { KeepsHeld (D.events disk.old) (D.events disk.new) }
+    ensures none { OnOk result ((s : Held) → IsTrue (is_honest_after s (D.events disk.new)) → ⊥) }
+{
+    for _ in 0..TRIES {
+        match disk.read_pipe(file, bytes) {
+            Err(error) if error.kind() == ErrorKind::Interrupted => {}
+            ended => return ended,
+        }
+    }
+    Err(Error::from(ErrorKind::Interrupted))
+}
+
+/// Reads the next bytes of a pipe until `bytes` is full, or the pipe ends.
+///
+/// Returns the number of bytes that were read.
+pub(crate) fn get_next<D: Disk>(
+    disk: &mut D,
+    file: &mut D::File,
+    bytes: &mut [u8],
+) -> io::Result<usize>
+    ensures bound { ReadsAtMost result bytes.new }
+    ensures falls { Falls (D.events disk.old) (D.events disk.new) }
+    ensures same { KeepsHeld (D.events disk.old) (D.events disk.new) }
+    ensures none { OnOk result (0 < length bytes.old → (s : Held) → IsTrue (is_honest_after s (D.events disk.new)) → ⊥) }
+{
+    let mut count = 0;
+    while count < bytes.len() {
+        let rest = bytes.len() - count;
+        let more = get_some_next(disk, file, &mut bytes[count..])?;
+        if more == 0 {
+            break;
+        }
+        count += more.min(rest);
+    }
+    Ok(count)
+}
+
+/// Returns the length of the file in bytes.
+pub(crate) fn measure<D: Disk>(disk: &mut D, file: &D::File) -> io::Result<u64>
+    ensures falls { Falls (D.events disk.old) (D.events disk.new) }
+    ensures same { KeepsHeld (D.events disk.old) (D.events disk.new) }
+    ensures ok { IfOk result (λ n. (s : Held) → IsTrue (is_honest_after s (D.events disk.new)) → n ≡ length (bytes_after s (D.events disk.old))) }
+{
+    Ok(disk.facts(file)?.length)
+}
+
 /// Sets the length of the file.
-pub(crate) fn set_length<F: DiskFile>(file: &F, length: u64) -> io::Result<()> {
-    uninterrupted(|| file.set_length(length))
+pub(crate) fn set_length<D: Disk>(disk: &mut D, file: &D::File, length: u64) -> io::Result<()>
+    ensures falls { Falls (D.events disk.old) (D.events disk.new) }
+    ensures ok { OnOk result ((s : Held) → IsTrue (is_honest_after s (D.events disk.new))
+        → IsSized length (bytes_after s (D.events disk.old)) (bytes_after s (D.events disk.new))) }
+    ensures err { OnErr result (KeepsHeld (D.events disk.old) (D.events disk.new)) }
+    ensures place { PlaceStays (D.events disk.old) (D.events disk.new) }
+{
+    for _ in 0..TRIES {
+        match disk.set_length(file, length) {
+            Err(error) if error.kind() == ErrorKind::Interrupted => {}
+            ended => return ended,
+        }
+    }
+    Err(Error::from(ErrorKind::Interrupted))
 }
 
 /// Returns after the disk has stored all bytes that were written.
-pub(crate) fn sync<F: DiskFile>(file: &F) -> io::Result<()> {
-    uninterrupted(|| file.sync())
+pub(crate) fn sync<D: Disk>(disk: &mut D, file: &D::File) -> io::Result<()>
+    ensures falls { Falls (D.events disk.old) (D.events disk.new) }
+    ensures same { KeepsHeld (D.events disk.old) (D.events disk.new) }
+{
+    for _ in 0..TRIES {
+        match disk.sync(file) {
+            Err(error) if error.kind() == ErrorKind::Interrupted => {}
+            ended => return ended,
+        }
+    }
+    Err(Error::from(ErrorKind::Interrupted))
 }

@@ -1,4 +1,8 @@
 //! Opens a file and locks it, so that the path still names the file when the lock is held.
+ghost use Rattle.std.specs.Prelude.{◌≡◌, IfOk, None};
+ghost use Rattle.rrd_disk.specs.Calls.{Falls, KeepsHeld, KeepsHeldFor};
+ghost use Rattle.rrd_disk.specs.Openings.{IsNone, IsThere, Says, SaysIf};
+
 use crate::locks::{LockedFile, Pauses, lock};
 use crate::once::open;
 use crate::{Disk, DiskFile, Facts, Kind, Lock, Opening};
@@ -7,13 +11,15 @@ use std::io::{self, Error, ErrorKind};
 /// The maximum number of openings, if each time another program replaces the file before it is locked.
 const OPENINGS: u32 = 100;
 
-/// An open file.
+/// The result of opening a file.
 #[derive(Drop)]
 pub(crate) enum Opened<F: DiskFile> {
     /// A regular file that is locked, and its length.
     Regular(LockedFile<F>, u64),
     /// A pipe without a name, which is only read, and has no lock.
     Pipe(F),
+    /// There is no file, or no directory for a new one.
+    Missing,
     /// There is a file that the system does not open for this purpose, for this reason.
     Refused(Error),
 }
@@ -31,62 +37,94 @@ pub(crate) fn not_regular() -> Error {
     Error::new(ErrorKind::Unsupported, "not a regular file")
 }
 
-// Returns the kind of the file at a path, if a file of this kind may be opened. The system is asked before the file is
-// opened: to open a pipe with a name would wait for a program at the pipe's other end.
+// Returns the kind of the file with these facts, if a file of this kind may be opened.
 //
 // A second opening of a pipe could lose bytes that the pipe delivered, and wait for more. So a pipe is only read, and not
 // changed.
-fn openable_kind<D: Disk>(disk: &D, path: &str, opening: Opening) -> io::Result<Kind> {
-    match disk.facts_at(path) {
-        Ok(facts) => match facts.kind {
-            Kind::Regular => Ok(Kind::Regular),
-            Kind::Pipe if opening == Opening::Read => Ok(Kind::Pipe),
-            Kind::Directory => Err(Error::from(ErrorKind::IsADirectory)),
-            Kind::Pipe | Kind::Other => Err(not_regular()),
-        },
+fn openable_kind(facts: &Facts, opening: Opening) -> io::Result<Kind> {
+    match facts.kind {
+        Kind::Regular => Ok(Kind::Regular),
+        Kind::Pipe if opening == Opening::Read => Ok(Kind::Pipe),
+        Kind::Directory => Err(Error::from(ErrorKind::IsADirectory)),
+        Kind::Pipe | Kind::Other => Err(not_regular()),
+    }
+}
+
+// Returns the kind of the file at a path, if a file of this kind may be opened; `None` if there is no file. The system is
+// asked before the file is opened: to open a pipe with a name would wait for a program at the pipe's other end.
+fn kind_at<D: Disk>(disk: &mut D, path: &str, opening: Opening) -> io::Result<Option<Kind>>
+    ensures falls { Falls (D.events disk.old) (D.events disk.new) }
+    ensures same { KeepsHeld (D.events disk.old) (D.events disk.new) }
+    ensures none { IfOk result (λ kind. kind ≡ None → IsNone (D.events disk.new)) }
+{
+    match disk.facts_at(path)? {
+        Some(facts) => Ok(Some(openable_kind(&facts, opening)?)),
         // The system creates a regular file.
-        Err(error) if error.kind() == ErrorKind::NotFound && opening == Opening::Make => {
-            Ok(Kind::Regular)
-        }
-        Err(error) => Err(error),
+        None if opening == Opening::Make => Ok(Some(Kind::Regular)),
+        None => Ok(None),
     }
 }
 
 // Checks whether a path names the regular file with these facts.
-fn names<D: Disk>(disk: &D, path: &str, facts: &Facts) -> io::Result<bool> {
-    match disk.facts_at(path) {
-        Ok(named) => Ok(
+fn names<D: Disk>(disk: &mut D, path: &str, facts: &Facts) -> io::Result<bool>
+    ensures falls { Falls (D.events disk.old) (D.events disk.new) }
+    ensures same { KeepsHeld (D.events disk.old) (D.events disk.new) }
+{
+    match disk.facts_at(path)? {
+        Some(named) => Ok(
             facts.kind == Kind::Regular
                 && named.device == facts.device
                 && named.inode == facts.inode,
         ),
-        Err(error) if error.kind() == ErrorKind::NotFound => Ok(false),
-        Err(error) => Err(error),
+        None => Ok(false),
     }
 }
 
-// Opens the file at a path once, and locks the file. Returns `None` if the path then names another file.
-fn open_once<D: Disk>(
-    disk: &D,
+// Locks an open file. Returns `None` if the path then names another file.
+fn lock_named<D: Disk>(
+    disk: &mut D,
     path: &str,
+    file: D::File,
     opening: Opening,
     pauses: &mut Pauses,
-) -> io::Result<Option<Opened<D::File>>> {
-    let kind = openable_kind(disk, path, opening)?;
-    let file = match open(disk, path, opening) {
-        Ok(file) => file,
-        Err(error) if error.kind() == ErrorKind::NotFound => return Err(error),
-        Err(error) => return Ok(Some(Opened::Refused(error))),
-    };
-    if kind == Kind::Pipe {
-        return Ok(Some(Opened::Pipe(file)));
-    }
+) -> io::Result<Option<Opened<D::File>>>
+    ensures falls { Falls (D.events disk.old) (D.events disk.new) }
+    ensures same { KeepsHeld (D.events disk.old) (D.events disk.new) }
+    ensures says { IfOk result (λ opened. IsThere (D.events disk.old) → SaysIf opened (D.events disk.new)) }
+{
     let locked = lock(disk, file, lock_for(opening), pauses)?;
     let facts = disk.facts(locked.file())?;
     if !names(disk, path, &facts)? {
         return Ok(None);
     }
     Ok(Some(Opened::Regular(locked, facts.length)))
+}
+
+// Opens the file at a path once, and locks the file. Returns `None` if the path then names another file.
+fn open_once<D: Disk>(
+    disk: &mut D,
+    path: &str,
+    opening: Opening,
+    pauses: &mut Pauses,
+) -> io::Result<Option<Opened<D::File>>>
+    ensures falls { Falls (D.events disk.old) (D.events disk.new) }
+    ensures same { KeepsHeldFor opening (D.events disk.old) (D.events disk.new) }
+    ensures says { IfOk result (λ opened. SaysIf opened (D.events disk.new)) }
+{
+    let Some(kind) = kind_at(disk, path, opening)? else {
+        return Ok(Some(Opened::Missing));
+    };
+    let found = match open(disk, path, opening) {
+        Ok(found) => found,
+        Err(error) => return Ok(Some(Opened::Refused(error))),
+    };
+    let Some(file) = found else {
+        return Ok(Some(Opened::Missing));
+    };
+    if kind == Kind::Pipe {
+        return Ok(Some(Opened::Pipe(file)));
+    }
+    lock_named(disk, path, file, opening, pauses)
 }
 
 /// Opens the file at a path, and locks the file: a reader shares the lock with other readers.
@@ -96,16 +134,19 @@ fn open_once<D: Disk>(
 ///
 /// # Errors
 ///
-/// - `NotFound` if there is no file, or no directory for a new one.
 /// - The file is no regular file. A pipe without a name may be read.
 /// - `WouldBlock` if another program held a lock at each try.
 /// - The file cannot be locked, or another program replaced it each time.
 pub(crate) fn open_locked<D: Disk>(
-    disk: &D,
+    disk: &mut D,
     path: &str,
     opening: Opening,
     wait: u64,
-) -> io::Result<Opened<D::File>> {
+) -> io::Result<Opened<D::File>>
+    ensures falls { Falls (D.events disk.old) (D.events disk.new) }
+    ensures same { KeepsHeldFor opening (D.events disk.old) (D.events disk.new) }
+    ensures says { IfOk result (λ opened. Says opened (D.events disk.new)) }
+{
     let mut pauses = Pauses::within(wait);
     for _ in 0..OPENINGS {
         if let Some(opened) = open_once(disk, path, opening, &mut pauses)? {

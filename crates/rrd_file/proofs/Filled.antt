@@ -27,23 +27,15 @@ grown xs before m n is =
     ∙ ap (λ l. l ++ take n (drop m xs)) (sym (ap (λ k. take k xs) front) ∙ is)
     ∙ ap (λ k. before ++ take k (drop m xs)) rest
 
--- those that wait are the same in a buffer that is longer
-lengthened : (old new : List ℕ) (from end : ℕ) → from ≤ end → take end new ≡ take end old → slice_range new from end ≡ slice_range old from end
-lengthened old new from end ordered same =
-    let all : end ≡ from + (end - from) = omega arith in
-    let cut : (xs : List ℕ) → take (end - from) (drop from xs) ≡ drop from (take end xs) = λ xs. sym (drop-take from (end - from) xs) ∙ ap (λ k. drop from (take k xs)) (sym all) in
-    cut new ∙ ap (drop from) same ∙ sym (cut old)
-
--- and they are at the front once they were moved there
-pub moved_to_front : (old longer new : List ℕ) (from end : ℕ) → from ≤ end → end ≤ length longer → take end longer ≡ take end old → new ≡ copy_within longer from end 0
+-- those that wait are at the front once they were moved there
+pub moved_to_front : (old new : List ℕ) (from end : ℕ) → from ≤ end → end ≤ length old → new ≡ copy_within old from end 0
     → slice_range new 0 (end - from) ≡ slice_range old from end
-moved_to_front old longer new from end ordered within same is =
+moved_to_front old new from end ordered within is =
     let m = end - from in
     let all : m - 0 ≡ 0 + m = omega arith in
     ap (take (m - 0)) is
-    ∙ ap (λ k. take k (copy_within longer from end 0)) all
-    ∙ take-paste longer 0 (drop from longer) m (omega arith) (omega (arith, length-drop from longer))
-    ∙ lengthened old longer from end ordered same
+    ∙ ap (λ k. take k (copy_within old from end 0)) all
+    ∙ take-paste old 0 (drop from old) m (omega arith) (omega (arith, length-drop from old))
 
 -- ---- the first bytes that wait
 

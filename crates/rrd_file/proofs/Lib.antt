@@ -21,6 +21,7 @@ pub mod EntryRuns
 pub mod BodyRuns
 pub mod ValidRuns
 pub mod OneAnswer
+pub mod Fronts
 pub mod Filled
 pub mod Reached
 pub mod OneShape

@@ -1,5 +1,5 @@
 -- Law: theorems on the layout, for any file.
-use Rattle.std.specs.Prelude.{◌≡◌, ℕ, ◌-◌, ◌<◌, List, [], ◌++◌, length, take, None, Result, Ok}
+use Rattle.std.specs.Prelude.{◌≡◌, ℕ, ◌-◌, ◌<◌, ◌≤◌, List, [], ◌∷◌, ◌++◌, length, take, None, Result, Ok}
 use Rattle.rrd_fixed.specs.declared.cell.Cell.{Cell}
 use Rattle.rrd_fixed.specs.declared.raw.Raw.{Raw}
 use Rattle.rrd_fold.specs.Parts.{Part}
@@ -13,7 +13,8 @@ use Rattle.rrd_spec.specs.Journal.Survivors.{Stored, changed, reverted}
 use Rattle.rrd_spec.specs.declared.version.Version.{Version}
 use Rattle.rrd_spec.specs.Commands.Verdict.{verdict}
 use Rattle.rrd_file.specs.declared.fault.FileFault.{FileFault}
-pub use Rattle.rrd_file.specs.Faults.{IsAnswer, IsFile, IsOfFile, IsValidIn, IsValidStored}
+use Rattle.rrd_file.specs.declared.fault.FileFault.TheVariants.{NotOurs, Version as WrongVersion, Truncated, BadBlock, BadEntry, Trailing, Read, OutOfMemory}
+pub use Rattle.rrd_file.specs.Faults.{IsAnswer, IsFault, IsFile, IsOfFile, IsValidIn, IsValidStored}
 use Rattle.rrd_file.specs.Layout.{entry_pieces, layout, layout_in}
 use Rattle.rrd_file.specs.Layout.Pieces.{Piece, OfSource, OfArchive, OfPrep, OfCell, OfRawAndPart, OfSavedSource, spell}
 use Rattle.rrd_file.specs.Layout.Fitting.{FitsArchive, FitsCell, FitsSavedSource, FitsPart, FitsRaw, FitsSource}
@@ -54,6 +55,26 @@ EntriesHaveOneSpelling =
 abbrev pub HasOneAnswer : List ℕ → Type 0
 HasOneAnswer bytes =
     (x y : Result Stored FileFault) → IsAnswer bytes x → IsAnswer bytes y → IsOfFile x → IsOfFile y → x ≡ y
+
+-- a fault at a record that is complete, or at a byte that follows the last record: not at the end of the bytes, and not of
+-- the reader or of memory
+abbrev pub IsSettled : FileFault → Type 0
+IsSettled NotOurs = Unit {0}
+IsSettled WrongVersion = Unit {0}
+IsSettled (Truncated at) = ⊥
+IsSettled (BadBlock at) = Unit {0}
+IsSettled (BadEntry number) = Unit {0}
+IsSettled (Trailing at) = Unit {0}
+IsSettled Read = ⊥
+IsSettled OutOfMemory = ⊥
+
+-- if a first part of the bytes has such a fault, all of the bytes have the same fault
+abbrev pub FrontHasTheFault : List ℕ → List ℕ → FileFault → Type 0
+FrontHasTheFault front rest fault = IsSettled fault → IsFault front fault → IsFault (front ++ rest) fault
+
+-- the file of a database has at least 16 bytes, and begins with the letters RRDI
+abbrev pub FileBegins : List ℕ → Stored → Type 0
+FileBegins bytes d = IsFile bytes d → (16 ≤ length bytes) × (take 4 bytes ≡ 82 ∷ 82 ∷ 68 ∷ 73 ∷ [])
 
 -- the layout of a valid database in a version is the file of this database, and of no other
 abbrev pub LayoutIsItsFile : Version → Stored → Type 0

@@ -26,14 +26,13 @@ use crate::values::{Halves, halves_of, signed_of};
 use crate::writer::{BLOCK_SIZE, Block, PieceWriter};
 use rrd_base::{Database, Due, Rebuild, database_is_valid, is_bounded};
 use rrd_fixed::{Cell, WriteFault};
-use rrd_ring::Table;
+use rrd_ring::{Table, are_unknown};
 use rrd_spec::first_slot_row;
 use rrd_spec::laws::rows_stand_in_slots;
 use std::io::{Read, Write};
 
-/// The maximum number of cells that are read at once: enough for the widest row, and few enough to be copied while the
-/// processor still has them at hand.
-const MAX_CELLS_AT_ONCE: usize = 127;
+/// The maximum number of cells that are read at once: as many as wait, which are enough for the widest row.
+const MAX_CELLS_AT_ONCE: usize = 128;
 
 // The halves of the number that is written for an unknown cell.
 const UNKNOWN: Halves = Halves {
@@ -288,8 +287,34 @@ fn take_unknown<R: Read + Drop>(input: &mut PieceReader<R>, build: &mut Rebuild)
     taken
 }
 
+// Returns how many of these rows' cells are before the unknown rows at the end, at least those of the first row.
+fn without_unknown_end(cells: &[Cell], cells_in_row: usize) -> usize
+    requires { 0 < cells_in_row }
+    ensures { result ≤ length cells.now }
+{
+    let mut end = cells.len();
+    while end > cells_in_row && are_unknown(&cells[end - cells_in_row..end]) {
+        end -= cells_in_row;
+    }
+    end
+}
+
+// Writes cells as `cells_of` does, and returns how many of them are before the unknown rows at the end.
+fn cells_before_unknown_end(bytes: &[u8], cells: &mut [Cell], cells_in_row: usize) -> usize
+    requires some { 0 < cells_in_row }
+    requires room { length bytes.now ≡ CELL_SIZE * length cells.old }
+    ensures few { result ≤ length cells.new }
+    ensures spelled { take (CELL_SIZE * result) bytes.now ≡ flat_map spelling.cell_bytes (take result cells.new) }
+    ensures bounded { AllByRecursion IsBounded (take result cells.new) }
+    ensures as_many { length cells.new ≡ length cells.old }
+{
+    let good = cells_of(bytes, cells);
+    without_unknown_end(&cells[..good], cells_in_row)
+}
+
 // Takes waiting cells that make whole rows, at most as many as fit into `room`, up to the first cell with an absolute
-// value above the maximum rate. Returns their number.
+// value above the maximum rate. Unknown rows at their end are left: taken as unknown rows, they stay unwritten. Returns
+// the number of cells.
 fn take_rows<R: Read + Drop>(
     input: &mut PieceReader<R>,
     build: &mut Rebuild,
@@ -303,7 +328,8 @@ fn take_rows<R: Read + Drop>(
     let most = (input.waiting() / CELL_SIZE).min(room.len());
     let count = most - most % build.cells_in_row();
     let cells = &mut room[..count];
-    let good = cells_of(input.front(count * CELL_SIZE), cells);
+    let bytes = input.front(count * CELL_SIZE);
+    let good = cells_before_unknown_end(bytes, cells, build.cells_in_row());
     let taken = build.rows(&cells[..good]);
     if taken > 0 {
         input.skip(taken * CELL_SIZE);

@@ -3,6 +3,7 @@ ghost use Rattle.std.specs.Prelude.{ℕ, List};
 ghost use Rattle.rrd_spec.specs.Commands.{DatabaseChange};
 ghost use Rattle.rrd_spec.specs.Journal.Survivors.{Stored};
 ghost use Rattle.rrd_spec.specs.declared.version.Version.{Version};
+ghost use Rattle.rrd_file.specs.declared.fault.FileFault.{FileFault};
 ghost use Rattle.rrd_file.specs.Laws as laws;
 ghost use Rattle.rrd_file.specs.Examples as worked;
 
@@ -48,6 +49,18 @@ pub fn one_answer()
 {
     databases_are_filed_once();
 }
+
+/// Theorem: if a first part of an input has a fault, the input has the same fault.
+///
+/// Except the faults that the end of the input, the reader or memory gives.
+pub fn front_has_the_fault()
+    ensures { (front rest : List ℕ) (fault : FileFault) → laws.FrontHasTheFault front rest fault }
+{}
+
+/// Theorem: the file of a database has at least 16 bytes, and begins with the letters RRDI.
+pub fn file_begins()
+    ensures { (bytes : List ℕ) (d : Stored) → laws.FileBegins bytes d }
+{}
 
 /// Theorem: the layout of a valid database, in each version, is the file of that database, and of no other.
 pub fn layout_is_file()

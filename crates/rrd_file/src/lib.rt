@@ -133,7 +133,7 @@ fn read_end<R: Read + Drop>(input: &mut PieceReader<R>) -> Result<(), FileFault>
 
 /// Reads the database whose layout the input is.
 ///
-/// Reads at most 4,096 bytes at first, and later up to 65,536 bytes at a time.
+/// Reads up to 2,048 bytes at a time.
 ///
 /// # Errors
 /// The first fault in the order of the file's bytes:

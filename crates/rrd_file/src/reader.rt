@@ -14,7 +14,7 @@ use waiting::{ROOM, Waiting};
 
 mod waiting;
 
-/// A reader with a buffer of at most 65,536 bytes.
+/// A reader with a buffer of 2,048 bytes.
 ///
 /// Contracts see the bytes that were read and not taken, the bytes that the reader has left, and the offset of the next
 /// piece.
@@ -61,6 +61,9 @@ impl<R: Read + Drop> PieceReader<R> {
 
     // Reads more bytes after the waiting ones, and returns how many: 0 only at the end. Fails before the offset could
     // pass 2^64.
+    //
+    // Never inlined: most pieces wait already, and what takes them stays small.
+    #[inline(never)]
     fn more(&mut self) -> Result<usize, FileFault>
         requires { length self.old.waiting < ROOM }
         ensures keeps { OnOk result (Keeps (left self.old) (left self.new)) }
@@ -138,6 +141,8 @@ impl<R: Read + Drop> PieceReader<R> {
     }
 
     /// Fills `piece` with the next bytes, at most those of the largest piece.
+    // Always inlined: each caller has a constant length, for which the copy takes a few instructions.
+    #[inline(always)]
     pub(crate) fn piece(&mut self, piece: &mut [u8]) -> Result<(), FileFault>
         requires { length piece.old ≤ SOURCE_SIZE }
         ensures read { ReadsPiece self.old piece.new self.new result }

@@ -7,8 +7,8 @@ ghost use Rattle.rrd_ring.specs.Rows.{nth_row, row_cells, width, HasWidth, with_
 
 use crate::dropped::Dropped;
 use crate::ring::{
-    cells_of, fill_up, forget, index_of, parts_of, push_parts, row_at, row_mut, rows_written,
-    run_from, unknown_cells, wrap, write_cells, write_from, write_row_at,
+    are_unknown, cells_of, fill_up, forget, index_of, parts_of, push_parts, row_at, row_mut,
+    rows_written, run_from, unknown_cells, wrap, write_cells, write_from, write_row_at,
 };
 use rrd_fixed::{Cell, Meter};
 use std::alloc::{AllocError, Global};
@@ -166,11 +166,19 @@ impl Archive {
         row_mut(&mut self.cells, start, start + self.sources)
     }
 
-    /// Writes `count` rows from row `i` on, wrapping from the newest row to the oldest.
-    ///
-    /// Row 0 is the oldest, and `count` is at most the number of rows. `cells` holds the rows one after another. Does
-    /// not allocate.
-    pub fn write_rows_wrapping(&mut self, i: u64, count: u64, cells: &[Cell])
+    // If no row is written, makes row `i` the first of the vector. All rows are unknown then, so their order says nothing,
+    // and the unknown rows before the first that is written stay unwritten.
+    fn begin_at(&mut self, i: u64)
+        requires { i < length self.old }
+        ensures { self.new ≡ self.old }
+    {
+        if self.cells.is_empty() {
+            self.oldest = wrap(self.rows - i as usize, self.rows);
+        }
+    }
+
+    // Writes rows as `write_rows_wrapping` does, at their places in the vector.
+    fn put_rows(&mut self, i: u64, count: u64, cells: &[Cell])
         requires there { i < length self.old }
         requires few { count ≤ length self.old }
         requires one_each { length cells.now ≡ count * width self.old }
@@ -181,6 +189,24 @@ impl Archive {
         let (front, rest) = cells.split_at(parts.front);
         write_cells(&mut self.cells, parts.start, front);
         write_cells(&mut self.cells, 0, rest);
+    }
+
+    /// Writes `count` rows from row `i` on, wrapping from the newest row to the oldest.
+    ///
+    /// Row 0 is the oldest, and `count` is at most the number of rows. `cells` holds the rows one after another. Does
+    /// not allocate.
+    pub fn write_rows_wrapping(&mut self, i: u64, count: u64, cells: &[Cell])
+        requires there { i < length self.old }
+        requires few { count ≤ length self.old }
+        requires one_each { length cells.now ≡ count * width self.old }
+        ensures { self.new ≡ with_rows count (width self.old) self.old i cells.now }
+    {
+        if are_unknown(cells) {
+            self.clear_rows_wrapping(i, count);
+        } else {
+            self.begin_at(i);
+            self.put_rows(i, count, cells);
+        }
     }
 
     /// Makes `count` rows unknown, from row `i` on.
@@ -209,8 +235,7 @@ impl Archive {
         ensures turns { meter.new ≡ meter.old + length cells.now }
     {
         let start = cells_of(self.oldest, self.sources);
-        // The rows before `start` are written, except in an archive of `new_filled_from` that was not filled up to the
-        // newest row.
+        // The rows before `start` are written, except in an archive that was not filled up to the newest row.
         fill_up(&mut self.cells, start);
         write_row_at(&mut self.cells, start, cells, meter);
         self.oldest = wrap(self.oldest + 1, self.rows);

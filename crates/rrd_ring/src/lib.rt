@@ -11,4 +11,5 @@ mod table;
 
 pub use archive::Archive;
 pub use dropped::Dropped;
+pub use ring::are_unknown;
 pub use table::Table;

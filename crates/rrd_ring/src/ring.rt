@@ -1,5 +1,5 @@
 //! Functions on rows of cells in one vector. A ring is such a vector whose oldest row may be any row in it.
-ghost use Rattle.std.specs.Prelude.{ℕ, ◌≡◌, ◌+◌, ◌*◌, ◌%◌, ◌-◌, ◌<◌, ◌≤◌, ◌^◌, ◌++◌, length, take, drop, replicate, slice_range, vec_len, vec_capacity, IfOk, OnOk};
+ghost use Rattle.std.specs.Prelude.{ℕ, ◌≡◌, ◌+◌, ◌*◌, ◌%◌, ◌-◌, ◌<◌, ◌≤◌, ◌^◌, ◌++◌, length, take, drop, replicate, slice_range, vec_len, vec_capacity, IfOk, IsTrue, OnOk};
 ghost use Rattle.std.specs.Borrow.{sem};
 ghost use Rattle.rrd_fixed.specs.declared.cell.Cell.TheVariants.{Unknown};
 ghost use Rattle.rrd_ring.specs.Ring.Slices.{LendsPart, LendsAsMany};
@@ -222,6 +222,25 @@ pub(crate) fn fill_up(cells: &mut Vec<Cell>, end: usize)
     if cells.len() < end {
         let _has_room = cells.resize(end, Cell::Unknown);
     }
+}
+
+// Returns whether a cell is unknown.
+fn is_unknown(cell: Cell) -> bool
+    ensures { IsTrue result → cell ≡ Unknown }
+{
+    matches!(cell, Cell::Unknown)
+}
+
+/// Returns whether all cells are unknown.
+pub fn are_unknown(cells: &[Cell]) -> bool
+    ensures { IsTrue result → cells.now ≡ replicate (length cells.now) Unknown }
+{
+    for i in 0..cells.len() {
+        if !is_unknown(cells[i]) {
+            return false;
+        }
+    }
+    true
 }
 
 // Writes `part` into a ring's vector from cell `start` on. Does not allocate.

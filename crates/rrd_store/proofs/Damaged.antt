@@ -1,4 +1,4 @@
--- A file that a failed write cut breaks off within a piece, and so is no database.
+-- A file that was cut short breaks off within a piece, and so is no database.
 use Rattle.std.proofs.Common.{◌≡◌, ◌∙◌, ◌<◌, ◌≤◌, ◌++◌, ◌∷◌, [], ℕ, List, Some, Result, Ok, Err, sym, ap, ap₂, refl, subst, arith, inl, inr, length, drop, get_or, append_assoc, append-nil}
 use Rattle.std.proofs.lemmas.Bool.{cases_lt}
 use Rattle.std.proofs.lemmas.List.Concat.{flat_map-cons}
@@ -15,8 +15,8 @@ use Rattle.rrd_file.specs.Layout.Pieces.{Piece, spell}
 use Rattle.rrd_file.specs.Stages.{Body, Runs, Stage, Start, size}
 use Rattle.rrd_tool.specs.Effects.{stored_of}
 use Rattle.rrd_tool.specs.declared.faults.Fault.TheVariants.{Line, NoDatabase, Output, Refused}
-use Rattle.rrd_store.specs.Storages.{Held}
-use Rattle.rrd_store.specs.Runs.{DamagedFileStays, Filing, IsFrontOf, IsNoFile, IsOfBreak, IsOfBytes, IsValidState, Run}
+use Rattle.rrd_store.specs.Storages.{Held, IsNoFile}
+use Rattle.rrd_store.specs.Runs.{DamagedFileStays, Filing, IsOfBreak, IsOfBytes, Run}
 use Rattle.rrd_store.specs.declared.faults.TaskFault.{TaskFault}
 use Rattle.rrd_store.specs.declared.faults.TaskFault.TheVariants as task
 use Rattle.rrd_store.proofs.NoDatabase.{run_refused}
@@ -90,10 +90,6 @@ module _ (laws : Layouts) (front : List ℕ) (cut : IsTruncated front (length fr
   breaks (task.Command NoDatabase) f = absurd f
   breaks (task.Command Output) f = absurd f
   breaks (task.Stream fault) f = absurd f
-
--- a front of a file is the file of no database
-pub front_is_none : Layouts → (front : List ℕ) (k : Filing) → IsFrontOf front k → IsValidState k.version k.state → IsNoFile front
-front_is_none laws front k is valid = no_database laws front (front_truncated laws k.version (stored_of k.state) front is.0 is.1 valid.1 is.2)
 
 pub damaged_stays : Layouts → (front : List ℕ) (k : Filing) (run : Run) (new : Held) → DamagedFileStays front k run new
 damaged_stays laws front k run new is valid other h =

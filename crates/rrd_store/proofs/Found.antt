@@ -1,7 +1,5 @@
 -- What is found in the file of a state, and what is left in it.
-use Rattle.std.proofs.Common.{◌≡◌, ◌⊎◌, ◌∙◌, ◌++◌, ◌∷◌, [], ℕ, List, Option, Some, None, Result, Ok, Err, sym, ap, refl, subst, arith, inl, inr, length, length-append}
-use Rattle.std.proofs.lemmas.List.Concat.{flat_map-cons}
-use Rattle.rrd_spec.specs.Files.Filed.{filed}
+use Rattle.std.proofs.Common.{◌≡◌, ◌⊎◌, ◌∙◌, [], ℕ, List, Option, Some, None, Result, Ok, Err, sym, ap, refl, subst, inl, inr}
 use Rattle.rrd_spec.specs.History.{Content}
 use Rattle.rrd_spec.specs.Journal.Entries.{Entry}
 use Rattle.rrd_spec.specs.Laws.Versions.{DatabaseIsWithin}
@@ -10,13 +8,11 @@ use Rattle.rrd_spec.specs.Journal.Survivors.{State, Stored}
 use Rattle.rrd_file.specs.declared.fault.FileFault.{FileFault}
 use Rattle.rrd_file.specs.Faults.{IsAnswer, IsFile}
 use Rattle.rrd_file.specs.Laws.{FileIsLayout, HasOneAnswer, IsOfFile, LayoutIsNoOther}
-use Rattle.rrd_file.specs.Layout.{body_pieces, entry_pieces, layout, layout_in}
-use Rattle.rrd_file.specs.Layout.Pieces.{Piece, Mark, OfHeader, OfVersion, spell}
-use Rattle.std.specs.List.{flat_map}
+use Rattle.rrd_file.specs.Layout.{layout, layout_in}
 use Rattle.std.specs.Result.{result_err}
 use Rattle.rrd_tool.specs.Effects.{StandsFor, stored_of}
-use Rattle.rrd_store.specs.Storages.{Bytes, Finds, Held, Leaves, Missing, Reads, Stays}
-use Rattle.rrd_store.specs.Runs.{Filing, Holds, IsFrontOf, IsUnread, IsValidFiling, IsValidState, MayStop, as_written, database_in, state_in}
+use Rattle.rrd_store.specs.Storages.{Bytes, Finds, HasNone, Held, IsNoFile, Leaves, Missing, Reads, Stays}
+use Rattle.rrd_store.specs.Runs.{Filing, Holds, IsUnread, IsValidFiling, MayStop, as_written, database_in, state_in}
 use Rattle.rrd_store.specs.declared.faults.TaskFault.{TaskFault}
 use Rattle.rrd_store.specs.declared.faults.TaskFault.TheVariants.{Command, Stream, File, CannotOpen, CannotWrite}
 use Rattle.rrd_store.proofs.ValidStates.{Valid, is_kept}
@@ -27,19 +23,6 @@ pub record Reading : Type 0 where
   pub is_layout : (bytes : List ℕ) (d : Stored) → FileIsLayout bytes d
   pub one : (bytes : List ℕ) → HasOneAnswer bytes
   pub within : (version : Version) (now : Content) (journal : List Entry) → DatabaseIsWithin version now journal
-
--- ---- layouts
-
-begins : (pieces : List Piece) → flat_map spell (Mark ∷ pieces) ≡ [] → ⊥
-unfolding spell
-begins pieces h =
-    let long = length-append (spell Mark) (flat_map spell pieces) in
-    absurd (omega (arith, long, ap length (sym (flat_map-cons spell Mark pieces) ∙ h)))
-
-pub some_layout : (version : Version) (d : Stored) → layout_in version d ≡ [] → ⊥
-some_layout version d h =
-    let f = filed version d in
-    begins (OfVersion f.header.version ∷ OfHeader f.header ∷ (body_pieces f ++ flat_map entry_pieces f.entries)) h
 
 pub file_layout : Reading → (bytes : List ℕ) (d : Stored) (file : IsFile bytes d) → bytes ≡ layout_in file.version d
 file_layout laws bytes d file = laws.is_layout bytes d file
@@ -92,17 +75,18 @@ module _ (laws : Reading) where
 
 -- ---- what is left
 
--- the file after a write that failed: it is as it was, or has the new bytes, or a front of them and not all
-abbrev pub IsCut : Held → Held → Option Filing → Type 0
-IsCut old new None = ⊥
-IsCut old new (Some k) =
+-- the file after a write that failed: it is as it was, or has the new bytes; or, where there was no database, bytes that
+-- are none
+abbrev pub IsFailed : Held → Held → Option Filing → Type 0
+IsFailed old new None = ⊥
+IsFailed old new (Some k) =
     (new ≡ old)
-    ⊎ (Holds new (Some k) ⊎ ((front : List ℕ) × IsFrontOf front k × IsValidState k.version k.state × (new ≡ Bytes front)))
+    ⊎ (Holds new (Some k) ⊎ (HasNone old × (bytes : List ℕ) × (new ≡ Bytes bytes) × IsNoFile bytes))
 
 -- the file after a run that led to this, by the fault that it ended with
 abbrev pub IsLeft : Held → Held → Option Filing → Option TaskFault → Type 0
 IsLeft old new s None = Holds new s
-IsLeft old new s (Some CannotWrite) = IsCut old new s
+IsLeft old new s (Some CannotWrite) = IsFailed old new s
 IsLeft old new s (Some CannotOpen) = new ≡ old
 IsLeft old new s (Some (File fault)) = new ≡ old
 IsLeft old new s (Some (Command fault)) = new ≡ old
@@ -147,22 +131,22 @@ module _ (old new : Held) where
   left_held (Some d) None x h v k = absurd h
   left_held (Some d) (Some s) x h v k = (ap (held_or Missing) k ∙ ap (λ (e : Stored). Bytes (layout e)) (is_kept s d h), v)
 
-  -- where a write failed it may be, or a front of it
-  left_cut : (last : Option Stored) (s : Option State) → StandsFor last s → Valid (old ≡ Missing) s → Leaves {T = Unit {0}} last (Some old) (Some new) (Err CannotWrite) → IsCut old new (as_written s)
-  left_cut None s h v k = absurd k
-  left_cut (Some d) None h v k = absurd h
-  left_cut (Some d) (Some s) h v k = elim k [
+  -- where a write failed it may be
+  left_failed : (last : Option Stored) (s : Option State) → StandsFor last s → Valid (old ≡ Missing) s → Leaves {T = Unit {0}} last (Some old) (Some new) (Err CannotWrite) → IsFailed old new (as_written s)
+  left_failed None s h v k = absurd k
+  left_failed (Some d) None h v k = absurd h
+  left_failed (Some d) (Some s) h v k = elim k [
     | inl same ↦ inl same
     | inr other ↦ inr (elim other [
       | inl all ↦ inl (left_held (Some d) (Some s) (tt {0}) h v all)
-      | inr cut ↦ inr (cut.0, (cut.1, cut.2, ap layout (sym (is_kept s d h)) ∙ cut.3), v, ap (held_or Missing) cut.4)
+      | inr none ↦ inr (none.0, none.1, ap (held_or Missing) none.2, none.3)
     ])
   ]
 
   -- the file after a write of the database, by its end
   left_known : (last : Option Stored) (s : Option State) (end : Result (Unit {0}) TaskFault) → StandsFor last s → Valid (old ≡ Missing) s → Leaves last (Some old) (Some new) end → IsLeft old new (as_written s) (result_err end)
   left_known last s (Ok x) h v k = left_held last s x h v k
-  left_known last s (Err CannotWrite) h v k = left_cut last s h v k
+  left_known last s (Err CannotWrite) h v k = left_failed last s h v k
   left_known last s (Err CannotOpen) h v k = absurd (let e = unleft (Some old) (Some new) last CannotOpen k in cc)
   left_known last s (Err (File fault)) h v k = absurd (let e = unleft (Some old) (Some new) last (File fault) k in cc)
   left_known last s (Err (Command fault)) h v k = absurd (let e = unleft (Some old) (Some new) last (Command fault) k in cc)
@@ -175,7 +159,7 @@ known old None (Err fault) k = k
 known old (Some d) (Ok x) k = absurd cc
 known old (Some d) (Err CannotWrite) k = elim k [
   | inl same ↦ same
-  | inr other ↦ elim other [ inl all ↦ absurd (let bad = all in cc) | inr cut ↦ absurd (let bad = cut.4 in cc) ]
+  | inr other ↦ elim other [ inl all ↦ absurd (let bad = all in cc) | inr none ↦ absurd (let bad = none.2 in cc) ]
 ]
 known old (Some d) (Err CannotOpen) k = k
 known old (Some d) (Err (File fault)) k = k

@@ -10,4 +10,4 @@ pub mod Damaged
 pub mod Standings
 pub mod StorageRuns
 pub mod FaultRuns
-pub mod Fallen
+pub mod Sessions

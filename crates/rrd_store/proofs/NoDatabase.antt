@@ -12,8 +12,8 @@ use Rattle.rrd_tool.specs.declared.commands.Command.{Command}
 use Rattle.rrd_tool.specs.declared.faults.Fault.TheVariants.{Line}
 use Rattle.rrd_tool.specs.declared.faults.LineFault.{LineFault}
 use Rattle.rrd_store.specs.Batch.{IsFileBatch}
-use Rattle.rrd_store.specs.Storages.{Bytes, Finds, Held, Stays}
-use Rattle.rrd_store.specs.Runs.{ByBatch, ByCommand, DidIn, IsCreate, IsNoFile, IsOfBytes, OutputStays, Run, fault_of, fault_of_batch}
+use Rattle.rrd_store.specs.Storages.{Bytes, Finds, Held, IsNoFile, Stays}
+use Rattle.rrd_store.specs.Runs.{ByBatch, ByCommand, DidIn, IsCreate, IsOfBytes, OutputStays, Run, fault_of, fault_of_batch}
 use Rattle.rrd_store.specs.Single.{FindsOne, RunsAs, RunsFrom, StartsBy}
 use Rattle.rrd_store.specs.declared.batch.FileBatchEnd.{FileBatchEnd}
 use Rattle.rrd_store.specs.declared.faults.TaskFault.{TaskFault}

@@ -2,13 +2,13 @@
 use Rattle.std.proofs.Common.{◌≡◌, ◌∷◌, [], ℕ, List, Option, Some, None, sym, refl, subst, inl, inr}
 use Rattle.rrd_spec.specs.Journal.Survivors.{Stored}
 use Rattle.rrd_tool.specs.Effects.{stored_of}
-use Rattle.rrd_store.specs.Storages.{Bytes, Held, Stays}
-use Rattle.rrd_store.specs.Runs.{ByBatch, ByCommand, Damaged, DidIn, Ended, Event, Filing, HappenedAll, HasNone, Holds, IsFileIn, IsFileOf, IsNoFile, Keeping, KeepsNone, Killed, Leads, LeadsAll, LeadsKilled, Run, RunIsComputed, RunsFollowSpecification, Standing, StandsBy, WasKilled, fault_of, first_of}
+use Rattle.rrd_store.specs.Storages.{Bytes, HasNone, Held, IsNoFile, Stays}
+use Rattle.rrd_store.specs.Runs.{ByBatch, ByCommand, Damaged, DidIn, Ended, Event, Filing, HappenedAll, Holds, IsFileIn, IsFileOf, Keeping, KeepsNone, Killed, Leads, LeadsAll, LeadsKilled, Run, RunIsComputed, RunsFollowSpecification, Standing, StandsBy, WasKilled, fault_of, first_of}
 use Rattle.rrd_store.specs.declared.faults.TaskFault.{TaskFault}
 use Rattle.rrd_store.specs.declared.faults.TaskFault.TheVariants as task
-use Rattle.rrd_store.proofs.Damaged.{Layouts, front_is_none}
+use Rattle.rrd_store.proofs.Damaged.{Layouts}
 use Rattle.rrd_store.proofs.FileRuns.{LeadsIn, batch_leads, command_leads, first_held}
-use Rattle.rrd_store.proofs.Found.{IsCut, IsLeft, IsLeftIn, Reading}
+use Rattle.rrd_store.proofs.Found.{IsFailed, IsLeft, IsLeftIn, Reading}
 use Rattle.rrd_store.proofs.NoDatabase.{create_leads, is_create, run_refused}
 use Rattle.rrd_store.proofs.ValidStates.{Staying}
 
@@ -30,23 +30,30 @@ some_standing t s1 (Some (task.Command fault)) = (t, refl)
 some_standing t s1 (Some (task.Stream fault)) = (t, refl)
 
 module _ (laws : Laws) where
+  -- over no database no database is kept
+  none_kept : (old : Held) (t : Standing) → IsFileOf old t → HasNone old → KeepsNone t
+  none_kept old (Keeping None) file none = tt
+  none_kept old (Keeping (Some k)) file none =
+      subst HasNone file.0 none (stored_of k.state) (laws.layouts.read k.version (stored_of k.state) file.1.1)
+  none_kept old (Damaged bytes) file none = tt
+
   module _ (old new : Held) (t : Standing) (file : IsFileOf old t) where
     same_file : new ≡ old → IsFileOf new t
     same_file same = subst (λ (b : Held). IsFileOf b t) (sym same) file
 
-    cut_standing : (s1 : Option Filing) → IsCut old new s1 → (t1 : Standing) × StandsBy t s1 (Some task.CannotWrite) t1 × IsFileOf new t1
-    cut_standing None h = absurd h
-    cut_standing (Some k) h = elim h [
+    failed_standing : (s1 : Option Filing) → IsFailed old new s1 → (t1 : Standing) × StandsBy t s1 (Some task.CannotWrite) t1 × IsFileOf new t1
+    failed_standing None h = absurd h
+    failed_standing (Some k) h = elim h [
       | inl same ↦ (t, inl refl, same_file same)
       | inr other ↦ elim other [
         | inl all ↦ (Keeping (Some k), inr (inl refl), all)
-        | inr cut ↦ (Damaged cut.0, inr (inr (cut.0, k, refl, cut.1, refl)), (cut.3, front_is_none laws.layouts cut.0 k cut.1 cut.2))
+        | inr none ↦ (Damaged none.1, inr (inr (none_kept old t file none.0, none.1, refl)), (none.2, none.3))
       ]
     ]
 
     standing : (s1 : Option Filing) (fault : Option TaskFault) → IsLeft old new s1 fault → (t1 : Standing) × StandsBy t s1 fault t1 × IsFileOf new t1
     standing s1 None h = (Keeping s1, refl, h)
-    standing s1 (Some task.CannotWrite) h = cut_standing s1 h
+    standing s1 (Some task.CannotWrite) h = failed_standing s1 h
     standing s1 (Some task.CannotOpen) h = (t, refl, same_file h)
     standing s1 (Some (task.File fault)) h = (t, refl, same_file h)
     standing s1 (Some (task.Command fault)) h = (t, refl, same_file h)
@@ -87,12 +94,6 @@ module _ (laws : Laws) where
       damaged_leads bytes new run file.1 (subst (λ (b : Held). DidIn (Some b) run new) file.0 h)
 
   -- ---- after a kill
-
-  none_kept : (old : Held) (t : Standing) → IsFileOf old t → HasNone old → KeepsNone t
-  none_kept old (Keeping None) file none = tt
-  none_kept old (Keeping (Some k)) file none =
-      subst HasNone file.0 none (stored_of k.state) (laws.layouts.read k.version (stored_of k.state) file.1.1)
-  none_kept old (Damaged bytes) file none = tt
 
   kill_leads : (old : Held) (t : Standing) (run : Run) (new : Held) → IsFileOf old t → WasKilled old run new → (t1 : Standing) × LeadsKilled t run t1 × IsFileOf new t1
   kill_leads old t run new file h = elim h [

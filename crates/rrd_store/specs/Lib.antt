@@ -5,3 +5,4 @@ pub mod Single
 pub mod Batch
 pub mod Ending
 pub mod Runs
+pub mod Sessions

@@ -1,6 +1,6 @@
 -- Definition: the bytes and the text that the definitions compute of one run on a storage, and the bytes that a failed
 -- write or a kill leaves. Law: after any list of runs on one file, the bytes of the file and all printed text are what
--- the definitions compute; and a file that a failed write cut short stays as it is.
+-- the definitions compute; and a file that was cut short stays as it is.
 use Rattle.std.specs.Prelude.{◌≡◌, ◌≢◌, ◌⊎◌, ◌++◌, ◌∷◌, [], ℕ, List, Option, Some, None, Result, Ok, Err, false, length, if◌then◌else◌, option_map}
 use Rattle.std.specs.Result.{result_err}
 use Rattle.std.specs.Io.KnownBytes.{Appends, Consumes, Keeps}
@@ -25,7 +25,7 @@ use Rattle.rrd_tool.specs.declared.faults.Fault.{Fault}
 use Rattle.rrd_tool.specs.declared.faults.Fault.TheVariants.{Line, NoDatabase, Output, Refused}
 use Rattle.rrd_tool.specs.declared.faults.LineFault.{LineFault}
 use Rattle.rrd_store.specs.Batch.{IsFileBatch}
-use Rattle.rrd_store.specs.Storages.{Held, Missing, Bytes}
+use Rattle.rrd_store.specs.Storages.{Bytes, HasNone, Held, IsNoFile, Missing}
 use Rattle.rrd_store.specs.Single.{IsSingle}
 use Rattle.rrd_store.specs.declared.batch.FileBatchEnd.{FileBatchEnd}
 use Rattle.rrd_store.specs.declared.faults.TaskFault.{TaskFault}
@@ -112,10 +112,6 @@ IsFrontOf front k =
     (next : ℕ) × (rest : List ℕ) × (layout_in k.version (stored_of k.state) ≡ front ++ next ∷ rest)
 
 -- ---- the state that a file represents
-
--- these bytes are not the file of any database
-abbrev pub IsNoFile : List ℕ → Type 0
-IsNoFile bytes = (d : Stored) → ¬ IsFile bytes d
 
 -- the state in the file, or no state if there is no file; or bytes that are not a database
 pub data Standing : Type 0 where
@@ -233,13 +229,17 @@ OutputStays (ByBatch r) = Keeps r.out_before r.out_after
 
 -- ---- the state that a file represents after a run
 
--- after a failed write of the file, the file represents the same as before, or the new state; or it is damaged, with a
--- first part of the new file and not all
+-- the file represents no database
+abbrev pub KeepsNone : Standing → Type 0
+KeepsNone (Keeping None) = Unit {0}
+KeepsNone (Keeping (Some k)) = ⊥
+KeepsNone (Damaged bytes) = Unit {0}
+
+-- after a failed write of the file, the file represents the same as before, or the new state; or, if there was no
+-- database, bytes that are not a database
 abbrev pub IsAfterFailure : Standing → Option Filing → Standing → Type 0
 IsAfterFailure t s1 t1 =
-    (t1 ≡ t)
-    ⊎ ((t1 ≡ Keeping s1)
-    ⊎ ((front : List ℕ) × (k : Filing) × (s1 ≡ Some k) × IsFrontOf front k × (t1 ≡ Damaged front)))
+    (t1 ≡ t) ⊎ ((t1 ≡ Keeping s1) ⊎ (KeepsNone t × (bytes : List ℕ) × (t1 ≡ Damaged bytes)))
 
 -- after a run that led from `t` to the state `s1`, by the fault with which the run ended
 abbrev pub StandsBy : Standing → Option Filing → Option TaskFault → Standing → Type 0
@@ -294,11 +294,6 @@ pub data Event : Type 0 where
   Ended : Run → Event
   Killed : Run → Event
 
--- there is no file, or the file is not a database
-abbrev pub HasNone : Held → Type 0
-HasNone Missing = Unit {0}
-HasNone (Bytes bytes) = IsNoFile bytes
-
 -- a kill leaves the contents from before the run; or the contents that the run leaves if it ends; or, if there was no
 -- database, bytes that are not a database
 abbrev pub WasKilled : Held → Run → Held → Type 0
@@ -314,12 +309,6 @@ abbrev pub HappenedAll : Held → List Event → Held → Type 0
 HappenedAll old [] new = new ≡ old
 HappenedAll old (event ∷ events) new =
     (between : Held) × Happened old event between × HappenedAll between events new
-
--- the file represents no database
-abbrev pub KeepsNone : Standing → Type 0
-KeepsNone (Keeping None) = Unit {0}
-KeepsNone (Keeping (Some k)) = ⊥
-KeepsNone (Damaged bytes) = Unit {0}
 
 -- the state before the run, or the state after the run; or, if there was no database, no database
 abbrev pub LeadsKilled : Standing → Run → Standing → Type 0
@@ -395,8 +384,7 @@ FaultChangesNothing old run fault new =
 abbrev pub IsOfBreak : ℕ → TaskFault → Type 0
 IsOfBreak at fault = IsRefusedBy (λ f. IsOfFile (Err f) → f ≡ Truncated at) fault
 
--- a file that a failed write cut short stays unchanged, and each run on it except a create is refused and prints
--- nothing
+-- a file that was cut short stays unchanged, and each run on it except a create is refused and prints nothing
 abbrev pub DamagedFileStays : List ℕ → Filing → Run → Held → Type 0
 DamagedFileStays front k run new =
     IsFrontOf front k → IsValidState k.version k.state → ¬ IsCreate run → Did (Bytes front) run new

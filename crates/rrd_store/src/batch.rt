@@ -1,10 +1,15 @@
 //! A batch on a stored database.
+ghost use Rattle.std.specs.Prelude.{◌≡◌, IfSome, None, Option, option_map};
+ghost use Rattle.rrd_file.specs.Laws.{IsValidStored};
 ghost use Rattle.rrd_store.specs.Batch.{IsFileBatch};
 ghost use Rattle.rrd_store.specs.Runs.{ByBatch, IsComputed};
+ghost use Rattle.rrd_store.specs.Sessions.{IsLinesOn, kept_unless};
+ghost use Rattle.rrd_store.specs.Storages.{Held, Leaves};
 
 use crate::laws::storage_runs_follow_specification;
-use crate::stored::{load, store};
+use crate::stored::store;
 use crate::{Access, Storage, TaskFault};
+use rrd_base::{Database, database_is_valid};
 use rrd_tool::{StreamFault, run_batch};
 use std::alloc::Global;
 use std::io::{Read, Write};
@@ -22,6 +27,89 @@ pub struct FileBatchEnd {
     pub unstored: Option<TaskFault>,
 }
 
+/// Decides whether the database that a batch left is written.
+pub trait Gate {
+    /// Checks whether the database may be written, after the last line that was run.
+    fn allows(&self) -> bool;
+}
+
+/// Has every batch written.
+#[derive(Clone, Copy, Debug, PartialEq, Eq)]
+pub struct Always;
+
+impl Gate for Always {
+    fn allows(&self) -> bool {
+        true
+    }
+}
+
+// Writes the database that a batch left, if the gate allows it.
+fn store_allowed<P: Storage, G: Gate>(
+    alloc: Global,
+    storage: &mut P,
+    database: Option<&Database>,
+    gate: &G,
+) -> Result<(), TaskFault>
+    ensures falls { (s : Option Held) → P.is_honest s storage.new → P.is_honest s storage.old }
+    ensures sound { (s : Option Held) → P.is_honest s storage.new → P.is_sound s storage.old
+        → P.is_sound s storage.new }
+    ensures unknown { (s : Option Held) → P.contents s storage.old ≡ None → P.contents s storage.new ≡ None }
+    ensures left { (s : Option Held) → P.is_honest s storage.new → P.is_sound s storage.old
+        → Leaves (option_map (λ d. d.now) database.entry) (P.contents s storage.old) (P.contents s storage.new) result }
+{
+    match database {
+        Some(_) if !gate.allows() => Err(TaskFault::CannotWrite),
+        _ => store(alloc, storage, database),
+    }
+}
+
+// Returns the database that a batch left, unless it was not written.
+fn database_kept(database: Option<Database>, unstored: Option<TaskFault>) -> Option<Database>
+    ensures kept { result ≡ kept_unless unstored database }
+    ensures valid { IfSome result IsValidStored }
+{
+    match (unstored, database) {
+        (None, Some(database)) => {
+            database_is_valid(&database);
+            Some(database)
+        }
+        _ => None,
+    }
+}
+
+/// Runs the lines on a database, and writes the database that the lines left. Returns this database too, unless it was
+/// not written.
+pub(crate) fn run_on<P: Storage, R: Read, W: Write, G: Gate>(
+    alloc: Global,
+    database: Option<Database>,
+    now: u64,
+    numbered: usize,
+    storage: &mut P,
+    reader: &mut R,
+    out: &mut W,
+    gate: &G,
+) -> (FileBatchEnd, Option<Database>)
+    ensures falls { (s : Option Held) → P.is_honest s storage.new → P.is_honest s storage.old }
+    ensures sound { (s : Option Held) → P.is_honest s storage.new → P.is_sound s storage.old
+        → P.is_sound s storage.new }
+    ensures unknown { (s : Option Held) → P.contents s storage.old ≡ None → P.contents s storage.new ≡ None }
+    ensures run { (s : Option Held) → P.is_honest s storage.new → P.is_sound s storage.old
+        → IsLinesOn now numbered database result.1 (P.contents s storage.old) (P.contents s storage.new)
+        (R.remaining reader.old) (R.remaining reader.new) (W.contents out.old) (W.contents out.new) result.0 }
+    ensures valid { IfSome result.1 IsValidStored }
+{
+    let end = run_batch(alloc, database, now, numbered, reader, out);
+    let unstored = store_allowed(alloc, storage, end.database.as_ref(), gate).err();
+    let database = database_kept(end.database, unstored);
+    let end = FileBatchEnd {
+        refused: end.refused,
+        lines: end.lines,
+        stream: end.stream,
+        unstored,
+    };
+    (end, database)
+}
+
 // Reads the database, runs the lines, and writes the database that the lines left.
 fn run_over<P: Storage, R: Read, W: Write>(
     alloc: Global,
@@ -31,18 +119,18 @@ fn run_over<P: Storage, R: Read, W: Write>(
     reader: &mut R,
     out: &mut W,
 ) -> Result<FileBatchEnd, TaskFault>
-    ensures { IsFileBatch now numbered (P.contents storage.old) (P.contents storage.new)
+    ensures falls { (s : Option Held) → P.is_honest s storage.new → P.is_honest s storage.old }
+    ensures sound { (s : Option Held) → P.is_honest s storage.new → P.is_sound s storage.old
+        → P.is_sound s storage.new }
+    ensures run { (s : Option Held) → P.is_honest s storage.new → P.is_sound s storage.old
+        → IsFileBatch now numbered (P.contents s storage.old) (P.contents s storage.new)
         (R.remaining reader.old) (R.remaining reader.new) (W.contents out.old) (W.contents out.new) result }
 {
-    let database = load(alloc, storage, Access::ReadWrite)?;
-    let end = run_batch(alloc, database, now, numbered, reader, out);
-    let unstored = store(storage, end.database.as_ref()).err();
-    Ok(FileBatchEnd {
-        refused: end.refused,
-        lines: end.lines,
-        stream: end.stream,
-        unstored,
-    })
+    let database = storage.load(alloc, Access::ReadWrite)?;
+    let (end, _database) = run_on(
+        alloc, database, now, numbered, storage, reader, out, &Always,
+    );
+    Ok(end)
 }
 
 /// Runs each line of `reader` on the database in `storage`, and writes the database at the end.
@@ -64,9 +152,14 @@ pub fn run_file_batch<P: Storage, R: Read, W: Write>(
     reader: &mut R,
     out: &mut W,
 ) -> Result<FileBatchEnd, TaskFault>
-    ensures run { IsFileBatch now numbered (P.contents storage.old) (P.contents storage.new)
+    ensures falls { (s : Option Held) → P.is_honest s storage.new → P.is_honest s storage.old }
+    ensures sound { (s : Option Held) → P.is_honest s storage.new → P.is_sound s storage.old
+        → P.is_sound s storage.new }
+    ensures run { (s : Option Held) → P.is_honest s storage.new → P.is_sound s storage.old
+        → IsFileBatch now numbered (P.contents s storage.old) (P.contents s storage.new)
         (R.remaining reader.old) (R.remaining reader.new) (W.contents out.old) (W.contents out.new) result }
-    ensures computed { IsComputed (P.contents storage.old) (P.contents storage.new)
+    ensures computed { (s : Option Held) → P.is_honest s storage.new → P.is_sound s storage.old
+        → IsComputed (P.contents s storage.old) (P.contents s storage.new)
         (ByBatch (record {
           now = now;
           numbered = numbered;

@@ -17,9 +17,8 @@ use rrd_spec::laws::{
 /// A run is a batch or a single command, with any outcome of memory, with failed writes, and with kills between the runs.
 /// The definitions compute from the accepted commands that were not reverted, the number of commands that can still be
 /// reverted, and the database of the first file with its journal. A write that failed leaves the file of the state before
-/// the run or after the run, or a first part of the latter, which stays until a create. A killed run leaves the state
-/// before the run or after the run; if there was no database, there may be none. The clause `each` says the same of one
-/// run on any file.
+/// the run or after the run; or, if there was no database, bytes that are not a database, which stay until a create. So
+/// does a killed run. The clause `each` says the same of one run on any file.
 pub fn runs_follow_specification()
     ensures all { (old : Held) (first : Option Stored) (events : List laws.Event) (new : Held) →
         laws.RunsFollowSpecification old first events new }
@@ -60,7 +59,7 @@ pub fn errors_change_nothing()
         laws.FaultChangesNothing old run fault new }
 {}
 
-/// Theorem: a file that a failed write cut short stays as it is: a batch on the file, and each command except a create, is
+/// Theorem: a file that was cut short stays as it is: a batch on the file, and each command except a create, is
 /// refused at the byte at which the file ends, and prints nothing.
 pub fn damaged_files_stay()
     ensures { (front : List ℕ) (kept : laws.Filing) (run : laws.Run) (new : Held) →

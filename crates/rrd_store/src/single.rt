@@ -1,14 +1,15 @@
 //! One command on a stored database.
-ghost use Rattle.std.specs.Prelude.{◌≡◌, List, None, Result, false, ℕ};
+ghost use Rattle.std.specs.Prelude.{◌≡◌, List, None, Option, Result, false, ℕ};
 ghost use Rattle.std.specs.Io.KnownBytes.{Keeps};
 ghost use Rattle.rrd_tool.specs.Commands.{effect};
 ghost use Rattle.rrd_tool.specs.Execution.{fault_left, has_changed};
 ghost use Rattle.rrd_tool.specs.Lines.{is_empty};
 ghost use Rattle.rrd_store.specs.Runs.{ByCommand, IsComputed};
 ghost use Rattle.rrd_store.specs.Single.{Ends, IsSingle, StartsFrom, access_for};
+ghost use Rattle.rrd_store.specs.Storages.{Held};
 
 use crate::laws::storage_runs_follow_specification;
-use crate::stored::{load, store};
+use crate::stored::store;
 use crate::{Access, Storage, TaskFault};
 use rrd_base::Database;
 use rrd_fixed::flush;
@@ -40,31 +41,42 @@ fn start<P: Storage>(
     command: &Command,
     storage: &mut P,
 ) -> Result<Option<Database>, TaskFault>
-    ensures start { StartsFrom command.now (P.contents storage.old) result }
-    ensures stays { P.contents storage.new ≡ P.contents storage.old }
+    ensures falls { (s : Option Held) → P.is_honest s storage.new → P.is_honest s storage.old }
+    ensures sound { (s : Option Held) → P.is_honest s storage.new → P.is_sound s storage.old
+        → P.is_sound s storage.new }
+    ensures start { (s : Option Held) → P.is_honest s storage.new → P.is_sound s storage.old
+        → StartsFrom command.now (P.contents s storage.old) result }
+    ensures stays { (s : Option Held) → P.is_honest s storage.new → P.is_sound s storage.old
+        → P.contents s storage.new ≡ P.contents s storage.old }
 {
     if let Command::Create(_) = command {
         return Ok(None);
     }
-    match load(alloc, storage, access_of(command))? {
+    match storage.load(alloc, access_of(command))? {
         Some(database) => Ok(Some(database)),
         None => Err(TaskFault::CannotOpen),
     }
 }
 
-// Flushes the output of a command, or writes the database that the command changed.
-fn finish<P: Storage, W: Write>(
-    outcome: Outcome,
+/// Flushes the output of a command, or writes the database that the command changed.
+pub(crate) fn finish<P: Storage, W: Write>(
+    alloc: Global,
+    outcome: &Outcome,
     storage: &mut P,
     out: &mut W,
 ) -> Result<(), TaskFault>
-    ensures storage { (text : List ℕ) → (fault_left outcome ≡ None → has_changed outcome ≡ false → is_empty text ≡ false)
-        → Ends outcome text (P.contents storage.old) (P.contents storage.new) result }
+    ensures falls { (s : Option Held) → P.is_honest s storage.new → P.is_honest s storage.old }
+    ensures sound { (s : Option Held) → P.is_honest s storage.new → P.is_sound s storage.old
+        → P.is_sound s storage.new }
+    ensures unknown { (s : Option Held) → P.contents s storage.old ≡ None → P.contents s storage.new ≡ None }
+    ensures storage { (s : Option Held) → P.is_honest s storage.new → P.is_sound s storage.old
+        → (text : List ℕ) → (fault_left outcome.now ≡ None → has_changed outcome.now ≡ false → is_empty text ≡ false)
+        → Ends outcome.now text (P.contents s storage.old) (P.contents s storage.new) result }
     ensures out { Keeps (W.contents out.old) (W.contents out.new) }
 {
     match outcome {
-        Outcome::Refused { fault, .. } => Err(TaskFault::Command(fault)),
-        Outcome::Changed(database) => store(storage, Some(&database)),
+        Outcome::Refused { fault, .. } => Err(TaskFault::Command(*fault)),
+        Outcome::Changed(database) => store(alloc, storage, Some(database)),
         Outcome::Printed(_) => match flush(out) {
             Ok(()) => Ok(()),
             Err(_) => Err(TaskFault::Command(Fault::Output)),
@@ -80,13 +92,17 @@ fn run_words<P: Storage, W: Write>(
     storage: &mut P,
     out: &mut W,
 ) -> Result<(), TaskFault>
-    ensures { IsSingle words.now now (P.contents storage.old) (P.contents storage.new)
+    ensures falls { (s : Option Held) → P.is_honest s storage.new → P.is_honest s storage.old }
+    ensures sound { (s : Option Held) → P.is_honest s storage.new → P.is_sound s storage.old
+        → P.is_sound s storage.new }
+    ensures run { (s : Option Held) → P.is_honest s storage.new → P.is_sound s storage.old
+        → IsSingle words.now now (P.contents s storage.old) (P.contents s storage.new)
         (W.contents out.old) (W.contents out.new) result }
 {
     let command = read_command(alloc, words, now)?;
     let database = start(alloc, &command, storage)?;
     let outcome = execute(alloc, database, command, out);
-    finish(outcome, storage, out)
+    finish(alloc, &outcome, storage, out)
 }
 
 /// Runs one command on the database in `storage`, and writes the command's output to `out`.
@@ -101,8 +117,8 @@ fn run_words<P: Storage, W: Write>(
 /// - `CannotOpen` or `File` if no database can be read from `storage`.
 /// - `Command` if the command is refused, or a write of its output failed. `storage` is unchanged, as in the cases
 ///   above.
-/// - `CannotWrite` if an accepted change could not be written: `storage` has its old bytes, or the new bytes, or the
-///   first part of the new bytes.
+/// - `CannotWrite` if an accepted change could not be written: `storage` has its old bytes, or the new bytes, or, if
+///   there was no database, bytes that are not a database.
 pub fn run_file_command<P: Storage, W: Write>(
     alloc: Global,
     words: &Words<'_>,
@@ -110,9 +126,14 @@ pub fn run_file_command<P: Storage, W: Write>(
     storage: &mut P,
     out: &mut W,
 ) -> Result<(), TaskFault>
-    ensures run { IsSingle words.now now (P.contents storage.old) (P.contents storage.new)
+    ensures falls { (s : Option Held) → P.is_honest s storage.new → P.is_honest s storage.old }
+    ensures sound { (s : Option Held) → P.is_honest s storage.new → P.is_sound s storage.old
+        → P.is_sound s storage.new }
+    ensures run { (s : Option Held) → P.is_honest s storage.new → P.is_sound s storage.old
+        → IsSingle words.now now (P.contents s storage.old) (P.contents s storage.new)
         (W.contents out.old) (W.contents out.new) result }
-    ensures computed { IsComputed (P.contents storage.old) (P.contents storage.new)
+    ensures computed { (s : Option Held) → P.is_honest s storage.new → P.is_sound s storage.old
+        → IsComputed (P.contents s storage.old) (P.contents s storage.new)
         (ByCommand (record {
           words = words.now;
           now = now;

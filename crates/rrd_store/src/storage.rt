@@ -1,9 +1,11 @@
 //! The storage of a database, which keeps the bytes of the database as a file does.
-ghost use Rattle.std.specs.Prelude.{◌≡◌, ℕ, IfOk, None, OnErr, OnOk, Option};
-ghost use Rattle.rrd_store.specs.Storages.{AreAll, Cuts, FallsBack, Held, IsBegun, IsFor, IsReady, Opens, TakesOver};
+ghost use Rattle.std.specs.Prelude.{◌≡◌, None, OnErr, OnOk, Option};
+ghost use Rattle.rrd_store.specs.Storages.{Becomes, Finds, Held, IsAfterFailure, IsAnyFile};
 
+use crate::TaskFault;
+use rrd_base::Database;
+use std::alloc::Global;
 use std::io;
-use std::io::{Read, Write};
 
 /// The access that a command needs to the storage.
 #[derive(Clone, Copy, Debug, PartialEq, Eq)]
@@ -17,60 +19,53 @@ pub enum Access {
 /// The storage of a database: keeps bytes until all of them are replaced, as a file at a path does.
 ///
 /// Others may use the same storage at other times.
+///
+/// Each clause is for each `s`: what the storage was before its first call, or `None` if nothing is assumed of that. A
+/// storage whose bytes no proof can know has no contents for `None`, and is honest and sound then: the clauses say what
+/// holds in any case. A storage in memory has the same contents for each `s`.
 pub trait Storage {
-    // The bytes that the storage represents, if known: the next `open` reads these bytes. The storage may have other
-    // bytes, if `open` finds the bytes that they represent.
-    ghost contents: { Self → Option Held } = { λ _. None };
+    // The bytes that the storage represents, if known: the next `load` reads these bytes. The storage may have other
+    // bytes, if `load` finds the bytes that they represent. Bytes that are not known do not become known.
+    ghost contents: { Option Held → Self → Option Held };
 
-    // The number of bytes for which the last change began, if known.
-    ghost announced: { Self → Option ℕ } = { λ _. None };
+    // All answers so far are those of a storage that does what its calls say.
+    ghost is_honest: { Option Held → Self → Type 0 };
 
-    /// The reader of the bytes.
-    type Reader: Read + Drop;
+    // The bytes that the storage represents can be told from those that it has.
+    ghost is_sound: { Option Held → Self → Type 0 };
 
-    /// The writer of the new bytes.
-    type Writer: Write + Drop;
-
-    /// Returns a reader of the bytes, from the first byte on. Returns `None` if nothing is stored.
+    /// Reads the database. Returns `None` if nothing is stored.
     ///
-    /// If a change was interrupted before, `open` may end the change or take the change back. Nobody else changes the
-    /// bytes while they are read; after an `open` for [`Access::ReadWrite`] nobody else does until the change is
+    /// If a change was interrupted before, `load` may end the change or take the change back. Nobody else changes the
+    /// bytes while they are read; after a `load` for [`Access::ReadWrite`] nobody else does until the change is
     /// written.
     ///
     /// # Errors
     ///
-    /// The bytes cannot be read, or another program holds them.
-    fn open(&mut self, access: Access) -> io::Result<Option<Self::Reader>>
-        ensures stays { contents self.new ≡ contents self.old }
-        ensures reads { IfOk result (Opens (contents self.old) Self.Reader.remaining) };
+    /// - `CannotOpen`: the storage cannot be opened, or another program holds it.
+    /// - `File`: the bytes are not a database, they could not be read to their end, or memory ran out.
+    fn load(&mut self, alloc: Global, access: Access) -> Result<Option<Database>, TaskFault>
+        ensures falls { (s : Option Held) → is_honest s self.new → is_honest s self.old }
+        ensures sound { (s : Option Held) → is_honest s self.new → is_sound s self.old → is_sound s self.new }
+        ensures stays { (s : Option Held) → is_honest s self.new → is_sound s self.old
+            → contents s self.new ≡ contents s self.old }
+        ensures found { (s : Option Held) → is_honest s self.new → is_sound s self.old
+            → Finds (contents s self.old) result };
 
-    /// Begins to replace the bytes by exactly `length` new bytes, and returns a writer of the new bytes.
-    ///
-    /// If nothing is stored, `begin_write` may create a storage without bytes. The new bytes count only after
-    /// [`Storage::commit`].
+    /// Replaces the bytes by the bytes of a database. If nothing is stored, creates the storage.
     ///
     /// # Errors
     ///
-    /// The storage cannot be written, or has no space for the new bytes.
-    fn begin_write(&mut self, length: u64) -> io::Result<Self::Writer>
-        ensures ready { IsReady (contents self.old) (contents self.new) }
-        ensures begun { IfOk result (λ writer. IsBegun (contents self.old) (Self.Writer.contents writer)) }
-        ensures announced { IfOk result (λ writer. IsFor length (announced self.new) (Self.Writer.contents writer)) };
-
-    /// Replaces the bytes by the bytes that were written, whose number is the `length` of `begin_write`.
-    ///
-    /// # Errors
-    ///
-    /// A call failed. The storage has its old bytes; or the new bytes, if the call that failed was the last that counts
-    /// or could not be taken back; or the first part of the new bytes.
-    fn commit(&mut self, writer: Self::Writer) -> io::Result<()>
-        requires { AreAll (announced self.old) (Self.Writer.contents writer) }
-        ensures ok { OnOk result (TakesOver (contents self.old) (contents self.new) (Self.Writer.contents writer)) }
-        ensures err { OnErr result (Cuts (contents self.old) (contents self.new) (Self.Writer.contents writer)) };
-
-    /// Ends a change of which a write failed.
-    ///
-    /// The storage has its old bytes, or the first part of the bytes that were written.
-    fn abort(&mut self, writer: Self::Writer)
-        ensures { FallsBack (contents self.old) (contents self.new) (Self.Writer.contents writer) };
+    /// The storage cannot be written, has no space for the new bytes, or a call failed. The storage has its old bytes;
+    /// or the new bytes, if the call that failed was the last that counts or could not be taken back; or, if there was
+    /// no database, bytes that are not a database.
+    fn replace(&mut self, bytes: &[u8]) -> io::Result<()>
+        requires { IsAnyFile bytes.now }
+        ensures falls { (s : Option Held) → is_honest s self.new → is_honest s self.old }
+        ensures sound { (s : Option Held) → is_honest s self.new → is_sound s self.old → is_sound s self.new }
+        ensures unknown { (s : Option Held) → contents s self.old ≡ None → contents s self.new ≡ None }
+        ensures ok { OnOk result ((s : Option Held) → is_honest s self.new → is_sound s self.old
+            → Becomes (contents s self.old) (contents s self.new) bytes.now) }
+        ensures err { OnErr result ((s : Option Held) → is_honest s self.new → is_sound s self.old
+            → IsAfterFailure (contents s self.old) (contents s self.new) bytes.now) };
 }

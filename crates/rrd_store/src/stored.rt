@@ -1,49 +1,56 @@
 //! Reads and writes a stored database.
-ghost use Rattle.std.specs.Prelude.{◌≡◌, option_map};
-ghost use Rattle.rrd_store.specs.Storages.{Finds, Leaves, Replaces};
+ghost use Rattle.std.specs.Prelude.{◌≡◌, IfSome, None, Option, Some, option_map};
+ghost use Rattle.rrd_store.specs.Storages.{Bytes, Decodes, Held, Leaves, Replaces};
 ghost use Rattle.rrd_file.specs.Layout.{layout};
 
-use crate::{Access, Storage, TaskFault};
+use crate::{Storage, TaskFault};
 use rrd_base::{Database, database_is_valid};
+use rrd_file::laws::layout_is_file;
 use rrd_file::{decode, encode, encoded_length};
 use std::alloc::Global;
 
-/// Reads the database in a storage. Returns `None` if nothing is stored.
-pub(crate) fn load<P: Storage>(
-    alloc: Global,
-    storage: &mut P,
-    access: Access,
-) -> Result<Option<Database>, TaskFault>
-    ensures found { Finds (P.contents storage.old) result }
-    ensures stays { P.contents storage.new ≡ P.contents storage.old }
+/// Decodes the database whose file the bytes are. A storage calls this with the bytes that it represents.
+///
+/// # Errors
+///
+/// `File`: the bytes are not a database, or memory ran out.
+pub fn decoded(alloc: Global, bytes: &[u8]) -> Result<Database, TaskFault>
+    ensures known { Decodes (Some (Bytes bytes.now)) result }
+    ensures valid { Decodes None result }
 {
-    let Ok(found) = storage.open(access) else {
-        return Err(TaskFault::CannotOpen);
-    };
-    let Some(reader) = found else {
-        return Ok(None);
-    };
-    match decode(alloc, reader) {
+    match decode(alloc, bytes) {
         Ok(database) => {
             database_is_valid(&database);
-            Ok(Some(database))
+            Ok(database)
         }
         Err(fault) => Err(TaskFault::File(fault)),
     }
 }
 
-// Replaces the bytes of a storage by those of a database.
-fn replace<P: Storage>(storage: &mut P, database: &Database) -> Result<(), TaskFault>
-    ensures { Replaces (P.contents storage.old) (P.contents storage.new) (layout database.now) result }
+// Encodes a database. Returns `None` if memory runs out.
+fn encoded(alloc: Global, database: &Database) -> Option<Vec<u8>>
+    ensures { IfSome result (λ bytes. bytes.items ≡ layout database.now) }
 {
-    let Ok(mut writer) = storage.begin_write(encoded_length(database)) else {
+    let mut bytes = Vec::with_capacity(alloc, encoded_length(database) as usize).ok()?;
+    encode(database, &mut bytes).ok()?;
+    Some(bytes)
+}
+
+// Replaces the bytes of a storage by those of a database.
+fn replace<P: Storage>(alloc: Global, storage: &mut P, database: &Database) -> Result<(), TaskFault>
+    ensures falls { (s : Option Held) → P.is_honest s storage.new → P.is_honest s storage.old }
+    ensures sound { (s : Option Held) → P.is_honest s storage.new → P.is_sound s storage.old
+        → P.is_sound s storage.new }
+    ensures unknown { (s : Option Held) → P.contents s storage.old ≡ None → P.contents s storage.new ≡ None }
+    ensures replaced { (s : Option Held) → P.is_honest s storage.new → P.is_sound s storage.old
+        → Replaces (P.contents s storage.old) (P.contents s storage.new) (layout database.now) result }
+{
+    database_is_valid(database);
+    layout_is_file();
+    let Some(bytes) = encoded(alloc, database) else {
         return Err(TaskFault::CannotWrite);
     };
-    if encode(database, &mut writer).is_err() {
-        storage.abort(writer);
-        return Err(TaskFault::CannotWrite);
-    }
-    match storage.commit(writer) {
+    match storage.replace(&bytes) {
         Ok(()) => Ok(()),
         Err(_) => Err(TaskFault::CannotWrite),
     }
@@ -51,13 +58,19 @@ fn replace<P: Storage>(storage: &mut P, database: &Database) -> Result<(), TaskF
 
 /// Replaces the bytes of a storage by those of a database, if there is a database.
 pub(crate) fn store<P: Storage>(
+    alloc: Global,
     storage: &mut P,
     database: Option<&Database>,
 ) -> Result<(), TaskFault>
-    ensures { Leaves (option_map (λ d. d.now) database.entry) (P.contents storage.old) (P.contents storage.new) result }
+    ensures falls { (s : Option Held) → P.is_honest s storage.new → P.is_honest s storage.old }
+    ensures sound { (s : Option Held) → P.is_honest s storage.new → P.is_sound s storage.old
+        → P.is_sound s storage.new }
+    ensures unknown { (s : Option Held) → P.contents s storage.old ≡ None → P.contents s storage.new ≡ None }
+    ensures left { (s : Option Held) → P.is_honest s storage.new → P.is_sound s storage.old
+        → Leaves (option_map (λ d. d.now) database.entry) (P.contents s storage.old) (P.contents s storage.new) result }
 {
     match database {
         None => Ok(()),
-        Some(database) => replace(storage, database),
+        Some(database) => replace(alloc, storage, database),
     }
 }

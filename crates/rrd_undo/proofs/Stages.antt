@@ -1,14 +1,16 @@
 -- The stages of a change.
-use Rattle.std.proofs.Common.{◌≡◌, ◌≢◌, ◌⊎◌, Bool, true, false, IsTrue, ℕ, ◌+◌, ◌-◌, ◌<◌, ◌≤◌, min, List, [], ◌∷◌, length, slice_index, refl, sym, ◌∙◌, ap, inl, inr, arith, take, drop, length-take, length-drop, get_or-take, get_or-drop}
+use Rattle.std.proofs.Common.{◌≡◌, ◌≢◌, ◌⊎◌, Bool, true, false, IsTrue, ℕ, ◌+◌, ◌-◌, ◌<◌, ◌≤◌, min, List, [], ◌∷◌, length, slice_index, None, refl, sym, ◌∙◌, ap, inl, inr, arith, take, drop, length-take, length-drop, get_or-take, get_or-drop}
 use Rattle.std.proofs.lemmas.Bool.{cases_lt}
 use Rattle.std.proofs.lemmas.List.{ext_get_or}
 use Rattle.std.proofs.lemmas.List.Elements.{All-nil, All-same, All-weaker}
 use Rattle.std.specs.List.{All}
+use Rattle.rrd_tail.specs.Marks.{mark_of}
 use Rattle.rrd_tail.specs.Settled.{settled}
 use Rattle.rrd_tail.specs.Slots.{Slot, slots_in}
+use Rattle.rrd_tail.proofs.Lemmas.{plain_stands}
 use Rattle.rrd_undo.specs.Calls.{AreAt, ArePut, IsSized}
-use Rattle.rrd_undo.specs.Changing.{Agreeing, ArePutBelow, Holds, IsAt, IsBroken, IsFirstPut, Knows, StandsForOld, IsLeft, IsPage, IsStarted, StaysBehind}
-use Rattle.rrd_undo.specs.Databases.{IsDatabase}
+use Rattle.rrd_undo.specs.Changing.{Agreeing, ArePutBelow, Holds, IsAt, IsBroken, IsFirstPut, IsInvalid, IsKept, Knows, StandsForEither, StandsForOld, IsLeft, IsPage, IsStarted, StaysBehind}
+use Rattle.rrd_undo.specs.Databases.{IsDatabase, IsNoDatabase}
 use Rattle.rrd_undo.specs.Pages.{AreSame, IsDifference, IsSame}
 use Rattle.rrd_undo.specs.Undoing.{EndsBelow, IsOldPage, IsTail, Paged, Turning, Turns, Undoing}
 use Rattle.rrd_undo.specs.declared.change.Change.{Change}
@@ -16,6 +18,7 @@ use Rattle.rrd_undo.specs.declared.change.Stage.{Stage}
 use Rattle.rrd_undo.specs.declared.change.Stage.TheVariants.{Untouched, Marked, Committing, Committed, Unkept, Invalid}
 use Rattle.rrd_undo.proofs.Cutting.{settled_plain}
 use Rattle.rrd_undo.proofs.Laid.{all_laid_above}
+use Rattle.rrd_undo.proofs.NoDatabases.{invalid_none, kept_none}
 use Rattle.rrd_undo.proofs.Undone.{undone_settled}
 
 no_length : (slots : List Slot) → length slots ≡ 0 → slots ≡ []
@@ -42,6 +45,22 @@ marked_turning old new file tail changed done undoing agree =
       first = λ k high page low. each k high low;
       put = λ k high low within. each k (omega arith) (agree.within k high low within) ∙ agree.put k high low within;
     }
+
+-- the invalid mark is put
+pub invalid_holds : (old new file mid last mark : List ℕ) (done : ℕ) → length mark ≡ 4 → Agreeing old new file done → IsKept old mid → ArePut 0 mark mid last
+    → ArePutBelow done new last
+invalid_holds old new file mid last mark done four agree kept put = λ k high low within.
+    let inside : k < length old = agree.within k high low within in
+    put.outside k (inr (omega (arith, four))) ∙ kept.same k inside ∙ agree.put k high low within
+
+pub invalid_behind : (old mid last mark : List ℕ) → length mark ≡ 4 → IsKept old mid → ArePut 0 mark mid last → StaysBehind old last
+invalid_behind old mid last mark four kept put = λ k high low. put.outside k (inr (omega (arith, four))) ∙ kept.same k low
+
+pub kept_behind : (old file : List ℕ) → IsKept old file → StaysBehind old file
+kept_behind old file kept = λ k high low. kept.same k low
+
+pub same_kept : (old file : List ℕ) → file ≡ old → IsKept old file
+same_kept old file same = record { longer = omega (arith, ap length same); same = λ k low. ap (λ (f : List ℕ). slice_index f k) same; short = λ _. same }
 
 -- ---- a page
 
@@ -105,7 +124,7 @@ same_holds Committing old new tail slots file at page high is are holds = holds
 same_holds Committed old new tail slots file at page high is are holds = holds
 same_holds Unkept old new tail slots file at page high is are holds = holds
 same_holds Invalid old new tail slots file at page high is are holds =
-    (holds.0, put_page new file file at page is holds.1 (λ i low. sym (are.each i (omega (arith, are.len)))) (λ k low. refl))
+    (holds.0, put_page new file file at page is holds.1 (λ i low. sym (are.each i (omega (arith, are.len)))) (λ k low. refl), holds.2)
 
 -- what is read of a page that was not changed is the old page
 pub old_page : (s : Stage) (old new : List ℕ) (tail slots : ℕ) (file : List ℕ) (at count : ℕ) (bytes : List ℕ) → 4096 ≤ at → count ≤ length old - at
@@ -134,23 +153,45 @@ is_old_page old at page bytes high few are = record {
 
 pub holds_left : (s : Stage) (old new : List ℕ) (tail slots count : ℕ) (file : List ℕ) (at : ℕ) → IsTail old tail → Holds s old new tail slots file at → IsLeft s old tail count file
 holds_left Untouched old new tail slots count file at is_tail holds = inl holds.same
-holds_left Marked old new tail slots count file at is_tail holds = undone_settled old tail file is_tail holds.1.undoing.marked holds.1.undoing.restores
+holds_left Marked old new tail slots count file at is_tail holds = (holds.0, undone_settled old tail file is_tail holds.1.undoing.marked holds.1.undoing.restores)
 holds_left Committing old new tail slots count file at is_tail holds = absurd holds
 holds_left Committed old new tail slots count file at is_tail holds = absurd holds
 holds_left Unkept old new tail slots count file at is_tail holds = absurd holds
-holds_left Invalid old new tail slots count file at is_tail holds = holds.0
+holds_left Invalid old new tail slots count file at is_tail holds = (holds.0, inl holds.2)
 
-pub holds_stands : (s : Stage) (old new : List ℕ) (tail slots : ℕ) (file : List ℕ) (at : ℕ) → IsTail old tail → Holds s old new tail slots file at → IsDatabase old → settled file ≡ old
-holds_stands Untouched old new tail slots file at is_tail holds is = ap settled holds.same ∙ settled_plain old is
-holds_stands Marked old new tail slots file at is_tail holds is = undone_settled old tail file is_tail holds.1.undoing.marked holds.1.undoing.restores
-holds_stands Committing old new tail slots file at is_tail holds is = absurd holds
-holds_stands Committed old new tail slots file at is_tail holds is = absurd holds
-holds_stands Unkept old new tail slots file at is_tail holds is = absurd holds
-holds_stands Invalid old new tail slots file at is_tail holds is = absurd (holds.0 is)
+-- what is not a database, and is marked invalid
+pub invalid_stands : (old file : List ℕ) → (IsDatabase old → ⊥) → IsInvalid file → StandsForOld old file
+invalid_stands old file other invalid = record { database = λ is. absurd (other is); none = λ _. invalid_none file invalid }
+
+-- what is not a database, and is kept
+pub kept_stands : (old file : List ℕ) → (IsDatabase old → ⊥) → IsKept old file → StandsForOld old file
+kept_stands old file other kept = record { database = λ is. absurd (other is); none = λ none. kept_none old file kept none }
+
+-- a database
+pub database_stands_for : (old file : List ℕ) → IsDatabase old → settled file ≡ old → StandsForOld old file
+database_stands_for old file is stands = record { database = λ _. stands; none = λ none. absurd (none.0 is) }
+
+pub either_stands : (old new file : List ℕ) → IsDatabase old → (settled file ≡ old) ⊎ (settled file ≡ new) → StandsForEither old new file
+either_stands old new file is stands = record { database = λ _. stands; none = λ none. absurd (none.0 is) }
+
+pub old_is_either : (old new file : List ℕ) → StandsForOld old file → StandsForEither old new file
+old_is_either old new file h = record { database = λ is. inl (h.database is); none = λ none. inr (h.none none) }
+
+pub same_stands : (old file : List ℕ) → file ≡ old → StandsForOld old file
+same_stands old file same = record { database = λ is. ap settled same ∙ settled_plain old is; none = λ none. rw same none }
+
+pub holds_stands : (s : Stage) (old new : List ℕ) (tail slots : ℕ) (file : List ℕ) (at : ℕ) → IsTail old tail → Holds s old new tail slots file at → StandsForOld old file
+holds_stands Untouched old new tail slots file at is_tail holds = same_stands old file holds.same
+holds_stands Marked old new tail slots file at is_tail holds =
+    database_stands_for old file holds.0 (undone_settled old tail file is_tail holds.1.undoing.marked holds.1.undoing.restores)
+holds_stands Committing old new tail slots file at is_tail holds = absurd holds
+holds_stands Committed old new tail slots file at is_tail holds = absurd holds
+holds_stands Unkept old new tail slots file at is_tail holds = absurd holds
+holds_stands Invalid old new tail slots file at is_tail holds = invalid_stands old file holds.0 holds.2
 
 -- a started change that isn't of a database
 pub other_invalid : (s : Stage) (old new : List ℕ) (tail slots : ℕ) (file : List ℕ) (at : ℕ) → (s ≢ Marked) → IsStarted s → Holds s old new tail slots file at
-    → (IsDatabase old → ⊥) × ArePutBelow at new file
+    → (IsDatabase old → ⊥) × ArePutBelow at new file × IsInvalid file
 other_invalid Untouched old new tail slots file at other started holds = absurd started
 other_invalid Marked old new tail slots file at other started holds = absurd (other refl)
 other_invalid Committing old new tail slots file at other started holds = absurd started
@@ -159,21 +200,22 @@ other_invalid Unkept old new tail slots file at other started holds = absurd sta
 other_invalid Invalid old new tail slots file at other started holds = holds
 
 pub other_holds : (s : Stage) (old new : List ℕ) (tail slots : ℕ) (file : List ℕ) (at : ℕ) → (s ≢ Marked) → IsStarted s
-    → (IsDatabase old → ⊥) → ArePutBelow at new file → Holds s old new tail slots file at
-other_holds Untouched old new tail slots file at other started none put = absurd started
-other_holds Marked old new tail slots file at other started none put = absurd (other refl)
-other_holds Committing old new tail slots file at other started none put = absurd started
-other_holds Committed old new tail slots file at other started none put = absurd started
-other_holds Unkept old new tail slots file at other started none put = absurd started
-other_holds Invalid old new tail slots file at other started none put = (none, put)
+    → (IsDatabase old → ⊥) → ArePutBelow at new file → IsInvalid file → Holds s old new tail slots file at
+other_holds Untouched old new tail slots file at other started none put invalid = absurd started
+other_holds Marked old new tail slots file at other started none put invalid = absurd (other refl)
+other_holds Committing old new tail slots file at other started none put invalid = absurd started
+other_holds Committed old new tail slots file at other started none put invalid = absurd started
+other_holds Unkept old new tail slots file at other started none put invalid = absurd started
+other_holds Invalid old new tail slots file at other started none put invalid = (none, put, invalid)
 
-pub other_left : (s : Stage) (old : List ℕ) (tail count : ℕ) (file : List ℕ) → (s ≢ Marked) → IsStarted s → (IsDatabase old → ⊥) → IsLeft s old tail count file
-other_left Untouched old tail count file other started none = absurd started
-other_left Marked old tail count file other started none = absurd (other refl)
-other_left Committing old tail count file other started none = absurd started
-other_left Committed old tail count file other started none = absurd started
-other_left Unkept old tail count file other started none = absurd started
-other_left Invalid old tail count file other started none = none
+pub other_left : (s : Stage) (old : List ℕ) (tail count : ℕ) (file : List ℕ) → (s ≢ Marked) → IsStarted s → (IsDatabase old → ⊥) → IsInvalid file ⊎ IsDatabase file
+    → IsLeft s old tail count file
+other_left Untouched old tail count file other started none begins = absurd started
+other_left Marked old tail count file other started none begins = absurd (other refl)
+other_left Committing old tail count file other started none begins = absurd started
+other_left Committed old tail count file other started none begins = absurd started
+other_left Unkept old tail count file other started none begins = absurd started
+other_left Invalid old tail count file other started none begins = (none, begins)
 
 -- ---- the end
 
@@ -255,6 +297,29 @@ module _ (old new file first : List ℕ) (done : ℕ) (agree : Agreeing old new 
       λ k high low. ap (λ (f : List ℕ). slice_index f k) put ∙ sym (agree.put k high (omega arith) (omega arith)),
     )
   ]
+
+-- the new first page is put, or isn't
+pub alone_stands : (old new last : List ℕ) → IsDatabase new → (last ≡ old) ⊎ (last ≡ new) → StandsForEither old new last
+alone_stands old new last is_new either = elim either as (λ _. StandsForEither old new last) [
+  | inl same ↦ old_is_either old new last (same_stands old last same)
+  | inr put ↦ record { database = λ _. inr (ap settled put ∙ settled_plain new is_new); none = λ _. inl put }
+]
+
+-- an invalid file's end fails
+pub other_begins : (new file : List ℕ) → IsDatabase new → (file ≡ new) ⊎ IsInvalid file → IsInvalid file ⊎ IsDatabase file
+other_begins new file is_new either = elim either as (λ _. IsInvalid file ⊎ IsDatabase file) [
+  | inl same ↦ inr (rw same is_new)
+  | inr invalid ↦ inl invalid
+]
+
+pub ended_stands : (old new file : List ℕ) → (IsDatabase old → ⊥) → (file ≡ new) ⊎ IsInvalid file → StandsForEither old new file
+ended_stands old new file other either = record {
+  database = λ is. absurd (other is);
+  none = λ _. elim either as (λ _. (file ≡ new) ⊎ IsNoDatabase file) [
+    | inl same ↦ inl same
+    | inr invalid ↦ inr (invalid_none file invalid)
+  ];
+}
 
 -- what has the new first page's bytes has a database's
 pub database_of : (new first : List ℕ) → AreAt new 0 (min 4096 (length new)) first → IsDatabase first → IsDatabase new
@@ -344,17 +409,39 @@ restored_first old old_first file last old_length count are old_len same_len fir
     ] in
     put_whole old file last old_first (omega (arith, put.len, are.len, len)) behind are put
 
-pub restored : (old old_first file changed last : List ℕ) (old_length : ℕ) → AreAt old 0 (min 4096 (length old)) old_first → StaysBehind old file
-    → ArePut 0 old_first file changed → IsSized old_length changed last → old_length ≡ length old → last ≡ old
-restored old old_first file changed last old_length are behind put cut old_len =
-    ext_get_or 0 last old (cut.len ∙ old_len) (λ k low.
-    let within : k < length old = omega (arith, cut.len, old_len) in
-    cut.below k (omega (arith, cut.len)) ∙ (elim (cases_lt k (length old_first)) as (λ _. slice_index changed k ≡ slice_index old k) [
-      | inl inside ↦
-          let there : 0 + k ≡ k = omega arith in
-          ap (slice_index changed) (sym there) ∙ put.inside k inside ∙ are.each k (omega (arith, are.len)) ∙ ap (slice_index old) there
-      | inr out ↦ put.outside k (inr (omega arith)) ∙ behind k (omega (arith, are.len)) within
-    ]))
+pub restored : (old old_first file cut last : List ℕ) (old_length : ℕ) → AreAt old 0 (min 4096 (length old)) old_first → StaysBehind old file
+    → IsSized old_length file cut → ArePut 0 old_first cut last → old_length ≡ length old → last ≡ old
+restored old old_first file cut last old_length are behind sized put old_len =
+    put_whole old cut last old_first (omega (arith, put.len, sized.len, are.len, old_len))
+    (λ k high low. sized.below k (omega (arith, old_len)) ∙ behind k high low) are put
+
+-- a change is taken back, or isn't
+pub back_stands : (old new before after : List ℕ) → (IsDatabase old → (after ≡ before) ⊎ (settled after ≡ settled before) ⊎ (settled after ≡ old))
+    → (IsNoDatabase old → (after ≡ before) ⊎ IsNoDatabase after) → StandsForEither old new before → StandsForEither old new after
+back_stands old new before after database none either = record {
+  database = λ is. elim (database is) as (λ _. (settled after ≡ old) ⊎ (settled after ≡ new)) [
+    | inl same ↦ rw same (either.database is)
+    | inr settled_or_old ↦ elim settled_or_old as (λ _. (settled after ≡ old) ⊎ (settled after ≡ new)) [
+      | inl stands ↦ rw stands (either.database is)
+      | inr is_old ↦ inl is_old
+    ]
+  ];
+  none = λ is_none. elim (none is_none) as (λ _. (after ≡ new) ⊎ IsNoDatabase after) [
+    | inl same ↦ rw same (either.none is_none)
+    | inr left ↦ inr left
+  ];
+}
+
+-- what a failed change leaves of a file that was no database stands for itself
+pub spoilt_settled : (old new left : List ℕ) → mark_of old ≡ None → IsDatabase new → (left ≡ old) ⊎ (left ≡ new) ⊎ IsNoDatabase left
+    → (settled left ≡ old) ⊎ (settled left ≡ new) ⊎ IsNoDatabase (settled left)
+spoilt_settled old new left plain is_new either = elim either as (λ _. (settled left ≡ old) ⊎ (settled left ≡ new) ⊎ IsNoDatabase (settled left)) [
+  | inl same ↦ inl (ap settled same ∙ plain_stands old plain)
+  | inr put_or_none ↦ elim put_or_none as (λ _. (settled left ≡ old) ⊎ (settled left ≡ new) ⊎ IsNoDatabase (settled left)) [
+    | inl put ↦ inr (inl (ap settled put ∙ settled_plain new is_new))
+    | inr none ↦ inr (inr (rw (plain_stands left none.1) none))
+  ]
+]
 
 -- the first page, as it is read
 pub first_read : (old opened bytes : List ℕ) (n count : ℕ) → n ≡ length old → opened ≡ old → count ≡ min n 4096 → AreAt opened 0 count bytes → AreAt old 0 (min 4096 (length old)) bytes
@@ -376,8 +463,13 @@ not_true false e t = cc
 pub at_left : (old new : List ℕ) (done : ℕ) (c : Change) (f : List ℕ) → IsAt old new done c f → IsBroken old c f × StandsForOld old f
 at_left old new done c f is_at = (
   record { knows = is_at.knows; left = holds_left c.stage old new c.tail.offset c.tail.slots c.length f done is_at.knows.tail is_at.holds },
-  λ is. holds_stands c.stage old new c.tail.offset c.tail.slots f done is_at.knows.tail is_at.holds is,
+  holds_stands c.stage old new c.tail.offset c.tail.slots f done is_at.knows.tail is_at.holds,
 )
+
+pub at_either : (old new more : List ℕ) (done : ℕ) (c : Change) (f : List ℕ) → IsAt old new done c f → IsBroken old c f × StandsForEither old more f
+at_either old new more done c f is_at =
+    let both = at_left old new done c f is_at in
+    (both.0, old_is_either old more f both.1)
 
 knows_page : (old : List ℕ) (c d : Change) → d ≡ record c { old_page = d.old_page } → Knows old c → Knows old d
 knows_page old c d frame knows = rw frame knows

@@ -1,9 +1,9 @@
--- Definition: what a file stands for after a call of a writer has failed; and, as glue, the state of a file at each stage of a change (own).
+-- Definition: what a file stands for after a call of a change has failed; and, as glue, the state of a file at each stage of a change (own).
 use Rattle.std.specs.Prelude.{◌≡◌, ◌⊎◌, ℕ, ◌+◌, ◌-◌, ◌<◌, ◌≤◌, min, List, length, slice_index, ⊤}
 use Rattle.rrd_tail.specs.Marks.{undo_mark}
 use Rattle.rrd_tail.specs.Settled.{settled}
 use Rattle.rrd_undo.specs.Calls.{AreAt, ArePut}
-use Rattle.rrd_undo.specs.Databases.{IsDatabase}
+use Rattle.rrd_undo.specs.Databases.{IsDatabase, IsNoDatabase}
 use Rattle.rrd_undo.specs.Undoing.{IsTail, Turning}
 use Rattle.rrd_undo.specs.declared.change.Change.{Change}
 use Rattle.rrd_undo.specs.declared.change.Stage.{Stage}
@@ -28,6 +28,16 @@ ArePutBelow done new file = (k : ℕ) → 4096 ≤ k → k < done → k < length
 abbrev pub StaysBehind : List ℕ → List ℕ → Type 0
 StaysBehind old file = (k : ℕ) → 4096 ≤ k → k < length old → slice_index file k ≡ slice_index old k
 
+-- the first byte is 0, as in the invalid mark, or there is none: no database and no mark begins so
+abbrev pub IsInvalid : List ℕ → Type 0
+IsInvalid file = slice_index file 0 ≡ 0
+
+-- the file has the old bytes, and more only if there are sixteen: zeros after fewer bytes could be the end of a mark
+pub record IsKept (old file : List ℕ) : Type 0 where
+  pub longer : length old ≤ length file
+  pub same : (k : ℕ) → k < length old → slice_index file k ≡ slice_index old k
+  pub short : length old < 16 → file ≡ old
+
 -- the new pages below `done`, but for the first, are in the file
 abbrev pub Holds : Stage → List ℕ → List ℕ → ℕ → ℕ → List ℕ → ℕ → Type 0
 Holds Untouched old new tail slots file done = Agreeing old new file done
@@ -35,20 +45,21 @@ Holds Marked old new tail slots file done = IsDatabase old × Turning old new ta
 Holds Committing old new tail slots file done = ⊥
 Holds Committed old new tail slots file done = ⊥
 Holds Unkept old new tail slots file done = ⊥
-Holds Invalid old new tail slots file done = (IsDatabase old → ⊥) × ArePutBelow done new file
+Holds Invalid old new tail slots file done = (IsDatabase old → ⊥) × ArePutBelow done new file × IsInvalid file
 
 -- the file is unchanged, or has this length and the old bytes after the first page
 abbrev pub IsFirstPut : List ℕ → ℕ → List ℕ → Type 0
 IsFirstPut old count file = (file ≡ old) ⊎ ((length file ≡ count) × (length old ≤ count) × StaysBehind old file)
 
--- the old bytes can be restored, until the file represents the new bytes
+-- the old bytes of a database can be restored, until the file represents the new bytes; what was no database begins as
+-- before, or is invalid, until the new database is complete
 abbrev pub IsLeft : Stage → List ℕ → ℕ → ℕ → List ℕ → Type 0
 IsLeft Untouched old tail count file = IsFirstPut old count file
-IsLeft Marked old tail count file = settled file ≡ old
-IsLeft Committing old tail count file = (f : List ℕ) → ArePut 0 (undo_mark tail) file f → settled f ≡ old
-IsLeft Committed old tail count file = ⊤
-IsLeft Unkept old tail count file = (IsDatabase old → ⊥) × StaysBehind old file
-IsLeft Invalid old tail count file = (IsDatabase old → ⊥)
+IsLeft Marked old tail count file = IsDatabase old × (settled file ≡ old)
+IsLeft Committing old tail count file = IsDatabase old × ((f : List ℕ) → ArePut 0 (undo_mark tail) file f → settled f ≡ old)
+IsLeft Committed old tail count file = IsDatabase old
+IsLeft Unkept old tail count file = (IsDatabase old → ⊥) × StaysBehind old file × (IsKept old file ⊎ IsInvalid file)
+IsLeft Invalid old tail count file = (IsDatabase old → ⊥) × (IsInvalid file ⊎ IsDatabase file)
 
 -- a file that is changed is marked, or marked invalid
 abbrev pub IsStarted : Stage → Type 0
@@ -80,13 +91,16 @@ pub record IsBroken (old : List ℕ) (c : Change) (file : List ℕ) : Type 0 whe
   pub knows : Knows old c
   pub left : IsLeft c.stage old c.tail.offset c.length file
 
--- if the old bytes are a database, the file represents the old bytes
-abbrev pub StandsForOld : List ℕ → List ℕ → Type 0
-StandsForOld old file = IsDatabase old → settled file ≡ old
+-- if the old bytes are a database, the file represents the old bytes; if they are none, the file is none
+pub record StandsForOld (old file : List ℕ) : Type 0 where
+  pub database : IsDatabase old → settled file ≡ old
+  pub none : IsNoDatabase old → IsNoDatabase file
 
--- if the old bytes are a database, the file represents the old bytes or the new bytes
-abbrev pub StandsForEither : List ℕ → List ℕ → List ℕ → Type 0
-StandsForEither old new file = IsDatabase old → (settled file ≡ old) ⊎ (settled file ≡ new)
+-- if the old bytes are a database, the file represents the old bytes or the new bytes; if they are none, the file has
+-- the new bytes, or is none
+pub record StandsForEither (old new file : List ℕ) : Type 0 where
+  pub database : IsDatabase old → (settled file ≡ old) ⊎ (settled file ≡ new)
+  pub none : IsNoDatabase old → (file ≡ new) ⊎ IsNoDatabase file
 
 -- the old bytes can be restored: they are a database, or all of them are in memory
 abbrev pub CanRestore : List ℕ → Type 0

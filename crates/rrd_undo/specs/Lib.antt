@@ -1,8 +1,8 @@
 pub mod Calls
 pub mod Databases
+pub mod Fronts
 pub mod Pages
 pub mod Undoing
 pub mod Settling
 pub mod Changing
-pub mod Writing
 pub mod Memory

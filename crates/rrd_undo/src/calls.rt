@@ -23,7 +23,7 @@ pub trait Bytes {
     ///
     /// The system does not report the length.
     fn len(&mut self) -> io::Result<usize>
-        ensures same { (s : List ℕ) → held s self.new ≡ held s self.old }
+        ensures same { (s : List ℕ) → IsTrue (is_honest s self.new) → held s self.new ≡ held s self.old }
         ensures falls { (s : List ℕ) → IsTrue (is_honest s self.new) → IsTrue (is_honest s self.old) }
         ensures len { IfOk result (λ n. (s : List ℕ) → IsTrue (is_honest s self.new) → n ≡ length (held s self.old)) };
 
@@ -33,7 +33,7 @@ pub trait Bytes {
     ///
     /// The file has fewer bytes, a read failed, or memory ran out. `into` may then have any bytes.
     fn read(&mut self, at: usize, count: usize, into: &mut Vec<u8>) -> io::Result<()>
-        ensures same { (s : List ℕ) → held s self.new ≡ held s self.old }
+        ensures same { (s : List ℕ) → IsTrue (is_honest s self.new) → held s self.new ≡ held s self.old }
         ensures falls { (s : List ℕ) → IsTrue (is_honest s self.new) → IsTrue (is_honest s self.old) }
         ensures read { OnOk result ((s : List ℕ) → IsTrue (is_honest s self.new) → AreAt (held s self.old) at count into.new.items) };
 
@@ -84,6 +84,6 @@ pub trait Bytes {
     ///
     /// The disk may have stored any part of the bytes.
     fn sync(&mut self) -> io::Result<()>
-        ensures same { (s : List ℕ) → held s self.new ≡ held s self.old }
+        ensures same { (s : List ℕ) → IsTrue (is_honest s self.new) → held s self.new ≡ held s self.old }
         ensures falls { (s : List ℕ) → IsTrue (is_honest s self.new) → IsTrue (is_honest s self.old) };
 }

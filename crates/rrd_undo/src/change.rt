@@ -7,8 +7,8 @@
 ghost use Rattle.std.specs.Prelude.{◌≡◌, ◌⊎◌, ℕ, ◌+◌, ◌-◌, ◌%◌, ◌<◌, ◌≤◌, List, length, min, slice_index, IsTrue, IfOk, OnErr, OnOk};
 ghost use Rattle.rrd_tail.specs.Marks.{undo_mark};
 ghost use Rattle.rrd_tail.specs.Settled.{settled};
-ghost use Rattle.rrd_undo.specs.Calls.{AreAt, ArePut, AreWholeOrNot};
-ghost use Rattle.rrd_undo.specs.Databases.{IsDatabase};
+ghost use Rattle.rrd_undo.specs.Calls.{AreAt, ArePut, AreWholeOrNot, IsSized};
+ghost use Rattle.rrd_undo.specs.Databases.{IsDatabase, IsNoDatabase};
 
 use crate::Bytes;
 use crate::page::{
@@ -57,6 +57,7 @@ pub(crate) struct Change {
 fn make_room<F: Bytes>(file: &mut F, from: usize, to: usize, zeros: &mut Vec<u8>) -> io::Result<()>
     ensures falls { (s : List ℕ) → IsTrue (F.is_honest s file.new) → IsTrue (F.is_honest s file.old) }
     ensures same { (s : List ℕ) → IsTrue (F.is_honest s file.new) → (k : ℕ) → k < from → slice_index (F.held s file.new) k ≡ slice_index (F.held s file.old) k }
+    ensures longer { (s : List ℕ) → IsTrue (F.is_honest s file.new) → from ≤ length (F.held s file.old) → from ≤ length (F.held s file.new) }
 {
     zeros.clear();
     zeros.resize(PAGE, 0)?;
@@ -84,7 +85,7 @@ fn reported(finished: io::Result<()>, syncs: Syncs) -> io::Result<()> {
 }
 
 impl Change {
-    ghost use Rattle.rrd_undo.specs.Changing.{Agreeing, ArePutBelow, CanRestore, IsAt, IsBroken, IsFirstPut, IsPage, IsStarted, Knows, StandsForEither, StandsForOld, StaysBehind};
+    ghost use Rattle.rrd_undo.specs.Changing.{Agreeing, ArePutBelow, CanRestore, IsAt, IsBroken, IsFirstPut, IsInvalid, IsKept, IsPage, IsStarted, Knows, StandsForEither, StandsForOld, StaysBehind};
     ghost use Rattle.rrd_undo.specs.Undoing.{Paged, Turning};
 
     /// Creates a change of a file to a length of `count` bytes. `begin` starts the change.
@@ -107,7 +108,7 @@ impl Change {
     /// Starts the change: reads the old length and the old first page.
     pub(crate) fn begin<F: Bytes>(&mut self, file: &mut F) -> io::Result<()>
         ensures falls { (s : List ℕ) → IsTrue (F.is_honest s file.new) → IsTrue (F.is_honest s file.old) }
-        ensures same { (s : List ℕ) → F.held s file.new ≡ F.held s file.old }
+        ensures same { (s : List ℕ) → IsTrue (F.is_honest s file.new) → F.held s file.new ≡ F.held s file.old }
         ensures ok { OnOk result ((s : List ℕ) → IsTrue (F.is_honest s file.new) → (new : List ℕ) → IsAt (F.held s file.old) new 4096 self.new (F.held s file.new)) }
     {
         self.stage = Stage::Untouched;
@@ -121,7 +122,7 @@ impl Change {
     fn is_same<F: Bytes>(&mut self, file: &mut F, page: &[u8], at: usize) -> io::Result<bool>
         ensures falls { (s : List ℕ) → IsTrue (F.is_honest s file.new) → IsTrue (F.is_honest s file.old) }
         ensures frame { self.new ≡ record self.old { old_page = self.new.old_page } }
-        ensures same { (s : List ℕ) → F.held s file.new ≡ F.held s file.old }
+        ensures same { (s : List ℕ) → IsTrue (F.is_honest s file.new) → F.held s file.new ≡ F.held s file.old }
         ensures few { OnOk result (length self.new.old_page.items ≤ 4096) }
         ensures read { OnOk result ((s : List ℕ) → IsTrue (F.is_honest s file.new) → AreAt (F.held s file.old) at (min (self.old.old_length - at) (length page.now)) self.new.old_page.items) }
         ensures yes { IfOk result (λ b. IsTrue b → page.now ≡ self.new.old_page.items) }
@@ -131,7 +132,20 @@ impl Change {
         Ok(page == self.old_page.as_slice())
     }
 
-    // Marks a file that is not a database as invalid. A file of 16 bytes or more is first extended for the new bytes.
+    // Extends a file of 16 bytes or more for the new bytes. A shorter file keeps its length: with zeros after its bytes,
+    // the file could begin with an undo mark.
+    fn extend<F: Bytes>(&mut self, file: &mut F) -> io::Result<()>
+        ensures falls { (s : List ℕ) → IsTrue (F.is_honest s file.new) → IsTrue (F.is_honest s file.old) }
+        ensures frame { self.new ≡ record self.old { tail = record self.old.tail { buffer = self.new.tail.buffer } } }
+        ensures kept { (s : List ℕ) → IsTrue (F.is_honest s file.new) → (old : List ℕ) → Knows old self.old → F.held s file.old ≡ old → IsKept old (F.held s file.new) }
+    {
+        if self.old_length < MIN_DATABASE_SIZE {
+            return Ok(());
+        }
+        make_room(file, self.old_length, self.length, &mut self.tail.buffer)
+    }
+
+    // Marks a file that is not a database as invalid, after it was extended.
     fn write_invalid_mark<F: Bytes>(&mut self, file: &mut F) -> io::Result<()>
         ensures falls { (s : List ℕ) → IsTrue (F.is_honest s file.new) → IsTrue (F.is_honest s file.old) }
         ensures frame { self.new ≡ record self.old { stage = self.new.stage; tail = record self.old.tail { buffer = self.new.tail.buffer } } }
@@ -139,12 +153,10 @@ impl Change {
         ensures ok { OnOk result ((s : List ℕ) → IsTrue (F.is_honest s file.new) → (old new : List ℕ) (done : ℕ) → (IsDatabase old → ⊥) → Knows old self.old
             → Agreeing old new (F.held s file.old) done → IsAt old new done self.new (F.held s file.new)) }
         ensures err { OnErr result ((s : List ℕ) → IsTrue (F.is_honest s file.new) → (old new : List ℕ) (done : ℕ) → (IsDatabase old → ⊥) → Knows old self.old
-            → Agreeing old new (F.held s file.old) done → IsBroken old self.new (F.held s file.new)) }
+            → Agreeing old new (F.held s file.old) done → IsBroken old self.new (F.held s file.new) × StandsForOld old (F.held s file.new)) }
     {
         self.stage = Stage::Unkept;
-        if MIN_DATABASE_SIZE <= self.old_length {
-            make_room(file, self.old_length, self.length, &mut self.tail.buffer)?;
-        }
+        self.extend(file)?;
         file.put_whole(0, &INVALID_MARK)?;
         self.stage = Stage::Invalid;
         Ok(())
@@ -303,7 +315,8 @@ impl Change {
 
     // Ends a change of a file that is marked invalid.
     //
-    // The mark is written alone, and last: if the power fails, the disk may have a part of the first page.
+    // The mark is written alone, and last: if a call or the power fails, the file may have a part of the new bytes, and
+    // must not read as a database.
     fn end_invalid<F: Bytes>(&mut self, file: &mut F, first: &[u8]) -> io::Result<()>
         requires few { length first.now ≤ 4096 }
         requires enough { 16 ≤ length first.now }
@@ -311,6 +324,9 @@ impl Change {
         ensures frame { self.new ≡ self.old }
         ensures ok { OnOk result ((s : List ℕ) → IsTrue (F.is_honest s file.new) → (new : List ℕ) (done : ℕ) → self.old.length ≡ length new → length new ≤ done
             → AreAt new 0 (min 4096 (length new)) first.now → ArePutBelow done new (F.held s file.old) → F.held s file.new ≡ new) }
+        ensures err { OnErr result ((s : List ℕ) → IsTrue (F.is_honest s file.new) → (new : List ℕ) (done : ℕ) → self.old.length ≡ length new → length new ≤ done
+            → AreAt new 0 (min 4096 (length new)) first.now → ArePutBelow done new (F.held s file.old) → IsInvalid (F.held s file.old)
+            → (F.held s file.new ≡ new) ⊎ IsInvalid (F.held s file.new)) }
     {
         set_len_and_sync(file, self.length, self.tail.syncs)?;
         let (mark, rest) = first.split_at(DATABASE_MARK.len());
@@ -348,7 +364,7 @@ impl Change {
         requires { length first.now ≤ 4096 }
         ensures falls { (s : List ℕ) → IsTrue (F.is_honest s file.new) → IsTrue (F.is_honest s file.old) }
         ensures ok { OnOk result ((s : List ℕ) → IsTrue (F.is_honest s file.new) → (old new : List ℕ) (done : ℕ) → count ≡ length new → length new ≤ done → 4096 ≤ done
-            → AreAt new 0 (min 4096 (length new)) first.now → IsAt old new done self.old (F.held s file.old) → settled (F.held s file.new) ≡ new) }
+            → AreAt new 0 (min 4096 (length new)) first.now → IsAt old new done self.old (F.held s file.old) → (settled (F.held s file.new) ≡ new) × IsDatabase new) }
         ensures err { OnErr result ((s : List ℕ) → IsTrue (F.is_honest s file.new) → (old new : List ℕ) (done : ℕ) → count ≡ length new → length new ≤ done → 4096 ≤ done
             → AreAt new 0 (min 4096 (length new)) first.now → IsAt old new done self.old (F.held s file.old)
             → IsBroken old self.new (F.held s file.new) × StandsForEither old new (F.held s file.new)) }
@@ -379,13 +395,18 @@ impl Change {
         Ok(())
     }
 
-    // Restores the old first page and the old length of a file that is not a database.
+    // Restores the old length and the old first page of a file that is not a database.
+    //
+    // The length is set first: the first bytes of a short file may be those of a database, and must not get the new bytes
+    // behind them.
     fn restore<F: Bytes>(&self, file: &mut F) -> io::Result<()>
         ensures falls { (s : List ℕ) → IsTrue (F.is_honest s file.new) → IsTrue (F.is_honest s file.old) }
         ensures ok { OnOk result ((s : List ℕ) → IsTrue (F.is_honest s file.new) → (old : List ℕ) → Knows old self.now → StaysBehind old (F.held s file.old) → F.held s file.new ≡ old) }
+        ensures none { (s : List ℕ) → IsTrue (F.is_honest s file.new) → (old : List ℕ) → Knows old self.now → StaysBehind old (F.held s file.old) → IsNoDatabase old
+            → ((f : List ℕ) → IsSized (length old) (F.held s file.old) f → IsNoDatabase f) → (F.held s file.new ≡ F.held s file.old) ⊎ IsNoDatabase (F.held s file.new) }
     {
-        file.put_whole(0, front_page(&self.old_first))?;
-        file.set_len(self.old_length)
+        file.set_len(self.old_length)?;
+        file.put_whole(0, front_page(&self.old_first))
     }
 
     // Marks a file again, after the call that makes the file represent its new bytes failed. The disk may have stored
@@ -407,6 +428,8 @@ impl Change {
         ensures ok { OnOk result ((s : List ℕ) → IsTrue (F.is_honest s file.new) → (old : List ℕ) → CanRestore old → IsBroken old self.old (F.held s file.old) → F.held s file.new ≡ old) }
         ensures stands { (s : List ℕ) → IsTrue (F.is_honest s file.new) → (old : List ℕ) → IsDatabase old → IsBroken old self.old (F.held s file.old)
             → (F.held s file.new ≡ F.held s file.old) ⊎ (settled (F.held s file.new) ≡ settled (F.held s file.old)) ⊎ (settled (F.held s file.new) ≡ old) }
+        ensures none { (s : List ℕ) → IsTrue (F.is_honest s file.new) → (old : List ℕ) → IsNoDatabase old → IsBroken old self.old (F.held s file.old)
+            → (F.held s file.new ≡ F.held s file.old) ⊎ IsNoDatabase (F.held s file.new) }
     {
         match self.stage {
             Stage::Untouched => self.restore_first(file),
@@ -421,8 +444,9 @@ impl Change {
             }
             // The next program that opens the file does the rest.
             Stage::Committed => Err(Error::from(ErrorKind::InvalidInput)),
+            Stage::Unkept => self.restore(file),
             Stage::Invalid if MIN_DATABASE_SIZE <= self.old_length => file.set_len(0),
-            Stage::Unkept | Stage::Invalid => self.restore(file),
+            Stage::Invalid => self.restore(file),
         }
     }
 }

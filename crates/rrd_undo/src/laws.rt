@@ -1,9 +1,10 @@
 //! Theorems about the bytes that a change leaves in a file if calls fail, and that a kill leaves in a file in memory.
 //!
 //! The module is public only for readers of the contracts and for tests: the program calls none of these functions.
-ghost use Rattle.std.specs.Prelude.{◌≡◌, ◌⊎◌, IfOk, IsTrue, List, ℕ, OnErr, OnOk};
+ghost use Rattle.std.specs.Prelude.{◌≡◌, ◌⊎◌, IfOk, IsTrue, List, None, ℕ, OnErr, OnOk};
+ghost use Rattle.rrd_tail.specs.Marks.{mark_of};
 ghost use Rattle.rrd_tail.specs.Settled.{settled};
-ghost use Rattle.rrd_undo.specs.Databases.{IsDatabase};
+ghost use Rattle.rrd_undo.specs.Databases.{IsDatabase, IsNoDatabase};
 
 use crate::{Bytes, Memory, Syncs, replace, settle};
 use std::alloc::Global;
@@ -12,7 +13,9 @@ use std::io;
 /// Replaces the bytes of a file, and then settles the file.
 ///
 /// Theorem: if the file's bytes are known and are a database, the file then has its old bytes or the new ones. Each call
-/// of `replace` may have failed and have left what [`Bytes`] allows after an error, such as a part of its bytes.
+/// of `replace` may have failed and have left what [`Bytes`] allows after an error, such as a part of its bytes. If the
+/// file's bytes are no database, nor an interrupted change of one, and the new bytes are a database, the file then has
+/// its old bytes, the new ones, or bytes that are no database.
 ///
 /// # Errors
 ///
@@ -25,6 +28,8 @@ pub fn change_settled<F: Bytes>(
 ) -> io::Result<()>
     ensures falls { (s : List ℕ) → IsTrue (F.is_honest s file.new) → IsTrue (F.is_honest s file.old) }
     ensures either { OnOk result ((s : List ℕ) → IsTrue (F.is_honest s file.new) → IsDatabase (F.held s file.old) → (F.held s file.new ≡ F.held s file.old) ⊎ (F.held s file.new ≡ new.now)) }
+    ensures spoilt { OnOk result ((s : List ℕ) → IsTrue (F.is_honest s file.new) → (IsDatabase (F.held s file.old) → ⊥) → mark_of (F.held s file.old) ≡ None → IsDatabase new.now
+        → (F.held s file.new ≡ F.held s file.old) ⊎ (F.held s file.new ≡ new.now) ⊎ IsNoDatabase (F.held s file.new)) }
 {
     let _replaced = replace(alloc, file, new, syncs);
     let mut buffer = Vec::new(alloc);
@@ -82,3 +87,9 @@ pub fn settled_bytes(alloc: Global, bytes: Vec<u8>) -> io::Result<Vec<u8>>
     settle(&mut file, &mut buffer)?;
     Ok(file.into_bytes())
 }
+
+/// Theorem: a file that begins like a database has no mark, and a file without a mark stands for its own bytes.
+pub fn files_without_marks_stand_for_themselves()
+    ensures database { (bytes : List ℕ) → IsDatabase bytes → mark_of bytes ≡ None }
+    ensures unmarked { (bytes : List ℕ) → mark_of bytes ≡ None → settled bytes ≡ bytes }
+{}

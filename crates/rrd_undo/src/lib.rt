@@ -3,16 +3,18 @@
 
 mod calls;
 mod change;
+mod front;
 pub mod laws;
 mod memory;
 mod page;
 mod recovery;
+mod replacing;
 mod tail;
-mod writer;
 
 pub use calls::Bytes;
+pub use front::{SettledFront, settled_front};
 pub use memory::Memory;
-pub use recovery::{Settled, is_marked, settle};
+pub use recovery::{Settled, has_mark, is_marked, settle};
+pub use replacing::replace;
 pub use rrd_tail::PAGE;
 pub use tail::Syncs;
-pub use writer::{PageWriter, replace};

@@ -1,6 +1,7 @@
 //! Pages of a file: the offsets of pages, and the differences between pages.
-ghost use Rattle.std.specs.Prelude.{◌≡◌, ◌↔◌, ◌≤◌, ◌+◌, ◌%◌, ◌^◌, ◌<◌, ℕ, List, length, slice_index, IsNone, IsTrue, IfOk, IfSome, OnOk};
+ghost use Rattle.std.specs.Prelude.{◌≡◌, ◌↔◌, ◌≤◌, ◌+◌, ◌%◌, ◌^◌, ◌<◌, ℕ, List, length, min, slice_index, IsNone, IsTrue, IfOk, IfSome, OnOk};
 ghost use Rattle.rrd_undo.specs.Calls.{AreAt};
+ghost use Rattle.rrd_undo.specs.Changing.{IsPage};
 ghost use Rattle.rrd_undo.specs.Databases.{IsDatabase};
 ghost use Rattle.rrd_undo.specs.Pages.{AreSame, IsDifference, IsSame};
 
@@ -10,6 +11,9 @@ use std::io::{self, Error, ErrorKind};
 
 /// The minimum length of a database in bytes: the length of an undo mark.
 pub(crate) const MIN_DATABASE_SIZE: usize = 16;
+
+/// The number of bytes of two pages that are compared at once.
+const STRIDE: usize = 64;
 
 /// Returns the offset of the page that follows the page at byte `at`.
 pub(crate) fn next_page(at: usize) -> io::Result<usize>
@@ -42,7 +46,7 @@ pub(crate) fn read_page<F: Bytes>(
     into: &mut Vec<u8>,
 ) -> io::Result<()>
     ensures falls { (s : List ℕ) → IsTrue (F.is_honest s file.new) → IsTrue (F.is_honest s file.old) }
-    ensures same { (s : List ℕ) → F.held s file.new ≡ F.held s file.old }
+    ensures same { (s : List ℕ) → IsTrue (F.is_honest s file.new) → F.held s file.new ≡ F.held s file.old }
     ensures page { OnOk result (length into.new.items ≤ 4096) }
     ensures read { OnOk result ((s : List ℕ) → IsTrue (F.is_honest s file.new) → AreAt (F.held s file.old) at count into.new.items) }
 {
@@ -57,8 +61,18 @@ pub(crate) fn read_page<F: Bytes>(
 pub(crate) fn front_page(bytes: &[u8]) -> &[u8]
     ensures few { length result.now ≤ 4096 }
     ensures same { length bytes.now ≤ 4096 → result.now ≡ bytes.now }
+    ensures front { AreAt bytes.now 0 (min 4096 (length bytes.now)) result.now }
 {
     &bytes[..bytes.len().min(PAGE)]
+}
+
+/// Returns the page of `bytes` from byte `at` on: the last page may be shorter than the others.
+pub(crate) fn page_at(bytes: &[u8], at: usize) -> &[u8]
+    requires { at ≤ length bytes.now }
+    ensures { IsPage bytes.now at result.now }
+{
+    let count = (bytes.len() - at).min(PAGE);
+    &bytes[at..at + count]
 }
 
 /// The bytes in which a new page differs from the old page.
@@ -108,6 +122,39 @@ fn first_difference(old: &[u8], new: &[u8]) -> usize
     at
 }
 
+// Returns `STRIDE` bytes from byte `at` on.
+fn stride_at(bytes: &[u8], at: usize) -> &[u8]
+    requires { at + STRIDE ≤ length bytes.now }
+    ensures { AreAt bytes.now at STRIDE result.now }
+{
+    &bytes[at..at + STRIDE]
+}
+
+// Checks whether two pages have the same `STRIDE` bytes from byte `at` on.
+fn is_same_stride(old: &[u8], new: &[u8], at: usize) -> bool
+    requires old { at + STRIDE ≤ length old.now }
+    requires new { at + STRIDE ≤ length new.now }
+    ensures { IsTrue result → (k : ℕ) → at ≤ k → k < at + STRIDE → IsSame old.now new.now k }
+{
+    stride_at(old, at) == stride_at(new, at)
+}
+
+// Returns the index after the last bytes, `STRIDE` at a time, in which a new page differs from the old page.
+//
+// Returns less than `from + STRIDE` if that index is smaller, or if no byte differs.
+fn differing_strides_end(old: &[u8], new: &[u8], from: usize) -> usize
+    requires { from ≤ length new.now }
+    ensures from { from ≤ result }
+    ensures within { result ≤ length new.now }
+    ensures same { (k : ℕ) → result ≤ k → k < length new.now → IsSame old.now new.now k }
+{
+    let mut end = new.len();
+    while end - from >= STRIDE && end <= old.len() && is_same_stride(old, new, end - STRIDE) {
+        end -= STRIDE;
+    }
+    end
+}
+
 // Returns the index after the last byte in which a new page differs from the old page.
 //
 // Returns `from` if that index is smaller, or if no byte differs.
@@ -117,7 +164,7 @@ fn difference_end(old: &[u8], new: &[u8], from: usize) -> usize
     ensures within { result ≤ length new.now }
     ensures same { (k : ℕ) → result ≤ k → k < length new.now → IsSame old.now new.now k }
 {
-    let mut end = new.len();
+    let mut end = differing_strides_end(old, new, from);
     while end > from && end <= old.len() && old[end - 1] == new[end - 1] {
         end -= 1;
     }

@@ -34,15 +34,15 @@ pub fn is_marked(front: &[u8]) -> bool
     read_mark(front).is_some()
 }
 
-// Reads the record at byte `at` of a file, if there is one.
-fn read_record<F: Bytes>(
+/// Reads the record at byte `at` of a file, if there is one.
+pub(crate) fn read_record<F: Bytes>(
     file: &mut F,
     file_length: usize,
     at: usize,
     buffer: &mut Vec<u8>,
 ) -> io::Result<Option<Record>>
     ensures falls { (s : List ℕ) → IsTrue (F.is_honest s file.new) → IsTrue (F.is_honest s file.old) }
-    ensures same { (s : List ℕ) → F.held s file.new ≡ F.held s file.old }
+    ensures same { (s : List ℕ) → IsTrue (F.is_honest s file.new) → F.held s file.new ≡ F.held s file.old }
     ensures ok { IfOk result (λ r. (s : List ℕ) → IsTrue (F.is_honest s file.new) → file_length ≡ length (F.held s file.new) → r ≡ record_at (F.held s file.new) at) }
 {
     let count = file_length.saturating_sub(at).min(RECORD_SIZE);
@@ -50,15 +50,15 @@ fn read_record<F: Bytes>(
     Ok(Record::read(at, buffer))
 }
 
-// Reads the record at the end of a file with a cut mark, if there is one.
-fn read_last<F: Bytes>(
+/// Reads the record at the end of a file with a cut mark, if there is one.
+pub(crate) fn read_last<F: Bytes>(
     file: &mut F,
     file_length: usize,
     shape: Shape,
     buffer: &mut Vec<u8>,
 ) -> io::Result<Option<Record>>
     ensures falls { (s : List ℕ) → IsTrue (F.is_honest s file.new) → IsTrue (F.is_honest s file.old) }
-    ensures same { (s : List ℕ) → F.held s file.new ≡ F.held s file.old }
+    ensures same { (s : List ℕ) → IsTrue (F.is_honest s file.new) → F.held s file.new ≡ F.held s file.old }
     ensures ok { IfOk result (λ r. (s : List ℕ) → IsTrue (F.is_honest s file.new) → file_length ≡ length (F.held s file.new) → r ≡ last_record shape (F.held s file.new)) }
 {
     if file_length % PAGE != shape.size() {
@@ -114,8 +114,8 @@ fn settle_cut<F: Bytes>(
     Ok(Settled::Ended)
 }
 
-// Reads the slot with this number, if the file has that slot.
-fn read_slot_at<F: Bytes>(
+/// Reads the slot with this number, if the file has that slot.
+pub(crate) fn read_slot_at<F: Bytes>(
     file: &mut F,
     file_length: usize,
     tail: usize,
@@ -123,7 +123,7 @@ fn read_slot_at<F: Bytes>(
     buffer: &mut Vec<u8>,
 ) -> io::Result<Option<SlotHeader>>
     ensures falls { (s : List ℕ) → IsTrue (F.is_honest s file.new) → IsTrue (F.is_honest s file.old) }
-    ensures same { (s : List ℕ) → F.held s file.new ≡ F.held s file.old }
+    ensures same { (s : List ℕ) → IsTrue (F.is_honest s file.new) → F.held s file.new ≡ F.held s file.old }
     ensures few { IfOk result (λ found. IfSome found (λ header. 32 + header.count ≤ length buffer.new.items)) }
     ensures ok { IfOk result (λ found. (s : List ℕ) → IsTrue (F.is_honest s file.new) → file_length ≡ length (F.held s file.new) → IsSlotFound tail (F.held s file.new) number buffer.new.items found) }
 {
@@ -221,17 +221,17 @@ fn settle_undo<F: Bytes>(
     Ok(Settled::TakenBack)
 }
 
-// The length of a file in bytes, and the mark at the start of the file.
+/// The length of a file in bytes, and the mark at the start of the file.
 #[derive(Drop)]
-struct Start {
-    length: usize,
-    mark: Option<Mark>,
+pub(crate) struct Start {
+    pub(crate) length: usize,
+    pub(crate) mark: Option<Mark>,
 }
 
-// Reads the length and the mark of a file. The buffer then has the first bytes of the file.
-fn read_start<F: Bytes>(file: &mut F, buffer: &mut Vec<u8>) -> io::Result<Start>
+/// Reads the length and the mark of a file. The buffer then has the first bytes of the file.
+pub(crate) fn read_start<F: Bytes>(file: &mut F, buffer: &mut Vec<u8>) -> io::Result<Start>
     ensures falls { (s : List ℕ) → IsTrue (F.is_honest s file.new) → IsTrue (F.is_honest s file.old) }
-    ensures same { (s : List ℕ) → F.held s file.new ≡ F.held s file.old }
+    ensures same { (s : List ℕ) → IsTrue (F.is_honest s file.new) → F.held s file.new ≡ F.held s file.old }
     ensures front { OnOk result ((s : List ℕ) → IsTrue (F.is_honest s file.new) → IsFront (F.held s file.new) buffer.new.items) }
     ensures few { OnOk result (length buffer.new.items ≤ 4096) }
     ensures length { IfOk result (λ start. (s : List ℕ) → IsTrue (F.is_honest s file.new) → start.length ≡ length (F.held s file.new)) }
@@ -241,6 +241,20 @@ fn read_start<F: Bytes>(file: &mut F, buffer: &mut Vec<u8>) -> io::Result<Start>
     read_page(file, 0, length.min(MIN_DATABASE_SIZE), buffer)?;
     let mark = read_mark(buffer);
     Ok(Start { length, mark })
+}
+
+/// Checks whether a file begins with a mark. `buffer` receives the first bytes of the file.
+///
+/// # Errors
+///
+/// A call of the file failed, or memory ran out.
+pub fn has_mark<F: Bytes>(file: &mut F, buffer: &mut Vec<u8>) -> io::Result<bool>
+    ensures falls { (s : List ℕ) → IsTrue (F.is_honest s file.new) → IsTrue (F.is_honest s file.old) }
+    ensures same { (s : List ℕ) → IsTrue (F.is_honest s file.new) → F.held s file.new ≡ F.held s file.old }
+    ensures ok { IfOk result (λ is. (s : List ℕ) → IsTrue (F.is_honest s file.new) → IsTrue is ↔ IsSome (mark_of (F.held s file.new))) }
+{
+    let start = read_start(file, buffer)?;
+    Ok(start.mark.is_some())
 }
 
 // Stores a file on the disk as it is, by writing its first bytes again.

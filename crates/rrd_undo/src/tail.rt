@@ -34,7 +34,7 @@ pub enum Syncs {
 // Syncs the file, if `syncs` requests syncs.
 pub(crate) fn sync<F: Bytes>(file: &mut F, syncs: Syncs) -> io::Result<()>
     ensures falls { (s : List ℕ) → IsTrue (F.is_honest s file.new) → IsTrue (F.is_honest s file.old) }
-    ensures same { (s : List ℕ) → F.held s file.new ≡ F.held s file.old }
+    ensures same { (s : List ℕ) → IsTrue (F.is_honest s file.new) → F.held s file.new ≡ F.held s file.old }
 {
     match syncs {
         Syncs::Never => Ok(()),

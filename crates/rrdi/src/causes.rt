@@ -1,4 +1,5 @@
-//! The reason why a file could not be opened, read or written, in plain English.
+//! The line after a fault: the reason why a file could not be opened, read or written, or what was wrong with the arguments.
+use crate::advice::Advice;
 use rrd_disk::Settings;
 use rrd_fixed::write_bytes;
 use std::fmt::{self, Display, Formatter};
@@ -41,6 +42,16 @@ pub(crate) fn report_cause(rt: &HostRuntime, path: &str, error: Error, settings:
         wait: settings.wait,
     };
     let Ok(line) = format!(in rt.alloc(); "rrdi: {path}: {cause}\n") else {
+        return;
+    };
+    let _written = write_bytes(&mut rt.stderr(), line.as_bytes());
+}
+
+/// Reports on standard error what was wrong with the arguments, or with the file.
+///
+/// The line is `rrdi: ADVICE`. If memory runs out for the line, or the write fails, nothing more is reported.
+pub(crate) fn report_advice(rt: &HostRuntime, advice: &Advice<'_>) {
+    let Ok(line) = format!(in rt.alloc(); "rrdi: {advice}\n") else {
         return;
     };
     let _written = write_bytes(&mut rt.stderr(), line.as_bytes());

@@ -1,10 +1,14 @@
-//! The files of the system, by calls of the runtime.
-ghost use Rattle.std.specs.Io.{ReadsAtMost};
+//! The files of the system, by calls of the runtime, with the record of the calls on the file of a run.
+//!
+//! Each method of `Host` makes one call, and notes the call with its answer. The theorems about files stand on that: a body
+//! that noted a call that it does not make, or another answer, would be proved too.
+ghost use Rattle.std.specs.Prelude.{◌≡◌, []};
 
-use rrd_disk::{Disk, DiskFile, Facts, Kind, Lock, Opening};
+use crate::front::Front;
+use rrd_disk::{Disk, DiskFile, Facts, Kind, Lock, Noted, Opening, Record};
 use std::alloc::Global;
 use std::fs::{self, File, Metadata};
-use std::io::{self, ErrorKind};
+use std::io::{self, ErrorKind, Read};
 use std::os::fd::AsRawFd;
 use std::os::unix::fs::{FileExt, FileTypeExt, MetadataExt};
 use std::thread::sleep;
@@ -19,35 +23,7 @@ pub(crate) struct HostFile {
     file: File,
 }
 
-impl io::Read for HostFile {
-    fn read(&mut self, buf: &mut [u8]) -> io::Result<usize> {
-        self.file.read(buf)
-    }
-}
-
 impl DiskFile for HostFile {
-    fn again(&self) -> io::Result<HostFile> {
-        Ok(HostFile {
-            file: self.file.try_clone()?,
-        })
-    }
-
-    fn read_at(&self, bytes: &mut [u8], at: u64) -> io::Result<usize> {
-        self.file.read_at(bytes, at)
-    }
-
-    fn write_at(&self, bytes: &[u8], at: u64) -> io::Result<usize> {
-        self.file.write_at(bytes, at)
-    }
-
-    fn length(&self) -> io::Result<u64> {
-        Ok(self.file.metadata()?.len())
-    }
-
-    fn set_length(&self, length: u64) -> io::Result<()> {
-        self.file.set_len(length)
-    }
-
     fn try_lock(&self, lock: Lock) -> io::Result<()> {
         match lock {
             Lock::Shared => self.file.try_lock_shared()?,
@@ -58,10 +34,6 @@ impl DiskFile for HostFile {
 
     fn unlock(&self) -> io::Result<()> {
         self.file.unlock()
-    }
-
-    fn sync(&self) -> io::Result<()> {
-        self.file.sync_data()
     }
 }
 
@@ -74,16 +46,25 @@ fn above_streams(file: File) -> io::Result<File> {
     file.try_clone()
 }
 
-/// The files of the system.
+/// The files of the system, with the record of the calls on the file of a run.
 #[derive(Drop)]
 pub(crate) struct Host<'a> {
     rt: &'a HostRuntime,
+    pub(crate) record: Record,
+    /// The first bytes of the file, as far as the run has read them.
+    pub(crate) front: Front,
 }
 
 impl<'a> Host<'a> {
-    /// Creates the system whose files the runtime opens.
-    pub(crate) fn new(rt: &'a HostRuntime) -> Host<'a> {
-        Host { rt }
+    /// Creates the system whose files the runtime opens. No call is noted so far.
+    pub(crate) fn new(rt: &'a HostRuntime) -> Host<'a>
+        ensures { result.record.events ≡ [] }
+    {
+        Host {
+            rt,
+            record: Record::new(),
+            front: Front::new(),
+        }
     }
 
     // Returns the kind of the file at a path, of which the system reports `known`.
@@ -124,32 +105,112 @@ fn facts_of(kind: Kind, known: &Metadata) -> Facts {
     }
 }
 
+// Opens the file at `path`. Returns `None` if there is no file, or no directory for a new one.
+fn open(rt: &HostRuntime, path: &str, opening: Opening) -> io::Result<Option<HostFile>> {
+    let found = File::options()
+        .read(true)
+        .write(opening != Opening::Read)
+        .create(opening == Opening::Make)
+        .open(rt, path);
+    match found {
+        Ok(file) => Ok(Some(HostFile {
+            file: above_streams(file)?,
+        })),
+        Err(error) if error.kind() == ErrorKind::NotFound => Ok(None),
+        Err(error) => Err(error),
+    }
+}
+
 impl<'a> Disk for Host<'a> {
+    ghost events = { λ host. host.record.events };
+
     type File = HostFile;
 
     fn alloc(&self) -> Global {
         self.rt.alloc()
     }
 
-    fn open(&self, path: &str, opening: Opening) -> io::Result<HostFile> {
-        let file = File::options()
-            .read(true)
-            .write(opening != Opening::Read)
-            .create(opening == Opening::Make)
-            .open(self.rt, path)?;
-        Ok(HostFile {
-            file: above_streams(file)?,
-        })
+    fn open(&mut self, path: &str, opening: Opening) -> io::Result<Option<HostFile>> {
+        let found = open(self.rt, path, opening)?;
+        match (&found, opening) {
+            (None, _) => self.record.note(&Noted::Missing),
+            (Some(_), Opening::Make) => self.record.note(&Noted::Made),
+            (Some(_), Opening::Read | Opening::Write) => self.record.note(&Noted::Found),
+        }
+        Ok(found)
     }
 
-    fn facts(&self, file: &HostFile) -> io::Result<Facts> {
+    fn facts(&mut self, file: &HostFile) -> io::Result<Facts> {
         let known = file.file.metadata()?;
-        Ok(facts_of(kind_of(&known), &known))
+        let facts = facts_of(kind_of(&known), &known);
+        self.record.note(&Noted::Measured(facts.length));
+        Ok(facts)
     }
 
-    fn facts_at(&self, path: &str) -> io::Result<Facts> {
-        let known = fs::metadata(self.rt, path)?;
-        Ok(facts_of(self.kind_at(path, &known), &known))
+    fn facts_at(&mut self, path: &str) -> io::Result<Option<Facts>> {
+        match fs::metadata(self.rt, path) {
+            Ok(known) => Ok(Some(facts_of(self.kind_at(path, &known), &known))),
+            Err(error) if error.kind() == ErrorKind::NotFound => {
+                self.record.note(&Noted::Missing);
+                Ok(None)
+            }
+            Err(error) => Err(error),
+        }
+    }
+
+    fn is_there(&self, path: &str) -> bool {
+        match fs::metadata(self.rt, path) {
+            Ok(_) => true,
+            // If the run may not look at it, something may be there.
+            Err(error) => error.kind() != ErrorKind::NotFound,
+        }
+    }
+
+    fn read_at(&mut self, file: &HostFile, bytes: &mut [u8], at: u64) -> io::Result<usize> {
+        let wanted = bytes.len();
+        let count = file.file.read_at(bytes, at)?;
+        if at == 0 {
+            self.front.keep(&bytes[..count]);
+        }
+        self.record.note(&Noted::Got {
+            at,
+            wanted,
+            bytes: &bytes[..count],
+        });
+        Ok(count)
+    }
+
+    fn read_pipe(&mut self, file: &mut HostFile, bytes: &mut [u8]) -> io::Result<usize> {
+        let count = file.file.read(bytes)?;
+        self.record.note(&Noted::Streamed);
+        Ok(count)
+    }
+
+    fn write_at(&mut self, file: &HostFile, bytes: &[u8], at: u64) -> io::Result<usize> {
+        let written = file.file.write_at(bytes, at);
+        match written {
+            Ok(taken) => self.record.note(&Noted::Put { at, bytes, taken }),
+            Err(_) => self.record.note(&Noted::PutFailed { at, bytes }),
+        }
+        written
+    }
+
+    fn set_length(&mut self, file: &HostFile, length: u64) -> io::Result<()> {
+        let ended = file.file.set_len(length);
+        match ended {
+            Ok(()) => self.record.note(&Noted::Sized(length)),
+            Err(_) => self.record.note(&Noted::SizeFailed(length)),
+        }
+        ended
+    }
+
+    fn sync(&mut self, file: &HostFile) -> io::Result<()> {
+        let ended = file.file.sync_data();
+        match ended {
+            Ok(()) => self.record.note(&Noted::Synced),
+            Err(_) => self.record.note(&Noted::SyncFailed),
+        }
+        ended
     }
 
     fn pause(&self, milliseconds: u64) {

@@ -1,13 +1,22 @@
 //! `rrdi`: runs a command, or a batch of commands, on a round-robin database in a file.
 #![tactic(auto)]
 
+mod advice;
+mod arguments;
 mod causes;
 mod clock;
 mod disk;
+mod front;
+mod likeness;
+mod misuse;
+mod refused;
+mod samples;
 mod settings;
+mod shown;
 mod tasks;
+mod usage;
 
-use crate::tasks::{batch, fail, file_batch, single};
+use crate::tasks::{batch, fail, file_batch, misuse, single};
 use rrd_store::{Task, TaskFault, parse_task};
 use rrd_tool::{Fault, LineFault};
 use std::env;
@@ -31,10 +40,13 @@ fn run(rt: &HostRuntime) -> u8 {
         return fail(rt, NO_MEMORY);
     };
     match task {
-        Task::Usage => fail(rt, USAGE_ERROR),
+        Task::Usage => misuse(rt, &words),
         Task::Batch => batch(rt),
-        Task::FileBatch { file } => file_batch(rt, file),
-        Task::Single { file, words } => single(rt, file, &words),
+        Task::FileBatch { file } => file_batch(rt, file, &words),
+        Task::Single {
+            file,
+            words: command,
+        } => single(rt, file, &command, &words),
     }
 }
 

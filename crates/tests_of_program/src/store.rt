@@ -3,6 +3,7 @@
 mod batch;
 mod ending;
 mod scripts;
+mod session;
 mod single;
 mod storage;
 mod strange_files;

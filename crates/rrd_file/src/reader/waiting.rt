@@ -1,5 +1,5 @@
 //! The buffer of bytes that were read and wait to be taken.
-ghost use Rattle.std.specs.Prelude.{◌≡◌, ◌+◌, ◌-◌, ◌++◌, ◌<◌, ◌≤◌, [], IfOk, OnErr, drop, length, slice_range, take, vec_capacity, vec_len};
+ghost use Rattle.std.specs.Prelude.{◌≡◌, ◌+◌, ◌-◌, ◌++◌, ◌<◌, ◌≤◌, [], IfOk, OnErr, drop, length, slice_range, take, vec_len};
 ghost use Rattle.std.specs.Io.KnownBytes.{Consumes, IsAtEnd, Keeps, prepend_known};
 
 use rrd_fixed::{ReadFault, read_some};
@@ -7,44 +7,42 @@ use std::alloc::{AllocError, Global};
 use std::io::Read;
 use std::marker::Model;
 
-/// The first size of the buffer, in bytes. A small file fits, so that no more bytes are cleared for it.
-const FIRST: usize = 4_096;
+/// The size of the buffer, in bytes: 128 cells. The bytes of a file are in memory already, so a larger buffer saves no
+/// call of the system, and this one stays where the processor has it at hand.
+pub(super) const ROOM: usize = 2_048;
 
-/// The maximum size of the buffer, in bytes.
-pub(super) const ROOM: usize = 65_536;
-
-/// At most 65,536 bytes that were read and not taken. Contracts see their list.
+/// At most 2,048 bytes that were read and not taken. Contracts see their list.
 #[derive(Drop)]
 pub(crate) struct Waiting {
-    // The bytes from `from` to before `end` wait. The capacity is that of the maximum size.
+    // The bytes from `from` to before `end` wait.
     bytes: Vec<u8>,
     from: usize,
     end: usize,
 }
 
 impl Model for Waiting {
-    ghost use Rattle.std.specs.Prelude.{◌≤◌, List, ℕ, slice_range, vec_capacity};
+    ghost use Rattle.std.specs.Prelude.{List, ℕ, slice_range};
     ghost use Rattle.rrd_file.specs.Reader.Waiting.{IsWaiting};
 
     ghost Value = { List ℕ };
 
     ghost view = { λ w. slice_range w.bytes.items w.from w.end };
 
-    ghost invariant = { λ w. IsWaiting w.bytes.items w.from w.end × (65536 ≤ vec_capacity w.bytes) };
+    ghost invariant = { λ w. IsWaiting w.bytes.items w.from w.end };
 }
 
 impl Waiting {
     /// Creates an empty buffer.
-    ///
-    /// Allocates the maximum size, and clears none of it yet.
     ///
     /// # Errors
     /// - `AllocError`: memory runs out.
     pub(crate) fn new(alloc: Global) -> Result<Waiting, AllocError>
         ensures { IfOk result (λ waiting. waiting ≡ []) }
     {
+        let mut bytes = Vec::with_capacity(alloc, ROOM)?;
+        bytes.resize(ROOM, 0)?;
         Ok(Waiting {
-            bytes: Vec::with_capacity(alloc, ROOM)?,
+            bytes,
             from: 0,
             end: 0,
         })
@@ -105,38 +103,13 @@ impl Waiting {
     }
 }
 
-// Makes the buffer longer if the last read filled it to its end: 4,096 bytes at first, then twice as long each time, at
-// most 65,536. So a small file needs few cleared bytes, and a large file few calls.
-fn make_room(bytes: &mut Vec<u8>, end: usize)
-    requires within { end ≤ vec_len bytes.old }
-    requires few { vec_len bytes.old ≤ ROOM }
-    requires capacity { ROOM ≤ vec_capacity bytes.old }
-    ensures front { take end bytes.new.items ≡ take end bytes.old.items }
-    ensures within { end ≤ vec_len bytes.new }
-    ensures room { end < ROOM → end < vec_len bytes.new }
-    ensures few { vec_len bytes.new ≤ ROOM }
-    ensures capacity { ROOM ≤ vec_capacity bytes.new }
-{
-    if end < bytes.len() {
-        return;
-    }
-    let size = (bytes.len() * 2).clamp(FIRST, ROOM);
-    // The capacity suffices, so this does not allocate and does not fail.
-    let _ = bytes.resize(size, 0);
-}
-
-// Moves the bytes from `from` to before `end` to the front of the buffer, and makes room behind them.
+// Moves the bytes from `from` to before `end` to the front of the buffer.
 fn move_to_front(bytes: &mut Vec<u8>, from: usize, end: usize)
     requires ordered { from ≤ end }
     requires within { end ≤ vec_len bytes.old }
-    requires few { vec_len bytes.old ≤ ROOM }
-    requires capacity { ROOM ≤ vec_capacity bytes.old }
     ensures front { slice_range bytes.new.items 0 (end - from) ≡ slice_range bytes.old.items from end }
-    ensures room { end - from < ROOM → end - from < vec_len bytes.new }
-    ensures few { vec_len bytes.new ≤ ROOM }
-    ensures capacity { ROOM ≤ vec_capacity bytes.new }
+    ensures size { vec_len bytes.new ≡ vec_len bytes.old }
 {
-    make_room(bytes, end);
     bytes.copy_within(from..end, 0);
 }
 
@@ -145,7 +118,6 @@ fn read_behind<R: Read>(reader: &mut R, bytes: &mut Vec<u8>, end: usize) -> Resu
     requires { end ≤ vec_len bytes.old }
     ensures front { slice_range bytes.new.items 0 end ≡ slice_range bytes.old.items 0 end }
     ensures size { vec_len bytes.new ≡ vec_len bytes.old }
-    ensures capacity { vec_capacity bytes.new ≡ vec_capacity bytes.old }
     ensures few { IfOk result (λ n. end + n ≤ vec_len bytes.new) }
     ensures came { IfOk result (λ n. Consumes (R.remaining reader.old) (R.remaining reader.new)
         (slice_range bytes.new.items end (end + n))) }

@@ -2,7 +2,7 @@
 use super::files::{database, other_bytes};
 use rrd_tail::{Record, Shape, slot_header, undo_mark};
 use rrd_undo::laws::settled_bytes;
-use rrd_undo::{Bytes, Memory, Settled, is_marked, settle};
+use rrd_undo::{Bytes, Memory, Settled, is_marked, settle, settled_front};
 use std::alloc::Global;
 use std::process::Abort;
 use std::test::Fail;
@@ -24,6 +24,36 @@ fn record(alloc: Global, offset: usize, length: usize) -> Result<Record, Fail> {
     })
 }
 
+// How many of the first bytes are read: beside the ends of marks, of pages and of the bytes themselves.
+const COUNTS: &[usize] = &[
+    0,
+    1,
+    4,
+    5,
+    15,
+    16,
+    17,
+    4_095,
+    4_096,
+    4_097,
+    4_999,
+    5_000,
+    usize::MAX,
+];
+
+// The first bytes that are read of those that a file stands for are the first of these, and the file stays the same.
+fn assert_fronts(rt: &impl Abort, alloc: Global, file: &[u8], wanted: &[u8]) -> Result<(), Fail> {
+    let mut memory = Memory::new(Vec::from_slice(alloc, file)?, u64::MAX);
+    for count in COUNTS {
+        let front = settled_front(alloc, &mut memory, *count)?;
+        let first = wanted.get(..wanted.len().min(*count)).ok_or("short")?;
+        assert!(rt; front.bytes.as_slice() == first, "{count}");
+        assert_eq!(rt; front.length, wanted.len());
+        assert!(rt; memory.bytes() == file, "{count}");
+    }
+    Ok(())
+}
+
 // A file stands for these bytes, and settling it does this.
 fn assert_stands(
     rt: &impl Abort,
@@ -32,6 +62,7 @@ fn assert_stands(
     wanted: &[u8],
     done: Settled,
 ) -> Result<(), Fail> {
+    assert_fronts(rt, alloc, &file, wanted)?;
     let copy = file.clone()?;
     let mut memory = Memory::new(copy, u64::MAX);
     let mut buffer = Vec::new(alloc);
@@ -112,6 +143,42 @@ fn restored(alloc: Global, old: &[u8], count: usize) -> Result<Vec<u8>, Fail> {
     let mut bytes = Vec::from_slice(alloc, old.get(..count).ok_or("short")?)?;
     bytes.resize(5_000, 9)?;
     Ok(bytes)
+}
+
+// A cut mark without a record is told, with its shape.
+#[test]
+fn a_cut_mark_without_a_record(rt: HostRuntime) -> Result<(), Fail> {
+    let alloc = rt.alloc();
+    let old = database(alloc, 5_000)?;
+    for shape in [Shape::Short, Shape::Long] {
+        let mut file = Memory::new(old.clone()?, u64::MAX);
+        file.put_whole(0, &shape.cut_mark())?;
+        let front = settled_front(alloc, &mut file, 16)?;
+        assert!(&rt; front.unrecorded == Some(shape), "{shape:?}");
+    }
+    let plain = Memory::new(old.clone()?, u64::MAX);
+    for mut file in [plain, to_be_cut(alloc, 5_000)?, to_be_undone(alloc, &old)?] {
+        assert!(&rt; settled_front(alloc, &mut file, 16)?.unrecorded.is_none());
+    }
+    Ok(())
+}
+
+// The offset of a third slot.
+const THIRD_SLOT: usize = 16_576;
+
+// The third slot has twelve bytes that the two others have too.
+#[test]
+fn the_last_slot_counts(rt: HostRuntime) -> Result<(), Fail> {
+    let alloc = rt.alloc();
+    let mut wanted = database(alloc, 5_000)?;
+    let mut file = to_be_undone(alloc, &wanted)?;
+    let kept = [7; 12];
+    file.put(THIRD_SLOT, &slot_header(TAIL, 4_090, &kept))?;
+    file.put(THIRD_SLOT.saturating_add(32), &kept)?;
+    for at in 4_090..4_102 {
+        *wanted.get_mut(at).ok_or("short")? = 7;
+    }
+    assert_stands(&rt, alloc, file.into_bytes(), &wanted, Settled::TakenBack)
 }
 
 // The offset of a byte of a slot that is changed, and how many bytes are then restored. A slot that isn't right ends

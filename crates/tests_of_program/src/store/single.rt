@@ -34,15 +34,15 @@ pub(super) fn assert_step(
     assert_eq!(rt; told.as_str(), *fault, "{line}");
     assert_eq!(rt; out.as_slice(), text.as_bytes(), "{line}");
     assert_eq!(rt; storage.bytes.len(), *length, "{line}");
-    let expected = storage.expected.take().unwrap_or(*length as u64);
-    assert!(rt; !fault.is_empty() || expected == *length as u64, "{line}");
+    let expected = storage.expected.take().unwrap_or(*length);
+    assert!(rt; !fault.is_empty() || expected == *length, "{line}");
     let kept = fault.is_empty() || storage.bytes.as_slice() == before.as_slice();
     assert!(rt; kept, "{line}");
     Ok(())
 }
 
 // From nothing to what all changes leave, which is then taken back.
-const OVER_NOTHING: &[Step<'_>] = &[
+pub(super) const OVER_NOTHING: &[Step<'_>] = &[
     // A command finds no file, if its words can be read.
     ("update 20", "unreadable sample 1", "", 0),
     ("update 20:1", "cannot open", "", 0),
@@ -128,7 +128,6 @@ fn a_place_that_is_not_written(rt: HostRuntime) -> Result<(), Fail> {
     storage.ending = Ending::OldStays;
     assert_step(&rt, alloc, &mut storage, &refused)?;
     storage.ending = Ending::Whole;
-    storage.keeps = true;
     storage.room = 308;
     assert_step(&rt, alloc, &mut storage, &refused)
 }
@@ -174,38 +173,71 @@ fn what_a_place_is_opened_for(rt: HostRuntime) -> Result<(), Fail> {
     Ok(())
 }
 
-// Wherever the write of a file breaks off, a front of the file is there, which is then refused.
+// A command whose write breaks off.
 fn assert_breaks_off(
     rt: &impl Abort,
     alloc: Global,
+    storage: &mut InMemory,
     line: &str,
-    old: &[u8],
-    new: &[u8],
+    room: usize,
 ) -> Result<(), Fail> {
-    let words = words_of(alloc, line)?;
-    let last = words_of(alloc, "last")?;
+    storage.room = room;
+    let mut out = Vec::new(alloc);
+    let end = run_file_command(alloc, &words_of(alloc, line)?, 0, storage, &mut out);
+    assert_eq!(rt; end.err(), Some(TaskFault::CannotWrite), "{line} {room}");
+    assert!(rt; storage.expected.take() > Some(room), "{line} {room}");
+    Ok(())
+}
+
+// The front of a file is refused.
+fn assert_is_cut(
+    rt: &impl Abort,
+    alloc: Global,
+    storage: &mut InMemory,
+    front: &[u8],
+) -> Result<(), Fail> {
+    let at = front.len() as u64;
+    assert_bytes(rt, &storage.bytes, front, "a front");
+    let mut out = Vec::new(alloc);
+    let end = run_file_command(alloc, &words_of(alloc, "last")?, 0, storage, &mut out);
+    let cut = TaskFault::File(FileFault::Truncated { at });
+    assert_eq!(rt; end.err(), Some(cut), "{at}");
+    Ok(())
+}
+
+// Wherever the write of the first file breaks off, a front of it is there.
+#[test]
+fn a_write_over_no_database_that_breaks_off(rt: HostRuntime) -> Result<(), Fail> {
+    let alloc = rt.alloc();
+    let new = new_file(alloc)?;
     for room in 0..new.len() {
-        let mut storage = InMemory::with(alloc, old)?;
-        storage.room = room;
-        let mut out = Vec::new(alloc);
-        let end = run_file_command(alloc, &words, 0, &mut storage, &mut out);
-        assert_eq!(rt; end.err(), Some(TaskFault::CannotWrite), "{line} {room}");
-        assert_bytes(rt, &storage.bytes, new.get(..room).ok_or("short")?, line);
-        let at = room as u64;
-        let end = run_file_command(alloc, &last, 0, &mut storage, &mut out);
-        let cut = TaskFault::File(FileFault::Truncated { at });
-        assert_eq!(rt; end.err(), Some(cut), "{line} {room}");
+        let front = new.get(..room).ok_or("short")?;
+        let mut storage = InMemory::missing(alloc);
+        assert_breaks_off(&rt, alloc, &mut storage, CREATE, room)?;
+        assert_is_cut(&rt, alloc, &mut storage, front)?;
+        let mut storage = InMemory::with(alloc, b"")?;
+        assert_breaks_off(&rt, alloc, &mut storage, CREATE, room)?;
+        assert_is_cut(&rt, alloc, &mut storage, front)?;
     }
     Ok(())
 }
 
+// Wherever a write over a database breaks off, the database stays; a front of the new file would be refused.
 #[test]
-fn a_write_that_breaks_off(rt: HostRuntime) -> Result<(), Fail> {
+fn a_write_over_a_database_that_breaks_off(rt: HostRuntime) -> Result<(), Fail> {
     let alloc = rt.alloc();
     let new = new_file(alloc)?;
     let sampled = sampled_file(alloc)?;
-    assert_breaks_off(&rt, alloc, CREATE, b"", &new)?;
-    assert_breaks_off(&rt, alloc, "update 10:1", &new, &sampled)
+    for room in 0..sampled.len() {
+        let mut storage = InMemory::with(alloc, &new)?;
+        assert_breaks_off(&rt, alloc, &mut storage, "update 10:1", room)?;
+        assert_bytes(&rt, &storage.bytes, &new, "a new file");
+        assert_step(&rt, alloc, &mut storage, &("last", "", "0\n", 224))?;
+        let front = sampled.get(..room).ok_or("short")?;
+        let mut cut = InMemory::with(alloc, front)?;
+        assert_is_cut(&rt, alloc, &mut cut, front)?;
+    }
+    Ok(())
 }
 
 #[test]

@@ -1,10 +1,12 @@
 //! A storage in memory that may fail.
-ghost use Rattle.std.specs.Prelude.{Some, if◌then◌else◌};
-ghost use Rattle.rrd_store.specs.Storages.{Bytes, Missing};
+ghost use Rattle.std.specs.Prelude.{◌<◌, IfOk, IsTrue, Some, if◌then◌else◌, length, ⊤};
+ghost use Rattle.rrd_store.specs.Storages.{Bytes, HasNone, IsAnyFile, IsNoFile, Missing};
 
-use rrd_store::{Access, Storage};
+use rrd_base::Database;
+use rrd_file::laws::{file_begins, file_is_layout, layouts_differ};
+use rrd_store::{Access, Storage, TaskFault, decoded};
 use std::alloc::{AllocError, Global};
-use std::io::{self, Cursor, Error, ErrorKind, Write};
+use std::io::{self, Error, ErrorKind};
 
 // How a change ends that was written whole.
 #[derive(Clone, Copy, PartialEq, Eq)]
@@ -17,9 +19,12 @@ pub(crate) enum Ending {
     NewStays,
 }
 
+// The least number of bytes of a database.
+const LEAST: usize = 16;
+
 // Bytes in memory, or nothing there. It may refuse to be opened, or a change to begin or to end,
-// and takes no more bytes than it has room for. Where those of a change are not all written, it keeps its
-// own or what was written.
+// and takes no more bytes than it has room for. Where those of a change are not all taken, a database
+// keeps its own; where there was none, those that were taken are there.
 #[derive(Drop)]
 pub(crate) struct InMemory {
     alloc: Global,
@@ -28,18 +33,10 @@ pub(crate) struct InMemory {
     pub(crate) opens: bool,
     pub(crate) begins: bool,
     pub(crate) ending: Ending,
-    pub(crate) keeps: bool,
     pub(crate) room: usize,
-    // What it was opened for last, and how many bytes it was told to expect.
+    // What it was opened for last, and how many bytes it was to take.
     pub(crate) access: Option<Access>,
-    pub(crate) expected: Option<u64>,
-}
-
-// The bytes of a change.
-#[derive(Drop)]
-pub(crate) struct Waiting {
-    bytes: Vec<u8>,
-    room: usize,
+    pub(crate) expected: Option<usize>,
 }
 
 impl InMemory {
@@ -60,76 +57,70 @@ impl InMemory {
             opens: true,
             begins: true,
             ending: Ending::Whole,
-            keeps: false,
             room: usize::MAX,
             access: None,
             expected: None,
         }
     }
+
+    // Checks that there is nothing, or less than a database.
+    fn has_no_database(&self) -> bool
+        ensures { IsTrue result → HasNone (if self.now.is_missing then Missing else Bytes self.now.bytes.items) }
+    {
+        file_begins();
+        self.is_missing || self.bytes.len() < LEAST
+    }
 }
 
-impl Write for Waiting {
-    ghost contents = { λ s. Some s.bytes.items };
-
-    fn write(&mut self, buf: &[u8]) -> io::Result<usize> {
-        let count = buf.len().min(self.room);
-        self.bytes.extend_from_slice(&buf[..count])?;
-        self.room -= count;
-        Ok(count)
-    }
-
-    fn flush(&mut self) -> io::Result<()> {
-        Ok(())
-    }
+// The front of the file of a database, which is no database.
+fn front_of(alloc: Global, bytes: &[u8], room: usize) -> Result<Vec<u8>, AllocError>
+    requires whole { IsAnyFile bytes.now }
+    requires short { room < length bytes.now }
+    ensures { IfOk result (λ front. IsNoFile front.items) }
+{
+    file_is_layout();
+    layouts_differ();
+    Vec::from_slice(alloc, &bytes[..room])
 }
 
 impl Storage for InMemory {
-    ghost contents = { λ s. Some (if s.is_missing then Missing else Bytes s.bytes.items) };
+    ghost contents = { λ s it. Some (if it.is_missing then Missing else Bytes it.bytes.items) };
 
-    ghost announced = { λ s. s.expected };
+    ghost is_honest = { λ s it. ⊤ };
 
-    type Reader = Cursor<Vec<u8>>;
+    ghost is_sound = { λ s it. ⊤ };
 
-    type Writer = Waiting;
-
-    fn open(&mut self, access: Access) -> io::Result<Option<Cursor<Vec<u8>>>> {
+    fn load(&mut self, alloc: Global, access: Access) -> Result<Option<Database>, TaskFault> {
         self.access = Some(access);
         if !self.opens {
-            return Err(Error::from(ErrorKind::PermissionDenied));
+            return Err(TaskFault::CannotOpen);
         }
         if self.is_missing {
             return Ok(None);
         }
-        Ok(Some(Cursor::new(self.bytes.clone()?)))
+        match decoded(alloc, &self.bytes) {
+            Ok(database) => Ok(Some(database)),
+            Err(fault) => Err(fault),
+        }
     }
 
-    fn begin_write(&mut self, length: u64) -> io::Result<Waiting> {
-        self.expected = Some(length);
-        if !self.begins {
+    fn replace(&mut self, bytes: &[u8]) -> io::Result<()> {
+        self.expected = Some(bytes.len());
+        if !self.begins || self.ending == Ending::OldStays {
             return Err(Error::from(ErrorKind::PermissionDenied));
         }
-        Ok(Waiting {
-            bytes: Vec::new(self.alloc),
-            room: self.room,
-        })
-    }
-
-    fn commit(&mut self, writer: Waiting) -> io::Result<()> {
-        if self.ending == Ending::OldStays {
-            return Err(Error::from(ErrorKind::Other));
+        if self.room < bytes.len() {
+            if self.has_no_database() {
+                self.bytes = front_of(self.alloc, bytes, self.room)?;
+                self.is_missing = false;
+            }
+            return Err(Error::from(ErrorKind::StorageFull));
         }
+        self.bytes = Vec::from_slice(self.alloc, bytes)?;
         self.is_missing = false;
-        self.bytes = writer.bytes;
         if self.ending == Ending::NewStays {
             return Err(Error::from(ErrorKind::Other));
         }
         Ok(())
-    }
-
-    fn abort(&mut self, writer: Waiting) {
-        if !self.keeps {
-            self.is_missing = false;
-            self.bytes = writer.bytes;
-        }
     }
 }

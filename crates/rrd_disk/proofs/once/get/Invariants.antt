@@ -1,8 +1,17 @@
-use Rattle.std.proofs.Common.{◌≤◌, ◌-◌, length}
+use Rattle.std.proofs.Common.{◌-◌, ◌≤◌, length, IsTrue}
+use Rattle.rrd_disk.specs.Calls.{Falls, KeepsHeld}
+use Rattle.rrd_disk.specs.Replayed.{bytes_after, is_honest_after}
+use Rattle.rrd_store.specs.Storages.{Held}
+use Rattle.rrd_disk.proofs.Calling.{IsGotSoFar}
 use Rattle.rrd_disk.proofs.once.get.Given as goal
 
 abbrev pub invariant-loop-count : goal.invariant-loop-count
-invariant-loop-count g l = l.count ≤ length l.bytes
+invariant-loop-count g l = record {
+  few : l.count ≤ length l.bytes;
+  falls : Falls (g.D.Disk.events l.fn.disk) (g.D.Disk.events l.disk);
+  same : KeepsHeld (g.D.Disk.events l.fn.disk) (g.D.Disk.events l.disk);
+  got : (s : Held) → IsTrue (is_honest_after s (g.D.Disk.events l.disk)) → IsGotSoFar (bytes_after s (g.D.Disk.events l.fn.disk)) l.at l.count l.bytes;
+}
 
 abbrev pub decreases-loop-count : goal.decreases-loop-count
-decreases-loop-count g l = length l.bytes - l.count
+decreases-loop-count g l = length l.initial.bytes - l.count

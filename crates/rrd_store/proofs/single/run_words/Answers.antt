@@ -7,29 +7,31 @@ use Rattle.rrd_store.specs.Single.{Ends}
 use Rattle.rrd_store.proofs.Kept.{executes_kept, keeps_same, stays_same}
 use Rattle.rrd_store.proofs.single.run_words.Goals as goal
 
-pub returns-in_err-command : goal.returns-in_err-command
-returns-in_err-command g c =
+pub returns-in_err-command-clause-run : goal.returns-in_err-command-clause-run
+returns-in_err-command-clause-run g c s honest sound =
     let p = err_from_is_err_and c.from_residual.result c.from_residual.ensures.1 in
-    let storage = stays_same (g.P.Storage.contents c.args.storage.now) in
+    let storage = stays_same (g.P.Storage.contents s c.args.storage.now) in
     let out = keeps_same (g.W.Write.contents c.args.out.now) in
     rw (p.1, p.2) (Err c.in_err-command.field-0.0, c.in_err-command.ensures, (refl, storage, out))
 
-pub returns-in_err-database : goal.returns-in_err-database
-returns-in_err-database g c =
+pub returns-in_err-database-clause-run : goal.returns-in_err-database-clause-run
+returns-in_err-database-clause-run g c s honest sound =
     let p = err_from_is_err_and c.from_residual-in_err-database.result c.from_residual-in_err-database.ensures.1 in
-    let old = g.P.Storage.contents c.args.storage.now in
-    let storage : Stays old (g.P.Storage.contents c.start.new.storage) = rw c.start.ensures.stays (stays_same old) in
+    let old = g.P.Storage.contents s c.args.storage.now in
+    let storage : Stays old (g.P.Storage.contents s c.start.new.storage) = rw (c.start.ensures.stays s honest sound) (stays_same old) in
     let out = keeps_same (g.W.Write.contents c.args.out.now) in
-    rw (p.1, p.2) (Ok c.in_ok-command.command, c.in_ok-command.ensures, (Err c.in_err-database.field-0.0, c.in_err-database.ensures.start, (refl, storage, out)))
+    rw (p.1, p.2) (Ok c.in_ok-command.command, c.in_ok-command.ensures, (Err c.in_err-database.field-0.0, c.in_err-database.ensures.start s honest sound, (refl, storage, out)))
 
-pub returns : goal.returns
-returns g c =
+pub returns-clause-run : goal.returns-clause-run
+returns-clause-run g c s honest sound =
+    let started = c.finish.ensures.falls s honest in
+    let mid_sound = c.start.ensures.sound s started sound in
     let old = g.W.Write.contents c.args.out.now in
     let mid = g.W.Write.contents c.execute-outcome.new.out in
     let new = g.W.Write.contents c.finish.new.out in
     let done = executes_kept c.in_ok-database.database c.in_ok-command.command old mid new c.execute-outcome.result c.execute-outcome.ensures.kept c.finish.ensures.out in
-    let before = g.P.Storage.contents c.args.storage.now in
-    let after = g.P.Storage.contents c.finish.new.storage in
+    let before = g.P.Storage.contents s c.args.storage.now in
+    let after = g.P.Storage.contents s c.finish.new.storage in
     let text = text_on c.in_ok-database.database (effect c.in_ok-command.command) in
-    let ends : Ends c.execute-outcome.result text before after c.finish.result = rw c.start.ensures.stays at (c.finish.ensures.storage text c.execute-outcome.ensures.says) in
-    (Ok c.in_ok-command.command, c.in_ok-command.ensures, (Ok c.in_ok-database.database, c.in_ok-database.ensures.start, (c.execute-outcome.result, done, ends)))
+    let ends : Ends c.execute-outcome.result text before after c.finish.result = rw (c.start.ensures.stays s started sound) at (c.finish.ensures.storage s honest mid_sound text c.execute-outcome.ensures.says) in
+    (Ok c.in_ok-command.command, c.in_ok-command.ensures, (Ok c.in_ok-database.database, c.in_ok-database.ensures.start s started sound, (c.execute-outcome.result, done, ends)))

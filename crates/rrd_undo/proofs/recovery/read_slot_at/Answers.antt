@@ -10,6 +10,6 @@ pub returns-clause-few : goal.returns-clause-few
 returns-clause-few g c = read_few c.args.tail _ _ c.read_slot.result c.deref.ensures.value c.read_slot.ensures
 
 pub returns-clause-ok : goal.returns-clause-ok
-returns-clause-ok g c s = rw (c.read.ensures.same s) (λ f len.
+returns-clause-ok g c s f = rw (c.read.ensures.same s (search rules)) (λ len.
     slot_found c.args.tail _ c.args.number _ _ c.in_ok-at.at c.args.file_length c.min-count.result c.read_slot.result len c.in_ok-at.ensures c.min-count.ensures
     (c.in_ok-read.ensures.read s (search rules)) c.deref.ensures.value c.read_slot.ensures)

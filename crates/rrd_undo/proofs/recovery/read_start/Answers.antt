@@ -5,6 +5,6 @@ use Rattle.rrd_undo.proofs.recovery.read_start.Goals as goal
 
 pub returns-clause-mark : goal.returns-clause-mark
 returns-clause-mark g c s f =
-    let read = (rw (c.len.ensures.same s) at (c.in_ok-read_page.ensures.read s (search rules))) in
-    rw (c.read_page.ensures.same s ∙ (c.len.ensures.same s)) (c.read_mark-mark.ensures ∙ ap mark_of c.deref.ensures.value
+    let read = (rw (c.len.ensures.same s (search rules)) at (c.in_ok-read_page.ensures.read s (search rules))) in
+    rw (c.read_page.ensures.same s (search rules) ∙ (c.len.ensures.same s (search rules))) (c.read_mark-mark.ensures ∙ ap mark_of c.deref.ensures.value
     ∙ front_mark _ _ _ c.min.result (c.in_ok-length.ensures.len s (search rules)) c.min.ensures read)

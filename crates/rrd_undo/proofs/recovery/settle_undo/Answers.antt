@@ -4,20 +4,20 @@ use Rattle.rrd_undo.proofs.Recovering.{undone_of}
 use Rattle.rrd_undo.proofs.recovery.settle_undo.Goals as goal
 
 pub returns-in_default-clause-ok : goal.returns-in_default-clause-ok
-returns-in_default-clause-ok g c s = rw (← (c.read_record.ensures.same s)) (λ f len mark.
+returns-in_default-clause-ok g c s f = rw (← (c.read_record.ensures.same s (search rules))) (λ len mark.
     sym (orphan_stands c.args.tail _ mark (sym (c.in_ok-first.ensures.ok s (search rules) len) ∙ c.in_default.is)))
 
 pub returns-in_err-undo-clause-stands : goal.returns-in_err-undo-clause-stands
-returns-in_err-undo-clause-stands g c s = rw (← (c.read_record.ensures.same s)) (λ f len mark.
+returns-in_err-undo-clause-stands g c s f = rw (← (c.read_record.ensures.same s (search rules))) (λ len mark.
     let found = sym (c.in_ok-first.ensures.ok s (search rules) len) ∙ c.in-Some.is in
     c.undo.ensures.stands s (search rules) _ len (undone_of c.args.tail _ c.in-Some.first c.ranges.tail.fits mark found) found)
 
 pub returns-clause-stands : goal.returns-clause-stands
-returns-clause-stands g c s = rw (← (c.read_record.ensures.same s)) (λ f len mark.
+returns-clause-stands g c s f = rw (← (c.read_record.ensures.same s (search rules))) (λ len mark.
     let found = sym (c.in_ok-first.ensures.ok s (search rules) len) ∙ c.in-Some.is in
     c.undo.ensures.stands s (search rules) _ len (undone_of c.args.tail _ c.in-Some.first c.ranges.tail.fits mark found) found)
 
 pub returns-clause-ok : goal.returns-clause-ok
-returns-clause-ok g c s = rw (← (c.read_record.ensures.same s)) (λ f len mark.
+returns-clause-ok g c s f = rw (← (c.read_record.ensures.same s (search rules))) (λ len mark.
     let found = sym (c.in_ok-first.ensures.ok s (search rules) len) ∙ c.in-Some.is in
     c.in_ok-undo.ensures.ok s (search rules) _ len (undone_of c.args.tail _ c.in-Some.first c.ranges.tail.fits mark found) found)

@@ -1,30 +1,23 @@
-use Rattle.std.proofs.Common.{◌*◌, ap, arith}
-use Rattle.rrd_ring.proofs.BlockLemmas.{ArePut, are_put}
-use Rattle.rrd_ring.proofs.WrittenLemmas.{row_count, row_width}
+use Rattle.std.proofs.Common.{◌∙◌, ◌*◌, List, ap, arith, length, replicate, sym}
+use Rattle.rrd_fixed.specs.declared.cell.Cell.{Cell}
+use Rattle.rrd_fixed.specs.declared.cell.Cell.TheVariants.{Unknown}
+use Rattle.rrd_ring.specs.Rows.{width, with_rows}
 use Rattle.rrd_ring.proofs.archive.Archive.write_rows_wrapping.Goals as goal
-use Rattle.rrd_ring.proofs.archive.Archive.write_rows_wrapping.Goals.{After-write_cells-2}
 
-pub parts_of-parts-requires-clause-there : goal.parts_of-parts-requires-clause-there
-parts_of-parts-requires-clause-there c = omega (arith, c.requires.there, row_count c.self.invariant c.self.view_is)
+pub put_rows-requires-clause-there : goal.put_rows-requires-clause-there
+put_rows-requires-clause-there c = omega (arith, c.requires.there, ap length c.begin_at.ensures)
 
-pub parts_of-parts-requires-clause-few : goal.parts_of-parts-requires-clause-few
-parts_of-parts-requires-clause-few c = omega (arith, c.requires.few, row_count c.self.invariant c.self.view_is)
+pub put_rows-requires-clause-few : goal.put_rows-requires-clause-few
+put_rows-requires-clause-few c = omega (arith, c.requires.few, ap length c.begin_at.ensures)
 
-pub split_at-requires : goal.split_at-requires
-split_at-requires c = omega (arith, c.parts_of-parts.ensures.all, c.requires.one_each, ap (λ n. c.args.count * n) (row_width c.self.invariant c.self.view_is))
+pub put_rows-requires-clause-one_each : goal.put_rows-requires-clause-one_each
+put_rows-requires-clause-one_each c = omega (arith, c.requires.one_each, ap (λ (rows : List (List Cell)). c.args.count * width rows) c.begin_at.ensures)
 
-pub write_cells-requires-2 : goal.write_cells-requires-2
-write_cells-requires-2 c =
-    omega (arith, c.parts_of-parts.ensures, c.requires.one_each, c.split_at.ensures.back_len, c.write_cells.ensures.capacity, c.self.invariant.room, ap (λ n. c.args.count * n) (row_width c.self.invariant c.self.view_is))
+pub returns-then-are_unknown : goal.returns-then-are_unknown
+returns-then-are_unknown c =
+    c.clear_rows_wrapping.ensures
+    ∙ ap (λ (cells : List Cell). with_rows c.args.count (width c.args.self.now) c.args.self.now c.args.i cells)
+    (ap (λ n. replicate n Unknown) (sym c.requires.one_each) ∙ sym (c.are_unknown.ensures c.if-are_unknown.true))
 
-written : (c : After-write_cells-2) → ArePut c.self.inside.rows c.self.inside.sources c.self.inside.oldest c.args.i c.args.count c.args.self.now c.write_cells-2.new.cells c.args.cells.now
-written c =
-    are_put {one = c.write_cells.new.cells} c.self.invariant c.self.view_is c.parts_of-parts.ensures.parts c.requires.few c.requires.one_each c.split_at.ensures.front c.split_at.ensures.back
-    (record { items = c.write_cells.ensures.items; room = c.write_cells.ensures.capacity })
-    (record { items = c.write_cells-2.ensures.items; room = c.write_cells-2.ensures.capacity })
-
-pub invariant_of-self : goal.invariant_of-self
-invariant_of-self c = (written (goal.at.invariant_of-self c).After-write_cells-2).is
-
-pub returns : goal.returns
-returns c = (written (goal.at.returns c).After-write_cells-2).rows_are
+pub returns-else-are_unknown : goal.returns-else-are_unknown
+returns-else-are_unknown c = c.put_rows.ensures ∙ ap (λ (rows : List (List Cell)). with_rows c.args.count (width rows) rows c.args.i c.args.cells.now) c.begin_at.ensures

@@ -7,7 +7,7 @@ pub returns-clause-ok : goal.returns-clause-ok
 returns-clause-ok g c = on_ok c.read_page.result _ _ (λ read s f new. record {
   knows = record {
     old_length = c.in_ok-self.ensures.len s (search rules);
-    old_first = first_read _ _ _ _ _ (c.in_ok-self.ensures.len s (search rules)) (c.len.ensures.same s) c.min-count.ensures (read s f);
+    old_first = first_read _ _ _ _ _ (c.in_ok-self.ensures.len s (search rules)) (c.len.ensures.same s (search rules)) c.min-count.ensures (read s f);
     tail = record {
       page = c.in_ok-self-2.ensures.page;
       below = omega (arith, c.in_ok-self.ensures.len s (search rules), c.in_ok-self-2.ensures.behind, c.max.ensures);
@@ -15,5 +15,5 @@ returns-clause-ok g c = on_ok c.read_page.result _ _ (λ read s f new. record {
     };
     below = omega (arith, c.in_ok-self-2.ensures.behind, c.max.ensures);
   };
-  holds = begun _ new _ (c.read_page.ensures.same s ∙ (c.len.ensures.same s));
+  holds = begun _ new _ (c.read_page.ensures.same s (search rules) ∙ (c.len.ensures.same s (search rules)));
 }) c.read_page.ensures.read

@@ -1,15 +1,13 @@
-use Rattle.std.proofs.Common.{rules, ◌≡◌, ◌≤◌, ◌⊎◌, ◌∙◌, ap, sym, inl, inr, length, IsTrue, arith}
+use Rattle.std.proofs.Common.{rules, ◌≡◌, ◌≤◌, ◌∙◌, ap, sym, length, IsTrue, arith}
 use Rattle.rrd_tail.specs.Settled.{settled}
 use Rattle.rrd_undo.specs.Changing.{Agreeing, IsFirstPut, IsLeft}
 use Rattle.rrd_undo.proofs.Cutting.{settled_plain}
 use Rattle.rrd_undo.proofs.Laid.{on_err, on_ok}
-use Rattle.rrd_undo.proofs.Stages.{alone_left, at_left, database_of}
+use Rattle.rrd_undo.proofs.Stages.{alone_left, alone_stands, at_either, database_of}
 use Rattle.rrd_undo.proofs.change.Change.end.Goals as goal
 
 pub returns-then-count-self-clause-err : goal.returns-then-count-self-clause-err
-returns-then-count-self-clause-err g c s f old new done counts all high are is_at =
-    let both = at_left old new done _ _ is_at in
-    (both.0, λ is. inl (both.1 is))
+returns-then-count-self-clause-err g c s f old new done counts all high are is_at = at_either old new new done _ _ is_at
 
 pub returns-in-Untouched-clause-ok : goal.returns-in-Untouched-clause-ok
 returns-in-Untouched-clause-ok g c = on_ok c.put_alone.result _ _ (λ h s f old new done counts all high are is_at.
@@ -18,7 +16,8 @@ returns-in-Untouched-clause-ok g c = on_ok c.put_alone.result _ _ (λ h s f old 
     let alone : IsTrue c.is_alone.result = search rules in
     let agree : Agreeing old new (g.F.Bytes.held s c.args.file.now) done = rw c.in-Untouched.is at is_at.holds in
     let longer : length old ≤ length new = omega (arith, c.is_alone.ensures alone, is_at.knows.old_length, counts, count_len) in
-    ap settled (h s f old new done (sym count_len ∙ counts) longer all high are is_at.knows agree) ∙ settled_plain new (database_of new _ are (c.is_database.ensures.0 yes))) c.put_alone.ensures.ok
+    let is_new = database_of new _ are (c.is_database.ensures.0 yes) in
+    (ap settled (h s f old new done (sym count_len ∙ counts) longer all high are is_at.knows agree) ∙ settled_plain new is_new, is_new)) c.put_alone.ensures.ok
 
 pub returns-in-Untouched-clause-err : goal.returns-in-Untouched-clause-err
 returns-in-Untouched-clause-err g c = on_err c.put_alone.result _ _ (λ h s f old new done counts all high are is_at.
@@ -32,17 +31,15 @@ returns-in-Untouched-clause-err g c = on_err c.put_alone.result _ _ (λ h s f ol
     let first : IsFirstPut old c.args.self.now.length (g.F.Bytes.held s c.put_alone.new.file) = rw len (alone_left old new _ c.args.first.now done agree all longer are _ either) in
     let left : IsLeft c.args.self.now.stage old c.args.self.now.tail.offset c.args.self.now.length (g.F.Bytes.held s c.put_alone.new.file) = rw c.in-Untouched.is first in (
       record { knows = is_at.knows; left = left },
-      λ is. elim either as (λ _. (settled (g.F.Bytes.held s c.put_alone.new.file) ≡ old) ⊎ (settled (g.F.Bytes.held s c.put_alone.new.file) ≡ new)) [
-        | inl e ↦ inl (ap settled e ∙ settled_plain old is)
-        | inr e ↦ inr (ap settled e ∙ settled_plain new (database_of new _ are (c.is_database.ensures.0 yes)))
-      ],
+      alone_stands old new _ (database_of new _ are (c.is_database.ensures.0 yes)) either,
     )) c.put_alone.ensures.err
 
 pub returns-in_default-clause-ok : goal.returns-in_default-clause-ok
 returns-in_default-clause-ok g c = on_ok c.end_started.result _ _ (λ h s f old new done counts all high are is_at.
     let yes : IsTrue c.is_database.result = search rules in
     let count_len : c.args.count ≡ c.args.self.now.length = search rules in
-    h s f old new done (database_of new _ are (c.is_database.ensures.0 yes)) (sym count_len ∙ counts) all are is_at) c.end_started.ensures.ok
+    let is_new = database_of new _ are (c.is_database.ensures.0 yes) in
+    (h s f old new done is_new (sym count_len ∙ counts) all are is_at, is_new)) c.end_started.ensures.ok
 
 pub returns-in_default-clause-err : goal.returns-in_default-clause-err
 returns-in_default-clause-err g c = on_err c.end_started.result _ _ (λ h s f old new done counts all high are is_at.

@@ -1,8 +1,8 @@
 use Rattle.std.proofs.Common.{rules, ◌∙◌, ap}
 use Rattle.rrd_tail.specs.Settled.{settled}
 use Rattle.rrd_undo.proofs.Cutting.{settled_plain}
-use Rattle.rrd_undo.proofs.Laid.{always_err, on_err, on_ok}
-use Rattle.rrd_undo.proofs.Stages.{other_left, other_invalid}
+use Rattle.rrd_undo.proofs.Laid.{on_err, on_ok}
+use Rattle.rrd_undo.proofs.Stages.{ended_stands, other_begins, other_left, other_invalid}
 use Rattle.rrd_undo.proofs.change.Change.end_started.Goals as goal
 
 pub returns-in-Marked-clause-ok : goal.returns-in-Marked-clause-ok
@@ -24,10 +24,14 @@ returns-in_default g c = record {
       let at2 = c.in_ok-start.ensures.ok s (search rules) old new done is_at in
       let other = other_invalid c.start.new.self.stage old new _ _ _ done c.in_default.not-Marked c.in_ok-start.ensures.started at2.holds in
       ap settled (h s f new done (c.start.ensures.length ∙ counts) all are other.1) ∙ settled_plain new is_new) c.end_invalid.ensures.ok;
-  err = always_err c.end_invalid.result _ (λ s f old new done is_new counts all are is_at.
+  err = on_err c.end_invalid.result _ _ (λ h s f old new done is_new counts all are is_at.
       let at2 = c.in_ok-start.ensures.ok s (search rules) old new done is_at in
-      let other = other_invalid c.start.new.self.stage old new _ _ _ done c.in_default.not-Marked c.in_ok-start.ensures.started at2.holds in (
-        rw c.end_invalid.ensures.frame (record { knows = at2.knows; left = other_left c.start.new.self.stage old _ _ _ c.in_default.not-Marked c.in_ok-start.ensures.started other.0 }),
-        λ is. absurd (other.0 is),
-      ));
+      let other = other_invalid c.start.new.self.stage old new _ _ _ done c.in_default.not-Marked c.in_ok-start.ensures.started at2.holds in
+      let either = h s f new done (c.start.ensures.length ∙ counts) all are other.1 other.2 in (
+        rw c.end_invalid.ensures.frame (record {
+          knows = at2.knows;
+          left = other_left c.start.new.self.stage old _ _ _ c.in_default.not-Marked c.in_ok-start.ensures.started other.0 (other_begins new _ is_new either);
+        }),
+        ended_stands old new _ other.0 either,
+      )) c.end_invalid.ensures.err;
 }

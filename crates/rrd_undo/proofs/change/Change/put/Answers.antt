@@ -11,16 +11,16 @@ returns-then-page-self-clause-err g c s f old new is is_at = at_left old new c.a
 
 pub returns-in_err-is_same-clause-err : goal.returns-in_err-is_same-clause-err
 returns-in_err-is_same-clause-err g c = always_err c.from_residual.result _ (λ s f old new is is_at.
-    at_left old new c.args.at _ _ (at_same old new c.args.at _ _ _ _ c.is_same.ensures.frame (c.is_same.ensures.same s) is_at))
+    at_left old new c.args.at _ _ (at_same old new c.args.at _ _ _ _ c.is_same.ensures.frame (c.is_same.ensures.same s (search rules)) is_at))
 
 pub returns-then-branch-clause-ok : goal.returns-then-branch-clause-ok
 returns-then-branch-clause-ok g c s f old new is is_at =
     let yes : IsTrue c.in_ok-is_same.field-0 = search rules in
-    at_page_same old new c.args.at c.args.page.now _ _ _ _ c.requires c.is_same.ensures.frame (c.is_same.ensures.same s) is (c.in_ok-is_same.ensures.yes yes) (c.in_ok-is_same.ensures.read s (search rules)) is_at
+    at_page_same old new c.args.at c.args.page.now _ _ _ _ c.requires c.is_same.ensures.frame (c.is_same.ensures.same s (search rules)) is (c.in_ok-is_same.ensures.yes yes) (c.in_ok-is_same.ensures.read s (search rules)) is_at
 
 pub returns-clause-ok : goal.returns-clause-ok
 returns-clause-ok g c = on_ok c.put_differing.result _ _ (λ h s f old new is is_at.
-    let same = at_same old new c.args.at _ _ _ _ c.is_same.ensures.frame (c.is_same.ensures.same s) is_at in
+    let same = at_same old new c.args.at _ _ _ _ c.is_same.ensures.frame (c.is_same.ensures.same s (search rules)) is_at in
     let within : c.args.at + length c.args.page.now ≤ c.start.new.self.length = omega (arith, c.start.ensures.length, same_length c.args.self.now c.is_same.new.self c.is_same.ensures.frame) in
     h s f old new is within c.in_ok-start.ensures.started
     (at_old_page old new c.args.at c.args.page.now c.is_same.new.self.old_page.items c.start.new.self.old_page.items c.args.self.now _ c.requires (c.in_ok-is_same.ensures.read s (search rules)) is_at (ap (λ v. v.items) c.start.ensures.page))
@@ -28,7 +28,7 @@ returns-clause-ok g c = on_ok c.put_differing.result _ _ (λ h s f old new is is
 
 pub returns-clause-err : goal.returns-clause-err
 returns-clause-err g c = on_err c.put_differing.result _ _ (λ h s f old new is is_at.
-    let same = at_same old new c.args.at _ _ _ _ c.is_same.ensures.frame (c.is_same.ensures.same s) is_at in
+    let same = at_same old new c.args.at _ _ _ _ c.is_same.ensures.frame (c.is_same.ensures.same s (search rules)) is_at in
     let within : c.args.at + length c.args.page.now ≤ c.start.new.self.length = omega (arith, c.start.ensures.length, same_length c.args.self.now c.is_same.new.self c.is_same.ensures.frame) in
     h s f old new is within c.in_ok-start.ensures.started
     (at_old_page old new c.args.at c.args.page.now c.is_same.new.self.old_page.items c.start.new.self.old_page.items c.args.self.now _ c.requires (c.in_ok-is_same.ensures.read s (search rules)) is_at (ap (λ v. v.items) c.start.ensures.page))

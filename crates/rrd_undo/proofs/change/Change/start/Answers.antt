@@ -2,7 +2,7 @@ use Rattle.std.proofs.Common.{rules, IsTrue}
 use Rattle.rrd_undo.specs.Databases.{IsDatabase}
 use Rattle.rrd_undo.specs.Changing.{Agreeing}
 use Rattle.rrd_undo.proofs.Laid.{on_err, on_ok}
-use Rattle.rrd_undo.proofs.Stages.{database_of, first_database, not_true}
+use Rattle.rrd_undo.proofs.Stages.{database_of, database_stands_for, first_database, not_true}
 use Rattle.rrd_undo.proofs.change.Change.start.Goals as goal
 
 pub returns-in-Untouched-clause-ok : goal.returns-in-Untouched-clause-ok
@@ -15,8 +15,9 @@ pub returns-in-Untouched-clause-err : goal.returns-in-Untouched-clause-err
 returns-in-Untouched-clause-err g c = on_err c.mark.result _ _ (λ h s f old new done is_at.
     let agree : Agreeing old new (g.F.Bytes.held s c.args.file.now) done = rw c.in-Untouched.is at is_at.holds in
     let yes : IsTrue c.can_mark.result = search rules in
-    let both = h s f old new done (database_of old _ is_at.knows.old_first (c.can_mark.ensures.yes yes).0) is_at.knows agree in
-    (both.0, λ is. both.1)) c.mark.ensures.err
+    let is = database_of old _ is_at.knows.old_first (c.can_mark.ensures.yes yes).0 in
+    let both = h s f old new done is is_at.knows agree in
+    (both.0, database_stands_for old _ is both.1)) c.mark.ensures.err
 
 pub returns-in-Untouched-2-clause-ok : goal.returns-in-Untouched-2-clause-ok
 returns-in-Untouched-2-clause-ok g c = on_ok c.write_invalid_mark.result _ _ (λ h s f old new done is_at.
@@ -28,4 +29,4 @@ pub returns-in-Untouched-2-clause-err : goal.returns-in-Untouched-2-clause-err
 returns-in-Untouched-2-clause-err g c = on_err c.write_invalid_mark.result _ _ (λ h s f old new done is_at.
     let agree : Agreeing old new (g.F.Bytes.held s c.args.file.now) done = rw c.in-Untouched-2.is at is_at.holds in
     let none : IsDatabase old → ⊥ = λ is. not_true _ c.if-can_mark.false (c.can_mark.ensures.no (first_database old _ is_at.knows.old_first is) is_at.knows.tail.page) in
-    (h s f old new done none is_at.knows agree, λ is. absurd (none is))) c.write_invalid_mark.ensures.err
+    h s f old new done none is_at.knows agree) c.write_invalid_mark.ensures.err

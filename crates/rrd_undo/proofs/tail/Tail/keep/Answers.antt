@@ -26,10 +26,10 @@ pub returns-clause-ok : goal.returns-clause-ok
 returns-clause-ok g c = on_any c.sync.result _ (λ s f old is is_tail page undoing.
     let some : 1 ≤ length c.args.bytes.now = search rules in
     kept_synced old _ _ _ _ _ _ _ (kept_put old c.args.self.now.offset c.args.self.now.slots c.args.at c.args.bytes.now _ is is_tail page undoing some _ _ c.in_ok-offset.offset c.in_ok-offset.ensures
-    (c.deref.ensures.value ∙ c.in_ok-fill_slot.ensures) (c.in_ok-append.ensures.ok s (search rules) (omega (arith, undoing.room, c.in_ok-offset.ensures)))) (c.sync.ensures.same s))
+    (c.deref.ensures.value ∙ c.in_ok-fill_slot.ensures) (c.in_ok-append.ensures.ok s (search rules) (omega (arith, undoing.room, c.in_ok-offset.ensures)))) (c.sync.ensures.same s (search rules)))
 
 pub returns-clause-err : goal.returns-clause-err
 returns-clause-err g c = always_err c.sync.result _ (λ s f old is is_tail page undoing.
     let some : 1 ≤ length c.args.bytes.now = search rules in
-    ap settled (c.sync.ensures.same s) ∙ keeps_settled old _ _ _ _ _ _ is_tail (kept_put old c.args.self.now.offset c.args.self.now.slots c.args.at c.args.bytes.now _ is is_tail page undoing some _ _
+    ap settled (c.sync.ensures.same s (search rules)) ∙ keeps_settled old _ _ _ _ _ _ is_tail (kept_put old c.args.self.now.offset c.args.self.now.slots c.args.at c.args.bytes.now _ is is_tail page undoing some _ _
     c.in_ok-offset.offset c.in_ok-offset.ensures (c.deref.ensures.value ∙ c.in_ok-fill_slot.ensures) (c.in_ok-append.ensures.ok s (search rules) (omega (arith, undoing.room, c.in_ok-offset.ensures)))))

@@ -1,0 +1,50 @@
+-- Runs on the file at a path, by the records of their calls.
+use Rattle.std.proofs.Common.{◌≡◌, List, [], ◌∷◌, map, Option, Some, None, refl, sym, ◌∙◌, subst}
+use Rattle.rrd_spec.specs.Journal.Survivors.{Stored}
+use Rattle.rrd_store.specs.Runs as runs
+use Rattle.rrd_store.specs.Storages.{Held}
+use Rattle.rrd_disk.specs.Contents.{IsSound, contents_after, is_honest_by, is_sound_after, represented}
+use Rattle.rrd_disk.specs.Events.{Event}
+use Rattle.rrd_disk.specs.Replayed.{held_after}
+use Rattle.rrd_disk.specs.Runs.{AreHonest, AreRuns, FilesFollowSpecification, IsRun, Recorded, last_of}
+use Rattle.rrd_disk.proofs.Contents.{Laws, file_unmarked, itself, sound_unmarked}
+
+-- ---- one run
+
+-- what a storage says of a run, at the record of its calls
+pub run_from : (before after : List Event) (run : runs.Run) → before ≡ []
+    → ((s : Option Held) → is_honest_by s after → is_sound_after s before → is_sound_after s after)
+    → ((s : Option Held) → is_honest_by s after → is_sound_after s before → runs.DidIn (contents_after s before) run (contents_after s after))
+    → IsRun after run
+run_from before after run none sound did = λ start honest is.
+    let begun : is_sound_after (Some start) before = subst (λ (events : List Event). is_sound_after (Some start) events) (sym none) is in
+    (sound (Some start) honest begun, subst (λ (events : List Event). runs.DidIn (contents_after (Some start) events) run (contents_after (Some start) after)) none (did (Some start) honest begun))
+
+-- ---- one run after another
+
+abbrev pub ended : List Recorded → List runs.Event
+ended recorded = map (λ (r : Recorded). runs.Ended r.run) recorded
+
+happened : (start : Held) (recorded : List Recorded) → IsSound start → AreRuns recorded → AreHonest start recorded
+    → runs.HappenedAll (represented start) (ended recorded) (represented (last_of start recorded))
+happened start [] sound are honest = refl
+happened start (r ∷ later) sound are honest =
+    let one = are.0 start honest.0 sound in
+    (represented (held_after start r.events), one.1, happened (held_after start r.events) later one.0 are.1 honest.1)
+
+module _ (laws : Laws) where
+  -- the first file has no mark
+  pub first_sound : (start : Held) (first : Option Stored) → runs.IsFirst start first → IsSound start
+  first_sound start None is = subst IsSound (sym is) tt
+  first_sound start (Some d) is = sound_unmarked laws start is.0 is.1 (file_unmarked laws is.0 d is.2)
+
+  pub first_itself : (start : Held) (first : Option Stored) → runs.IsFirst start first → represented start ≡ start
+  first_itself start None is = subst (λ (h : Held). represented h ≡ h) (sym is) refl
+  first_itself start (Some d) is = itself laws start is.0 is.1 (file_unmarked laws is.0 d is.2) ∙ sym is.1
+
+  pub files_follow : ((old : Held) (first : Option Stored) (events : List runs.Event) (new : Held) → runs.RunsFollowSpecification old first events new)
+      → (start : Held) (first : Option Stored) (recorded : List Recorded) → FilesFollowSpecification start first recorded
+  files_follow follow start first recorded = λ is are honest.
+      let all = happened start recorded (first_sound start first is) are honest in
+      let last : Held = represented (last_of start recorded) in
+      follow start first (ended recorded) last is (subst (λ (h : Held). runs.HappenedAll h (ended recorded) last) (first_itself start first is) all)

@@ -1,0 +1,13 @@
+use Rattle.std.proofs.Common.{◌∙◌}
+use Rattle.rrd_disk.specs.Replayed.{bytes_after}
+use Rattle.rrd_disk.proofs.loading.load.Goals as goal
+
+pub returns-in-Some-clause-reads : goal.returns-in-Some-clause-reads
+returns-in-Some-clause-reads g c = λ s honest.
+    c.in-Some.ensures.reads (bytes_after s (g.D.Disk.events c.loop.file.disk)) (c.front.ensures.shown s honest) (λ whole. c.front.ensures.items ∙ c.is_whole.ensures whole s honest)
+
+pub returns-in-Err-clause-reads : goal.returns-in-Err-clause-reads
+returns-in-Err-clause-reads g c = λ s honest. c.read_fault.ensures.known _
+
+pub returns-clause-reads : goal.returns-clause-reads
+returns-clause-reads g c = λ s honest. c.read_fault-2.ensures.known _

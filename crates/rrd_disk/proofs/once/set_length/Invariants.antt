@@ -1,0 +1,8 @@
+use Rattle.rrd_disk.specs.Calls.{Falls, KeepsHeld}
+use Rattle.rrd_disk.proofs.once.set_length.Given as goal
+
+abbrev pub invariant-loop : goal.invariant-loop
+invariant-loop g l = record {
+  falls : Falls (g.D.Disk.events l.fn.disk) (g.D.Disk.events l.disk);
+  same : KeepsHeld (g.D.Disk.events l.fn.disk) (g.D.Disk.events l.disk);
+}

@@ -1,0 +1,22 @@
+use Rattle.std.proofs.Common.{List, ℕ, [], ◌∷◌, refl, lit<}
+use Rattle.rrd_undo.specs.Calls.{ArePut, AreWholeOrNot}
+use Rattle.rrd_disk.specs.Replayed.{held_after}
+use Rattle.rrd_disk.proofs.Asked.{falls_asked, still_there}
+use Rattle.rrd_disk.proofs.Asking.{of_start, there_bytes}
+use Rattle.rrd_disk.proofs.Contents.{Laws}
+use Rattle.rrd_disk.proofs.Storing.{on_err, on_ok, prepared_spoilt}
+use Rattle.rrd_disk.proofs.storage.spoil.Goals as goal
+
+pub returns-clause-falls : goal.returns-clause-falls
+returns-clause-falls g c = falls_asked (g.D.Disk.events c.args.file.now.disk) (g.D.Disk.events c.put_whole.new.self.disk) c.put_whole.ensures.falls
+
+pub returns-clause-spoilt : goal.returns-clause-spoilt
+returns-clause-spoilt g c = λ s honest is none missing.
+    let laws : Laws = record { begins = c.file_begins.ensures; database = c.files_without_marks_stand_for_themselves.ensures.database; unmarked = c.files_without_marks_stand_for_themselves.ensures.unmarked } in
+    let old = g.D.Disk.events c.args.file.now.disk in
+    let new = g.D.Disk.events c.put_whole.new.self.disk in
+    let zeros : List ℕ = 0 ∷ 0 ∷ 0 ∷ 0 ∷ [] in
+    prepared_spoilt laws c.put_whole.result zeros (held_after s old) (held_after s new) (lit< tt) refl is none missing
+    (still_there old new c.put_whole.ensures.falls s honest (there_bytes (held_after s old) is))
+    (on_ok c.put_whole.result _ _ (λ put. of_start (λ (o n : List ℕ). ArePut 0 zeros o n) old new put s honest) c.put_whole.ensures.ok)
+    (on_err c.put_whole.result _ _ (λ put. of_start (λ (o n : List ℕ). AreWholeOrNot 0 zeros o n) old new put s honest) c.put_whole.ensures.err)

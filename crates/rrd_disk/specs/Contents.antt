@@ -1,0 +1,31 @@
+-- Definition: the database that a file represents, by the record of its calls.
+use Rattle.std.specs.Prelude.{IsSome, IsTrue, List, Option, Some, None}
+use Rattle.rrd_disk.specs.Events.{Event}
+use Rattle.rrd_disk.specs.Replayed.{held_after, is_honest_after}
+use Rattle.rrd_store.specs.Storages.{Held, Missing, Bytes, IsNoFile}
+use Rattle.rrd_tail.specs.Marks.{mark_of}
+use Rattle.rrd_tail.specs.Settled.{settled}
+
+-- a file represents the bytes to which it is settled, if a change was interrupted
+abbrev pub represented : Held → Held
+represented Missing = Missing
+represented (Bytes bytes) = Bytes (settled bytes)
+
+-- a file that begins with a mark is an interrupted change of a database. This is a premise about the first file alone: what
+-- was so stays so. Without it a file of another program may begin with such a mark, or the power may have failed
+abbrev pub IsSound : Held → Type 0
+IsSound Missing = Unit {0}
+IsSound (Bytes bytes) = IsSome (mark_of bytes) → ¬ IsNoFile (settled bytes)
+
+-- the same for what is assumed of the file before the first call; nothing is known if nothing is assumed
+abbrev pub contents_after : Option Held → List Event → Option Held
+contents_after None events = None
+contents_after (Some start) events = Some (represented (held_after start events))
+
+abbrev pub is_honest_by : Option Held → List Event → Type 0
+is_honest_by None events = Unit {0}
+is_honest_by (Some start) events = IsTrue (is_honest_after start events)
+
+abbrev pub is_sound_after : Option Held → List Event → Type 0
+is_sound_after None events = Unit {0}
+is_sound_after (Some start) events = IsSound (held_after start events)

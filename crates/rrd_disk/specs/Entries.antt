@@ -1,0 +1,12 @@
+-- Glue: what the result of opening the file of a run says of the file.
+use Rattle.std.specs.Prelude.{List, ⊤}
+use Rattle.rrd_disk.specs.Events.{Event}
+use Rattle.rrd_disk.specs.Openings.{IsNone, IsThere}
+use Rattle.rrd_disk.specs.declared.file_bytes.Entry.{Entry}
+use Rattle.rrd_disk.specs.declared.file_bytes.Entry.TheVariants.{Open, Pipe, Missing, Refused}
+
+abbrev pub SaysEntry : {F : Type 0} → Entry F → List Event → Type 0
+SaysEntry Open events = IsThere events
+SaysEntry (Pipe file) events = IsThere events
+SaysEntry Missing events = IsNone events
+SaysEntry (Refused error) events = ⊤

@@ -1,0 +1,58 @@
+-- Definition: runs on a file that stays open, with the record of all calls on the file. Law: after any list of such runs on
+-- one honest file, its bytes and all printed text are what the definitions compute.
+use Rattle.std.specs.Prelude.{◌≡◌, IsTrue, List, [], ◌∷◌, map, Option, Some, None, ⊤}
+use Rattle.rrd_disk.specs.Contents.{IsSound, represented}
+use Rattle.rrd_disk.specs.Events.{Event}
+use Rattle.rrd_disk.specs.Replayed.{held_after, is_honest_after}
+use Rattle.rrd_disk.specs.Runs.{Recorded}
+use Rattle.rrd_spec.specs.Journal.Survivors.{Stored}
+use Rattle.rrd_store.specs.Runs as runs
+use Rattle.rrd_store.specs.Sessions.{IsRead}
+use Rattle.rrd_store.specs.Storages.{Held}
+
+-- from each file for which all answers so far are honest, the file is one that the next run can read; and if there is a database
+-- in memory, it is the one that the file represents
+pub record IsKeptOf (held : Held) (database : Option Stored) : Type 0 where
+  pub sound : IsSound held
+  pub read : IsRead (Some (represented held)) database
+
+abbrev pub IsKept : List Event → Option Stored → Type 0
+IsKept events database =
+    (start : Held) → IsTrue (is_honest_after start events) → IsSound start → IsKeptOf (held_after start events) database
+
+-- the calls that opened the file changed nothing that the file represents
+abbrev pub IsOpened : List Event → Type 0
+IsOpened events =
+    (start : Held) → IsTrue (is_honest_after start events) → IsSound start
+    → represented (held_after start events) ≡ represented start
+
+-- the record has these calls before the run, and those after it. From each file for which all answers are honest, the run did
+-- what the definitions say to the file that the calls before it left
+abbrev pub IsOpenRun : List Event → List Event → runs.Run → Type 0
+IsOpenRun before after run =
+    (start : Held) → IsTrue (is_honest_after start after) → IsSound start
+    → IsTrue (is_honest_after start before)
+    × runs.Did (represented (held_after start before)) run (represented (held_after start after))
+
+-- whatever the file is, the run did what the definitions say for some valid database, or for none
+abbrev pub IsAnyRun : runs.Run → Type 0
+IsAnyRun run = runs.DidIn None run None × runs.IsComputed None None run
+
+-- each run did what its record says: it begins with the record of the run before
+abbrev pub AreOpenRuns : List Event → List Recorded → Type 0
+AreOpenRuns before [] = ⊤
+AreOpenRuns before (r ∷ later) = IsOpenRun before r.events r.run × AreOpenRuns r.events later
+
+-- the record after the runs
+abbrev pub record_of : List Event → List Recorded → List Event
+record_of before [] = before
+record_of before (r ∷ later) = record_of r.events later
+
+-- the main theorem, for a file that stays open
+abbrev pub OpenFilesFollowSpecification : Held → Option Stored → List Event → List Recorded → Type 0
+OpenFilesFollowSpecification start first opened recorded =
+    (is : runs.IsFirst start first) → IsOpened opened → AreOpenRuns opened recorded
+    → IsTrue (is_honest_after start (record_of opened recorded))
+    → (last : runs.Standing)
+    × runs.LeadsAll (runs.Keeping (runs.first_of start first is)) (map (λ (r : Recorded). runs.Ended r.run) recorded) last
+    × runs.IsFileOf (represented (held_after start (record_of opened recorded))) last

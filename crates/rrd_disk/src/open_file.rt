@@ -1,0 +1,149 @@
+//! A database in a file that stays open between runs.
+ghost use Rattle.std.specs.Prelude.{◌≡◌, [], IfOk, IsSome, None, Some};
+ghost use Rattle.rrd_disk.specs.OpenRuns.{IsAnyRun, IsKept, IsOpenRun, IsOpened};
+ghost use Rattle.rrd_spec.specs.Journal.Survivors.{Stored};
+ghost use Rattle.rrd_store.specs.Runs.{ByBatch, ByCommand};
+ghost use Rattle.rrd_store.specs.Sessions.{IsFileBatchOn, IsSingleOn};
+
+use crate::{Disk, FileStorage, OwnPlace};
+use rrd_store::{FileBatchEnd, Gate, Session, TaskFault};
+use rrd_tool::Words;
+use std::alloc::Global;
+use std::io::{Error, Read, Write};
+
+/// A database in a file that stays open and locked between runs.
+///
+/// The file is opened, locked and read once. Each run writes its changes before it ends. After a change that failed the
+/// file is closed; the next run opens it again.
+#[derive(Drop)]
+pub struct OpenFile<D: Disk + Drop> {
+    session: Session<FileStorage<D, OwnPlace>>,
+}
+
+/// The reason why a file was not opened.
+#[derive(Clone, Copy, Debug)]
+pub struct OpenFault {
+    /// The fault.
+    pub fault: TaskFault,
+    /// The reason why the last call on the file failed.
+    pub error: Option<Error>,
+}
+
+impl<D: Disk + Drop> OpenFile<D> {
+    /// Opens and locks the file at a place, and reads its database. If a change of the file was interrupted, repairs the
+    /// file.
+    ///
+    /// # Errors
+    ///
+    /// - `CannotOpen`: there is no such file, it cannot be written or is no regular file, another program holds its lock, or
+    ///   the file system has no locks.
+    /// - `File`: the file is not a database, or memory ran out.
+    pub fn open(alloc: Global, disk: D, place: OwnPlace) -> Result<OpenFile<D>, OpenFault>
+        requires { D.events disk ≡ [] }
+        ensures kept { IfOk result (λ file. IsKept (D.events file.session.storage.bytes.disk) file.session.database) }
+        ensures opened { IfOk result (λ file. IsOpened (D.events file.session.storage.bytes.disk)) }
+        ensures some { IfOk result (λ file. IsSome file.session.database) }
+    {
+        let mut session = Session::new(FileStorage::staying_open(disk, place));
+        match session.load(alloc) {
+            Ok(()) => Ok(OpenFile { session }),
+            Err(fault) => Err(OpenFault {
+                fault,
+                error: session.storage().last_error(),
+            }),
+        }
+    }
+
+    /// Returns why the last call of the last run failed. Returns `None` if no call failed.
+    pub fn last_error(&self) -> Option<Error> {
+        self.session.storage().last_error()
+    }
+
+    /// Checks whether the last run wrote its database to the file.
+    pub fn is_written(&self) -> bool {
+        self.session.is_written()
+    }
+
+    /// Runs one command, as [`crate::run_command_at`] does on the file at a path.
+    ///
+    /// Theorem: as for [`crate::run_command_at`]. If a database is in memory, the command runs on it.
+    pub fn run<W: Write>(
+        &mut self,
+        alloc: Global,
+        words: &Words<'_>,
+        now: u64,
+        out: &mut W,
+    ) -> Result<(), TaskFault>
+        ensures kept { IsKept (D.events self.old.session.storage.bytes.disk) self.old.session.database
+            → IsKept (D.events self.new.session.storage.bytes.disk) self.new.session.database }
+        ensures file { IsKept (D.events self.old.session.storage.bytes.disk) self.old.session.database
+            → IsOpenRun (D.events self.old.session.storage.bytes.disk) (D.events self.new.session.storage.bytes.disk)
+            (ByCommand (record {
+              words = words.now;
+              now = now;
+              out_before = W.contents out.old;
+              out_after = W.contents out.new;
+              end = result;
+            })) }
+        ensures on { (d : Stored) → self.old.session.database ≡ Some d
+            → IsSingleOn words.now now d self.new.session.database None None (W.contents out.old) (W.contents out.new) result }
+        ensures any { IsAnyRun
+            (ByCommand (record {
+              words = words.now;
+              now = now;
+              out_before = W.contents out.old;
+              out_after = W.contents out.new;
+              end = result;
+            })) }
+    {
+        self.session.database_is_valid();
+        self.session.storage().forget_error();
+        self.session.run(alloc, words, now, out)
+    }
+
+    /// Runs each line of `reader`, as [`crate::run_batch_at`] does on the file at a path. If `gate` does not allow the write,
+    /// the batch ends as after a failed write.
+    ///
+    /// Theorem: as for [`crate::run_batch_at`]. If a database is in memory, the lines run on it.
+    pub fn run_batch<R: Read, W: Write, G: Gate>(
+        &mut self,
+        alloc: Global,
+        now: u64,
+        numbered: usize,
+        reader: &mut R,
+        out: &mut W,
+        gate: &G,
+    ) -> Result<FileBatchEnd, TaskFault>
+        ensures kept { IsKept (D.events self.old.session.storage.bytes.disk) self.old.session.database
+            → IsKept (D.events self.new.session.storage.bytes.disk) self.new.session.database }
+        ensures file { IsKept (D.events self.old.session.storage.bytes.disk) self.old.session.database
+            → IsOpenRun (D.events self.old.session.storage.bytes.disk) (D.events self.new.session.storage.bytes.disk)
+            (ByBatch (record {
+              now = now;
+              numbered = numbered;
+              in_before = R.remaining reader.old;
+              in_after = R.remaining reader.new;
+              out_before = W.contents out.old;
+              out_after = W.contents out.new;
+              end = result;
+            })) }
+        ensures on { (d : Stored) → self.old.session.database ≡ Some d
+            → IsFileBatchOn now numbered d self.new.session.database None None
+            (R.remaining reader.old) (R.remaining reader.new) (W.contents out.old) (W.contents out.new) result }
+        ensures any { IsAnyRun
+            (ByBatch (record {
+              now = now;
+              numbered = numbered;
+              in_before = R.remaining reader.old;
+              in_after = R.remaining reader.new;
+              out_before = W.contents out.old;
+              out_after = W.contents out.new;
+              end = result;
+            })) }
+    {
+        self.session.database_is_valid();
+        self.session.storage().forget_error();
+        self.session
+            .run_batch(alloc, now, numbered, reader, out, gate)
+    }
+}

@@ -1,0 +1,93 @@
+-- The fault of a first part is the fault of the whole; and how the file of a database begins.
+use Rattle.std.proofs.Common.{◌≡◌, ◌∙◌, ◌+◌, ◌≤◌, ◌++◌, ◌∷◌, [], ℕ, List, ap, refl, subst, sym, length, take, arith, length-append, append_assoc}
+use Rattle.std.specs.List.{flat_map}
+use Rattle.std.proofs.lemmas.List.{take-append-le}
+use Rattle.std.proofs.lemmas.List.Concat.{flat_map-cons}
+use Rattle.rrd_spec.specs.Files.Filed.{Filed, filed}
+use Rattle.rrd_spec.specs.Journal.Survivors.{Stored}
+use Rattle.rrd_file.specs.declared.fault.FileFault.{FileFault}
+use Rattle.rrd_file.specs.declared.fault.FileFault.TheVariants.{NotOurs, Version as WrongVersion, Truncated, BadBlock, BadEntry, Trailing, Read, OutOfMemory}
+use Rattle.rrd_file.specs.Faults.{Front, IsBad, IsTrailing}
+use Rattle.rrd_file.specs.Laws.{FileBegins, FrontHasTheFault}
+use Rattle.rrd_file.specs.Layout.{body_pieces, entry_pieces, pieces_filed, spelled}
+use Rattle.rrd_file.specs.Layout.Pieces.{Piece, Mark, OfHeader, OfVersion, spell}
+use Rattle.rrd_file.specs.Stages.{Stage, size}
+use Rattle.rrd_file.proofs.Lengths.{header_length}
+use Rattle.rrd_file.proofs.OneAnswer.{file_is_layout}
+
+-- ---- more bytes
+
+module _ (front rest : List ℕ) where
+  front_goes_on : (stage : Stage) (left : List ℕ) → Front front stage left → Front (front ++ rest) stage (left ++ rest)
+  front_goes_on stage left h = record {
+    pieces = h.pieces;
+    runs = h.runs;
+    parts = ap (λ (l : List ℕ). l ++ rest) h.parts ∙ append_assoc (flat_map spell h.pieces) left rest;
+  }
+
+  place_goes_on : (at : ℕ) (left : List ℕ) → at + length left ≡ length front → at + length (left ++ rest) ≡ length (front ++ rest)
+  place_goes_on at left h = omega (arith, length-append left rest, length-append front rest)
+
+  bad_goes_on : (fault : FileFault) → IsBad front fault → IsBad (front ++ rest) fault
+  bad_goes_on fault h =
+      let same = take-append-le (size h.stage) h.rest rest h.whole in
+      record {
+        stage = h.stage;
+        rest = h.rest ++ rest;
+        front = front_goes_on h.stage h.rest h.front;
+        is_due = h.is_due;
+        whole = omega (arith, h.whole, length-append h.rest rest);
+        none = λ piece next takes e. h.none piece next takes (e ∙ same);
+        at = h.at;
+        place = place_goes_on h.at h.rest h.place;
+        fault_is = h.fault_is;
+      }
+
+  trailing_goes_on : (at : ℕ) → IsTrailing front at → IsTrailing (front ++ rest) at
+  trailing_goes_on at h = record {
+    stage = h.stage;
+    rest = h.rest ++ rest;
+    front = front_goes_on h.stage h.rest h.front;
+    done = h.done;
+    some = omega (arith, h.some, length-append h.rest rest);
+    place = place_goes_on at h.rest h.place;
+  }
+
+  pub front_has_the_fault : (fault : FileFault) → FrontHasTheFault front rest fault
+  front_has_the_fault NotOurs settled h = bad_goes_on NotOurs h
+  front_has_the_fault WrongVersion settled h = bad_goes_on WrongVersion h
+  front_has_the_fault (Truncated at) settled h = absurd settled
+  front_has_the_fault (BadBlock at) settled h = bad_goes_on (BadBlock at) h
+  front_has_the_fault (BadEntry number) settled h = bad_goes_on (BadEntry number) h
+  front_has_the_fault (Trailing at) settled h = trailing_goes_on at h
+  front_has_the_fault Read settled h = absurd settled
+  front_has_the_fault OutOfMemory settled h = absurd settled
+
+-- ---- the first bytes
+
+-- the first three pieces, before what follows them
+begin_so : (version header : Piece) (more : List Piece)
+    → spelled (Mark ∷ version ∷ header ∷ more) ≡ spell Mark ++ (spell version ++ (spell header ++ spelled more))
+begin_so version header more =
+    flat_map-cons spell Mark (version ∷ header ∷ more)
+    ∙ ap (λ (l : List ℕ). spell Mark ++ l) (flat_map-cons spell version (header ∷ more) ∙ ap (λ (l : List ℕ). spell version ++ l) (flat_map-cons spell header more))
+
+long_so : (mark version header more : List ℕ) → length mark ≡ 4 → length version ≡ 2 → 16 ≤ length header
+    → 16 ≤ length (mark ++ (version ++ (header ++ more)))
+long_so mark version header more a b c =
+    omega (arith, c, length-append mark (version ++ (header ++ more)), length-append version (header ++ more), length-append header more)
+
+filed_begins : (f : Filed) → (16 ≤ length (spelled (pieces_filed f))) × (take 4 (spelled (pieces_filed f)) ≡ 82 ∷ 82 ∷ 68 ∷ 73 ∷ [])
+unfolding spell
+filed_begins f =
+    let more = body_pieces f ++ flat_map entry_pieces f.entries in
+    let so = begin_so (OfVersion f.header.version) (OfHeader f.header) more in
+    let header = header_length f.header.version f.header in
+    let long = long_so (spell Mark) (spell (OfVersion f.header.version)) (spell (OfHeader f.header)) (spelled more) refl refl (omega (arith, header)) in
+    (subst (λ (l : List ℕ). 16 ≤ length l) (sym so) long, ap (take 4) so)
+
+pub file_begins : (bytes : List ℕ) (d : Stored) → FileBegins bytes d
+file_begins bytes d file =
+    let same = file_is_layout bytes d file in
+    let begins = filed_begins (filed file.version d) in
+    (subst (λ (l : List ℕ). 16 ≤ length l) (sym same) begins.0, ap (take 4) same ∙ begins.1)

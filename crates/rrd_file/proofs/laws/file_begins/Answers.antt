@@ -1,0 +1,5 @@
+use Rattle.rrd_file.proofs.Fronts.{file_begins}
+use Rattle.rrd_file.proofs.laws.file_begins.Goals as goal
+
+pub returns : goal.returns
+returns c = file_begins

@@ -1,0 +1,114 @@
+-- The database that stays in memory is the one that reading the storage gives.
+use Rattle.std.proofs.Common.{◌≡◌, ◌∙◌, ℕ, Bool, true, false, List, Option, Some, None, Result, Ok, Err, IfSome, refl, sym, ap, subst}
+use Rattle.rrd_spec.specs.Journal.Survivors.{Stored}
+use Rattle.rrd_spec.specs.Limits.{newest}
+use Rattle.rrd_file.specs.Faults.{IsValidStored}
+use Rattle.rrd_file.specs.Laws.{LayoutIsItsFile}
+use Rattle.rrd_file.specs.Layout.{layout}
+use Rattle.rrd_tool.specs.Commands.{effect}
+use Rattle.rrd_tool.specs.Effects.{Effect, Makes, Changes, Reverts, Shows, is_change, stored_next, text_on, verdict_on}
+use Rattle.rrd_tool.specs.Execution.{Comes, Executes, database_left, fault_left, has_changed}
+use Rattle.rrd_tool.specs.declared.commands.Command.{Command}
+use Rattle.rrd_tool.specs.declared.execution.Outcome.{Outcome}
+use Rattle.rrd_tool.specs.declared.execution.Outcome.TheVariants.{Printed, Changed, Refused as WasRefused}
+use Rattle.rrd_tool.specs.declared.faults.Fault.{Fault}
+use Rattle.rrd_tool.specs.declared.faults.Fault.TheVariants.{Line, NoDatabase, Output, Refused}
+use Rattle.rrd_store.specs.Batch.{written}
+use Rattle.rrd_store.specs.Sessions.{IsRead, kept_by, kept_unless}
+use Rattle.rrd_store.specs.Single.{Ends}
+use Rattle.rrd_store.specs.Storages.{Becomes, Held, Leaves, Stays}
+use Rattle.rrd_store.specs.declared.faults.TaskFault.{TaskFault}
+use Rattle.rrd_store.specs.declared.faults.TaskFault.TheVariants as task
+
+-- what was known is as it was, and what was not known is not known
+stays_same : (old new : Option Held) → (old ≡ None → new ≡ None) → Stays old new → new ≡ old
+stays_same None new unknown stays = unknown refl
+stays_same (Some old) None unknown stays = absurd stays
+stays_same (Some old) (Some new) unknown stays = rw stays refl
+
+stays_read : (old new : Option Held) (database : Option Stored) → (old ≡ None → new ≡ None) → Stays old new → IsRead old database → IsRead new database
+stays_read old new database unknown stays is = subst (λ (held : Option Held). IsRead held database) (sym (stays_same old new unknown stays)) is
+
+-- a storage reads as the database whose layout was written
+written_read : (old new : Option Held) (d : Stored) → (old ≡ None → new ≡ None) → Becomes old new (layout d) → IsValidStored d → LayoutIsItsFile newest d → IsRead new (Some d)
+written_read None new d unknown became valid file = rw (unknown refl) valid
+written_read (Some old) new d unknown became valid file = rw became (file valid)
+
+-- ---- a command
+
+module _ (old new : Option Held) (other : Option Stored) (unknown : old ≡ None → new ≡ None) (beside : IsRead old other) where
+  -- a database that is as it was
+  same_kept : (database : Option Stored) (outcome : Outcome) (end : Result (Unit {0}) TaskFault) → database_left outcome ≡ database → Stays old new → IsRead old database
+      → IsRead new (kept_by other outcome end)
+  same_kept (Some d) outcome (Ok x) left stays is = rw left (stays_read old new (Some d) unknown stays is)
+  same_kept None outcome (Ok x) left stays is = rw left (stays_read old new other unknown stays beside)
+  same_kept database outcome (Err task.CannotWrite) left stays is = tt
+  same_kept (Some d) outcome (Err task.CannotOpen) left stays is = rw left (stays_read old new (Some d) unknown stays is)
+  same_kept None outcome (Err task.CannotOpen) left stays is = rw left (stays_read old new other unknown stays beside)
+  same_kept (Some d) outcome (Err (task.Command fault)) left stays is = rw left (stays_read old new (Some d) unknown stays is)
+  same_kept None outcome (Err (task.Command fault)) left stays is = rw left (stays_read old new other unknown stays beside)
+  same_kept (Some d) outcome (Err (task.Stream fault)) left stays is = rw left (stays_read old new (Some d) unknown stays is)
+  same_kept None outcome (Err (task.Stream fault)) left stays is = rw left (stays_read old new other unknown stays beside)
+  same_kept (Some d) outcome (Err (task.File fault)) left stays is = rw left (stays_read old new (Some d) unknown stays is)
+  same_kept None outcome (Err (task.File fault)) left stays is = rw left (stays_read old new other unknown stays beside)
+
+  -- a database that was to be written
+  changed_kept : (d : Stored) (end : Result (Unit {0}) TaskFault) → Leaves (Some d) old new end → IsValidStored d → LayoutIsItsFile newest d
+      → IsRead new (kept_by other (Changed d) end)
+  changed_kept d (Ok x) left valid file = written_read old new d unknown left valid file
+  changed_kept d (Err task.CannotWrite) left valid file = tt
+  changed_kept d (Err task.CannotOpen) left valid file = absurd left
+  changed_kept d (Err (task.Command fault)) left valid file = absurd left
+  changed_kept d (Err (task.Stream fault)) left valid file = absurd left
+  changed_kept d (Err (task.File fault)) left valid file = absurd left
+
+  printed_stays : (d : Stored) (text : List ℕ) (end : Result (Unit {0}) TaskFault) → Ends (Printed d) text old new end → Stays old new
+  printed_stays d text (Ok x) ends = ends
+  printed_stays d text (Err fault) ends = ends.2
+
+  pub kept_read : (outcome : Outcome) (text : List ℕ) (end : Result (Unit {0}) TaskFault) → Ends outcome text old new end
+      → (has_changed outcome ≡ false → IsRead old (database_left outcome))
+      → ((d : Stored) → database_left outcome ≡ Some d → IsValidStored d) → ((d : Stored) → LayoutIsItsFile newest d)
+      → IsRead new (kept_by other outcome end)
+  kept_read (Printed d) text end ends same valid file = same_kept (Some d) (Printed d) end refl (printed_stays d text end ends) (same refl)
+  kept_read (Changed d) text end ends same valid file = changed_kept d end ends (valid d refl) (file d)
+  kept_read (WasRefused database fault) text end ends same valid file = same_kept database (WasRefused database fault) end refl ends.1 (same refl)
+
+-- ---- a command that changed nothing leaves the database that it ran on
+
+shows_same : (kept : Option Stored) (effect : Effect) → is_change effect ≡ false → stored_next kept effect ≡ kept
+shows_same kept (Makes spec) h = absurd cc
+shows_same kept (Changes command) h = absurd cc
+shows_same kept Reverts h = absurd cc
+shows_same kept (Shows show) h = refl
+
+left_same : (verdict : Option Fault) (text : List ℕ) (effect : Effect) (kept left : Option Stored) (a b : Option (List ℕ)) (changed : Bool) (fault : Option Fault)
+    → Comes verdict text effect (left ≡ stored_next kept effect) (left ≡ kept) a b changed fault → changed ≡ false → left ≡ kept
+left_same verdict text effect kept left a b changed None p e = p.1 ∙ shows_same kept effect (sym p.2 ∙ e)
+left_same verdict text effect kept left a b changed (Some Output) p e = p.1 ∙ shows_same kept effect (sym p.2 ∙ e)
+left_same verdict text effect kept left a b changed (Some (Line fault)) p e = p.1
+left_same verdict text effect kept left a b changed (Some (Refused fault)) p e = p.1
+left_same verdict text effect kept left a b changed (Some NoDatabase) p e = p.1
+
+pub executes_same : (kept : Option Stored) (command : Command) (a b : Option (List ℕ)) (outcome : Outcome)
+    → Executes kept command a b outcome → has_changed outcome ≡ false → database_left outcome ≡ kept
+executes_same kept command a b outcome p e =
+    left_same (verdict_on kept (effect command)) (text_on kept (effect command)) (effect command) kept (database_left outcome) a b (has_changed outcome) (fault_left outcome) p e
+
+-- ---- a batch
+
+pub lines_read : (old new : Option Held) (last kept : Option Stored) (unstored : Option TaskFault) → (old ≡ None → new ≡ None) → Leaves last old new (written unstored)
+    → kept ≡ kept_unless unstored last → IfSome kept IsValidStored → ((d : Stored) → LayoutIsItsFile newest d) → IsRead new kept
+lines_read old new None kept None unknown left is valid file = rw is tt
+lines_read old new (Some d) kept None unknown left is valid file =
+    rw is (written_read old new d unknown left (subst (λ (k : Option Stored). IfSome k IsValidStored) is valid) (file d))
+lines_read old new last kept (Some fault) unknown left is valid file = rw is tt
+
+-- ---- results
+
+abbrev ok_or : {T E : Type 0} → T → Result T E → T
+ok_or or (Ok x) = x
+ok_or or (Err e) = or
+
+pub ok_same : {T E : Type 0} (a b : T) → ◌≡◌ {A = Result T E} (Ok a) (Ok b) → a ≡ b
+ok_same {T} {E} a b is = ap (ok_or {T = T} {E = E} a) is

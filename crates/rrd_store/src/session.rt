@@ -1,0 +1,376 @@
+//! Runs on one storage, with the database kept in memory in between.
+ghost use Rattle.std.specs.Prelude.{◌≡◌, IfErr, IfOk, IfSome, IsSome, None, OnOk, Err, Ok, Option, Some};
+ghost use Rattle.rrd_file.specs.Laws.{IsValidStored};
+ghost use Rattle.rrd_spec.specs.Journal.Survivors.{Stored};
+ghost use Rattle.rrd_tool.specs.Commands.{effect};
+ghost use Rattle.rrd_tool.specs.Execution.{database_left};
+ghost use Rattle.rrd_store.specs.Batch.{IsFileBatch};
+ghost use Rattle.rrd_store.specs.Runs.{ByBatch, ByCommand, IsComputed};
+ghost use Rattle.rrd_store.specs.Sessions.{IsFileBatchOn, IsRead, IsSingleOn, beside, kept_by, started};
+ghost use Rattle.rrd_store.specs.Single.{FindsOne, IsSingle, StartsFrom};
+ghost use Rattle.rrd_store.specs.Storages.{Finds, Held};
+
+use crate::batch::run_on;
+use crate::laws::storage_runs_follow_specification;
+use crate::single::finish;
+use crate::{Access, FileBatchEnd, Gate, Storage, TaskFault};
+use rrd_base::{Database, database_is_valid};
+use rrd_file::laws::layout_is_file;
+use rrd_tool::{Command, Outcome, Words, execute, read_command};
+use std::alloc::Global;
+use std::io::{Read, Write};
+
+/// A storage on which several runs follow one another, with its database.
+///
+/// The database is read once, and stays in memory between the runs. Each run writes its changes before it ends, as if the
+/// run were alone. Nobody else may change the storage before the session ends.
+#[derive(Drop)]
+pub struct Session<P: Storage + Drop> {
+    storage: P,
+    // The database that was read from the storage last, or written to the storage last.
+    database: Option<Database>,
+    is_written: bool,
+}
+
+// Theorem: the database that an outcome has is valid.
+fn outcome_is_valid(outcome: &Outcome)
+    ensures { IfSome (database_left outcome.now) IsValidStored }
+{
+    match outcome {
+        Outcome::Printed(database) | Outcome::Changed(database) => database_is_valid(database),
+        Outcome::Refused {
+            database: Some(database),
+            ..
+        } => database_is_valid(database),
+        Outcome::Refused { database: None, .. } => {}
+    }
+}
+
+// Returns the database that an outcome has.
+fn database_of(outcome: Outcome) -> Option<Database>
+    ensures { result ≡ database_left outcome }
+{
+    match outcome {
+        Outcome::Printed(database) | Outcome::Changed(database) => Some(database),
+        Outcome::Refused { database, .. } => database,
+    }
+}
+
+// Returns the database that stays in memory after a command. `other` is the database that was beside the command.
+fn database_kept(
+    other: Option<Database>,
+    outcome: Outcome,
+    end: Result<(), TaskFault>,
+) -> Option<Database>
+    ensures { result ≡ kept_by other outcome end }
+{
+    if let Err(TaskFault::CannotWrite) = end {
+        return None;
+    }
+    match database_of(outcome) {
+        Some(database) => Some(database),
+        None => other,
+    }
+}
+
+impl<P: Storage + Drop> Session<P> {
+    /// Begins runs on a storage. Reads nothing.
+    pub fn new(storage: P) -> Session<P>
+        ensures storage { result.storage ≡ storage }
+        ensures database { result.database ≡ None }
+    {
+        Session {
+            storage,
+            database: None,
+            is_written: false,
+        }
+    }
+
+    /// Ends the session, and returns its storage.
+    pub fn into_storage(self) -> P
+        ensures { result ≡ self.storage }
+    {
+        self.storage
+    }
+
+    /// Returns the storage.
+    pub fn storage(&self) -> &P
+        ensures { result.now ≡ self.now.storage }
+    {
+        &self.storage
+    }
+
+    /// Checks whether the last run wrote its database to the storage.
+    pub fn is_written(&self) -> bool
+        ensures { result ≡ self.now.is_written }
+    {
+        self.is_written
+    }
+
+    /// Theorem: the database in memory is valid, if there is one.
+    ///
+    /// A call gives the prover this fact at the call site, and does nothing at run time.
+    pub fn database_is_valid(&self)
+        ensures { IsRead None self.now.database }
+    {
+        match &self.database {
+            Some(database) => database_is_valid(database),
+            None => {}
+        }
+    }
+
+    // Takes the database out of the session, or reads it.
+    fn take(&mut self, alloc: Global) -> Result<Option<Database>, TaskFault>
+        ensures falls { (s : Option Held) → P.is_honest s self.new.storage → P.is_honest s self.old.storage }
+        ensures sound { (s : Option Held) → P.is_honest s self.new.storage → P.is_sound s self.old.storage
+            → P.is_sound s self.new.storage }
+        ensures stays { (s : Option Held) → P.is_honest s self.new.storage → P.is_sound s self.old.storage
+            → P.contents s self.new.storage ≡ P.contents s self.old.storage }
+        ensures found { (s : Option Held) → P.is_honest s self.new.storage → P.is_sound s self.old.storage
+            → IsRead (P.contents s self.old.storage) self.old.database
+            → Finds (P.contents s self.old.storage) result }
+        ensures taken { self.new.database ≡ None }
+        ensures same { (d : Stored) → self.old.database ≡ Some d → result ≡ Ok (Some d) }
+    {
+        self.is_written = false;
+        match self.database.take() {
+            Some(database) => Ok(Some(database)),
+            None => self.storage.load(alloc, Access::ReadWrite),
+        }
+    }
+
+    // Takes the database out of the session, or reads it. There has to be one.
+    fn take_one(&mut self, alloc: Global) -> Result<Option<Database>, TaskFault>
+        ensures falls { (s : Option Held) → P.is_honest s self.new.storage → P.is_honest s self.old.storage }
+        ensures sound { (s : Option Held) → P.is_honest s self.new.storage → P.is_sound s self.old.storage
+            → P.is_sound s self.new.storage }
+        ensures stays { (s : Option Held) → P.is_honest s self.new.storage → P.is_sound s self.old.storage
+            → P.contents s self.new.storage ≡ P.contents s self.old.storage }
+        ensures found { (s : Option Held) → P.is_honest s self.new.storage → P.is_sound s self.old.storage
+            → IsRead (P.contents s self.old.storage) self.old.database
+            → FindsOne (P.contents s self.old.storage) result }
+        ensures some { IfOk result (λ found. IsSome found) }
+        ensures taken { self.new.database ≡ None }
+        ensures same { (d : Stored) → self.old.database ≡ Some d → result ≡ Ok (Some d) }
+    {
+        match self.take(alloc)? {
+            Some(database) => Ok(Some(database)),
+            None => Err(TaskFault::CannotOpen),
+        }
+    }
+
+    /// Reads the database, unless it is in memory.
+    ///
+    /// # Errors
+    ///
+    /// `CannotOpen` or `File` if no database can be read from the storage.
+    pub fn load(&mut self, alloc: Global) -> Result<(), TaskFault>
+        ensures falls { (s : Option Held) → P.is_honest s self.new.storage → P.is_honest s self.old.storage }
+        ensures sound { (s : Option Held) → P.is_honest s self.new.storage → P.is_sound s self.old.storage
+            → P.is_sound s self.new.storage }
+        ensures stays { (s : Option Held) → P.is_honest s self.new.storage → P.is_sound s self.old.storage
+            → P.contents s self.new.storage ≡ P.contents s self.old.storage }
+        ensures read { (s : Option Held) → P.is_honest s self.new.storage → P.is_sound s self.old.storage
+            → IsRead (P.contents s self.old.storage) self.old.database
+            → IsRead (P.contents s self.new.storage) self.new.database }
+        ensures some { OnOk result (IsSome self.new.database) }
+        ensures fault { IfErr result (λ fault. (s : Option Held) → P.is_honest s self.new.storage → P.is_sound s self.old.storage
+            → IsRead (P.contents s self.old.storage) self.old.database
+            → FindsOne (P.contents s self.old.storage) (Err fault)) }
+    {
+        self.database = self.take_one(alloc)?;
+        Ok(())
+    }
+
+    // Returns the database that a command runs on. A command that creates a database runs without one.
+    fn start(&mut self, alloc: Global, command: &Command) -> Result<Option<Database>, TaskFault>
+        ensures falls { (s : Option Held) → P.is_honest s self.new.storage → P.is_honest s self.old.storage }
+        ensures sound { (s : Option Held) → P.is_honest s self.new.storage → P.is_sound s self.old.storage
+            → P.is_sound s self.new.storage }
+        ensures stays { (s : Option Held) → P.is_honest s self.new.storage → P.is_sound s self.old.storage
+            → P.contents s self.new.storage ≡ P.contents s self.old.storage }
+        ensures start { (s : Option Held) → P.is_honest s self.new.storage → P.is_sound s self.old.storage
+            → IsRead (P.contents s self.old.storage) self.old.database
+            → StartsFrom command.now (P.contents s self.old.storage) result }
+        ensures read { (s : Option Held) → P.is_honest s self.new.storage → P.is_sound s self.old.storage
+            → IsRead (P.contents s self.old.storage) self.old.database
+            → IsRead (P.contents s self.old.storage) self.new.database }
+        ensures found { IfOk result (λ found. (s : Option Held) → P.is_honest s self.new.storage
+            → P.is_sound s self.old.storage → IsRead (P.contents s self.old.storage) self.old.database
+            → IsRead (P.contents s self.old.storage) found) }
+        ensures same { (d : Stored) → self.old.database ≡ Some d
+            → (result ≡ Ok (started (effect command.now) d)) × (self.new.database ≡ beside (effect command.now) d) }
+    {
+        if let Command::Create(_) = command {
+            return Ok(None);
+        }
+        self.take_one(alloc)
+    }
+
+    // Parses the arguments, runs the command, and writes the database that the command changed.
+    fn run_words<W: Write>(
+        &mut self,
+        alloc: Global,
+        words: &Words<'_>,
+        now: u64,
+        out: &mut W,
+    ) -> Result<(), TaskFault>
+        ensures falls { (s : Option Held) → P.is_honest s self.new.storage → P.is_honest s self.old.storage }
+        ensures sound { (s : Option Held) → P.is_honest s self.new.storage → P.is_sound s self.old.storage
+            → P.is_sound s self.new.storage }
+        ensures read { (s : Option Held) → P.is_honest s self.new.storage → P.is_sound s self.old.storage
+            → IsRead (P.contents s self.old.storage) self.old.database
+            → IsRead (P.contents s self.new.storage) self.new.database }
+        ensures run { (s : Option Held) → P.is_honest s self.new.storage → P.is_sound s self.old.storage
+            → IsRead (P.contents s self.old.storage) self.old.database
+            → IsSingle words.now now (P.contents s self.old.storage) (P.contents s self.new.storage)
+            (W.contents out.old) (W.contents out.new) result }
+        ensures on { (d : Stored) → self.old.database ≡ Some d
+            → (s : Option Held) → P.is_honest s self.new.storage → P.is_sound s self.old.storage
+            → IsSingleOn words.now now d self.new.database (P.contents s self.old.storage) (P.contents s self.new.storage)
+            (W.contents out.old) (W.contents out.new) result }
+    {
+        layout_is_file();
+        self.is_written = false;
+        let command = read_command(alloc, words, now)?;
+        let database = self.start(alloc, &command)?;
+        let outcome = execute(alloc, database, command, out);
+        outcome_is_valid(&outcome);
+        let other = self.database.take();
+        let end = finish(alloc, &outcome, &mut self.storage, out);
+        self.is_written = end.is_ok() && matches!(outcome, Outcome::Changed(_));
+        self.database = database_kept(other, outcome, end);
+        end
+    }
+
+    /// Runs one command, as [`crate::run_file_command`] does: with the same effect on the storage, the same output and the
+    /// same end. If a database is in memory, the command runs on it, and the storage is not read.
+    ///
+    /// # Errors
+    ///
+    /// As [`crate::run_file_command`]. After `CannotWrite` no database is kept, and the next run reads the storage.
+    pub fn run<W: Write>(
+        &mut self,
+        alloc: Global,
+        words: &Words<'_>,
+        now: u64,
+        out: &mut W,
+    ) -> Result<(), TaskFault>
+        ensures falls { (s : Option Held) → P.is_honest s self.new.storage → P.is_honest s self.old.storage }
+        ensures sound { (s : Option Held) → P.is_honest s self.new.storage → P.is_sound s self.old.storage
+            → P.is_sound s self.new.storage }
+        ensures read { (s : Option Held) → P.is_honest s self.new.storage → P.is_sound s self.old.storage
+            → IsRead (P.contents s self.old.storage) self.old.database
+            → IsRead (P.contents s self.new.storage) self.new.database }
+        ensures run { (s : Option Held) → P.is_honest s self.new.storage → P.is_sound s self.old.storage
+            → IsRead (P.contents s self.old.storage) self.old.database
+            → IsSingle words.now now (P.contents s self.old.storage) (P.contents s self.new.storage)
+            (W.contents out.old) (W.contents out.new) result }
+        ensures on { (d : Stored) → self.old.database ≡ Some d
+            → (s : Option Held) → P.is_honest s self.new.storage → P.is_sound s self.old.storage
+            → IsSingleOn words.now now d self.new.database (P.contents s self.old.storage) (P.contents s self.new.storage)
+            (W.contents out.old) (W.contents out.new) result }
+        ensures computed { (s : Option Held) → P.is_honest s self.new.storage → P.is_sound s self.old.storage
+            → IsRead (P.contents s self.old.storage) self.old.database
+            → IsComputed (P.contents s self.old.storage) (P.contents s self.new.storage)
+            (ByCommand (record {
+              words = words.now;
+              now = now;
+              out_before = W.contents out.old;
+              out_after = W.contents out.new;
+              end = result;
+            })) }
+    {
+        storage_runs_follow_specification();
+        self.run_words(alloc, words, now, out)
+    }
+
+    // Runs the lines, and writes the database that the lines left.
+    fn run_lines<R: Read, W: Write, G: Gate>(
+        &mut self,
+        alloc: Global,
+        now: u64,
+        numbered: usize,
+        reader: &mut R,
+        out: &mut W,
+        gate: &G,
+    ) -> Result<FileBatchEnd, TaskFault>
+        ensures falls { (s : Option Held) → P.is_honest s self.new.storage → P.is_honest s self.old.storage }
+        ensures sound { (s : Option Held) → P.is_honest s self.new.storage → P.is_sound s self.old.storage
+            → P.is_sound s self.new.storage }
+        ensures read { (s : Option Held) → P.is_honest s self.new.storage → P.is_sound s self.old.storage
+            → IsRead (P.contents s self.old.storage) self.old.database
+            → IsRead (P.contents s self.new.storage) self.new.database }
+        ensures run { (s : Option Held) → P.is_honest s self.new.storage → P.is_sound s self.old.storage
+            → IsRead (P.contents s self.old.storage) self.old.database
+            → IsFileBatch now numbered (P.contents s self.old.storage) (P.contents s self.new.storage)
+            (R.remaining reader.old) (R.remaining reader.new) (W.contents out.old) (W.contents out.new) result }
+        ensures on { (d : Stored) → self.old.database ≡ Some d
+            → (s : Option Held) → P.is_honest s self.new.storage → P.is_sound s self.old.storage
+            → IsFileBatchOn now numbered d self.new.database (P.contents s self.old.storage) (P.contents s self.new.storage)
+            (R.remaining reader.old) (R.remaining reader.new) (W.contents out.old) (W.contents out.new) result }
+    {
+        layout_is_file();
+        let database = self.take(alloc)?;
+        let (end, kept) = run_on(
+            alloc,
+            database,
+            now,
+            numbered,
+            &mut self.storage,
+            reader,
+            out,
+            gate,
+        );
+        self.is_written = kept.is_some();
+        self.database = kept;
+        Ok(end)
+    }
+
+    /// Runs each line of `reader`, and writes the database at the end, as [`crate::run_file_batch`] does: with the same effect on
+    /// the storage, the same output and the same end. If a database is in memory, the lines run on it, and the storage is not
+    /// read. If `gate` does not allow the write, the batch ends as after a failed write.
+    ///
+    /// # Errors
+    ///
+    /// As [`crate::run_file_batch`]. If the database was not written, none is kept, and the next run reads the storage.
+    pub fn run_batch<R: Read, W: Write, G: Gate>(
+        &mut self,
+        alloc: Global,
+        now: u64,
+        numbered: usize,
+        reader: &mut R,
+        out: &mut W,
+        gate: &G,
+    ) -> Result<FileBatchEnd, TaskFault>
+        ensures falls { (s : Option Held) → P.is_honest s self.new.storage → P.is_honest s self.old.storage }
+        ensures sound { (s : Option Held) → P.is_honest s self.new.storage → P.is_sound s self.old.storage
+            → P.is_sound s self.new.storage }
+        ensures read { (s : Option Held) → P.is_honest s self.new.storage → P.is_sound s self.old.storage
+            → IsRead (P.contents s self.old.storage) self.old.database
+            → IsRead (P.contents s self.new.storage) self.new.database }
+        ensures run { (s : Option Held) → P.is_honest s self.new.storage → P.is_sound s self.old.storage
+            → IsRead (P.contents s self.old.storage) self.old.database
+            → IsFileBatch now numbered (P.contents s self.old.storage) (P.contents s self.new.storage)
+            (R.remaining reader.old) (R.remaining reader.new) (W.contents out.old) (W.contents out.new) result }
+        ensures on { (d : Stored) → self.old.database ≡ Some d
+            → (s : Option Held) → P.is_honest s self.new.storage → P.is_sound s self.old.storage
+            → IsFileBatchOn now numbered d self.new.database (P.contents s self.old.storage) (P.contents s self.new.storage)
+            (R.remaining reader.old) (R.remaining reader.new) (W.contents out.old) (W.contents out.new) result }
+        ensures computed { (s : Option Held) → P.is_honest s self.new.storage → P.is_sound s self.old.storage
+            → IsRead (P.contents s self.old.storage) self.old.database
+            → IsComputed (P.contents s self.old.storage) (P.contents s self.new.storage)
+            (ByBatch (record {
+              now = now;
+              numbered = numbered;
+              in_before = R.remaining reader.old;
+              in_after = R.remaining reader.new;
+              out_before = W.contents out.old;
+              out_after = W.contents out.new;
+              end = result;
+            })) }
+    {
+        storage_runs_follow_specification();
+        self.run_lines(alloc, now, numbered, reader, out, gate)
+    }
+}

@@ -1,0 +1,66 @@
+//! Replaces the bytes of a file: compares the pages one by one, writes those that differ, and the first page last.
+ghost use Rattle.std.specs.Prelude.{◌≡◌, ◌⊎◌, ℕ, List, IsTrue, None, OnErr, OnOk};
+ghost use Rattle.rrd_tail.specs.Marks.{mark_of};
+ghost use Rattle.rrd_tail.specs.Settled.{settled};
+ghost use Rattle.rrd_undo.specs.Changing.{IsAt, IsBroken, StandsForEither};
+ghost use Rattle.rrd_undo.specs.Databases.{IsDatabase, IsNoDatabase};
+
+use crate::change::Change;
+use crate::page::{front_page, next_page, page_at};
+use crate::{Bytes, Syncs};
+use rrd_tail::PAGE;
+use std::alloc::Global;
+use std::io;
+
+/// Replaces the bytes of a file by `new`.
+///
+/// # Errors
+///
+/// A call of the file failed, memory ran out, or `new` is not a database. A database then represents its old bytes or
+/// the new ones. A file that was no database, nor an interrupted change of one, is as before, has the new bytes, or has
+/// bytes that are no database.
+pub fn replace<F: Bytes>(alloc: Global, file: &mut F, new: &[u8], syncs: Syncs) -> io::Result<()>
+    ensures falls { (s : List ℕ) → IsTrue (F.is_honest s file.new) → IsTrue (F.is_honest s file.old) }
+    ensures ok { OnOk result ((s : List ℕ) → IsTrue (F.is_honest s file.new) → (settled (F.held s file.new) ≡ new.now) × IsDatabase new.now) }
+    ensures stands { (s : List ℕ) → IsTrue (F.is_honest s file.new) → IsDatabase (F.held s file.old)
+        → (settled (F.held s file.new) ≡ F.held s file.old) ⊎ (settled (F.held s file.new) ≡ new.now) }
+    ensures spoilt { OnErr result ((s : List ℕ) → IsTrue (F.is_honest s file.new) → (IsDatabase (F.held s file.old) → ⊥) → mark_of (F.held s file.old) ≡ None
+        → (F.held s file.new ≡ F.held s file.old) ⊎ (F.held s file.new ≡ new.now) ⊎ IsNoDatabase (F.held s file.new)) }
+{
+    let mut change = Change::new(alloc, new.len(), syncs);
+    change.begin(file)?;
+    put_or_take_back(&mut change, file, new)
+}
+
+// Makes a file represent the bytes `new`. If that fails, tries to restore the old bytes.
+fn put_or_take_back<F: Bytes>(change: &mut Change, file: &mut F, new: &[u8]) -> io::Result<()>
+    ensures falls { (s : List ℕ) → IsTrue (F.is_honest s file.new) → IsTrue (F.is_honest s file.old) }
+    ensures ok { OnOk result ((s : List ℕ) → IsTrue (F.is_honest s file.new) → (old : List ℕ) → IsAt old new.now 4096 change.old (F.held s file.old)
+        → (settled (F.held s file.new) ≡ new.now) × IsDatabase new.now) }
+    ensures err { OnErr result ((s : List ℕ) → IsTrue (F.is_honest s file.new) → (old : List ℕ) → IsAt old new.now 4096 change.old (F.held s file.old)
+        → StandsForEither old new.now (F.held s file.new)) }
+{
+    match put_pages(change, file, new) {
+        Ok(()) => Ok(()),
+        Err(error) => {
+            let _taken_back = change.take_back(file);
+            Err(error)
+        }
+    }
+}
+
+// Makes a file represent the bytes `new`.
+fn put_pages<F: Bytes>(change: &mut Change, file: &mut F, new: &[u8]) -> io::Result<()>
+    ensures falls { (s : List ℕ) → IsTrue (F.is_honest s file.new) → IsTrue (F.is_honest s file.old) }
+    ensures ok { OnOk result ((s : List ℕ) → IsTrue (F.is_honest s file.new) → (old : List ℕ) → IsAt old new.now 4096 change.old (F.held s file.old)
+        → (settled (F.held s file.new) ≡ new.now) × IsDatabase new.now) }
+    ensures err { OnErr result ((s : List ℕ) → IsTrue (F.is_honest s file.new) → (old : List ℕ) → IsAt old new.now 4096 change.old (F.held s file.old)
+        → IsBroken old change.new (F.held s file.new) × StandsForEither old new.now (F.held s file.new)) }
+{
+    let mut at = PAGE;
+    while at < new.len() {
+        change.put(file, page_at(new, at), at)?;
+        at = next_page(at)?;
+    }
+    change.end(file, front_page(new), new.len())
+}
