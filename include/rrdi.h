@@ -1,12 +1,12 @@
 /* Runs rrdi's commands in the process, on the file at a path or on the bytes of a file in memory. docs/embedding.md and
  * rrdi(3) explain the functions.
  *
- * Memory. No function keeps anything between calls. A function frees all memory that it allocates before it returns; it
- * allocates by malloc, realloc and free, which must belong to one allocator, and align blocks to 16 bytes. A call needs less
- * than 64 KiB of stack.
- * Files. A function locks the file by flock, as the program does, and closes all files that it opens. It releases the lock
- * before it returns, even if the process was forked during the call. If the process has locks of its own on the file, set by
- * fcntl (F_SETLK), it loses them: the system drops them when the call closes the file.
+ * Memory. No function keeps anything between calls, except that rrdi_open keeps the open file until rrdi_close. Otherwise a
+ * function frees all memory that it allocates before it returns; it allocates by malloc, realloc and free, which must belong to
+ * one allocator, and align blocks to 16 bytes. A call needs less than 64 KiB of stack.
+ * Files. A function locks the file by flock, as the program does, and closes all files that it opens; only an open file stays
+ * open and locked until rrdi_close. The lock is released even if the process was forked in the meantime. If the process has
+ * locks of its own on the file, set by fcntl (F_SETLK), it loses them: the system drops them when the call closes the file.
  * Streams. If a descriptor from 0 to 2 is closed, a call does not use it for the file, except for the moment of the opening.
  * Other threads must not write to a closed descriptor.
  * Threads. Calls may run at the same time in several threads, each with its own answer and buffers. Do not call a function
@@ -26,6 +26,7 @@
 #include <stdbool.h>
 #include <stddef.h>
 #include <stdint.h>
+#include <string.h>
 
 #ifdef __GNUC__
 #define RRDI_NONNULL __attribute__((nonnull))
@@ -36,6 +37,9 @@
 #ifdef __cplusplus
 extern "C" {
 #endif
+
+/* The version of this header, and of the library that was installed with it. */
+#define RRDI_VERSION "0.2.0"
 
 enum rrdi_fault {
     RRDI_OK = 0,
@@ -81,7 +85,7 @@ struct rrdi_answer {
  * has_file         whether there is a file. If not, file_length is 0.
  * file             the bytes of the file, which stay unchanged.
  * words            the command's name and its words, without FILE, in UTF-8, with one zero byte between two words:
- *                  "update\0" "920805300:12363". No zero byte follows the last word.
+ *                  "update\0" "920805300:12363". No zero byte follows the last word. rrdi_words makes them of strings.
  * now              the present time, in seconds since 1970.
  * new_file         room for the new file, if the command makes one.
  * output           room for the text that the command prints, or for the text of the fault, without "ERROR: ". */
@@ -107,6 +111,8 @@ void rrdi_batch(bool has_file, const uint8_t *file, size_t file_length, const ui
  * fails. Its bytes may be others: if an earlier change was interrupted, a call repairs the file first, even if it then ends
  * with a fault.
  *
+ * `create` replaces the file that is at the path. To keep a file that is there, call rrdi_create_new (rrdi_create.h).
+ *
  * path             UTF-8, without a zero byte, at most 4,095 bytes.
  * wait             the milliseconds for which the call waits for a lock that another process holds: 0 for one try, at most
  *                  3,600,000. The program waits for 5,000.
@@ -119,6 +125,89 @@ void rrdi_run_file(const uint8_t *path, size_t path_length, const uint8_t *words
 void rrdi_batch_file(const uint8_t *path, size_t path_length, const uint8_t *lines, size_t lines_length, uint64_t now,
                      uint64_t wait, bool syncs, uint8_t *output, size_t output_room, uint64_t *refused_lines,
                      size_t refused_room, struct rrdi_answer *answer) RRDI_NONNULL;
+
+/* A file that stays open and locked between calls, with its database in memory. Begin with `struct rrdi_file file = {0};`, and
+ * change no field. Use no copy of the struct. It may move to another thread between two calls; one call at a time may use it.
+ * A forked child must not use it: the child may only forget it, or replace itself by exec. */
+struct rrdi_file {
+    bool is_open;           /* Whether the file is open. */
+    void *reserved;         /* What the library keeps. */
+};
+
+/* Opens the file at a path for changes, locks it, and reads its database. If an earlier change was interrupted, the call repairs
+ * the file. A file that the struct had open before is closed first. With a fault the struct has no open file.
+ *
+ * Until rrdi_close no other process can read or change the file by rrdi: it waits for the lock. If a change fails
+ * (RRDI_CANNOT_WRITE), the library lets go of the file and of the lock, and the next call on the struct opens the file again.
+ * After RRDI_NO_ROOM the next call reads the file again, under the same lock; if that fails, the library lets go too.
+ *
+ * path, wait, syncs    as for rrdi_run_file. There must be a database: create it by rrdi_create_new or rrdi_run_file. The
+ *                      fault is RRDI_CANNOT_OPEN with EINVAL if the file system has no locks, and with the error of the
+ *                      call that failed if an interrupted change could not be repaired.
+ * output               room for the text of the fault. */
+void rrdi_open(const uint8_t *path, size_t path_length, uint64_t wait, bool syncs, struct rrdi_file *file, uint8_t *output,
+               size_t output_room, struct rrdi_answer *answer) RRDI_NONNULL;
+
+/* Runs one command on an open file, as rrdi_run_file does on the file at a path: with the same output, the same fault and the same
+ * new file. The change is in the file when the call returns. If the struct has no open file, the fault is RRDI_CANNOT_OPEN with
+ * EBADF. */
+void rrdi_run_open(struct rrdi_file *file, const uint8_t *words, size_t words_length, uint64_t now, uint8_t *output,
+                   size_t output_room, struct rrdi_answer *answer) RRDI_NONNULL;
+
+/* Runs lines on an open file, as rrdi_batch_file does on the file at a path. */
+void rrdi_batch_open(struct rrdi_file *file, const uint8_t *lines, size_t lines_length, uint64_t now, uint8_t *output,
+                     size_t output_room, uint64_t *refused_lines, size_t refused_room, struct rrdi_answer *answer) RRDI_NONNULL;
+
+/* Closes a file, and releases its lock and its memory. Does nothing if the struct has no open file. */
+void rrdi_close(struct rrdi_file *file) RRDI_NONNULL;
+
+/* Returns the version of the header with which the program was compiled, such as "0.2.0". */
+static inline const char *rrdi_version(void) {
+    return RRDI_VERSION;
+}
+
+/* Returns a short text for a fault, as it begins in docs/errors.md, or "unknown fault". An answer's output says more: which
+ * word, which line, which byte. The text is never null, and lasts as long as the program. */
+static inline const char *rrdi_strerror(uint32_t fault) {
+    switch (fault) {
+    case RRDI_OK: return "no fault";
+    case RRDI_NO_ROOM: return "too little room";
+    case RRDI_NO_MEMORY: return "out of memory";
+    case RRDI_READ_LINES: return "read failed";
+    case RRDI_USAGE: return "usage";
+    case RRDI_BAD_WORD: return "unreadable";
+    case RRDI_NO_DATABASE: return "no database";
+    case RRDI_REFUSED: return "refused";
+    case RRDI_CANNOT_OPEN: return "cannot open";
+    case RRDI_CANNOT_WRITE: return "cannot write";
+    case RRDI_NOT_OURS: return "file: not ours";
+    case RRDI_OTHER_VERSION: return "file: version";
+    case RRDI_TRUNCATED: return "file: truncated";
+    case RRDI_BAD_BLOCK: return "file: bad block";
+    case RRDI_BAD_ENTRY: return "file: bad entry";
+    case RRDI_TRAILING: return "file: trailing";
+    case RRDI_READ: return "file: read failed";
+    default: return "unknown fault";
+    }
+}
+
+/* Puts words together as the functions above take them, with one zero byte between two words. Returns the number of bytes of all
+ * words: pass it as words_length. If it is greater than `size`, there was too little room, and what is in the room is of no use;
+ * call again with a room of this size. `room` may be null if `size` is 0.
+ *
+ * count, words     the command's name and its words. To pass on the words of a `char **`, cast it. */
+static inline size_t rrdi_words(size_t count, const char *const *words, uint8_t *room, size_t size) {
+    size_t length = 0;
+    for (size_t at = 0; at < count; at++) {
+        bool is_last = at + 1 == count;
+        /* The zero byte at the end of a string is the one between two words. */
+        size_t more = strlen(words[at]) + (is_last ? 0 : 1);
+        if (more > 0 && length + more <= size)
+            memcpy(room + length, words[at], more);
+        length += more;
+    }
+    return length;
+}
 
 #ifdef __cplusplus
 }

@@ -17,6 +17,10 @@ use POSIX ();
 
 our $VERSION = 1.7002;
 
+# The directory above this file. It is found at once, because @INC may name this file by a path that is right only in the
+# directory in which the caller began.
+my ($above) = (Cwd::abs_path(__FILE__) || '') =~ m{^(.*/)[^/]*/[^/]*\z}s;
+
 # The process, its pipes, the process that owns the pipes, its directory, and the environment at its start.
 my ($child, $to, $from, $owner, $directory, $environment);
 my $is_busy = 0;
@@ -29,9 +33,8 @@ sub error { return $error }
 sub _program {
     # In taint mode the environment chooses no program.
     return $ENV{RRDI_RRDTOOL} if not ${^TAINT} and defined $ENV{RRDI_RRDTOOL} and length $ENV{RRDI_RRDTOOL};
-    my ($beside) = Cwd::abs_path(__FILE__) =~ m{^(.*/)[^/]*/[^/]*\z}s;
-    $beside .= 'tools/rrdi-rrdtool';
-    return -x $beside ? $beside : 'rrdi-rrdtool';
+    return 'rrdi-rrdtool' unless defined $above and -x "${above}tools/rrdi-rrdtool";
+    return "${above}tools/rrdi-rrdtool";
 }
 
 # The variables on which the answers of a process depend.
