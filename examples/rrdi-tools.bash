@@ -8,8 +8,15 @@ _rrdi_tool() {
     COMPREPLY=()
     case $tool in
         rrdi-import)
-            options+=' --journal'
-            [ "${COMP_WORDS[COMP_CWORD - 1]}" != --journal ] || return 0
+            options+=' --journal --into --in-place'
+            case ${COMP_WORDS[COMP_CWORD - 1]} in
+                --journal) return 0 ;;
+                --into)
+                    compopt -o filenames 2>/dev/null
+                    mapfile -t COMPREPLY < <(compgen -d -- "$current")
+                    return 0
+                    ;;
+            esac
             ends='rrd wsp rrdi'
             ;;
         rrdi-carbon-cache)
@@ -29,10 +36,20 @@ _rrdi_tool() {
                     mapfile -t COMPREPLY < <(compgen -W 'AVERAGE MIN MAX LAST' -- "$current")
                     return 0
                     ;;
-                *) options='--resolution --start --end' ;;
+                *)
+                    options='--resolution --start --end --source --area --stack --fit --unit --title --size'
+                    options+=' --dark --no-legend --no-band'
+                    ;;
             esac
             ;;
-        rrdi-record) ends='rrdi' ;;
+        rrdi-record)
+            options+=' --load --memory --disk --network'
+            case ${COMP_WORDS[COMP_CWORD - 1]} in
+                --network) return 0 ;;
+                --disk) ;;
+                *) ends='rrdi' ;;
+            esac
+            ;;
         rrdi-feed)
             options='--seconds --jobs --held --patience --graphite --rules'
             ((COMP_CWORD > 1)) || options="--help --version $options"
@@ -53,6 +70,17 @@ _rrdi_tool() {
         rrdi-graph)
             options='--help --version --start --end --title --vertical-label --width --height'
             ((COMP_CWORD > 1)) && ends='' || ends='png svg pdf'
+            ;;
+        rrdi-show)
+            options+=' --start --end --resolution --archive --csv --json --openmetrics --journal'
+            case ${COMP_WORDS[COMP_CWORD - 1]} in
+                -s | -e | -r | -a | --start | --end | --resolution | --archive) return 0 ;;
+                *.rrdi)
+                    [[ $current == -* ]] || mapfile -t COMPREPLY < <(compgen -W 'AVERAGE MIN MAX LAST' -- "$current")
+                    [[ $current == -* ]] || return 0
+                    ;;
+            esac
+            ends='rrdi'
             ;;
         rrdi-rrdtool)
             options='--help --exact --lengths --rrdi --show --version'
@@ -77,4 +105,4 @@ _rrdi_tool() {
     return 0
 }
 
-complete -F _rrdi_tool rrdi-carbon-cache rrdi-import rrdi-export rrdi-compare rrdi-feed rrdi-graph rrdi-plot rrdi-record rrdi-rrdtool
+complete -F _rrdi_tool rrdi-carbon-cache rrdi-import rrdi-export rrdi-compare rrdi-feed rrdi-graph rrdi-plot rrdi-record rrdi-rrdtool rrdi-show

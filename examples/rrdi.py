@@ -1,5 +1,5 @@
 #!/usr/bin/env python3
-"""Reads a database of rrdi from its file and prints it: `examples/rrdi.py --help` says more, and docs/reading.md.
+"""Reads a database of rrdi from its file and prints it: `examples/rrdi.py --help` says more, and docs/export.md.
 
 The script starts `python3 -m rrdi.reader`, whose code is in python/rrdi/reader. If a program finds this folder first on
 its path and says `import rrdi`, the program gets the package in python/rrdi.

@@ -5,6 +5,9 @@ import math
 from typing import Optional
 
 MILLION = 10**6
+# A number that may have an exponent. Each text matches in one way at most, so that a text which does not match costs no
+# more than its length.
+WITH_EXPONENT = r"[-+]?([0-9]+(\.[0-9]*)?|\.[0-9]+)([eE][-+]?[0-9]{1,3})?"
 LARGEST = 1e18  # the size from which on rrdi takes no value of a GAUGE
 
 

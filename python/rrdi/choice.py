@@ -7,7 +7,7 @@ from functools import lru_cache
 from typing import TYPE_CHECKING, Optional
 
 if TYPE_CHECKING:
-    from .library import Library
+    from .protocol import Library, OnFiles
 
 
 def program_path() -> str:
@@ -25,6 +25,10 @@ def loaded_library() -> Optional[Library]:
         return None
 
 
-def chosen_library() -> Optional[Library]:
-    """Returns the C library. Returns None if the variable RRDI names a program, or if no library can be loaded."""
-    return None if os.environ.get("RRDI") else loaded_library()
+def chosen() -> OnFiles:
+    """Returns the C library, or the program in its place."""
+    library = None if os.environ.get("RRDI") else loaded_library()
+    if library is not None:
+        return library
+    from .by_program import ByProgram
+    return ByProgram(program_path())

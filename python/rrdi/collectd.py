@@ -28,17 +28,15 @@ from typing import Any, Callable, Dict, List, NamedTuple, Optional, Protocol, Se
 
 from .amounts import gauge_text
 from .commands import RefusedLine, batch
-from .damaged import set_aside
 from .errors import Damaged, Error, Usage
 from .library import load_library
-from .making import NewFile
+from .making import make
+from .waiting import MOST_OF_A_FILE, newest, why
 from .words import in_one_line, line_of
 
 FUNCTIONS = ("AVERAGE", "MIN", "MAX")
 SUFFIX, LONGEST_NAME = ".rrdi", 255
 LONGEST_SHOWN = 300  # characters of a name in a message
-# Lines of one file that wait while the file can't be written; the oldest ones of more are lost.
-MOST_LINES = 10_000
 NO_FILE = "no database"  # the reason of a refused sample if there is no file
 
 
@@ -77,7 +75,7 @@ class Host(Protocol):
     def notice(self, text: str) -> object: ...
 
 
-class Options:
+class Configuration:
     """The settings of the module, by collectd's names in small letters."""
 
     def __init__(self) -> None:
@@ -146,7 +144,7 @@ def bound(value: Optional[float]) -> str:
     return "U" if value is None or not math.isfinite(value) else gauge_text(value) or "U"
 
 
-def archives(options: Options, step: int) -> List[str]:
+def archives(options: Configuration, step: int) -> List[str]:
     """The archives that the plugin rrdtool makes: for each span rows of whole steps, at least `RRARows` of them."""
     words, steps = [], 0
     xff = min(max(round(options.xff * 1_000_000), 0), 999_999)
@@ -158,7 +156,7 @@ def archives(options: Options, step: int) -> List[str]:
     return words
 
 
-def definition(options: Options, values: Values, dataset: Sequence[Tuple[str, str, float, float]], first: int) -> str:
+def definition(options: Configuration, values: Values, dataset: Sequence[Tuple[str, str, float, float]], first: int) -> str:
     """The line that creates a file whose first sample is at `first`. The file starts a second before, as collectd has it.
 
     # Errors
@@ -185,11 +183,11 @@ class Held(NamedTuple):
     lines: List[str]
 
 
-class Writer:
+class Plugin:
     """Holds samples by their files, and gives them to the C library. Several threads may call."""
 
     def __init__(self, collectd: Host, clock: Callable[[], float] = time.monotonic):
-        self.collectd, self.options, self._clock = collectd, Options(), clock
+        self.collectd, self.options, self._clock = collectd, Configuration(), clock
         self.counts: Counter[str] = Counter()
         self._held: Dict[str, Held] = {}
         self._guard = threading.Lock()  # of what is held
@@ -275,11 +273,9 @@ class Writer:
             refused = None if os.path.exists(path) else self.begin(path, held)
             if refused is None:
                 refused = batch(path, held.lines).refused
-        except Damaged as fault:
-            self.keep(path, held, f"{path}: {set_aside(path, fault)}")
-            return
         except (Error, OSError) as fault:
-            self.keep(path, held, str(fault))
+            reason = why(path, fault)
+            self.keep(path, held, f"{path}: {reason}" if isinstance(fault, Damaged) else reason)
             return
         if refused and refused[0].reason == NO_FILE:
             self.keep(path, held, f"{path}: {NO_FILE}")  # another program has taken the file away meanwhile
@@ -291,19 +287,16 @@ class Writer:
     def begin(self, path: str, held: Held) -> Optional[Sequence[RefusedLine]]:
         """Makes a file with its first samples. Returns the refused ones, which are all if `create` is refused; None if
         another program has made the file."""
-        with NewFile(path, makes_folder=True) as new:
-            refused = batch(new.unfinished, [held.create, *held.lines]).refused
-            if refused and refused[0].number == 1:
-                return [refused[0]] * len(held.lines)
-            return refused if new.appear() else None
+        refused = make(path, lambda new: batch(new, [held.create, *held.lines]).refused, makes_folder=True)
+        return [refused[0]] * len(held.lines) if refused and refused[0].number == 1 else refused
 
     def keep(self, path: str, held: Held, reason: str) -> None:
         with self._guard:
             later = self._held.get(path)
-            lines = held.lines + (later.lines if later else [])
-            self._held[path] = Held(self._clock(), held.create, lines[-MOST_LINES:])
-        if len(lines) > MOST_LINES:
-            self.lose(path, len(lines) - MOST_LINES, reason)
+            lines, lost = newest(held.lines + (later.lines if later else []), MOST_OF_A_FILE)
+            self._held[path] = Held(self._clock(), held.create, lines)
+        if lost:
+            self.lose(path, lost, reason)
         else:
             self.warn(f"rrdi: {reason}; {len(lines)} samples wait")
 
@@ -317,4 +310,4 @@ class Writer:
 
 # The python plugin of collectd puts its module there before it imports this one.
 if "collectd" in sys.modules:
-    Writer(cast(Host, sys.modules["collectd"])).register()
+    Plugin(cast(Host, sys.modules["collectd"])).register()

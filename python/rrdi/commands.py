@@ -22,13 +22,14 @@ import datetime
 import os
 from typing import Callable, Iterable, List, NamedTuple, Optional, Tuple, Type, TypeVar, Union, overload
 
+from .environment import is_synced, milliseconds
 from .errors import CANNOT_WRITE, OK, USAGE, Error, Exists, Refused, Unreadable, Usage, error_of, reason_of
 from .fetching import fetched
 from .library import Answer, the_library
 from .results import AnyNumber, Info, LastUpdate, Table, Value, info_of, last_update
 from .samples import Sample, sample_words
 from .times import Span, Time, moment, span_word, time_word
-from .words import FilePath, Words, encoded, encoded_path, flat, is_synced, milliseconds, options
+from .words import FilePath, Words, encoded, encoded_path, flat, options
 
 Filled = TypeVar("Filled")
 
@@ -116,17 +117,21 @@ def make_at(path: FilePath, fill: Callable[[str], Filled]) -> Optional[Filled]:
     """
     if os.path.exists(encoded_path(path)):
         return None
-    from .making import NewFile  # here, since most calls make no file
-    with NewFile(path) as new:
+    from .making import make  # here, since most calls make no file
+    the_library()  # that there is none is no fault of the file
+
+    def fill_named(new: str) -> Filled:
         try:
-            filled = fill(new.unfinished)
+            return fill(new)
         except Error as error:
             error.path = os.fsdecode(path)
             raise
-        try:
-            return filled if not new.is_filled() or new.appear() else None
-        except OSError as error:
-            raise error_of(CANNOT_WRITE, "cannot write", os.fsdecode(path), 0, error.errno or 0) from None
+    try:
+        return make(path, fill_named)
+    except Error:  # of which some are an OSError
+        raise
+    except OSError as error:
+        raise error_of(CANNOT_WRITE, "cannot write", os.fsdecode(path), 0, error.errno or 0) from None
 
 
 def update(path: FilePath, *samples: Sample, template: Optional[str] = None, now: Optional[Time] = None,

@@ -115,13 +115,28 @@ _KINDS: Dict[int, Type[Error]] = {
     **dict.fromkeys(range(NOT_OURS, READ_FAILED), Damaged)}
 
 
+# The library's numbers for the reasons that always have the same text, and for those that end with a number.
+_FAULTS: Dict[str, int] = {
+    "usage": USAGE, "no database": NO_DATABASE, "out of memory": NO_MEMORY, "cannot open": CANNOT_OPEN,
+    "cannot write": CANNOT_WRITE, "file: not ours": NOT_OURS, "file: version": VERSION, "file: read failed": READ_FAILED}
+_WITH_NUMBER: Dict[str, int] = {
+    "file: truncated at ": TRUNCATED, "file: bad block at ": BAD_BLOCK, "file: bad entry ": BAD_ENTRY,
+    "file: trailing at ": TRAILING}
 # The reasons of the faults that a batch may end with after its lines have printed something.
-_REASONS: Dict[int, str] = {NO_MEMORY: "out of memory", CANNOT_OPEN: "cannot open", CANNOT_WRITE: "cannot write"}
+_REASONS: Dict[int, str] = {_FAULTS[reason]: reason for reason in ("out of memory", "cannot open", "cannot write")}
 
 
 def reason_of(fault: int, output: bytes) -> str:
     """Returns the reason of a fault: `output`, unless the output is the text that the lines of a batch printed."""
     return _REASONS.get(fault) or output.decode(errors="replace").rstrip("\n")
+
+
+def fault_of(reason: str) -> Tuple[int, int]:
+    """Returns the library's number for a reason that the program printed, and the number at which a file is damaged."""
+    for begin, fault in _WITH_NUMBER.items():
+        if reason.startswith(begin):
+            return fault, int(reason[len(begin):])
+    return BAD_WORD if reason.startswith("unreadable ") else _FAULTS.get(reason, REFUSED), 0
 
 
 def error_of(fault: int, reason: str, path: Optional[str] = None, at: int = 0, system_error: int = 0) -> Error:
@@ -136,7 +151,4 @@ def error_of(fault: int, reason: str, path: Optional[str] = None, at: int = 0, s
 
 def error_of_line(reason: str, path: Optional[str] = None) -> Error:
     """Returns the exception for the reason of a refused line of a batch, which has no number."""
-    if reason.startswith("unreadable "):
-        return Unreadable(reason, path, BAD_WORD)
-    faults = {"usage": USAGE, "no database": NO_DATABASE, "out of memory": NO_MEMORY}
-    return error_of(faults.get(reason, REFUSED), reason, path)
+    return error_of(fault_of(reason)[0], reason, path)

@@ -4,11 +4,12 @@ from __future__ import annotations
 import re
 from typing import Callable, Dict, List, NamedTuple, Optional, Sequence
 
-from .amounts import LARGEST
-from .errors import Error, Refused, Unreadable
+from .amounts import LARGEST, gauge_text, shortened
+from .errors import Error, Refused, Unreadable, error_of_line
 from .fetching import take_option
+from .limits import LATEST
+from .printed import Source, settings_of
 from .samples import LEAST, MOST, why_bad_time
-from .times import LATEST
 
 # A number in a sample, as the program reads it.
 NUMBER = re.compile(r"-?\d{1,20}(\.\d{1,6})?", re.ASCII)
@@ -18,13 +19,6 @@ TIMES = {"create": [("-b", "--start")], "fetch": [("-s", "--start"), ("-e", "--e
 WHOLE = "whole numbers without a point"
 
 Ask = Callable[[List[str]], str]
-
-
-class Source(NamedTuple):
-    """The name and the type of a source."""
-
-    name: str
-    type: str
 
 
 class Given(NamedTuple):
@@ -61,6 +55,28 @@ def _explain_update(error: Error, given: Given, ask: Optional[Ask]) -> None:
         error.detail = _why_bad_value(given, ask)
 
 
+def why_refused(sample: str, reason: str, ask: Optional[Ask] = None) -> str:
+    """Returns what was wrong with the only sample of an update that was refused for a reason; nothing if that is not known.
+    The text says what to write instead, and nothing of Python's tuples."""
+    parts = sample.split(":")
+    if reason == "unreadable sample 1":
+        return why_unreadable(parts, write_instead)
+    error = error_of_line(reason)
+    explain(error, ["update", sample], ask)
+    return error.detail
+
+
+def write_instead(text: str) -> str:
+    """Returns the advice to write a number with at most six decimals and no exponent."""
+    rounded = gauge_text(float(text))
+    return "a value has at most six decimals and no exponent" if rounded is None else f"write {quoted(shortened(rounded))}"
+
+
+def as_numbers(_text: str) -> str:
+    """Returns the advice for programs in Python."""
+    return AS_NUMBERS
+
+
 def given_of(words: Sequence[str]) -> Given:
     """Returns the samples and the template of the words of an update."""
     template, others = take_option(list(words), "-t", "--template")
@@ -68,41 +84,41 @@ def given_of(words: Sequence[str]) -> Given:
     return Given(samples, None if template is None else template.split(":"))
 
 
-def shown(text: str) -> str:
+def quoted(text: str) -> str:
     """Returns a text in quotes; of a long text the beginning."""
     return repr(text) if len(text) <= 40 else f"{text[:20]!r}.. ({len(text)} characters)"
 
 
 # ---- A sample that cannot be read
 
-def why_unreadable(sample: List[str]) -> str:
+def why_unreadable(sample: List[str], advice: Callable[[str], str] = as_numbers) -> str:
     """Returns what cannot be read in a sample: its time, or the first value that is no number."""
     time, *values = sample
     if not values:
-        return f"{shown(time)} has no value; write TIME:VALUE"
+        return f"{quoted(time)} has no value; write TIME:VALUE"
     if time != "N" and not re.fullmatch(r"\d{1,20}", time, re.ASCII):
-        return f"its time is {shown(time)}, not whole seconds since 1970 or N"
+        return f"its time is {quoted(time)}, not whole seconds since 1970 or N"
     for number, value in enumerate(values, 1):
         if value != "U" and not NUMBER.fullmatch(value):
-            return f"its value {number} is {why_no_number(value)}"
+            return f"its value {number} is {why_no_number(value, advice)}"
     return ""
 
 
-def why_no_number(text: str) -> str:
-    """Returns a text that is no number of rrdi, and what to write instead."""
+def why_no_number(text: str, advice: Callable[[str], str]) -> str:
+    """Returns a text that is no number of rrdi, and what to write instead; for a number that rrdi would round, `advice`."""
     if not text:
         return "empty; U is unknown"
     if text.lower() in ("nan", "none", "null", "-nan", "+nan", "u", "unknown"):
-        return f"{shown(text)}; U is unknown"
+        return f"{quoted(text)}; U is unknown"
     if re.fullmatch(r"[+-]?\d*,\d+", text):
-        return f"{shown(text)}; write {shown(text.replace(',', '.'))}, with a point"
+        return f"{quoted(text)}; write {quoted(text.replace(',', '.'))}, with a point"
     if re.fullmatch(r"[+-]?(\d+\.?\d*|\.\d+)[eE][+-]?\d+", text):
-        return f"{shown(text)}, with an exponent; {AS_NUMBERS}"
+        return f"{quoted(text)}, with an exponent; {advice(text)}"
     if re.fullmatch(r"-?\d*\.\d{7,}", text):
-        return f"{shown(text)}, with more than six decimals; {AS_NUMBERS}"
+        return f"{quoted(text)}, with more than six decimals; {advice(text)}"
     if re.fullmatch(r"-?\d+(\.\d+)?", text):
-        return f"{shown(text)}, with more than 20 digits"
-    return f"{shown(text)}; a value is a number, such as 21.5 or -3, or U for unknown"
+        return f"{quoted(text)}, with more than 20 digits"
+    return f"{quoted(text)}; a value is a number, such as 21.5 or -3, or U for unknown"
 
 
 # ---- A sample that the database refuses
@@ -150,8 +166,8 @@ def _answer(ask: Optional[Ask], question: str) -> str:
 
 def _sources(ask: Optional[Ask]) -> List[Source]:
     """Returns the sources of the database, or none if it does not answer."""
-    found = re.findall(r"^ds\[\d+\]\.name = (.*)\nds\[\d+\]\.type = (.*)$", _answer(ask, "info"), re.MULTILINE)
-    return [Source(name, type) for name, type in found]
+    text = _answer(ask, "info")
+    return settings_of(text).sources if text else []
 
 
 def _why_wrong_number(given: Given, ask: Optional[Ask]) -> str:
@@ -165,7 +181,7 @@ def _why_wrong_number(given: Given, ask: Optional[Ask]) -> str:
 
 
 def _why_bad_value(given: Given, ask: Optional[Ask]) -> str:
-    types: Dict[str, str] = dict(_sources(ask))
+    types: Dict[str, str] = {source.name: source.type for source in _sources(ask)}
     names = given.template or list(types)
     for number, sample in enumerate(given.samples, 1):
         for at, (name, value) in enumerate(zip(names, sample[1:]), 1):

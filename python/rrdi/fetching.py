@@ -4,7 +4,8 @@ from __future__ import annotations
 from typing import Callable, List, Optional, Tuple, Type
 
 from .errors import OperationalError
-from .results import Rows, Table, Value, rows_of, table
+from .printed import PrintedRows, printed_rows
+from .results import Table, Value, table
 
 DAY = 86_400
 # If the settings of a database change between two queries, the queries are repeated.
@@ -41,13 +42,13 @@ def fetched(run: Callable[[List[str]], str], asked: List[str], now: int, values:
     return table(rows, step, values)
 
 
-def with_step(run: Callable[[List[str]], str], asked: List[str], now: int) -> Tuple[Rows, int]:
+def with_step(run: Callable[[List[str]], str], asked: List[str], now: int) -> Tuple[PrintedRows, int]:
     """Runs `fetch`, and returns the rows, and the seconds from one row to the next."""
     for _ in range(TRIES):
-        rows = rows_of(run(["fetch", *asked]))
+        rows = printed_rows(run(["fetch", *asked]))
         if len(rows.times) > 1:
             return rows, rows.times[1] - rows.times[0]
-        longer = rows_of(run(["fetch", *with_next_row(asked, rows.times[0], now)]))
+        longer = printed_rows(run(["fetch", *with_next_row(asked, rows.times[0], now)]))
         if longer.times[0] == rows.times[0] and len(longer.times) == 2:
-            return Rows(longer.names, longer.times[:1], longer.words[:1]), longer.times[1] - longer.times[0]
+            return PrintedRows(longer.names, longer.times[:1], longer.words[:1]), longer.times[1] - longer.times[0]
     raise OperationalError("the archives changed while they were read")

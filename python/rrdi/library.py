@@ -4,48 +4,18 @@ A call lends the library buffers that belong to the calling thread, so several t
 call the interpreter's lock is free. docs/embedding.md has the library's own rules.
 """
 
-# Without `annotations` of __future__: a named tuple whose types are texts makes a tool start a tenth slower.
+from __future__ import annotations
+
 import ctypes
 import os
 import threading
-from typing import List, NamedTuple, Optional, Protocol, Tuple
+from typing import List, Optional, Tuple
 
-from .errors import NO_ROOM, OK
+from .errors import NO_ROOM
+from .protocol import DONE as DONE, Answer as Answer, Library as Library
 
 NAMES = ("librrdi.so.0", "librrdi.so")
 FIRST_ROOM = 65_536  # bytes of output
-
-
-class Answer(NamedTuple):
-    """The library's answer to a call."""
-
-    fault: int
-    system_error: int
-    at: int
-    output: bytes
-    refused: Tuple[int, ...] = ()  # the numbers of a batch's refused lines, the first line is 1
-    data: Optional[bytes] = None  # in memory: the new database, if there is one
-
-
-# A call that changed a file, or found nothing to change.
-DONE = Answer(OK, 0, 0, b"")
-
-
-class Library(Protocol):
-    """Runs one command, or lines of commands, on the file at a path or on a database in memory.
-
-    `words` are the command's name and arguments, without FILE, with a zero byte between two words. `lines` have the form
-    that `rrdi batch` reads. `now` is in seconds since 1970, and `wait`, for the file's lock, in milliseconds. `syncs`
-    flushes each change to the disk.
-    """
-
-    def run_file(self, path: bytes, words: bytes, now: int, wait: int, syncs: bool) -> Answer: ...
-
-    def batch_file(self, path: bytes, lines: bytes, now: int, wait: int, syncs: bool) -> Answer: ...
-
-    def run(self, data: Optional[bytes], words: bytes, now: int) -> Answer: ...
-
-    def batch(self, data: Optional[bytes], lines: bytes, now: int) -> Answer: ...
 
 
 class _Answer(ctypes.Structure):

@@ -9,9 +9,11 @@ import errno
 import os
 import secrets
 from types import TracebackType
-from typing import Optional, Type
+from typing import Callable, Optional, Type, TypeVar
 
 from .words import FilePath
+
+Filled = TypeVar("Filled")
 
 # What link(2) answers if a file system has no links.
 NO_LINKS = frozenset({errno.EPERM, errno.EOPNOTSUPP, errno.ENOTSUP, errno.ENOSYS, errno.EMLINK})
@@ -84,3 +86,16 @@ class NewFile:
             return False
         os.rename(self.unfinished, self.path)
         return True
+
+
+def make(path: FilePath, fill: Callable[[str], Filled], makes_folder: bool = False) -> Optional[Filled]:
+    """Calls `fill` with another name, gives the file its name `path` when it is whole, and returns what `fill` returned.
+
+    Returns None if there is a file at `path`, which stays as it is. `fill` may leave no file.
+
+    # Errors
+    Those of `fill`, and `OSError` if the folder can't be made or the system refuses the name.
+    """
+    with NewFile(path, makes_folder) as new:
+        filled = fill(new.unfinished)
+        return filled if not new.is_filled() or new.appear() else None

@@ -3,10 +3,10 @@ from __future__ import annotations
 
 import datetime
 from decimal import Decimal
-from typing import (TYPE_CHECKING, Callable, Dict, Generic, List, NamedTuple, Optional, Tuple, Type, TypedDict, TypeVar,
-                    Union)
+from typing import TYPE_CHECKING, Callable, Dict, Generic, List, Optional, Tuple, Type, TypedDict, TypeVar, Union
 
 from .amounts import MILLION, Millionths, shortened
+from .printed import PrintedRows, printed_rows, settings_of
 
 Value = TypeVar("Value", float, Decimal, Millionths)
 Row = Tuple[Optional[Value], ...]
@@ -23,14 +23,6 @@ if TYPE_CHECKING:
         ds: Dict[str, Optional[Value]]
 else:
     LastUpdate = dict
-
-
-class Rows(NamedTuple):
-    """The output of `fetch`: the names of the sources, and the time and the words of each row."""
-
-    names: Tuple[str, ...]
-    times: List[int]
-    words: List[List[str]]
 
 
 def _millionths(word: str) -> Millionths:
@@ -58,18 +50,7 @@ def any_conversion(values: type) -> Callable[[str], AnyNumber]:
     return found
 
 
-def rows_of(text: str) -> Rows:
-    head, *lines = text.splitlines()
-    times: List[int] = []
-    words: List[List[str]] = []
-    for line in lines:
-        time, _, cells = line.partition(":")
-        times.append(int(time))
-        words.append(cells.split())
-    return Rows(tuple(head.split()[1:]), times, words)
-
-
-def table(rows: Rows, step: int, values: Type[Value]) -> Table[Value]:
+def table(rows: PrintedRows, step: int, values: Type[Value]) -> Table[Value]:
     """Returns the span and the step of rows, the names, and the cells; an unknown cell is None."""
     convert = conversion(values)
     cells = [tuple([None if word in UNKNOWN else convert(word) for word in words]) for words in rows.words]
@@ -81,43 +62,28 @@ def last_update(text: str, values: Type[Value], tz: Optional[datetime.tzinfo] = 
 
     The time is in the zone `tz`. For None it is a local time without a zone.
     """
-    convert, rows = conversion(values), rows_of(text)
+    convert, rows = conversion(values), printed_rows(text)
     last = {name: None if word in UNKNOWN else convert(word) for name, word in zip(rows.names, rows.words[0])}
     return {"date": datetime.datetime.fromtimestamp(rows.times[0], tz), "ds": last}
 
 
 # ---- info
 
-_NAMES = {"last_raw": "last_ds", "steps": "pdp_per_row"}  # RRDtool's names, where they differ
-
-
 def info_of(text: str, filename: str, values: Type[AnyNumber] = float) -> Info:
     """Returns the settings by RRDtool's names, and the settings of the journal by rrdi's own names.
 
     `values` is the type of the bounds and of xff.
     """
-    found: Info = {"filename": filename}
-    convert = any_conversion(values)
-    names: Dict[str, str] = {}
-    for line in text.splitlines():
-        key, _, word = line.partition(" = ")
-        owner, _, name = key.partition(".")
-        if owner.startswith("ds[") and name == "name":
-            names[owner] = f"ds[{word}]"
-            found[f"ds[{word}].index"] = int(owner[3:-1])
-        elif name:
-            found[f"{names.get(owner, owner)}.{_NAMES.get(name, name)}"] = _setting(name, word, convert)
-        else:
-            found[key] = int(word)
+    convert, settings = any_conversion(values), settings_of(text)
+    found: Info = {"filename": filename, "step": settings.step, "last_update": settings.last,
+                   "journal": settings.journal, "undoable": settings.undoable}
+    for number, source in enumerate(settings.sources):
+        bounds = [None if word == "U" else convert(word) for word in (source.minimum, source.maximum)]
+        key = f"ds[{source.name}]"
+        found.update({f"{key}.index": number, f"{key}.type": source.type, f"{key}.minimal_heartbeat": source.heartbeat,
+                      f"{key}.min": bounds[0], f"{key}.max": bounds[1], f"{key}.last_ds": shortened(source.last_raw)})
+    for number, archive in enumerate(settings.archives):
+        key = f"rra[{number}]"
+        found.update({f"{key}.cf": archive.function, f"{key}.xff": convert(archive.xff),
+                      f"{key}.pdp_per_row": archive.steps, f"{key}.rows": archive.rows})
     return found
-
-
-def _setting(name: str, word: str, convert: Callable[[str], AnyNumber]) -> Union[str, int, AnyNumber, None]:
-    """Returns one setting of a source or an archive."""
-    if name in ("type", "cf"):
-        return word
-    if name == "last_raw":
-        return shortened(word)
-    if name in ("min", "max", "xff"):
-        return None if word == "U" else convert(word)
-    return int(word)

@@ -15,7 +15,8 @@ from typing import Iterable, List, Optional, Sequence, Union
 
 from .amounts import LARGEST, MILLION, Millionths, shortened
 from .errors import BadSample
-from .times import LATEST, seconds_of
+from .limits import LATEST
+from .times import seconds_of
 from .words import FilePath
 
 Number = Union[int, float, Decimal, Fraction]

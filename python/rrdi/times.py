@@ -13,7 +13,6 @@ Span = Union[int, datetime.timedelta]
 
 EPOCH = datetime.datetime(1970, 1, 1, tzinfo=datetime.timezone.utc)
 SECOND = datetime.timedelta(seconds=1)
-LATEST = 9_999_999_999  # the latest time of rrdi
 
 
 def seconds_of(time: Time) -> int:

@@ -13,7 +13,7 @@ import unittest
 from pathlib import Path
 from typing import Any, Callable, List, Optional
 
-from doubles import PROGRAM, ByProgram, has_library
+from doubles import PROGRAM, Program, has_library
 from rrdi import library
 from rrdi.library import Library
 
@@ -22,6 +22,7 @@ NO_LIBRARY = "librrdi.so.0 not found: type make library"
 needs_program = unittest.skipUnless(PROGRAM, NO_PROGRAM)
 needs_library = unittest.skipUnless(has_library(), NO_LIBRARY)
 MOST_SECONDS, MOST_MEMORY = 20, 10**9  # of computing, and bytes
+HANG = 60  # seconds: what takes longer, also on a busy machine, does not end
 
 
 def new_folder(case: unittest.TestCase) -> Path:
@@ -88,7 +89,7 @@ def use_any_library(case: unittest.TestCase) -> Library:
     """Passes the commands of a test to the C library, or to the program in its place. Skips the test without both."""
     if not has_library() and not PROGRAM:
         case.skipTest("neither librrdi.so.0 nor rrdi found")
-    chosen = library.load_library() if has_library() else ByProgram()
+    chosen = library.load_library() if has_library() else Program()
     use_library(case, chosen)
     return chosen
 
@@ -98,7 +99,7 @@ class WithProgram:
     """Runs the tests of a class by the program in place of the C library."""
 
     def library(self) -> Any:
-        return ByProgram()
+        return Program()
 
 
 @needs_library

@@ -1,33 +1,51 @@
-/* A library that replaces librrdi in tests: it keeps the words or lines of its last call, and accepts them. */
+/* A library that replaces librrdi in tests: it keeps the words or lines of its last call and the room for the output, and
+ * accepts them, or gives the answer that a test has set. */
 #include "rrdi.h"
 
 #include <string.h>
 
 static uint8_t given[65536];
 static size_t length;
+static size_t room;
 static int calls;
+static struct rrdi_answer given_answer;
+static const char *given_output = "";
 
 const uint8_t *last_given(void) { return given; }
 size_t last_length(void) { return length; }
+size_t last_room(void) { return room; }
 int call_count(void) { return calls; }
 
-static void keep(const uint8_t *bytes, size_t count, struct rrdi_answer *answer) {
+/* Sets the answer of later calls; the text must stay. */
+void set_answer(uint32_t fault, uint32_t system_error, uint64_t refused, const char *output) {
+    memset(&given_answer, 0, sizeof given_answer);
+    given_answer.fault = fault;
+    given_answer.system_error = system_error;
+    given_answer.refused = refused;
+    given_answer.output_length = strlen(output);
+    given_output = output;
+}
+
+static void keep(const uint8_t *bytes, size_t count, uint8_t *output, size_t output_length, struct rrdi_answer *answer) {
+    size_t most = given_answer.output_length < output_length ? given_answer.output_length : output_length;
     calls++;
     length = count < sizeof given ? count : sizeof given;
     memcpy(given, bytes, length);
-    memset(answer, 0, sizeof *answer);
+    room = output_length;
+    memcpy(output, given_output, most);
+    *answer = given_answer;
 }
 
 void rrdi_run_file(const uint8_t *path, size_t path_length, const uint8_t *words, size_t words_length, uint64_t now,
                    uint64_t wait, bool syncs, uint8_t *output, size_t output_length, struct rrdi_answer *answer) {
-    (void)path, (void)path_length, (void)now, (void)wait, (void)syncs, (void)output, (void)output_length;
-    keep(words, words_length, answer);
+    (void)path, (void)path_length, (void)now, (void)wait, (void)syncs;
+    keep(words, words_length, output, output_length, answer);
 }
 
 void rrdi_batch_file(const uint8_t *path, size_t path_length, const uint8_t *lines, size_t lines_length, uint64_t now,
                      uint64_t wait, bool syncs, uint8_t *output, size_t output_length, uint64_t *refused,
                      size_t refused_length, struct rrdi_answer *answer) {
-    (void)path, (void)path_length, (void)now, (void)wait, (void)syncs, (void)output, (void)output_length;
-    (void)refused, (void)refused_length;
-    keep(lines, lines_length, answer);
+    (void)path, (void)path_length, (void)now, (void)wait, (void)syncs;
+    if (refused_length > 0) refused[0] = 2;
+    keep(lines, lines_length, output, output_length, answer);
 }

@@ -79,8 +79,8 @@ class ClosedStreams(unittest.TestCase):
         folder = new_folder(self)
         results = folder / "results"
         subprocess.run([sys.executable, "-c", SCRIPT, str(folder / "f.rrdi"), str(results), json.dumps(streams)],
-                       env={**os.environ, "PYTHONPATH": str(PYTHON)}, stdin=subprocess.DEVNULL, capture_output=True,
-                       timeout=60, check=True)
+                       env={**os.environ, "PYTHONPATH": str(PYTHON), "RRDI_WAIT": "60"}, stdin=subprocess.DEVNULL, capture_output=True,
+                       timeout=300, check=True)
         return [(answer.replace(str(folder), ""), digest) for answer, digest in json.loads(results.read_text())]
 
     def test_each_command_does_the_same(self) -> None:

@@ -5,13 +5,14 @@ from __future__ import annotations
 import importlib
 import math
 import sys
+import threading
 import types
 import unittest
 from typing import Any, Dict, List, Optional, Tuple
 from unittest import mock
 
 import graphite_doubles as graphite
-from cases import DataCase, run_in_threads, use_any_library, use_library
+from cases import HANG, DataCase, run_in_threads, use_any_library, use_library
 from rrdi import collectd, commands, library
 from rrdi.library import Answer
 from rrdi.reader import read_file
@@ -29,7 +30,7 @@ class WriterCase(DataCase):
     def setUp(self) -> None:
         super().setUp()
         self.collectd, self.now = graphite.Collectd(), 0.0
-        self.writer = collectd.Writer(self.collectd, lambda: self.now)
+        self.writer = collectd.Plugin(self.collectd, lambda: self.now)
         self.writer.options.datadir = str(self.folder)
 
     def use(self, chosen: Any) -> Any:
@@ -59,7 +60,7 @@ class Definitions(WriterCase):
 
     def test_archives(self) -> None:
         """As the plugin rrdtool reckons them: the first span has rows of one step."""
-        options = collectd.Options()
+        options = collectd.Configuration()
         self.assertEqual([word for word in collectd.archives(options, 10) if "AVERAGE" in word],
                          ["RRA:AVERAGE:0.100000:1:1200", "RRA:AVERAGE:0.100000:7:1235", "RRA:AVERAGE:0.100000:50:1210",
                           "RRA:AVERAGE:0.100000:223:1202", "RRA:AVERAGE:0.100000:2635:1201"])
@@ -70,11 +71,15 @@ class Definitions(WriterCase):
         self.assertEqual(collectd.archives(options, 10)[::3], ["RRA:AVERAGE:0.500000:1:360", "RRA:AVERAGE:0.500000:28:309"])
 
     def test_definition(self) -> None:
-        options, dataset = collectd.Options(), graphite.Collectd.DATASETS["load"]
+        options, dataset = collectd.Configuration(), graphite.Collectd.DATASETS["load"]
         words = collectd.definition(options, values(), dataset, NOW).split()
         self.assertEqual(words[:7], ["create", "--step", "10", "--start", str(NOW - 1), "--journal", "16"])
         self.assertEqual(words[7], "DS:shortterm:GAUGE:20:0.000000:5000.000000")
         self.assertEqual(len(words), 7 + 3 + 15)
+        # collectd counts its intervals in parts of a second.
+        for interval, step in ((9.999999, 10), (10.000001, 10), (0.5, 1), (0.1, 1), (1.5, 2), (59.6, 60)):
+            words = collectd.definition(options, values(NOW, interval=interval), dataset, NOW).split()
+            self.assertEqual((words[2], words[7].split(":")[3]), (str(step), str(2 * step)), interval)
         options.set("StepSize", 60.0)
         options.set("HeartBeat", 600)
         words = collectd.definition(options, values(), graphite.Collectd.DATASETS["derive"], NOW).split()
@@ -192,9 +197,68 @@ class Writing(WriterCase):
         self.assertEqual(making.lines[1][1:], [f"update {NOW}:1", f"update {NOW + 10}:2"])
         self.assertEqual(self.collectd.lines[1:], ["rrdi: 2 samples taken in, 0 lost"])
 
+    def test_the_next_try(self) -> None:
+        """What could not be written is tried again after the whole timeout, and not with each further value."""
+        making = self.use(Making(*[graphite.BUSY] * 2))
+        for seconds in range(0, 200, 10):
+            self.now = float(seconds)
+            self.writer.write(values(NOW + seconds, seconds, type="derive"))
+            self.assertEqual(len(making.batches), seconds // 60, seconds)
+        self.assertEqual(making.lines[-1][1:], [f"update {NOW + seconds}:{seconds}" for seconds in range(0, 190, 10)])
+
+    def test_times_between_two_seconds(self) -> None:
+        """The half rounds up, as in the plugin rrdtool; so no two samples that are a second apart get one time."""
+        making = self.use(Making())
+        for at in (0.0, 0.5, 1.49, 1.5, 2.5, 3.5, 4.999):
+            self.writer.write(values(NOW + at, 1, type="derive"))
+        self.writer.end()
+        self.assertEqual([line.split()[1] for line in making.lines[0][1:]], [f"{NOW + at}:1" for at in (0, 1, 1, 2, 3, 4, 5)])
+
+    def test_a_flush_while_another_thread_writes(self) -> None:
+        """It waits for the other thread: afterwards all that was there before is written, and so at the end."""
+        for act in (lambda: self.writer.flush(0), self.writer.end):
+            is_writing, may_go_on, has_asked = threading.Event(), threading.Event(), threading.Event()
+
+            class Slow(Making):
+                def batch_file(self, *words: Any) -> Answer:
+                    if not self.batches:
+                        is_writing.set()
+                        may_go_on.wait(HANG)
+                    return super().batch_file(*words)
+
+            class Turn:
+                def __init__(self, inner: Any) -> None:
+                    self.inner = inner
+
+                def acquire(self, blocking: bool = True) -> bool:
+                    if is_writing.is_set():
+                        has_asked.set()
+                    return bool(self.inner.acquire(blocking=blocking))
+
+                def release(self) -> None:
+                    self.inner.release()
+            making, written = self.use(Slow()), []  # type: Any, List[int]
+
+            def finish() -> None:
+                act()
+                written.append(len(making.batches))
+            self.writer._turn = Turn(threading.Lock())  # type: ignore[assignment]
+            self.writer.write(values(NOW, 1, type="derive", host="first"))
+            other = threading.Thread(target=self.writer.flush, args=(0,))
+            other.start()
+            is_writing.wait(HANG)
+            self.writer.write(values(NOW, 1, type="derive", host="second"))
+            mine = threading.Thread(target=finish)
+            mine.start()
+            has_asked.wait(HANG)
+            may_go_on.set()
+            for thread in (other, mine):
+                thread.join(HANG)
+            self.assertEqual(written, [2])
+
     def test_too_many_samples_wait(self) -> None:
         self.use(Making(*[graphite.BUSY] * 3))
-        with mock.patch.object(collectd, "MOST_LINES", 2):
+        with mock.patch.object(collectd, "MOST_OF_A_FILE", 2):
             for number in range(3):
                 self.writer.write(values(NOW + number, number, type="derive"))
             self.writer.flush(0)
@@ -264,7 +328,7 @@ class Rows(WriterCase):
     def test_two_programs_that_start_one_file(self) -> None:
         """What both count as taken in is in the file, whoever makes it, and no file is renamed."""
         for number in range(10):
-            writers = [collectd.Writer(self.collectd, lambda: self.now) for _ in range(2)]
+            writers = [collectd.Plugin(self.collectd, lambda: self.now) for _ in range(2)]
             for at, writer in enumerate(writers):
                 writer.options.datadir = str(self.folder)
                 for turn in range(5):

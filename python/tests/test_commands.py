@@ -14,11 +14,11 @@ from decimal import Decimal
 from typing import Any, List
 from unittest import mock
 
-from cases import WithLibrary, WithProgram, run_in_threads
+from cases import HANG, WithLibrary, WithProgram, run_in_threads
 from file_case import BOTH, LAST, OfFiles
 
 import rrdi
-from rrdi import words
+from rrdi import environment
 from rrdi.errors import OK
 from rrdi.library import Answer
 
@@ -237,8 +237,9 @@ class Commands(OfFiles):
         with open(file, "rb") as other:
             fcntl.flock(other, fcntl.LOCK_EX)
             begin = time.monotonic()
-            error = self.refuses(rrdi.Busy, "cannot open", rrdi.last, file, busy_timeout=0)
-            self.assertLess(time.monotonic() - begin, 2)
+            with mock.patch.object(environment, "WAIT", 2 * HANG * 1_000):
+                error = self.refuses(rrdi.Busy, "cannot open", rrdi.last, file, busy_timeout=0)
+            self.assertLess(time.monotonic() - begin, HANG)
             self.assertEqual(str(error), f"{file}: cannot open: another program holds its lock")
             self.refuses(rrdi.Busy, "cannot open", rrdi.update, file, "1600000040:1:2", busy_timeout=0)
             self.refuses(rrdi.Busy, "cannot write", rrdi.create, file, *BOTH, busy_timeout=0,
@@ -266,7 +267,7 @@ class Commands(OfFiles):
         library = mock.Mock()
         library.run_file.return_value = Answer(OK, 0, 0, b"10\n")
         for sync in (False, True):
-            with mock.patch.object(words, "SYNC", sync), mock.patch("rrdi.commands.the_library", lambda: library):
+            with mock.patch.object(environment, "SYNC", sync), mock.patch("rrdi.commands.the_library", lambda: library):
                 rrdi.last(self.file)
                 rrdi.first(self.file)
             self.assertEqual([call[0][4] for call in library.run_file.call_args_list], [sync, sync])
@@ -275,13 +276,16 @@ class Commands(OfFiles):
     def test_wait_of_the_environment(self: Any) -> None:
         for text, wanted in (("0", 0), ("7", 7_000), ("99999", 3_600_000), ("x", 5_000), ("-1", 5_000), ("", 5_000)):
             with mock.patch.dict(os.environ, {"RRDI_WAIT": text}):
-                self.assertEqual(words.wait_of_environment(), wanted)
-        file = self.fill()
-        with open(file, "rb") as other, mock.patch("rrdi.words.WAIT", 0):
+                self.assertEqual(environment.wait_of_environment(), wanted)
+        file, library = self.fill(), mock.Mock()
+        library.run_file.return_value = Answer(OK, 0, 0, b"10\n")
+        for wait in (0, 7_000):
+            with mock.patch.object(environment, "WAIT", wait), mock.patch("rrdi.commands.the_library", lambda: library):
+                rrdi.last(file)
+            self.assertEqual(library.run_file.call_args[0][3], wait)
+        with open(file, "rb") as other, mock.patch("rrdi.environment.WAIT", 0):
             fcntl.flock(other, fcntl.LOCK_EX)
-            begin = time.monotonic()
             self.refuses(rrdi.Busy, "cannot open", rrdi.last, file)
-            self.assertLess(time.monotonic() - begin, 2)
 
     def test_threads(self: Any) -> None:
         """Threads that update one file, and others: no sample is lost, and no call sees another's buffers."""
@@ -538,7 +542,7 @@ class CommandsByLibrary(WithLibrary, Commands, unittest.TestCase):
 
     def test_paths(self) -> None:
         self.fill()
-        self.refuses(rrdi.CannotOpen, "cannot open", rrdi.last, b"/tmp/\xff")
+        self.refuses(rrdi.NoDatabase, "cannot open", rrdi.last, os.fsencode(self.folder / "none") + b"\xff")
         name = self.folder / "-näme \n"
         os.rename(self.file, name)
         self.assertEqual(rrdi.last(name), LAST)
@@ -548,16 +552,13 @@ class CommandsByLibrary(WithLibrary, Commands, unittest.TestCase):
         self.fill()
         with open(self.file, "rb") as other:
             fcntl.flock(other, fcntl.LOCK_EX)
-            waiting = threading.Thread(target=lambda: self.assertRaises(rrdi.Busy, rrdi.last, self.file,
-                                                                        busy_timeout=1))
+            waiting = threading.Thread(target=rrdi.last, args=(self.file,), kwargs={"busy_timeout": HANG})
             waiting.start()
-            turns, begin = 0, time.monotonic()
-            while time.monotonic() - begin < 0.5:
+            for _ in range(20):
                 time.sleep(0.01)
-                turns += 1
             self.assertTrue(waiting.is_alive())
+            fcntl.flock(other, fcntl.LOCK_UN)
             waiting.join()
-        self.assertGreater(turns, 10)
 
 
 class BatchesByLibrary(WithLibrary, Batches, unittest.TestCase):

@@ -2,14 +2,15 @@
 installed for /usr/bin/python3, the tests make the same calls of both modules, and compare the results."""
 from __future__ import annotations
 
-import ast
 import datetime
 import os
 import subprocess
 import sys
+import time
 import unittest
 from pathlib import Path
-from typing import Any, List
+from typing import Any, List, Optional
+from unittest import mock
 
 from cases import WithLibrary, WithProgram, new_folder, use_library
 from doubles import TOP
@@ -17,8 +18,9 @@ from doubles import TOP
 import rrdi
 from rrdi.compat import rrdtool
 from rrdi.compat.syntax import Untranslatable, read_length, read_number
-from rrdi.compat.times import Moment
+from rrdi.compat.at_style import Moment, span
 from rrdi.compat.translate import translate
+from rrdi.printed import Archive, Settings
 
 NOW = 1_700_000_000
 # Where Debian's package python3-rrdtool can be imported.
@@ -30,8 +32,8 @@ class Questions:
     def last(self, file: str) -> int:
         return 1_600_000_020
 
-    def info(self, file: str) -> str:
-        return "step = 10\nrra[0].rows = 4\n"
+    def settings(self, file: str) -> Optional[Settings]:
+        return Settings(10, 1_600_000_020, 16, 0, [], [Archive("MAX", "0.500000", 1, 4)])
 
 
 class Translations(unittest.TestCase):
@@ -70,6 +72,23 @@ class Translations(unittest.TestCase):
         with self.assertRaisesRegex(Untranslatable, "relative to itself"):
             Moment("end-1h", NOW).seconds()
 
+    def test_months_and_minutes(self) -> None:
+        """An m alone is a month up to 5, and a minute from 6 on; after hours it is a minute, and after days a month, whatever
+        its number, as in RRDtool's manual of fetch."""
+        self.addCleanup(time.tzset)
+        zone = mock.patch.dict(os.environ, TZ="UTC")
+        zone.start()
+        self.addCleanup(zone.stop)
+        time.tzset()
+        now = 1_700_000_000  # in November 2023
+        for number in range(1, 13):
+            month = datetime.datetime.fromtimestamp(now, datetime.timezone.utc)
+            month = month.replace(year=2023 if number < 11 else 2022, month=(10 - number) % 12 + 1)
+            minutes, months = now - 60 * number, int(month.timestamp())
+            for text, wanted in ((f"-{number}m", months if number <= 5 else minutes), (f"-{number}min", minutes), (f"-{number}mon", months),
+                                 (f"-1h{number}m", minutes - 3_600), (f"-1d{number}m", months - 86_400)):
+                self.assertEqual(span(text, "now", now)[0], wanted, text)
+
     def test_commands(self) -> None:
         for words, wanted in (
                 ("create -s 5m f.rrd -b 1600000000 DS:g:GAUGE:10m:0:1e3 RRA:AVERAGE:.5:5m:1d",
@@ -82,6 +101,14 @@ class Translations(unittest.TestCase):
                 ("fetch f.rrd MAX -r 1h -s end-2h -e 1600000000 -a",
                  ["fetch f.rrd MAX --resolution 3600 --start 1599991200 --end 1599998400"]),
                 ("fetch f.rrd MAX", ["fetch f.rrd MAX"]),
+                ("fetch f.rrdi MAX -a -r 300 -s 1000000299 -e 1000000700",
+                 ["fetch f.rrdi MAX --resolution 300 --start 1000000200 --end 1000000601"]),
+                ("fetch -s 1000000000 -e start+1h f.rrdi MAX", ["fetch f.rrdi MAX --start 1000000000 --end 1000003600"]),
+                ("create x.rrdi --step 1d DS:g:GAUGE:1M:0:U RRA:MAX:.5:1:1M",
+                 ["create x.rrdi --step 86400 DS:g:GAUGE:2678400:0:U RRA:MAX:0.5:1:31"]),
+                ("update f.rrdi 10:1.23456789e1:nan", ["update f.rrdi 10:12.345679:U"]),
+                ("tune f.rrdi RRA#0:4", []), ("tune f.rrdi -h g:5m -h g:10m", ["tune f.rrdi --heartbeat g:300",
+                                                                              "tune f.rrdi --heartbeat g:600"]),
                 ("tune f.rrd -h g:5m -r g:h -h h:7", ["tune f.rrd --heartbeat g:300 --data-source-rename g:h",
                                                       "tune f.rrd --heartbeat h:7"]),
                 ("tune f.rrd RRA#0:+3 RRA#0:4 RRA#0:=6 RRA#0:-1 DELRRA:2 RRA:MAX:.5:1m:1h",
@@ -110,10 +137,16 @@ class Translations(unittest.TestCase):
                               ("create f DS:g=a:GAUGE:9:U:U", "a source cannot be filled from another file"),
                               ("fetch f MAX -s end-1 -e start+1", "cannot both be relative to each other"),
                               ("fetch f MAX --wrong", "fetch has no option --wrong"),
+                              # 366 days are not a whole number of weeks.
+                              ("create f --step 1d RRA:MAX:.5:1w:1y", "rows must be a multiple of 604800 seconds, not 1y"),
                               ("fetch f MAX -s", "--start needs a value"), ("tune f", "tune needs an option"),
                               ("tune f DEL:g", "tune cannot add or remove data sources"),
                               ("tune f RRA#0:x", "cannot parse the number of rows"),
-                              ("tune f -d g:COMPUTE", "rrdi has no type COMPUTE"), ("tune f -x 1", "is not supported")):
+                              ("tune f -d g:COMPUTE", "rrdi has no type COMPUTE"), ("tune f -x 1", "is not supported"),
+                              ("tune f --alpha 0.1", "tune --alpha is not supported"),
+                              ("create f -r y DS:g:GAUGE:9:U:U", "create --source is not supported"),
+                              ("create f --step 5m RRA:MAX:0.5:450s:4", "steps must be a multiple of 300 seconds, not 450s"),
+                              ("fetch f MAX -s 32:00", "cannot parse time: 32:00")):
             command, *others = words.split()
             with self.assertRaisesRegex(Untranslatable, reason):
                 translate(command, others, NOW, Questions())

@@ -54,9 +54,30 @@ class Completion(ToolCase):
                 ("rrdi tune some.rrdi RRA:M", "MIN: MAX:"), ("rrdi tune some.rrdi --m", "--minimum --maximum"),
                 ("rrdi resize some.rrdi ", "0 1"), ("rrdi resize some.rrdi 1 G", "GROW"), ("rrdi first some.rrdi ", "--rraindex"),
                 ("rrdi first some.rrdi --rraindex ", "0 1"), ("rrdi info some.rrdi > so", "some.rrdi"),
-                ("rrdi batch none.rrdi <so", "some.rrdi"), ("rrdi resize none.rrdi ", "")):
+                ("rrdi batch none.rrdi <so", "some.rrdi"), ("rrdi info some.rrdi 2>>so", "some.rrdi"),
+                ("rrdi resize none.rrdi ", "")):
             with self.subTest(line=line):
                 self.assertEqual(self.rrdi_completes(line), words.split())
+
+    def test_choices_of_tools(self) -> None:
+        self.write("some.rrd", "")
+        self.write("complete", "")
+        for line, words in (
+                ("rrdi-import so", "some.rrd some.rrdi"), ("rrdi-import --j", "--journal"), ("rrdi-import --journal ", ""),
+                ("rrdi-import --in", "--into --in-place"), ("rrdi-import --into comp", ""),
+                ("rrdi-export some", "some.rrdi some.rrd"), ("rrdi-compare some.rrd --h", "--help"),
+                ("rrdi-graph some.rrdi --st", "--start"), ("rrdi-plot so", "some.rrdi"),
+                ("rrdi-plot some.rrdi p.png M", "MIN MAX"), ("rrdi-plot some.rrdi p.png MAX --e", "--end"),
+                ("rrdi-record so", "some.rrdi"), ("rrdi-record --memory so", "some.rrdi"), ("rrdi-record --n", "--network"),
+                ("rrdi-feed --j", "--jobs"), ("rrdi-feed --jobs ", ""), ("rrdi-feed --h", "--help --held"),
+                ("rrdi-feed --graphite . --r", "--rules"), ("rrdi-feed --graphite . --rules so", "some.rrd some.rrdi"),
+                ("rrdi-carbon-cache st", "start stop status"), ("rrdi-carbon-cache --c", "--config"),
+                ("rrdi-show so", "some.rrdi"), ("rrdi-show some.rrdi M", "MIN MAX"),
+                ("rrdi-show some.rrdi MAX --j", "--json --journal"), ("rrdi-show --s", "--start"),
+                ("rrdi-rrdtool up", "update updatev"), ("rrdi-rrdtool --ex", "--exact"),
+                ("rrdi-rrdtool --exact las", "last lastupdate"), ("rrdi-rrdtool last so", "some.rrd some.rrdi")):
+            with self.subTest(line=line):
+                self.assertEqual(self.complete("rrdi-tools.bash", "_rrdi_tool", line), words.split())
 
     def test_no_typed_word_is_run(self) -> None:
         for word in RUNNING:
@@ -71,7 +92,7 @@ class Completion(ToolCase):
 
     def test_no_typed_word_of_a_tool_is_run(self) -> None:
         tools = ("rrdi-import", "rrdi-export", "rrdi-compare", "rrdi-plot", "rrdi-record", "rrdi-feed", "rrdi-graph", "rrdi-rrdtool",
-                 "rrdi-carbon-cache")
+                 "rrdi-carbon-cache", "rrdi-show")
         for tool in tools:
             for word in RUNNING:
                 for line in (f"{tool} {word}", f"{tool} -{word}", f"{tool} some.rrdi {word}", f"{tool} {word} some.rrdi ",

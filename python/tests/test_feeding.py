@@ -7,19 +7,19 @@ import io
 import os
 import time
 import unittest
-from typing import Dict, List, Sequence, Tuple
+from typing import Any, Dict, List, Sequence, Tuple, cast
 from unittest import mock
 
 import doubles
-from cases import new_folder, use_library
+from cases import HANG, new_folder, use_library
 from tool_case import EachWriter, finished, taken
 
 import rrdi
 from rrdi import choice, library
 from rrdi.errors import CANNOT_OPEN, CANNOT_WRITE, NO_MEMORY
-from rrdi.feeding import writers
-from rrdi.feeding.feeder import Feeder, Options, shown
-from rrdi.feeding.writers import ByLibrary, ByProgram, Outcome, chosen_writer
+from rrdi.feeding.feeder import Feeder, FeedOptions, line_text
+from rrdi.by_program import ByProgram
+from rrdi.feeding.writers import BatchWriter, Outcome
 from rrdi.library import Answer
 
 
@@ -41,7 +41,7 @@ class Stub:
 
 class Lines(unittest.TestCase):
     def feeder(self, **options: int) -> Feeder:
-        feeder = Feeder(Options(**options), Stub())
+        feeder = Feeder(FeedOptions(**options), Stub())
         self.addCleanup(feeder.threads.shutdown)
         return feeder
 
@@ -75,7 +75,7 @@ class Lines(unittest.TestCase):
     def test_how_a_bad_line_is_shown(self) -> None:
         for line, text in ((b"a\r", "a"), (b"\x1b[2Ja", "\\x1b[2Ja"), (b"a\0b", "a\\x00b"), (b"\xff", "\ufffd"),
                            ("\u202eü".encode(), "\\u202eü"), (b"a" * 4_096, "a" * 4_096), (b"a" * 4_097, "a" * 4_096 + "..")):
-            self.assertEqual(shown(line), text)
+            self.assertEqual(line_text(line), text)
 
     def test_nobody_reads_the_messages(self) -> None:
         feeder, closed = self.feeder(), mock.Mock(write=mock.Mock(side_effect=BrokenPipeError))
@@ -95,7 +95,7 @@ class Lines(unittest.TestCase):
 
     def test_a_line_without_an_end(self) -> None:
         """A line that is too long is passed over up to its end, and takes no memory; the next line is read."""
-        with mock.patch("rrdi.feeding.feeder.LONGEST_LINE", 10), contextlib.redirect_stderr(io.StringIO()) as said:
+        with mock.patch("rrdi.feeding.feeder.LONGEST_GIVEN", 10), contextlib.redirect_stderr(io.StringIO()) as said:
             feeder = self.feeder()
             for piece in (b"a 10:1\nx", b" 1234567890", b"123\0" * 9, b"4 5:6\na 20:2\n", b"b 10:1"):
                 feeder.take_data(piece)
@@ -111,7 +111,7 @@ class Lines(unittest.TestCase):
             feeder, said = self.taken(first + b"a " + longest)
             self.assertEqual((feeder.held[b"a"][-1], said), (longest, ""))
             feeder, said = self.taken(first + b"a " + longest + b"1")
-            line = shown(b"a " + longest + b"1")
+            line = line_text(b"a " + longest + b"1")
             self.assertEqual(said, f"rrdi-feed: a sample has over 65536 bytes, got: {line}\n")
             self.assertEqual(feeder.count, 1 if first else 0)
 
@@ -121,7 +121,7 @@ class Batches(unittest.TestCase):
         """Feeds lines to their end."""
         writer = Stub()
         writer.outcomes = outcomes
-        feeder = Feeder(Options(**options), writer)
+        feeder = Feeder(FeedOptions(**options), writer)
         said = taken(feeder, text) + finished(feeder)
         return writer, feeder, said
 
@@ -129,6 +129,40 @@ class Batches(unittest.TestCase):
         writer, feeder, said = self.fed(b"a 10:1\nb 10:2\na 20:3", {}, jobs=1)
         self.assertEqual(writer.batches, [(b"a", [b"10:1", b"20:3"]), (b"b", [b"10:2"])])
         self.assertEqual((feeder.count, said, feeder.has_failed), (0, "", False))
+
+    def test_samples_are_held_from_the_first_one_on(self) -> None:
+        """A file that gets a sample each second is due when its first one was held for the seconds."""
+        now = [1_000.0]
+        with mock.patch.object(time, "monotonic", lambda: now[0]):
+            feeder = Feeder(FeedOptions(seconds=60), Stub())
+            self.addCleanup(feeder.threads.shutdown)
+            for second, due in ((0, []), (30, []), (59, []), (61, [b"a"]), (62, [b"a"]), (91, [b"a", b"b"])):
+                now[0] = 1_000 + second
+                feeder.hold(b"a" if second != 30 else b"b", [b"%d:1" % second])
+                with mock.patch.object(feeder, "start") as start:
+                    feeder.start_due()
+                self.assertEqual([call[0][0] for call in start.call_args_list], due, second)
+
+    def test_a_signal_at_any_moment(self) -> None:
+        """A hurry that comes while files are chosen and started counts for those that are held afterwards."""
+        for name in ("end_batches", "start"):
+            feeder = Feeder(FeedOptions(seconds=10**9), Stub())
+            self.addCleanup(feeder.threads.shutdown)
+            act = getattr(feeder, name)
+
+            def hurried(*words: Any) -> None:
+                act(*words)
+                feeder.take_all([b"b 10:1"])
+                feeder.hurry()
+            feeder.take_all([b"a 10:1"])
+            feeder.hurry()
+            with mock.patch.object(feeder, name, hurried):
+                feeder.start_due()
+            feeder.start_due()
+            self.assertEqual((feeder.held, feeder.is_hurried), ({}, False), name)
+            while feeder.running:
+                feeder.end_batches(HANG)
+            self.assertEqual(sorted(cast(Stub, feeder.writer).batches), [(b"a", [b"10:1"]), (b"b", [b"10:1"])], name)
 
     def test_refused_samples(self) -> None:
         _, feeder, said = self.fed(b"a 10:1\na 20:3", {b"a": [Outcome(refused=((b"20:3", "bad value"),))]})
@@ -147,24 +181,24 @@ class Batches(unittest.TestCase):
         self.assertEqual(said, "rrdi-feed: a: cannot open; 1 samples may be lost\nrrdi-feed: may be lost: a 10:1\n")
 
     def test_a_writer_that_fails(self) -> None:
-        feeder = Feeder(Options(), mock.Mock(write=mock.Mock(side_effect=MemoryError("none"))))
+        feeder = Feeder(FeedOptions(), mock.Mock(write=mock.Mock(side_effect=MemoryError("none"))))
         self.assertEqual(taken(feeder, b"a 10:1") + finished(feeder),
                          "rrdi-feed: a: MemoryError: none; 1 samples may be lost\nrrdi-feed: may be lost: a 10:1\n")
 
     def test_newer_samples_follow_those_that_wait(self) -> None:
-        feeder = Feeder(Options(seconds=60), Stub())
+        feeder = Feeder(FeedOptions(seconds=60), Stub())
         assert isinstance(feeder.writer, Stub)
         feeder.writer.outcomes[b"a"] = [Outcome(again="cannot open")]
         feeder.take_all([b"a 10:1"])
         feeder.hurry()
         feeder.start_due()
-        feeder.end_batches(10)
+        feeder.end_batches(HANG)
         self.assertEqual((list(feeder.waiting), feeder.count), ([b"a"], 1))
         feeder.take_all([b"a 20:2", b"a 30:3"])
         feeder.start_due()
         time.sleep(0.15)
         feeder.start_due()
-        feeder.end_batches(10)
+        feeder.end_batches(HANG)
         self.assertEqual(feeder.writer.batches[1:], [(b"a", [b"10:1", b"20:2", b"30:3"])])
         feeder.threads.shutdown()
 
@@ -184,7 +218,7 @@ class FakeLibrary:
 class Writers(EachWriter, unittest.TestCase):
     def outcome(self, answer: Answer) -> Outcome:
         library = FakeLibrary(answer)
-        outcome = ByLibrary(library).write(b"a", [b"10:1", b"20:2", b"30:3"])  # type: ignore[arg-type]
+        outcome = BatchWriter(library).write(b"a", [b"10:1", b"20:2", b"30:3"])  # type: ignore[arg-type]
         self.assertEqual(library.lines, b"update 10:1\nupdate 20:2\nupdate 30:3")
         return outcome
 
@@ -201,7 +235,7 @@ class Writers(EachWriter, unittest.TestCase):
     def program(self) -> str:
         """Returns the program of the chosen writer; the empty text for the library."""
         choice.loaded_library.cache_clear()
-        chosen = chosen_writer()
+        chosen = choice.chosen()
         return chosen.program if isinstance(chosen, ByProgram) else ""
 
     def test_the_choice(self) -> None:
@@ -220,11 +254,11 @@ class Writers(EachWriter, unittest.TestCase):
                     del os.environ["RRDI"]
                     self.assertEqual(self.program(), "")
 
-    def of_files(self, writer: "writers.Writer") -> None:
+    def of_files(self, writer: BatchWriter) -> None:
         """Both writers do the same to files."""
         file = new_folder(self) / "f.rrdi"
-        use_library(self, None if isinstance(writer, ByLibrary) else doubles.ByProgram())
-        with mock.patch("rrdi.words.WAIT", 0):
+        use_library(self, doubles.Program() if isinstance(writer.rrdi, ByProgram) else None)
+        with mock.patch("rrdi.environment.WAIT", 0):
             name = os.fsencode(file)
             self.assertEqual(writer.write(name, [b"10:1"]), Outcome(refused=((b"10:1", "no database"),)))
             rrdi.create(file, "DS:g:GAUGE:99:U:U", "RRA:LAST:0:1:9", step=10, start=0)

@@ -12,10 +12,11 @@ from unittest import mock
 from cases import new_folder
 from tool_case import EachWriter, finished, taken
 
-from rrdi.feeding.feeder import Options
+from rrdi.by_program import ByProgram
+from rrdi.feeding.feeder import FeedOptions
 from rrdi.feeding.metrics import Creating, MetricFeeder, as_sample, with_start
 from rrdi.feeding.rules import EACH_NAME, BadLine, BadRule, Names, read_rules
-from rrdi.feeding.writers import ByProgram, Outcome, Writer
+from rrdi.feeding.writers import BatchWriter, Outcome, Writer
 from rrdi.making import NewFile
 
 ARGUMENTS = "--step 10 DS:v:GAUGE:60:U:U RRA:AVERAGE:0.5:1:9"
@@ -122,7 +123,7 @@ class Rules(unittest.TestCase):
 
 class Lines(unittest.TestCase):
     def taken(self, text: bytes, rules: str = EACH_NAME) -> Tuple[MetricFeeder, str]:
-        feeder = MetricFeeder(Options(), Stub(), Names(b"/d", read_rules(rules)))
+        feeder = MetricFeeder(FeedOptions(), Stub(), Names(b"/d", read_rules(rules)))
         self.addCleanup(feeder.threads.shutdown)
         return feeder, taken(feeder, text)
 
@@ -190,7 +191,7 @@ class New(EachWriter, unittest.TestCase):
                       for root, _, names in os.walk(self.folder) for name in names)
 
     def fed(self, text: bytes, rules: str, writer: Writer, **options: int) -> Tuple[MetricFeeder, str]:
-        feeder = MetricFeeder(Options(**options), writer, Names(self.folder, read_rules(rules)))
+        feeder = MetricFeeder(FeedOptions(**options), writer, Names(self.folder, read_rules(rules)))
         said = taken(feeder, text) + finished(feeder)
         return feeder, said
 
@@ -276,9 +277,9 @@ class New(EachWriter, unittest.TestCase):
 
 class NoProgram(unittest.TestCase):
     def test_create(self) -> None:
-        self.assertEqual(ByProgram("/nowhere").create(b"/nowhere/f", ["x"]), "/nowhere: No such file or directory")
-        self.assertEqual(ByProgram("/bin/false").create(b"/nowhere/f", ["x"]), "/bin/false ended with 1")
-        self.assertEqual(ByProgram("/bin/true").create(b"/nowhere/f", ["x"]), "")
+        self.assertEqual(BatchWriter(ByProgram("/nowhere")).create(b"/nowhere/f", ["x"]), "/nowhere: No such file or directory")
+        self.assertEqual(BatchWriter(ByProgram("/bin/false")).create(b"/nowhere/f", ["x"]), "/bin/false ended with 1")
+        self.assertEqual(BatchWriter(ByProgram("/bin/true")).create(b"/nowhere/f", ["x"]), "")
 
 
 if __name__ == "__main__":

@@ -96,7 +96,7 @@ class Lines(CarbonCase):
 
     def test_too_many_points_wait(self) -> None:
         database = self.database(graphite.KeepingLibrary(*[graphite.BUSY] * 3))
-        with mock.patch.object(store, "MOST_WAITING", 3):
+        with mock.patch.object(store, "MOST_OF_A_FILE", 3):
             for number in range(3):
                 database.create("a", RETENTIONS, None, None)
                 database.write("a", [(NOW + 20 * number, 1.0), (NOW + 20 * number + 10, 2.0)])
@@ -133,6 +133,14 @@ class Asked(CarbonCase):
     def test_registered_with_carbon(self) -> None:
         from carbon.database import TimeSeriesDatabase
         self.assertIs(TimeSeriesDatabase.plugins["rrdi"], carbon.RrdiDatabase)
+
+    def test_each_setting_has_its_effect(self) -> None:
+        """Each setting of carbon.conf has its effect."""
+        for is_hashed in (True, False):
+            made = self.database(graphite.KeepingLibrary(), TAG_HASH_FILENAMES=is_hashed, RRDI_JOURNAL=7, RRDI_MAX_FUTURE=90)
+            self.assertEqual(str(made.getFilesystemPath("a;b=c")).endswith("/a;b=c.rrdi"), not is_hashed)
+            self.assertEqual((made.store.options.journal, made.store.options.most_future), (7, 90))
+        self.assertEqual(made.store.options.folder, str(self.folder))
 
     def test_metadata(self) -> None:
         database = self.database(graphite.KeepingLibrary())
@@ -340,12 +348,45 @@ class Rows(CarbonCase):
         """What is refused, since the file is newer than it was read to be, is put in as late points are."""
         database = self.made()
         database.write("m", [(NOW, 1.0)])
-        stale = store.read_front(str(self.folder / "m.rrdi"))
+        stale = store.read_known(str(self.folder / "m.rrdi"))
         import rrdi
         rrdi.update(str(self.folder / "m.rrdi"), f"{NOW + 20}:5", f"{NOW + 30}:6")
-        with mock.patch.object(store, "read_front", side_effect=[stale, store.read_front(str(self.folder / "m.rrdi"))]):
+        with mock.patch.object(store, "read_known", side_effect=[stale, store.read_known(str(self.folder / "m.rrdi"))]):
             database.write("m", [(NOW + 10, 2.0), (NOW + 30, 3.0)])
         self.assertEqual((self.rows(), self.counts(database)), ({0: 1.0, 10: 2.0, 20: 6.0, 30: 3.0}, {"rewritten": 1}))
+
+    def test_a_file_is_read_once(self) -> None:
+        """After the first point of a file, a point needs the batch alone."""
+        database = self.made()
+        database.write("m", [(NOW, 1.0)])
+        database.write("m", [(NOW + 10, 2.0)])
+        with mock.patch.object(store, "OpenFile", side_effect=AssertionError("the file is read again")):
+            for n in (2, 3, 5, 9):
+                database.write("m", [(NOW + 10 * n, float(n))])
+        self.assertEqual((self.rows(), self.counts(database)), ({0: 1.0, 10: 2.0, 20: 2.0, 30: 3.0, 50: 5.0, 90: 9.0}, {}))
+
+    def test_another_program_takes_back_samples(self) -> None:
+        """The point after them is not lost in an interval that is longer than it seemed."""
+        import rrdi
+        database = self.made()
+        for n in range(5):
+            database.write("m", [(NOW + 10 * n, float(n))])
+        rrdi.revert(str(self.folder / "m.rrdi"))
+        rrdi.revert(str(self.folder / "m.rrdi"))
+        database.write("m", [(NOW + 50, 5.0)])
+        self.assertEqual(self.rows(), {0: 0.0, 10: 1.0, 20: 2.0, 50: 5.0})
+
+    def test_another_file_of_the_name(self) -> None:
+        """The numbers of a file that was replaced are not used for the new one."""
+        import rrdi
+        database = self.made()
+        for n in range(3):
+            database.write("m", [(NOW + 10 * n, float(n))])
+        new = str(self.folder / "new.rrdi")
+        rrdi.create(new, "DS:average:GAUGE:30:U:U", "RRA:AVERAGE:0.5:1:20", step=30, start=NOW)
+        os.replace(new, self.folder / "m.rrdi")
+        database.write("m", [(NOW + 45, 4.0)])
+        self.assertEqual((self.rows(), self.counts(database)), ({40: 4.0}, {}))  # the steps are multiples of 30
 
     def test_files_of_users(self) -> None:
         """A file that was made by hand takes points too."""

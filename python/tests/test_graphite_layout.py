@@ -60,6 +60,9 @@ class Templates(unittest.TestCase):
         # A sum needs zeros from the beginning of its coarse row on.
         self.assertEqual(made.start(150), 120)
         self.assertIn("DS:average:", template([(1, 60)], None, None, 16).words)
+        # A share of 0 is no missing one.
+        for xff, share in ((0, "0.999999"), (0.0, "0.999999"), (None, "0.500000"), (1.0, "0.000000")):
+            self.assertIn(f"RRA:MAX:{share}:1:60", template([(10, 60)], xff, "max", 16).words)
 
     def test_shares(self) -> None:
         """Rows are known for the same numbers of known slots as in whisper, which keeps the share in four bytes."""

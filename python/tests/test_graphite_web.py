@@ -2,7 +2,6 @@
 from __future__ import annotations
 
 import os
-import time
 import unittest
 from pathlib import Path
 from typing import Any, Dict, List, Optional, Sequence, Tuple
@@ -177,23 +176,16 @@ class Readers(FolderCase):
         return web.RrdiReader(path, "m")
 
     def test_fetch(self) -> None:
-        now = int(time.time()) // 10 * 10
+        now = NOW
         data = graphite.file_bytes(now, archives=[(1, 6, {now: [1.5]})])
         with mock.patch.object(web, "merge_with_carbonlink", return_value=[2.5]) as merge:
             found = self.reader(data).fetch(now - 15, now - 5, now)
         self.assertEqual(found, ((now - 10, now, 10), [2.5]))
         merge.assert_called_once_with("m", now - 10, 10, [1.5], "average", 10)
 
-    def test_intervals(self) -> None:
-        reader, now = self.reader(graphite.file_bytes(130)), time.time()
-        found = list(reader.get_intervals())[0]
-        start, end = (found.start, found.end) if graphite.HAS_WEB else found
-        self.assertAlmostEqual(start, now - 60, delta=5)
-        self.assertAlmostEqual(end, now, delta=5)
-
     def test_unreadable_files(self) -> None:
         """They give a line in the log and no values."""
-        now, whole = int(time.time()) // 10 * 10, graphite.file_bytes(int(time.time()) // 10 * 10)
+        now, whole = NOW, graphite.file_bytes(NOW)
         # Of six rows at least five are read, so one of the two that are cut off.
         cut = whole[:-17]
         for data in (None, b"", b"\0" * 200, whole[:100], cut, whole[:5] + b"\x09" + whole[6:]):
@@ -208,7 +200,7 @@ class Readers(FolderCase):
     def test_a_file_that_is_locked(self) -> None:
         import fcntl
         reader, lines = self.reader(graphite.file_bytes(130)), []  # type: ignore[var-annotated]
-        with open(reader.path) as file, mock.patch("rrdi.words.WAIT", 0), \
+        with open(reader.path) as file, mock.patch("rrdi.environment.WAIT", 0), \
                 mock.patch.object(vars(web)["log"], "info", lines.append):
             fcntl.flock(file, fcntl.LOCK_EX)
             self.assertIsNone(reader.fetch(100, 130, 130))

@@ -15,7 +15,7 @@ from rrdi.commands import batch
 from rrdi.graphite.layout import METHODS, template
 from rrdi.graphite.losses import Losses
 from rrdi.graphite.series import read_series
-from rrdi.graphite.store import Options, Store
+from rrdi.graphite.store import StoreOptions, Store
 from rrdi.importing.dump import Refusal
 from rrdi.importing.whisper import NUMBERS, read_whisper, whisper_batch
 from rrdi.reader.selected import OpenFile
@@ -84,7 +84,7 @@ class AsInWhisper(FolderCase):
         for path in (self.old, self.new):
             Path(path).unlink(missing_ok=True)
         losses = Losses(lambda line: None)
-        store = Store(Options(str(self.folder), 32), losses, lambda: now)
+        store = Store(StoreOptions(str(self.folder), 32), losses, lambda: now)
         whisper.create(self.old, RETENTIONS, xff, method)
         store.create("m", template(RETENTIONS, xff, method, 32))
         for points in self.flushes(chance):

@@ -16,19 +16,21 @@ import rrdi
 from cases import DataCase, use_library
 from hostile import HOSTILE, LONG, is_one_line
 from rrdi import collectd, commands, errors
-from rrdi.feeding.feeder import Feeder, Options
+from rrdi.by_program import ByProgram
+from rrdi.feeding.feeder import Feeder, FeedOptions
 from rrdi.feeding.metrics import MetricFeeder
 from rrdi.feeding.rules import BadRule, Names, read_rules
-from rrdi.feeding.writers import ByLibrary, ByProgram
+from rrdi.feeding.writers import BatchWriter
 from rrdi.graphite import layout
-from rrdi.graphite.store import Options as StoreOptions
+from rrdi.graphite.store import StoreOptions
 from rrdi.graphite.store import Store
-from rrdi.importing.amounts import raw_value
+from rrdi.importing.rounding import raw_value
 from rrdi.importing.batch import batch_of
-from rrdi.importing.dump import Archive, OldFile, Refusal, Source
+from rrdi.importing.dump import RrdArchive, RrdFile, Refusal, RrdSource
 from rrdi.library import DONE, Answer
 from rrdi.tools import importer
 from rrdi.tools.command_line import WrongArguments
+from rrdi.tools.conversion import Conversion
 from rrdi.words import line_of
 
 NOW = 1_700_000_000
@@ -147,7 +149,7 @@ class Feeding(LineCase):
             for before in (b"", file + b" 1:1\n"):  # the second line of a file takes another way
                 self.keeping.lines.clear()
                 given = word.encode("utf-8", "surrogateescape")
-                self.fed(Feeder(Options(), ByLibrary(self.keeping)), before + file + b" " + given)
+                self.fed(Feeder(FeedOptions(), BatchWriter(self.keeping)), before + file + b" " + given)
                 for line in self.keeping.lines:
                     words = line.split(" ")
                     self.assertEqual((words[0], len(words)), ("update", 2), ascii(word[:60]))
@@ -156,7 +158,7 @@ class Feeding(LineCase):
     def test_files(self) -> None:
         for word in (word for word in HOSTILE if "\n" not in word):  # which would begin another line of the input
             self.keeping.paths.clear()
-            self.fed(Feeder(Options(), ByLibrary(self.keeping)),
+            self.fed(Feeder(FeedOptions(), BatchWriter(self.keeping)),
                      os.fsencode(self.folder) + b"/" + word.encode("utf-8", "surrogateescape")[:200] + b" 10:1")
             for path in self.keeping.paths:
                 self.assertTrue(path.startswith(os.fsencode(self.folder)) and not path.startswith(b"-"))
@@ -170,7 +172,7 @@ class Feeding(LineCase):
                 self.keeping.lines.clear()
                 self.keeping.commands.clear()
                 names = Names(os.fsencode(self.folder), rules)
-                self.fed(MetricFeeder(Options(), ByLibrary(self.keeping), names), line)
+                self.fed(MetricFeeder(FeedOptions(), BatchWriter(self.keeping), names), line)
                 self.only("update", 1, self.keeping.lines, word)
                 for found in self.keeping.commands:
                     self.assertEqual([found[0], *found[3:]], [b"create", b"--step", b"10", b"DS:v:GAUGE:60:U:U",
@@ -185,8 +187,8 @@ class Feeding(LineCase):
             except (BadRule, ValueError):
                 continue
             file = os.fsencode(self.folder / "f.rrdi")
-            ByLibrary(self.keeping).create(file, rule.arguments)
-            ByProgram("/bin/true").create(file, rule.arguments)
+            BatchWriter(self.keeping).create(file, rule.arguments)
+            BatchWriter(ByProgram("/bin/true")).create(file, rule.arguments)
             self.assertEqual([[part.decode() for part in found] for found in self.keeping.commands],
                              [["create", *rule.arguments]])
             self.assertTrue(all(part.isprintable() for part in rule.arguments), ascii(word[:60]))
@@ -224,7 +226,7 @@ class Collectd(LineCase):
     def setUp(self) -> None:
         super().setUp()
         self.collectd = graphite.Collectd()
-        self.writer = collectd.Writer(self.collectd, lambda: 0.0)
+        self.writer = collectd.Plugin(self.collectd, lambda: 0.0)
         self.writer.options.datadir = str(self.folder)
 
     def values(self, **more: Any) -> Any:
@@ -271,12 +273,12 @@ class Collectd(LineCase):
 
 
 class Importing(unittest.TestCase):
-    def old(self, **more: Any) -> OldFile:
+    def old(self, **more: Any) -> RrdFile:
         usual: Dict[str, Any] = {"column": 0, "name": "g", "kind": "COUNTER", "heartbeat": 20, "minimum": math.nan, "maximum": math.nan,
                  "last_raw": "5", "partial_sum": 0.0, "unknown_seconds": 0}
-        archive = Archive(0, more.pop("function", "AVERAGE"), 1, 0.5, [math.nan], [0], columns=1)
+        archive = RrdArchive(0, more.pop("function", "AVERAGE"), 1, 0.5, [math.nan], [0], columns=1)
         archive.cells.extend([1.0, 2.0])
-        return OldFile(10, NOW, [Source(**{**usual, **more})], [archive])
+        return RrdFile(10, NOW, [RrdSource(**{**usual, **more})], [archive])
 
     def test_texts_of_the_file(self) -> None:
         for word in HOSTILE:
@@ -303,10 +305,10 @@ class Importing(unittest.TestCase):
     def test_messages(self) -> None:
         """What is printed of a file's texts is one line."""
         for word in HOSTILE:
-            with contextlib.redirect_stderr(io.StringIO()) as said:
-                importer.note(f"skipped data source {word}")
-            self.assertEqual(said.getvalue().count("\n"), 1, ascii(word[:60]))
-            self.assertTrue(said.getvalue()[:-1].isprintable() and len(said.getvalue()) < len(LONG))
+            conversion = Conversion("old.rrd", None)
+            conversion.note(f"skipped data source {word}")
+            note, = conversion.notes
+            self.assertTrue(note.isprintable() and len(note) < len(LONG), ascii(word[:60]))
 
 
 if __name__ == "__main__":

@@ -5,9 +5,9 @@ A small library or a script takes the place of rrdi and keeps what it is given, 
 from __future__ import annotations
 
 import ctypes
+import errno
 import shutil
 import subprocess
-import sys
 import unittest
 from typing import List, Optional, Tuple
 
@@ -17,7 +17,7 @@ from test_recorder import Recorder
 from tool_case import ToolCase
 
 from rrdi.compat import rrdtool
-from rrdi.errors import OperationalError
+from rrdi.errors import CANNOT_OPEN, OperationalError
 from rrdi.library import DONE, Answer
 from rrdi.tools import program
 from rrdi.tools.command_line import Failure
@@ -41,7 +41,7 @@ class Record(unittest.TestCase):
         self.recorder = Recorder(str(path))
         self.library = self.recorder.library
         self.library.last_given.restype = ctypes.c_void_p
-        self.library.last_length.restype = ctypes.c_size_t
+        self.library.last_length.restype = self.library.last_room.restype = ctypes.c_size_t
         self.file = str(folder / "f.rrd")
         (folder / "f.rrd").touch()
 
@@ -73,6 +73,42 @@ class Record(unittest.TestCase):
         self.assertEqual(self.given(), b"update --template=a:b 10:1:U\nupdate --template=a:b N:2:1000\n")
         self.assertEqual(self.recorder.create(self.file, 10, 5, "DS:g:GAUGE:9:U:U", "RRA:MAX:0.5:1:4"), "")
         self.assertEqual(self.given(), b"create\0--step=10\0--start=5\0DS:g:GAUGE:9:U:U\0RRA:MAX:0.5:1:4")
+        # Numbers are read in each field, as RRDtool has them; a half of a millionth rounds up, also below zero.
+        self.assertEqual(self.recorder.create(self.file, 10, 5, "DS:g:GAUGE:9:-1e3:nan", "RRA:MAX:5e-1:1:4"), "")
+        self.assertEqual(self.given(), b"create\0--step=10\0--start=5\0DS:g:GAUGE:9:-1000:U\0RRA:MAX:0.5:1:4")
+        self.recorder.update(self.file, None, "10:NaN:-NAN:nan:-1.5000005:1.5000005")
+        self.assertEqual(self.given(), b"update 10:U:U:U:-1.5:1.500001\n")
+        # A start of 0 is one; a negative one stands for the present.
+        self.recorder.create(self.file, 10, 0, "DS:g:GAUGE:9:U:U", "RRA:MAX:0.5:1:4")
+        self.assertIn(b"\0--start=0\0", self.given())
+        self.recorder.create(self.file, 10, -1, "DS:g:GAUGE:9:U:U", "RRA:MAX:0.5:1:4")
+        self.assertNotIn(b"--start", self.given())
+
+    def answer(self, fault: int, number: int, refused: int, output: str) -> None:
+        self.kept = ctypes.create_string_buffer(output.encode())
+        self.library.set_answer(ctypes.c_uint32(fault), ctypes.c_uint32(number), ctypes.c_uint64(refused), self.kept)
+
+    def test_an_error_is_that_of_the_last_call(self) -> None:
+        create = ("DS:g:GAUGE:9:U:U", "RRA:MAX:0.5:1:4")
+        self.answer(0, 0, 1, "ERROR: not later than 10\n")
+        self.assertEqual(self.recorder.update(self.file, None, "5:1", "6:1"), f"{self.file}: sample 2 of 2: not later than 10")
+        self.answer(CANNOT_OPEN, errno.EAGAIN, 0, "cannot open")
+        self.assertEqual(self.recorder.create(self.file, 10, 5, *create), f"opening '{self.file}': Resource temporarily unavailable")
+        self.answer(0, 0, 0, "")
+        for is_update in (True, False):
+            self.recorder.update("/nowhere", None, "10:1")
+            self.assertEqual(self.library.rrd_test_error(), 1)
+            if is_update:
+                self.recorder.update(self.file, None, "10:1")
+            else:
+                self.recorder.create(self.file, 10, 5, *create)
+            self.assertEqual((self.library.rrd_test_error(), self.recorder.error()), (0, ""))
+
+    def test_there_is_room_for_each_refusal(self) -> None:
+        """Each of the samples can be refused, with the longest message that one may have."""
+        for count in (1, 64, 1_500):
+            self.recorder.update(self.file, None, *["10:1"] * count)
+            self.assertGreaterEqual(self.library.last_room(), count * len("ERROR: unreadable sample 18446744073709551615\n"))
 
 
 class KeptCalls:
@@ -152,11 +188,11 @@ class Programs(ToolCase):
 
     def test_lines_of_a_batch(self) -> None:
         from unittest import mock
-        with mock.patch.object(program, "run") as run:
+        with mock.patch.object(program, "answered") as answered:
             for line in ("update 10:1\nrevert", "update 10:1\0", "update 10:1\r", "update \x7f", "update \u00e4", "x" * 65_537):
                 with self.subTest(line=line[:20]), self.assertRaisesRegex(Failure, "a line of a batch"):
                     program.batch("f", ["update 5:1", line])
-            run.assert_not_called()
+            answered.assert_not_called()
 
 
 if __name__ == "__main__":

@@ -9,24 +9,24 @@ from array import array
 from typing import Any, Dict
 
 import doubles  # noqa: F401
-from rrdi.importing.amounts import Losses, as_text, millionths, raw_value
-from rrdi.importing.batch import Batch, batch_of, merge, share_of
-from rrdi.importing.dump import Archive, OldFile, Refusal, Source, read_dump
+from rrdi.importing.rounding import Converter, as_text, millionths, raw_value
+from rrdi.importing.batch import RrdBatch, batch_of, merge, share_of
+from rrdi.importing.dump import RrdArchive, RrdFile, Refusal, RrdSource, read_dump
 from rrdi.importing.plan import plan
 from rrdi.importing.steps import Rest, Wanted, lay, sum_of_rest
 
 NAN = math.nan
 
 
-def source(kind: str = "GAUGE", column: int = 0, **others: object) -> Source:
+def source(kind: str = "GAUGE", column: int = 0, **others: object) -> RrdSource:
     fields: Dict[str, Any] = {"name": f"s{column}", "kind": kind, "heartbeat": 99, "minimum": NAN, "maximum": NAN,
                     "last_raw": "U", "partial_sum": 0.0, "unknown_seconds": 0}
-    return Source(column, **{**fields, **others})
+    return RrdSource(column, **{**fields, **others})
 
 
 def archive(number: int, function: str, steps: int, cells: list[float], share: float = 0.5, partial: float = NAN,
-            unknown: int = 0) -> Archive:
-    return Archive(number, function, steps, share, [partial], [unknown], array("d", cells), 1)
+            unknown: int = 0) -> RrdArchive:
+    return RrdArchive(number, function, steps, share, [partial], [unknown], array("d", cells), 1)
 
 
 def update_words(lines: list[str]) -> list[str]:
@@ -44,14 +44,14 @@ class Amounts(unittest.TestCase):
         self.assertEqual(as_text(None), "U")
 
     def test_losses_are_noted(self) -> None:
-        losses = Losses()
+        losses = Converter()
         self.assertIsNone(losses.amount(NAN))
         self.assertEqual((losses.too_large, losses.too_small), (False, False))
         self.assertEqual(losses.amount(1e-9), 0)
         self.assertTrue(losses.too_small)
         self.assertIsNone(losses.amount(-1e18))
         self.assertTrue(losses.too_large)
-        self.assertIsNone(Losses().amount(math.inf))
+        self.assertIsNone(Converter().amount(math.inf))
 
     def test_raw_values_in_range(self) -> None:
         for kind, text, taken in (("COUNTER", "18446744073709551615", True), ("COUNTER", "18446744073709551616", False),
@@ -114,6 +114,17 @@ class Plans(unittest.TestCase):
         self.assertEqual(sorted(spans[1].beside), ["AVERAGE", "MAX"])
         self.assertEqual(spans[1].above, archives[3])
 
+    def test_two_archives_of_one_function(self) -> None:
+        """Of two that have rows of the same length, the one that reaches back farthest is beside the span, in any order."""
+        for counts in ((4, 9), (9, 4), (4, 9, 6)):
+            archives = [archive(0, "AVERAGE", 3, [0.0] * 12),
+                        *(archive(number, "MAX", 3, [0.0] * count) for number, count in enumerate(counts, 1))]
+            for each in archives:
+                each.place(10, 1200)
+            farthest = archives[1 + counts.index(9)]
+            for span in plan(archives, 1200):
+                self.assertEqual(span.beside["MAX"], farthest, counts)
+
     def test_no_time_no_span(self) -> None:
         each = archive(0, "MAX", 1, [NAN])
         each.place(10, 5)
@@ -149,12 +160,20 @@ class Steps(unittest.TestCase):
 
 
 class Batches(unittest.TestCase):
-    def lines(self, old: OldFile, journal: str | None = None) -> tuple[list[str], list[str]]:
+    def lines(self, old: RrdFile, journal: str | None = None) -> tuple[list[str], list[str]]:
         notes: list[str] = []
         return list(batch_of(old, journal, notes.append)), notes
 
+    def test_a_counter_of_one_second_steps(self) -> None:
+        """The last raw value would need a second of its own, whose rate is unknown: a step of one second has none to give."""
+        for step, note in ((1, ["source s0: cannot convert its last value 7; its next rate will be unknown"]), (2, [])):
+            old = RrdFile(step, 100, [source("COUNTER", last_raw="7")], [archive(0, "AVERAGE", 1, [1.0, 2.0, 3.0])])
+            notes: list[str] = []
+            lines = list(batch_of(old, None, notes.append))
+            self.assertEqual((notes, lines[-1] == "update 100:7"), (note, step == 2), lines)
+
     def test_steps_and_types(self) -> None:
-        old = OldFile(10, 1003, [source("COUNTER", last_raw="77", minimum=0.0, partial_sum=6.0, unknown_seconds=1)],
+        old = RrdFile(10, 1003, [source("COUNTER", last_raw="77", minimum=0.0, partial_sum=6.0, unknown_seconds=1)],
                       [archive(0, "AVERAGE", 1, [NAN, 1.25, 1.25, 2.0])])
         lines, notes = self.lines(old, "9")
         self.assertEqual(lines, [
@@ -165,7 +184,7 @@ class Batches(unittest.TestCase):
         self.assertEqual(notes, [])
 
     def test_nothing_known(self) -> None:
-        lines, _ = self.lines(OldFile(10, 1000, [source()], [archive(0, "MAX", 1, [NAN, NAN])]))
+        lines, _ = self.lines(RrdFile(10, 1000, [source()], [archive(0, "MAX", 1, [NAN, NAN])]))
         self.assertEqual(lines, ["create --step 10 --start 1000 DS:s0:GAUGE:9999999999:U:U RRA:MAX:0.5:1:2",
                                  "tune --heartbeat s0:99"])
 
@@ -175,7 +194,7 @@ class Batches(unittest.TestCase):
                     archive(1, "AVERAGE", 3, [sum(steps[at:at + 3]) / 3 for at in range(42, 72, 3)]),
                     archive(2, "AVERAGE", 36, [7.5, 7.5])]
         begin = 36 * 10 * 100
-        lines, _ = self.lines(OldFile(10, begin + 10 * len(steps), [source()], archives))
+        lines, _ = self.lines(RrdFile(10, begin + 10 * len(steps), [source()], archives))
         found, at = [], begin
         for word in update_words(lines):
             time, rate = word.split(":")
@@ -186,42 +205,42 @@ class Batches(unittest.TestCase):
         self.assertAlmostEqual(sum(found[:36]) / 36, 7.5, delta=1e-6)
 
     def test_what_is_left_out(self) -> None:
-        old = OldFile(10, 1000, [source(), source("COMPUTE", 1), source("GAUGE", 2, name="a-b")],
-                      [Archive(0, "AVERAGE", 1, 0.5, [NAN] * 3, [0] * 3, array("d", [1.0, 2.0, 3.0]), 3),
-                       Archive(1, "HWPREDICT", 1, 0.0, [], [], array("d", [1.0, 2.0, 3.0]), 3)])
+        old = RrdFile(10, 1000, [source(), source("COMPUTE", 1), source("GAUGE", 2, name="a-b")],
+                      [RrdArchive(0, "AVERAGE", 1, 0.5, [NAN] * 3, [0] * 3, array("d", [1.0, 2.0, 3.0]), 3),
+                       RrdArchive(1, "HWPREDICT", 1, 0.0, [], [], array("d", [1.0, 2.0, 3.0]), 3)])
         lines, notes = self.lines(old)
         self.assertNotIn("s1", lines[0])
         self.assertEqual(notes, ["skipped data source s1: type COMPUTE is not supported",
                                  "skipped data source a-b: a name in rrdi has 1 to 19 characters of a-z A-Z 0-9 _",
                                  "skipped archive 1, HWPREDICT: this function is not supported"])
         with self.assertRaisesRegex(Refusal, "no data source can be converted"):
-            Batch(OldFile(10, 1000, [source("COMPUTE")], []), None, notes.append)
+            RrdBatch(RrdFile(10, 1000, [source("COMPUTE")], []), None, notes.append)
         with self.assertRaisesRegex(Refusal, "no archive can be converted"):
-            Batch(OldFile(10, 1000, [source()], []), None, print)
+            RrdBatch(RrdFile(10, 1000, [source()], []), None, print)
         with self.assertRaisesRegex(Refusal, "at most 64"):
-            Batch(OldFile(10, 1000, [source(column=at) for at in range(65)], []), None, print)
+            RrdBatch(RrdFile(10, 1000, [source(column=at) for at in range(65)], []), None, print)
         with self.assertRaisesRegex(Refusal, "a step of rrdi has at most 1,000,000 seconds"):
-            Batch(OldFile(1_000_001, 1000, [source()], []), None, print)
+            RrdBatch(RrdFile(1_000_001, 1000, [source()], []), None, print)
         with self.assertRaisesRegex(Refusal, "the last time is after 9999999999"):
-            Batch(OldFile(10, 10_000_000_000, [source()], []), None, print)
+            RrdBatch(RrdFile(10, 10_000_000_000, [source()], []), None, print)
 
     def test_too_many_archives_and_cells(self) -> None:
         many = [archive(at, "MAX", 1, [1.0]) for at in range(129)]
         with self.assertRaisesRegex(Refusal, "there are 129 archives; rrdi has at most 128"):
-            Batch(OldFile(10, 1000, [source()], many), None, print)
+            RrdBatch(RrdFile(10, 1000, [source()], many), None, print)
         sources = [source(column=at) for at in range(9)]
-        large = Archive(0, "MAX", 1, 0.5, [NAN] * 9, [0] * 9, array("d", bytes(8 * 9 * 900_000)), 9)
+        large = RrdArchive(0, "MAX", 1, 0.5, [NAN] * 9, [0] * 9, array("d", bytes(8 * 9 * 900_000)), 9)
         with self.assertRaisesRegex(Refusal, "there are 8100000 cells; rrdi has at most 8,000,000"):
-            Batch(OldFile(10, 10_000_000, sources, [large]), None, print)
+            RrdBatch(RrdFile(10, 10_000_000, sources, [large]), None, print)
         notes: list[str] = []
         longest = archive(1, "MAX", 1, [1.0] * 1_000_001)
-        Batch(OldFile(10, 1000, [source()], [archive(0, "MAX", 1, [1.0]), longest,
+        RrdBatch(RrdFile(10, 1000, [source()], [archive(0, "MAX", 1, [1.0]), longest,
                                              archive(2, "MAX", 1_000_001, [1.0])]), None, notes.append)
         self.assertEqual(notes, ["skipped archive 1, MAX: an archive in rrdi has at most 1,000,000 rows",
                                  "skipped archive 2, MAX: a row in rrdi has at most 1,000,000 steps"])
 
     def test_what_is_lost_is_noted(self) -> None:
-        old = OldFile(10, 1000, [source("COUNTER", last_raw="-7", heartbeat=10**10, minimum=-1e30)],
+        old = RrdFile(10, 1000, [source("COUNTER", last_raw="-7", heartbeat=10**10, minimum=-1e30)],
                       [archive(0, "AVERAGE", 1, [1e-9, 1e19, 1.0])])
         lines, notes = self.lines(old)
         self.assertEqual(notes, ["source s0: cannot convert its last value -7; its next rate will be unknown",
@@ -233,7 +252,7 @@ class Batches(unittest.TestCase):
 
     def test_rows_of_other_functions_are_noted(self) -> None:
         archives = [archive(0, "AVERAGE", 3, [2.0] * 9), archive(1, "MAX", 6, [3.0] * 4)]
-        _, notes = self.lines(OldFile(10, 1200, [source()], archives))
+        _, notes = self.lines(RrdFile(10, 1200, [source()], archives))
         self.assertEqual(notes, ["archive 1, MAX of 60 s: rows up to 1200 come from rows of other functions"])
 
     def test_a_share_allows_as_many_unknown_steps(self) -> None:
@@ -246,7 +265,7 @@ class Batches(unittest.TestCase):
 
     def test_long_lines_are_cut(self) -> None:
         cells = [float(at) for at in range(450)]
-        lines, _ = self.lines(OldFile(10, 10_000, [source()], [archive(0, "AVERAGE", 1, cells)]))
+        lines, _ = self.lines(RrdFile(10, 10_000, [source()], [archive(0, "AVERAGE", 1, cells)]))
         self.assertEqual([len(line.split()) - 1 for line in lines if line.startswith("update")], [200, 200, 50])
 
 

@@ -6,12 +6,13 @@ import fcntl
 import os
 import time
 import unittest
-from typing import Any, List
+from typing import Any, Callable, Dict, List
 from unittest import mock
 
 from cases import DataCase, WithLibrary, WithProgram, use_library
 from rrdi import commands, damaged, errors
-from rrdi.making import NewFile
+from rrdi.making import NewFile, make
+from rrdi.tools import record
 
 DEFINITIONS = ("DS:g:GAUGE:60:U:U", "RRA:LAST:0.5:1:4")
 
@@ -66,6 +67,44 @@ class Making(DataCase):
                 file.write("new")
             new.replace()
         self.assertEqual((self.files(), self.path.read_text()), (["data/f.rrdi"], "new"))
+
+
+class Modes(DataCase):
+    """A new file may be read and written by all, except as the umask has it."""
+
+    def test_new_files(self: Any) -> None:
+        use_library(self, self.library())
+        makers: Dict[str, Callable[[str], object]] = {
+            "create": lambda path: commands.create(path, *DEFINITIONS, start=0),
+            "a batch": lambda path: commands.batch(path, [f"create --start 0 {' '.join(DEFINITIONS)}"]),
+            "made": lambda path: make(path, lambda new: commands.create(new, *DEFINITIONS, start=0), makes_folder=True),
+            "locked": lambda path: self.lock(path)}
+        for mask in (0o000, 0o002, 0o022, 0o027, 0o077):
+            before = os.umask(mask)
+            try:
+                for name, maker in makers.items():
+                    path = self.folder / f"{mask:o}" / f"{name}.rrdi"
+                    path.parent.mkdir(exist_ok=True)
+                    maker(str(path))
+                    self.assertEqual(path.stat().st_mode & 0o7777, 0o666 & ~mask, (name, oct(mask)))
+            finally:
+                os.umask(before)
+
+    def lock(self, path: str) -> None:
+        """The file that all recorders of a database lock: those of another user too."""
+        with record.alone(path):
+            pass
+
+    def test_the_mode_of_a_file_stays(self: Any) -> None:
+        """What changes or replaces a database keeps its mode."""
+        use_library(self, self.library())
+        path = self.folder / "f.rrdi"
+        commands.create(str(path), *DEFINITIONS, start=0)
+        for mode in (0o600, 0o664, 0o640):
+            path.chmod(mode)
+            commands.update(str(path), f"{commands.last(str(path)) + 300}:1")
+            commands.create(str(path), *DEFINITIONS, start=0, overwrite=True)
+            self.assertEqual(path.stat().st_mode & 0o7777, mode)
 
 
 class SetAside(DataCase):
@@ -129,10 +168,23 @@ class SetAside(DataCase):
             commands.last(self.file)
         self.assertIn("another program may be making the file", damaged.set_aside(self.file, raised.exception))
         self.assertEqual(self.aside(), [])
-        old = time.time() - 2 * damaged.LONGEST_MAKING
-        os.utime(self.file, (old, old))
-        self.assertIn("the file is now", damaged.set_aside(self.file, raised.exception))
+        # An hour ago, and an hour ahead, after the clock was set back.
+        for turn, seconds in enumerate((-3_600, 3_600), 1):
+            self.write(b"")
+            os.utime(self.file, (time.time() + seconds,) * 2)
+            with mock.patch("time.time", return_value=time.time() + turn):  # another name for each
+                self.assertIn("the file is now", damaged.set_aside(self.file, raised.exception))
+            self.assertEqual(len(self.aside()), turn)
         self.assertTrue(damaged.is_being_made(self.file))  # it is gone, so another one may come
+
+    def test_how_long_a_file_may_be_empty(self: Any) -> None:
+        """By the clock and the file's time alone, on both sides."""
+        self.write(b"")
+        now, most = 1_700_000_000.0, damaged.LONGEST_MAKING
+        with mock.patch("time.time", return_value=now):
+            for age, is_new in ((0, True), (most - 1, True), (1 - most, True), (most + 1, False), (-most - 1, False), (1e7, False), (-1e7, False)):
+                os.utime(self.file, (now - age, now - age))
+                self.assertEqual(damaged.is_being_made(self.file), is_new, age)
 
     def test_a_file_of_a_newer_rrdi(self: Any) -> None:
         with open(self.file, "r+b") as file:
@@ -152,7 +204,15 @@ class SetAsideByLibrary(WithLibrary, SetAside):
     pass
 
 
-del SetAside
+class ModesByProgram(WithProgram, Modes):
+    pass
+
+
+class ModesByLibrary(WithLibrary, Modes):
+    pass
+
+
+del SetAside, Modes
 
 
 if __name__ == "__main__":

@@ -14,6 +14,7 @@ from doubles import TOP
 
 import rrdi
 from rrdi import reader
+from rrdi.reader.printing import as_openmetrics
 
 
 def amount(value: int) -> bytes:
@@ -55,6 +56,35 @@ class Reading(unittest.TestCase):
                 rrdi.read(wrong)
             self.assertEqual((str(raised.exception), raised.exception.fault, raised.exception.at), (text, fault, at))
             self.assertIs(rrdi.Fault, rrdi.Damaged)
+
+    def test_the_deepest_journal(self) -> None:
+        """Each version has its greatest depth, as docs/file-format.md says."""
+        data = file_bytes()
+        for depth, is_right in ((100_000, True), (100_001, False), (1, True), (0, False)):
+            changed = data[:18] + struct.pack(">I", depth) + data[22:]
+            if is_right:
+                self.assertEqual(reader.read(changed)["journal_depth"], depth)
+                continue
+            with self.assertRaises(rrdi.Damaged) as raised:
+                reader.read(changed)
+            self.assertEqual(str(raised.exception), "file: bad block at 6")
+
+    def test_rows_of_a_journal(self) -> None:
+        """The rows before a resize and before the removal of an archive end at the time of the change, and each has its time."""
+        data = file_bytes()
+        one_entry = data[:26] + struct.pack(">I", 1) + data[30:]
+        old = b"".join(map(amount, (1_000_000, 2_000_000, 3_000_000)))
+        rows = [{"time": time, "cells": [time * 100_000 + 1_000_000]} for time in (0, 10, 20)]
+        change, = reader.read(one_entry + b"\3" + struct.pack(">HI", 0, 3) + old)["journal"]
+        self.assertEqual(change, {"change": "resize", "archive": 0, "rows": rows})
+        head = struct.pack(">HBIII", 1, 2, 1, 500_000, 3) + struct.pack(">I", 0) + amount(0)
+        change, = reader.read(one_entry + b"\5" + head + old)["journal"]
+        self.assertEqual((change["change"], change["archive"], change["function"], change["rows"]), ("removal", 1, "MAX", rows))
+
+    def test_a_name_in_openmetrics(self) -> None:
+        """A quote, a backslash and a line feed are escaped, as OpenMetrics has it."""
+        text = "\n".join(as_openmetrics(reader.read(file_bytes()), 'a"b\\c\nd'))
+        self.assertIn('file="a\\"b\\\\c\\nd"', text)
 
     def test_amounts(self) -> None:
         for value, text in ((0, "0.000000"), (-1, "-0.000001"), (1_500_000, "1.500000"), (-2_250_000, "-2.250000")):

@@ -1,10 +1,9 @@
-"""Tests of the reader with files whose change was broken off, whole and forged ones. The bytes are written here, as
+"""Tests of the reader with files whose change was broken off, whole and forged ones. `.ci/lib/marks` writes the bytes, as
 docs/file-format.md describes them."""
 from __future__ import annotations
 
 import fcntl
 import os
-import struct
 import unittest
 from pathlib import Path
 from typing import List, Tuple
@@ -12,12 +11,12 @@ from unittest import mock
 
 import graphite_doubles as graphite
 from cases import DataCase, child_status, sleeping_child
+from lib import marks
+from lib.marks import PAGE, pages, record
 from rrdi import errors, reader
 from rrdi.reader.files import opened
 from rrdi.reader.selected import OpenFile
-from rrdi.reader.undo import checksum
 
-PAGE = 4_096
 OLD = graphite.file_bytes(130, archives=[(1, 400, {130: [2.5], 20: [1.5]})])  # over a page
 NEW = graphite.file_bytes(140, archives=[(1, 400, {140: [9.5], 130: [2.5]})])
 SMALL = graphite.file_bytes(130)
@@ -26,42 +25,20 @@ LONG = graphite.file_bytes(130, archives=[(1, 250, {130: [2.5]})])
 NOTES = b"RRDCached notes of a user\n" * 40
 
 
-def record(at: int, length: int, first: bytes, shape: int = 64, word: bytes = b"RRDTail\0") -> bytes:
-    front = word + struct.pack(">QQ", at, length) + first + bytes(16)
-    return (front + struct.pack(">Q", checksum((), front))).ljust(shape, b"\0")
-
-
-def slot(tail: int, place: int, old: bytes) -> bytes:
-    total = checksum((place, len(old), tail), old)
-    return (struct.pack(">QQQQ", place, len(old), tail, total) + old).ljust(32 + PAGE, b"\0")
-
-
-def page_of(length: int) -> int:
-    return -(-length // PAGE) * PAGE
-
-
-def cut(data: bytes, tail: bytes = b"", mark: bytes = b"RRDC") -> bytes:
+def cut(data: bytes, tail: bytes = b"", mark: bytes = marks.SHORT_CUT) -> bytes:
     """A file under a cut mark, whose record begins at the first page after the data."""
-    return mark + data[4:] if not tail else (mark + data[4:]).ljust(page_of(len(data)), b"\x07") + tail
+    return mark + data[4:] if not tail else (mark + data[4:]).ljust(marks.tail_of(len(data)), b"\x07") + tail
 
 
-def cut_with_record(data: bytes, length: int = -1, first: bytes = b"", shape: int = 64) -> bytes:
-    mark = b"RRDc" if shape == 128 else b"RRDC"
+def cut_with_record(data: bytes, length: int = -1, first: bytes = b"", size: int = marks.SHORT) -> bytes:
     told = len(data) if length < 0 else length
-    return cut(data, record(page_of(len(data)), told, first or data[:16], shape), mark)
+    return cut(data, record(marks.tail_of(len(data)), told, first or data, size),
+               marks.LONG_CUT if size == marks.LONG else marks.SHORT_CUT)
 
 
 def undone(old: bytes, new: bytes, slots: List[Tuple[int, bytes]]) -> bytes:
     """A file under an undo mark: new bytes, the record of the old ones, and slots with old bytes."""
-    tail = page_of(max(len(old), len(new)))
-    front = b"RRDUndo\0" + struct.pack(">Q", tail) + new[16:]
-    laid = b"".join(slot(tail, place, data) for place, data in slots)
-    return front.ljust(tail, b"\0") + record(tail, len(old), old[:16], 128) + laid
-
-
-def pages(old: bytes) -> List[Tuple[int, bytes]]:
-    return [(max(at, 16), old[max(at, 16):at + PAGE]) for at in range(0, len(old), PAGE)]
-
+    return marks.with_slots(marks.begun(old, new), marks.tail_of(len(old), len(new)), slots)
 
 
 class Marked(DataCase):
@@ -103,7 +80,7 @@ class Marked(DataCase):
 
     def test_a_long_record(self) -> None:
         self.assertEqual(len(LONG) % PAGE, 64)
-        self.check(cut_with_record(LONG, shape=128), LONG)
+        self.check(cut_with_record(LONG, size=marks.LONG), LONG)
         self.check(cut(LONG, bytes(500), b"RRDc"), LONG)
         for forged in (cut_with_record(LONG), cut(LONG, bytes(500))):
             self.check(forged, forged)
@@ -116,7 +93,9 @@ class Marked(DataCase):
         # A slot that is broken does not count, nor one after it: the file's own bytes do.
         whole = undone(OLD, OLD, pages(OLD))
         self.check(whole[:-1], OLD)
-        self.check(whole + slot(4 * PAGE, 900, b"not here"), OLD)
+        tail = marks.tail_of(len(OLD))
+        padded = whole.ljust(tail + marks.LONG + len(pages(OLD)) * (marks.SLOT_HEAD + PAGE), b"\0")
+        self.check(padded + marks.slot(4 * PAGE, 900, b"not here"), OLD)
 
     def test_a_length_before_its_bytes(self) -> None:
         """A file system may have stored the new length, and not the record: what follows the database does not count."""
@@ -130,11 +109,11 @@ class Marked(DataCase):
         for data in (cut_with_record(SMALL, 12), cut_with_record(SMALL, len(SMALL) - 1, b"NOPE" + SMALL[4:16])):
             self.check(data, SMALL)  # no record, so what follows the database does not count
         self.check(cut_with_record(SMALL, len(SMALL) - 1), cut_with_record(SMALL, len(SMALL) - 1))
-        self.check(cut_with_record(SMALL, shape=128), cut_with_record(SMALL, shape=128))
+        self.check(cut_with_record(SMALL, size=marks.LONG), cut_with_record(SMALL, size=marks.LONG))
         for first, length in ((b"NOPE" + SMALL[4:16], len(SMALL)), (SMALL[:16], 12)):
-            forged = b"RRDUndo\0" + struct.pack(">Q", PAGE) + SMALL[16:]
-            self.check(forged.ljust(PAGE, b"\0") + record(PAGE, length, first, 128), forged.ljust(PAGE, b"\0")
-                       + record(PAGE, length, first, 128))
+            forged = marks.UNDO + marks.number(PAGE) + SMALL[16:]
+            self.check(forged.ljust(PAGE, b"\0") + record(PAGE, length, first, marks.LONG), forged.ljust(PAGE, b"\0")
+                       + record(PAGE, length, first, marks.LONG))
 
     def test_files_of_others(self) -> None:
         for data in (NOTES, b"RRDC", b"RRDc" + bytes(11), b"RRDUndo\0", b"RRDUndo\0" + b"\xff" * 8, b"RRDUndo\0" + bytes(90),
@@ -146,8 +125,8 @@ class Marked(DataCase):
                 self.assertEqual(str(raised.exception), "file: not ours")
 
     def test_more_slots_than_pages(self) -> None:
-        many = undone(SMALL, SMALL, [(16, SMALL[16:100])] * 3)
-        self.check(many, many)
+        """A change keeps each old page once; of forged slots, the last one with a byte counts."""
+        self.check(undone(SMALL, SMALL, [(16, b"x" * 84)] * 3 + [(16, SMALL[16:100])]), SMALL)
         self.check(undone(SMALL, NEW, [(16, SMALL[16:])]), SMALL)
 
     def test_a_file_cut_within_its_cells(self) -> None:

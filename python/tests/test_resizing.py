@@ -3,7 +3,6 @@ from __future__ import annotations
 
 import fcntl
 import os
-import sys
 import threading
 import unittest
 from unittest import mock
@@ -12,7 +11,7 @@ from cases import new_folder
 from doubles import TOP
 from tool_case import ToolCase
 
-from rrdi import words
+from rrdi import environment
 from rrdi.compat import rrdtool
 from rrdi.compat.resizing import resize_copy
 from rrdi.errors import OperationalError
@@ -52,7 +51,7 @@ class Copies(unittest.TestCase):
 
     def test_it_waits_for_a_change(self) -> None:
         """The copy is of the file after the change that holds the lock."""
-        with mock.patch.object(words, "WAIT", 20_000), open("f.rrd", "r+b") as held:
+        with mock.patch.object(environment, "WAIT", 20_000), open("f.rrd", "r+b") as held:
             fcntl.flock(held, fcntl.LOCK_EX)
 
             def end() -> None:
@@ -75,13 +74,13 @@ class Locked(ToolCase):
         resize = ["resize", "f.rrd", "0", "GROW", "5"]
         with open(self.folder / "f.rrd", "ab") as held:
             fcntl.flock(held, fcntl.LOCK_EX)
-            for command in ([str(TOP / "tools/rrdi-rrdtool")], [str(TOP / "examples/rrdtool-words")]):
-                ran = self.run_command([sys.executable, *command, *resize])
+            for command in ("tools/rrdi-rrdtool", "examples/rrdtool-words"):
+                ran = self.run_command([str(TOP / command), *resize])
                 self.assertEqual((ran.status, ran.out), (1, ""))
                 self.assertIn("another program holds its lock", ran.err)
             self.addCleanup(os.chdir, os.getcwd())
             os.chdir(self.folder)
-            with mock.patch.object(words, "WAIT", 0), self.assertRaises(OperationalError) as raised:
+            with mock.patch.object(environment, "WAIT", 0), self.assertRaises(OperationalError) as raised:
                 rrdtool.resize(*resize[1:])
         self.assertEqual(str(raised.exception), "f.rrd: cannot open: another program holds its lock")
         self.assertFalse((self.folder / "resize.rrd").exists())

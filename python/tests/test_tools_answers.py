@@ -107,6 +107,16 @@ sub show { my ($name, @found) = @_; print "$name: ", join('; ', map { text($_) }
         pairs = sorted([("image_width", "3"), ("image_height", "2"), *((f"print[{at}]", text) for at, text in enumerate(texts))])
         self.assertEqual(found, "graphv: {" + "|".join(f"{key}={value}" for key, value in pairs) + "}; undef\n" + self.SHOWN)
 
+    def test_a_picture_for_standard_output(self) -> None:
+        """The bytes of a picture come as they are, also in a program whose output is UTF-8."""
+        assert PERL
+        draws = self.stub("draws", r"""read graph file rest
+printf '\211PNG\r\n\377\200\n' >"$file"; printf 'OK 3\n3x2'; read line""")
+        script = "binmode STDOUT, ':utf8'; RRDs::graph('-', 'LINE1:a'); binmode STDOUT, ':raw'; print 'end'"
+        ran = self.run_command([PERL, f"-I{TOP}/perl", "-w", "-e", f"use RRDs; {script}"], env={"RRDI_RRDTOOL": draws},
+                               stdout=str(self.folder / "out"))
+        self.assertEqual((ran, self.read("out")), (Ran(0, "", ""), b"\x89PNG\r\n\xff\x80\nend"))
+
     def test_a_program_that_answers_in_another_form(self) -> None:
         for text in ("OK u:0.00 s:0.00 r:0.00", "ERROR: none", "5\\nOK 1\\n7", "OK 5\\n7", "OK -1\\n7", "", "OK 1 x\\n7",
                      "OK 100000000000\\n7"):
@@ -149,8 +159,9 @@ for (@ARGV) { RRDp::cmd($_); my $found = RRDp::read(); print defined $found ? $$
 
     def test_a_call_in_a_handler(self) -> None:
         """The call that was interrupted fails, and the next ones get their own answers."""
-        slow = self.stub("slow", """read line; case $line in *slow*) printf 'OK 5\\n1'; exec sleep 5 ;; esac; printf 'OK 1\\n7'; read line""")
-        script = r"""local $SIG{ALRM} = sub { show inner => RRDs::last('f') }; alarm 1; $| = 1;
+        slow = self.stub("slow", """read line
+case $line in *slow*) printf 'OK 5\\n1'; kill -ALRM $PPID; exec sleep 60 ;; esac; printf 'OK 1\\n7'; read line""")
+        script = r"""local $SIG{ALRM} = sub { show inner => RRDs::last('f') }; $| = 1;
 show outer => RRDs::last('slow'); show last => RRDs::last('f');"""
         self.assertEqual(self.perl(script, f"-I{TOP}/perl", env={"RRDI_RRDTOOL": slow}),
                          f"inner: 7; undef\nouter: undef; {slow} ended; is it installed?\nlast: 7; undef\n")

@@ -8,6 +8,7 @@ import sys
 import time
 import unittest
 
+from cases import HANG
 from doubles import TOP
 from tool_case import Ran, ToolCase
 
@@ -27,6 +28,16 @@ class Installed(unittest.TestCase):
         modules = {name: re.findall(r"^from (rrdi\.tools[\w.]*) import main", (TOP / "tools" / name).read_text(), re.M)[0]
                    for name in sorted(path.name for path in (TOP / "tools").glob("rrdi-*"))}
         self.assertEqual(scripts.splitlines(), [f'{name} = "{module}:main"' for name, module in modules.items()])
+
+    def test_each_launcher_has_the_same_text(self) -> None:
+        """Only the name and the module differ, and carbon is a package of the system's own Python."""
+        first, *rest = (TOP / "tools/rrdi-feed").read_text().splitlines(True)
+        for path in (TOP / "tools").glob("rrdi-*"):
+            module = path.name[len("rrdi-"):].replace("-", "_")
+            module = {"export": "exporter", "import": "importer"}.get(module, module)
+            wanted = "".join(rest).replace("rrdi-feed", path.name).replace("rrdi.tools.feed", f"rrdi.tools.{module}")
+            start = "#!/usr/bin/python3\n" if module == "carbon_cache" else first
+            self.assertEqual(path.read_text(), start + wanted)
 
 
 class Versions(ToolCase):
@@ -87,7 +98,7 @@ class Ends(ToolCase):
             self.assertEqual(running.stdout.readline(), "begun\n")
             time.sleep(0.1)
             running.send_signal(signal.SIGINT)
-            self.assertEqual((running.wait(20), running.stderr.read()), (130, ""))
+            self.assertEqual((running.wait(HANG), running.stderr.read()), (130, ""))
 
 
 if __name__ == "__main__":

@@ -18,9 +18,9 @@ from cases import needs_program
 from doubles import TOP
 from tool_case import Ran, ToolCase
 
-from rrdi.feeding.feeder import Options
+from rrdi.feeding.feeder import FeedOptions
 from rrdi.tools.command_line import WrongArguments
-from rrdi.tools.feed import USAGE, Arguments, read_arguments
+from rrdi.tools.feed import USAGE, FeedArguments, read_arguments
 
 CREATE = "--step 10 DS:v:GAUGE:60:U:U RRA:AVERAGE:0.5:1:9"
 # A program that notes what it is asked for. Its batch accepts all samples.
@@ -37,17 +37,17 @@ class WrongOnes(ToolCase):
         self.check_usage("rrdi-feed", USAGE, [*(words.split() for words in wrong), ["--graphite", ""]])
 
     def test_arguments(self) -> None:
-        self.assertEqual(read_arguments([]), Arguments(Options(60, 4, 1_000_000, 30), None, None))
+        self.assertEqual(read_arguments([]), FeedArguments(FeedOptions(60, 4, 1_000_000, 30), None, None))
         self.assertEqual(read_arguments("--jobs 2 --seconds 5 --held 7 --patience 0".split()),
-                         Arguments(Options(5, 2, 7, 0), None, None))
-        self.assertEqual(read_arguments("--graphite d --rules r --jobs 3".split()), Arguments(Options(jobs=3), "d", "r"))
+                         FeedArguments(FeedOptions(5, 2, 7, 0), None, None))
+        self.assertEqual(read_arguments("--graphite d --rules r --jobs 3".split()), FeedArguments(FeedOptions(jobs=3), "d", "r"))
         with self.assertRaises(WrongArguments):
             read_arguments(["--rules", "r"])
 
-    def test_the_old_name(self) -> None:
-        """The old name starts the same tool, and its messages begin with the old name."""
-        self.assertEqual((TOP / "examples/feed").read_bytes(), (TOP / "tools/rrdi-feed").read_bytes())
-        ran = self.run_command([sys.executable, str(TOP / "examples/feed"), "--jobs", "0"])
+    def test_another_name(self) -> None:
+        """A link starts the same tool, and its messages begin with the link's name."""
+        (self.folder / "feed").symlink_to(TOP / "tools/rrdi-feed")
+        ran = self.run_command([sys.executable, str(self.folder / "feed"), "--jobs", "0"])
         self.assertEqual(ran, Ran(2, "", f"usage: feed {USAGE}\n"))
 
     def test_directory_and_rules(self) -> None:

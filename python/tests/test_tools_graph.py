@@ -16,7 +16,7 @@ from tool_case import NO_RRDTOOL, RRDTOOL, Ran, ToolCase
 from rrdi.tools import graphing, librrd
 from rrdi.tools.command_line import Failure
 from rrdi.tools.librrd import Exported
-from rrdi.tools.program import Rows
+from rrdi.tools.rows import Rows
 
 
 def has_library() -> bool:

@@ -11,7 +11,7 @@ from tool_case import ToolCase
 
 # Modules that cost as much as the rest of a call, and that few commands need.
 COSTLY = {"asyncio", "dataclasses", "datetime", "decimal", "inspect", "json", "pathlib", "rrdi.commands", "rrdi.database",
-          "rrdi.reader", "rrdi.tools.graphing", "rrdi.tools.outline", "rrdi.tools.rrdtool.pipe", "shutil", "tempfile",
+          "rrdi.reader", "rrdi.tools.graphing", "rrdi.tools.rrdtool.pipe", "shutil", "tempfile",
           "urllib.parse"}
 
 

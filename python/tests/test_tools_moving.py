@@ -43,18 +43,24 @@ class Import(ToolCase):
         self.stub("rrdtool", f'case $1 in dump) cat {self.folder}/dump ;; last) cat {self.folder}/last ;; esac')
 
     def test_usage(self) -> None:
-        self.check_usage("rrdi-import", "[--journal DEPTH] OLD.rrd|OLD.wsp [NEW.rrdi]",
+        self.check_usage("rrdi-import", "[--journal DEPTH] OLD.rrd|OLD.wsp [NEW.rrdi]\n"
+                         "       rrdi-import [--journal DEPTH] --into DIRECTORY|--in-place OLD|TREE..",
                          [[], ["--journal", "x", "a.rrd"], ["--journal"], ["a", "b", "c"], ["-x"], [""], ["a", "-b"],
-                          ["--journal", "-1", "a"], ["a", ""]])
+                          ["--journal", "-1", "a"], ["a", ""], ["--in-place"], ["--into", "d"], ["--into", "", "a"],
+                          ["--into", "d", "--in-place", "a"], ["--in-place", "--in-place", "a"], ["--in-place", "a", ""]])
 
     def test_the_batch(self) -> None:
-        self.assertEqual(self.tool("rrdi-import", "old.rrd"), Ran(0, BATCH, NOTE))
+        """A source is left out, so the status is 1, and no loop takes the new file for the old one."""
+        self.assertEqual(self.tool("rrdi-import", "old.rrd"), Ran(1, BATCH, NOTE))
+        self.write("dump", DUMP.replace("COMPUTE", "GAUGE"))
+        self.assertEqual(self.tool("rrdi-import", "old.rrd").status, 0)
+        self.write("dump", DUMP)
         ran = self.tool("rrdi-import", "--journal", "7", "old.rrd")
         self.assertEqual(ran.out, BATCH.replace(" DS:", " --journal 7 DS:"))
 
     @needs_program
     def test_a_new_file(self) -> None:
-        self.assertEqual(self.tool("rrdi-import", "--journal", "9", "old.rrd", "new.rrdi"), Ran(0, "", NOTE))
+        self.assertEqual(self.tool("rrdi-import", "--journal", "9", "old.rrd", "new.rrdi"), Ran(1, "", NOTE))
         self.assertEqual(self.rrdi("fetch", "new.rrdi", "AVERAGE", "-s", "1600000000", "-e", "1600000029"),
                          "time: g\n1600000010: 1.000000\n1600000020: nan\n1600000030: 3.500000\n")
         self.assertIn("journal = 9\n", self.rrdi("info", "new.rrdi"))
@@ -88,11 +94,11 @@ class Import(ToolCase):
                          Ran(1, "", "rrdi-import: rrdtool is not installed (Debian: apt install rrdtool)\n"))
         self.write("last", "1600000040\n")
         self.assertEqual(self.tool("rrdi-import", "old.rrd"),
-                         Ran(1, "", "rrdi-import: the file changed while it was read\n"))
+                         Ran(1, "", "rrdi-import: old.rrd: the file changed while it was read\n"))
         for size in (0, 100, len(DUMP) // 2, len(DUMP) - 8):
             self.write("dump", DUMP[:size])
             self.assertEqual(self.tool("rrdi-import", "old.rrd", "new.rrdi"),
-                             Ran(1, "", "rrdi-import: rrdtool did not read the file to its end\n"))
+                             Ran(1, "", "rrdi-import: old.rrd: rrdtool did not read the file to its end\n"))
         self.assertFalse((self.folder / "new.rrdi").exists())
         self.stub("rrdtool", "echo \"ERROR: opening '$2': No such file or directory\" >&2; exit 1")
         self.assertEqual(self.tool("rrdi-import", "old.rrd"),
@@ -108,10 +114,10 @@ class Import(ToolCase):
     @needs_program
     def test_a_full_disk_leaves_no_file(self) -> None:
         self.assertEqual(self.tool("rrdi-import", "old.rrd", "new.rrdi", size=50),
-                         Ran(1, "", NOTE + "rrdi-import: cannot write\n"))
+                         Ran(1, "", NOTE + "rrdi-import: new.rrdi: cannot write\n"))
         self.assertEqual([path.name for path in self.folder.glob("new.rrdi*")], [])
         self.assertEqual(self.tool("rrdi-import", "old.rrd", "/nowhere/new.rrdi").err,
-                         NOTE + "rrdi-import: cannot open\n")
+                         NOTE + "rrdi-import: /nowhere/new.rrdi: cannot open\n")
 
     def test_a_link_is_no_rrdtool(self) -> None:
         (self.bin / "rrdtool").unlink()

@@ -1,6 +1,7 @@
 """Tests of perl/RRDs.pm: its results compared with those of RRDtool's own module, and its one process."""
 from __future__ import annotations
 
+import os
 import re
 import shutil
 import subprocess
@@ -155,11 +156,32 @@ RRDs::last('f.rrdi'); chdir q(a b'c);
 show there => RRDs::last('f.rrdi'); show above => RRDs::last('../f.rrdi'); chdir '..'; show here => RRDs::last('f.rrdi');
 """), ["there: undef; error opening 'f.rrdi': No such file or directory", "above: 0; error undef", "here: 0; error undef"])
 
+    def test_a_library_by_a_path_of_the_first_directory(self) -> None:
+        """The program beside the module is found by a relative -I, also if the first call is in another directory."""
+        assert PERL
+        (self.folder / "there").mkdir()
+        script = "use RRDs; chdir 'there'; print RRDs::last('../f.rrdi') // RRDs::error()"
+        ran = self.run_command([PERL, "-w", "-I" + os.path.relpath(f"{TOP}/perl", self.folder), "-e", script])
+        self.assertEqual((ran.out, ran.err), ("0", ""))
+
     def test_a_time_zone_that_changes(self) -> None:
         self.assertEqual(self.lines(r"""
 $ENV{TZ} = 'UTC'; show utc => RRDs::times('noon 20240101', 'start+1h');
 $ENV{TZ} = 'XXX-5'; show east => RRDs::times('noon 20240101', 'start+1h');
 """), ["utc: 1704110400; 1704114000; error undef", "east: 1704092400; 1704096000; error undef"])
+
+    def test_variables_that_change(self) -> None:
+        """A process has the variables of its start, so each one on which its answers depend needs another process when it is
+        set, changed or removed; no other variable does."""
+        # It answers each line with the text 0.
+        stub = self.stub("answers", f"echo x >>{self.folder}/starts; while read -r line; do printf 'OK 1\\n0'; done")
+        ask = "RRDs::last('f.rrdi'); RRDs::last('f.rrdi'); die RRDs::error() if RRDs::error();"
+        for names, count in ((("TZ", "RRDI", "RRDI_LIBRARY", "RRDI_SYNC", "RRDI_WAIT", "LANG", "LC_ALL", "LC_TIME", "LC_CTYPE"), 4), (("OTHER",), 1)):
+            for name in names:
+                self.write("starts", "")
+                changes = (f"delete $ENV{{{name}}};", f"$ENV{{{name}}} = '5';", f"$ENV{{{name}}} = '6';", f"delete $ENV{{{name}}};")
+                self.lines(" ".join(f"{change} {ask}" for change in changes), {"RRDI_RRDTOOL": stub})
+                self.assertEqual(len(self.read("starts").split()), count, name)
 
     def test_words_of_all_kinds(self) -> None:
         for name in ("a b", "it's", 'q"q', "it's \"both\"", "back\\slash", "\u00e4\u20ac"):

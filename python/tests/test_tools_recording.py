@@ -2,6 +2,7 @@
 from __future__ import annotations
 
 import fcntl
+import math
 import os
 import shutil
 import subprocess
@@ -11,19 +12,21 @@ import unittest
 from typing import Dict, List, Optional
 from unittest import mock
 
-from cases import child_status, needs_program, sleeping_child
+from cases import HANG, child_status, needs_program, sleeping_child
 from doubles import PROGRAM, TOP
 from tool_case import Ran, ToolCase
 
-from rrdi.tools import plot, record
+from rrdi.tools import machine, record
 from rrdi.tools.command_line import Failure
+from rrdi.tools.plotting import labels, numbers
+from rrdi.tools.plotting.columns import chosen, columns_of, limits, segments, series_of, since_known
 
 
-def in_zone(zone: str, begin: int, end: int) -> List[plot.Label]:
+def in_zone(zone: str, begin: int, end: int) -> List[labels.Label]:
     """The labels of a span in a time zone."""
     with mock.patch.dict(os.environ, {"TZ": zone}):
         time.tzset()
-        found = plot.labels(begin, end)
+        found = labels.labels(begin, end)
     time.tzset()
     return found
 
@@ -63,13 +66,73 @@ class Labels(unittest.TestCase):
         self.assertTrue(3 <= len(found) <= 8, found)
         self.assertTrue(all(text.startswith("Jan") for text, _ in found), found)
 
-    def test_points(self) -> None:
-        points = plot.points_of(["g"], {20: ["1.0"], 30: ["nan"]})
-        self.assertEqual(points.points, [(10, "1.0"), (20, "1.0"), (20, "nan"), (30, "nan")])
+
+class Numbers(unittest.TestCase):
+    """Numbers with SI prefixes, and axes. What is expected was written by hand."""
+
+    def test_prefixes(self) -> None:
+        for value, text in ((0, "0"), (2.98, "2.98"), (124.4, "124"), (999.4, "999"), (999.6, "1.00 k"), (12_345, "12.3 k"),
+                            (-1_500, "-1.50 k"), (3.04e6, "3.04 M"), (7e9, "7.00 G"), (1.5e18, "1.50 E"), (0.25, "0.250"),
+                            (0.0123, "0.0123"), (0.0042, "4.20 m"), (0.000007, "7.00 \u00b5"), (math.nan, "-")):
+            with self.subTest(value=value):
+                self.assertEqual(numbers.number_text(value), text)
+        self.assertEqual((numbers.number_text(1_500, "B/s"), numbers.number_text(20, "%"), numbers.number_text(math.nan, "B")),
+                         ("1.50 kB/s", "20.0 %", "-"))
+
+    def test_axes(self) -> None:
+        """All marks of an axis have one prefix, and the axis has both ends."""
+        for low, high, values, texts in (
+                (0, 29.06, [0, 5, 10, 15, 20, 25, 30], "0 5 10 15 20 25 30"), (0, 1_500, [0, 250, 500, 750, 1_000, 1_250, 1_500],
+                                                                               "0 0.25_k 0.50_k 0.75_k 1.00_k 1.25_k 1.50_k"),
+                (-3, 4, [-4, -2, 0, 2, 4], "-4 -2 0 2 4"), (7, 7, [7, 7.2, 7.4, 7.6, 7.8], "7.0 7.2 7.4 7.6 7.8"),
+                (0, 5e6, [0, 1e6, 2e6, 3e6, 4e6, 5e6], "0 1_M 2_M 3_M 4_M 5_M"), (0, 0, [0, .2, .4, .6, .8, 1],
+                                                                                 "0 0.2 0.4 0.6 0.8 1.0")):
+            with self.subTest(low=low, high=high):
+                found = numbers.axis(low, high)
+                self.assertEqual([round(value, 9) for value in found.values], values)
+                self.assertEqual(" ".join(text.replace(" ", "_") for text in found.texts), texts)
+
+
+class Rows(unittest.TestCase):
+    ROWS = {20: ["1.0", "4.0"], 30: ["nan", "5.0"], 40: ["3.0", "nan"]}
+
+    def test_nothing(self) -> None:
         nothing: List[Dict[int, List[str]]] = [{}, {10: ["1"]}, {10: ["nan"], 20: ["nan"]}]
         for rows in nothing:
             with self.assertRaises(Failure):
-                plot.points_of(["g"], rows)
+                columns_of(["g"], rows)
+        with self.assertRaisesRegex(Failure, "there is no source x, only g, h"):
+            chosen(columns_of(["g", "h"], self.ROWS), ["g", "x"])
+        with self.assertRaisesRegex(Failure, "nothing to draw"):
+            chosen(columns_of(["g", "h"], {10: ["nan", "1"], 20: ["nan", "1"]}), ["g"])
+
+    def test_lines(self) -> None:
+        """A row is a line over its seconds, and an unknown row is a gap."""
+        rows = chosen(columns_of(["g", "h"], self.ROWS), ["h", "g"])
+        self.assertEqual((rows.names, rows.begin, rows.end, rows.seconds), (["h", "g"], 10, 40, 10))
+        second, first = series_of(rows, None, None, False)
+        self.assertEqual(list(segments(rows, first)), [[(10, 0, 1, 1, 1), (20, 0, 1, 1, 1)], [(30, 0, 3, 3, 3), (40, 0, 3, 3, 3)]])
+        self.assertEqual(list(segments(rows, second)), [[(10, 0, 4, 4, 4), (20, 0, 4, 4, 4), (20, 0, 5, 5, 5), (30, 0, 5, 5, 5)]])
+        self.assertEqual((first.last, first.least, first.mean, first.greatest), (3, 1, 2, 3))
+        self.assertEqual(limits([first, second], False), (1, 5))
+
+    def test_stacks(self) -> None:
+        """Each area lies on those below it, and an unknown value adds nothing."""
+        rows = columns_of(["g", "h"], self.ROWS)
+        first, second = series_of(rows, None, None, True)
+        self.assertEqual([point[1:3] for stretch in segments(rows, second) for point in stretch], [(1, 5), (1, 5), (0, 5), (0, 5)])
+        self.assertEqual((second.greatest, limits([first, second], False)), (5, (1, 5)))
+
+    def test_the_first_known_row(self) -> None:
+        rows = columns_of(["g", "h"], {10: ["nan", "nan"], **self.ROWS})
+        self.assertEqual((since_known(rows).times, since_known(rows).columns[1][:2]), ([20, 30, 40], [4, 5]))
+        self.assertEqual(since_known(columns_of(["g"], {10: ["nan"], 20: ["nan"], 30: ["1"]})).times, [20, 30])
+
+    def test_bands(self) -> None:
+        rows, low, high = (columns_of(["g"], {20: [text], 30: ["2"]}) for text in ("2", "-1", "9"))
+        one, = series_of(rows, low, high, False)
+        self.assertEqual(list(segments(rows, one))[0][0], (10, 0, 2, -1, 9))
+        self.assertEqual((one.least, one.mean, one.greatest, limits([one], True), limits([one], False)), (-1, 2, 9, (-1, 9), (2, 2)))
 
 
 @needs_program
@@ -90,26 +153,84 @@ class Plot(ToolCase):
                          str(self.START + end), env=env, size=size)
 
     def test_usage(self) -> None:
-        self.check_usage("rrdi-plot", "FILE PICTURE.png|PICTURE.svg FUNCTION [ARGUMENTS OF FETCH..]",
-                         [[], ["a"], ["a", "b.png"], ["a", "b.gif", "AVERAGE"], ["a", "png", "AVERAGE"]])
+        self.check_usage("rrdi-plot", "FILE PICTURE.png|PICTURE.svg [FUNCTION] [options]",
+                         [[], ["a"], ["a", "b.gif", "AVERAGE"], ["a", "png", "AVERAGE"], ["a", "b.png", "MAX", "c"],
+                          ["a", "b.png", "-x"], ["a", "b.png", "--start"], ["a", "b.png", ""]])
+        for words, why in ((["max"], "the function 'max' must be AVERAGE, MIN, MAX or LAST"),
+                           (["-r", "x"], "--resolution must be a whole number, not 'x'"),
+                           (["--size", "20"], "--size must be WIDTHxHEIGHT, each from 200 to 10000, not '20'"),
+                           (["-s", "never"], "cannot parse time: never")):
+            self.assertEqual(self.tool("rrdi-plot", "f.rrdi", "b.png", *words), Ran(2, "", f"rrdi-plot: {why}\n"))
 
     def test_a_picture(self) -> None:
         self.assertEqual(self.draw(0, 39, env={"RRDI_PLOT_SETUP": "set title 'x'"}), Ran(0, "", ""))
         self.assertEqual(self.read("p.png"), b"picture\n")
-        points = ["time g h"]
-        for at in range(1, 5):
-            cells = f"{'nan' if at == 2 else f'{at}.000000'} {-at}.000000"
-            points += [f"{self.START + 10 * at - 10} {cells}", f"{self.START + 10 * at} {cells}"]
-        self.assertEqual(self.read("points").decode().splitlines(), points)
+        points = [line.split() for line in self.read("points").decode().splitlines() if line and not line.startswith("#")]
+        wanted = [(10 * at + end, value) for value, ats in ((1, (0,)), (3, (2,)), (4, (3,)), (-1, (0,)), (-2, (1,)), (-3, (2,)),
+                                                            (-4, (3,))) for at in ats for end in (0, 10)]
+        self.assertEqual([(int(point[0]) - self.START, float(point[2])) for point in points], wanted)
         commands = self.read("commands").decode()
-        for line in ("set terminal pngcairo size 800,300 noenhanced\n", "set title 'x'\n", "plot for [column = 2:3] ",
-                     f"set xrange ['{self.START}':'{self.START + 40}']\n", "using 1:column with lines",
+        for line in ("set terminal pngcairo size 900,", "set title 'x'\n", f"set xrange ['{self.START}':'{self.START + 40}']\n",
+                     "index 0 using 1:3 with lines", "index 1 using 1:3 with lines", "set yrange [-4.0:4.0]\n",
                      f'set xtics ("22:20:00\\n14 Nov" {self.START}, "22:20:10" {self.START + 10}, '):
             self.assertIn(line, commands)
+        self.assertNotIn("'f'", commands)  # the title of its own
         self.assertEqual(self.draw(0, 39, "p.svg", env={"LOOK": "set old 1"}), Ran(0, "", ""))
         commands = self.read("commands").decode()
-        self.assertIn("set terminal svg size 800,300 noenhanced\n", commands)
+        self.assertIn("set terminal svg size 900,", commands)
         self.assertIn("set old 1\n", commands)
+
+    def commands(self, *words: str) -> str:
+        ran = self.tool("rrdi-plot", "f.rrdi", "p.png", *words)
+        self.assertEqual(ran, Ran(0, "", ""))
+        return self.read("commands").decode()
+
+    def test_the_whole_picture(self) -> None:
+        """The title and the legend, the last day before the last update, the colors, and an axis that begins at 0."""
+        commands = self.commands()
+        for line in ("set label 'f' at screen", "'AVERAGE of 10 s, 2023-11-14 22:20:00 to 2023-11-14 22:30:00 UTC'",
+                     "set label 'g' at", "set label '60.0' at", "set label '-60.0' at", "set label '-30.5' at"):
+            self.assertIn(line, commands)
+        commands = self.commands("AVERAGE", "--source", "g", "-s", "2023-11-14 22:20:00", "-e", "start+1min")
+        self.assertIn("set yrange [0.0:6.0]\n", commands)
+        self.assertIn(f"set xrange ['{self.START}':'{self.START + 60}']\n", commands)
+        self.assertNotIn("index 1", commands)
+        self.assertIn("set yrange [1.0:6.0]\n", self.commands("--source=g", "--start", str(self.START), "--end", str(self.START + 59),
+                                                          "--fit"))
+
+    def test_a_young_file(self) -> None:
+        """Without a start, the rows are as fine as the known ones allow."""
+        self.create("f.rrdi", "DS:g:GAUGE:10:U:U", "RRA:AVERAGE:0.5:1:90", "RRA:AVERAGE:0.5:9:1000", start=self.START)
+        self.rrdi("update", "f.rrdi", *[f"{self.START + 10 * at}:{at % 3}" for at in range(1, 61)])
+        self.assertIn("AVERAGE of 10 s, 2023-11-14 22:20:00 to", self.commands())
+        self.assertIn("AVERAGE of 90 s, 2023-11-13 22:30:00 to", self.commands("-s", "end-1d"))
+
+    def test_styles(self) -> None:
+        self.assertNotIn("filledcurves", self.commands())
+        self.assertEqual(self.commands("--area").count("using 1:2:3 with filledcurves"), 2)
+        self.assertIn("#181b1f", self.commands("--dark"))
+        self.assertNotIn("object rectangle", self.commands("--no-legend"))
+        self.assertIn("set terminal pngcairo size 700,300 ", self.commands("--size", "700x300"))
+        commands = self.commands("--title", "it's 5 %", "--unit", "%")
+        self.assertIn("set label 'it''s 5 %' at", commands)
+        self.assertIn("'-40 %%' -40.0", commands)
+
+    def test_a_band(self) -> None:
+        """Rows of AVERAGE over several steps have a band if there are MIN and MAX of the same length."""
+        self.create("f.rrdi", "DS:g:GAUGE:10:U:U", "RRA:AVERAGE:0.5:3:90", "RRA:MIN:0.5:3:90", "RRA:MAX:0.5:3:90", start=self.START)
+        self.rrdi("update", "f.rrdi", *[f"{self.START + 10 * at}:{at % 3}" for at in range(1, 61)])
+        self.assertIn("using 1:4:5 with filledcurves", self.commands("AVERAGE"))
+        point = [line for line in self.read("points").decode().splitlines() if line.startswith(str(self.START))][0]
+        self.assertEqual([float(part) for part in point.split()[1:]], [0, 1, 0, 2])
+        for words in (["AVERAGE", "--no-band"], ["MAX"], ["AVERAGE", "--stack"]):
+            self.assertNotIn("using 1:4:5", self.commands(*words))
+        self.create("f.rrdi", "DS:g:GAUGE:10:U:U", "RRA:AVERAGE:0.5:3:90", "RRA:MIN:0.5:6:90", "RRA:MAX:0.5:6:90", start=self.START)
+        self.rrdi("update", "f.rrdi", *[f"{self.START + 10 * at}:{at % 3}" for at in range(1, 61)])
+        self.assertNotIn("using 1:4:5", self.commands("AVERAGE"))
+        # The least and greatest value of a single step is its average.
+        self.create("f.rrdi", "DS:g:GAUGE:10:U:U", "RRA:AVERAGE:0.5:1:90", "RRA:MIN:0.5:1:90", "RRA:MAX:0.5:1:90", start=self.START)
+        self.rrdi("update", "f.rrdi", *[f"{self.START + 10 * at}:{at % 3}" for at in range(1, 61)])
+        self.assertNotIn("using 1:4:5", self.commands("AVERAGE"))
 
     def test_nothing_to_draw(self) -> None:
         self.rrdi("update", "f.rrdi", f"{self.START + 700}:U:U")
@@ -122,8 +243,8 @@ class Plot(ToolCase):
         self.assertEqual(self.draw(0, 39, env={"FAIL": "1"}),
                          Ran(1, "", "no font\nrrdi-plot: gnuplot did not draw f.rrdi\n"))
         self.assertEqual(self.draw(0, 39, env={"FAIL": "2"}), Ran(1, "", "rrdi-plot: gnuplot did not draw f.rrdi\n"))
-        self.assertEqual(self.tool("rrdi-plot", "none", "p.png", "MAX"), Ran(1, "", "rrdi-plot: cannot open\n"))
-        self.assertEqual(self.draw(5, 1), Ran(1, "", "rrdi-plot: bad span\n"))
+        self.assertEqual(self.tool("rrdi-plot", "none", "p.png", "MAX"), Ran(1, "", "rrdi-plot: none: cannot open: No such file or directory\n"))
+        self.assertIn("is not before the end", self.draw(5, 1).err)
         self.assertEqual(self.draw(0, 39, "/nowhere/p.png").err, "rrdi-plot: /nowhere/p.png: No such file or directory\n")
         self.assertEqual(self.draw(0, 39, env={"RRDI": "/nowhere"}).err,
                          "rrdi-plot: cannot run /nowhere: No such file or directory\n")
@@ -141,6 +262,15 @@ class Plot(ToolCase):
         self.assertFalse((self.folder / "p.png").exists())
 
 
+class Disks(unittest.TestCase):
+    def test_reserved_blocks(self) -> None:
+        """Blocks that only root may use are neither used nor free."""
+        system = mock.Mock(f_frsize=4_096, f_blocks=1_000, f_bfree=400, f_bavail=350)
+        with mock.patch("os.statvfs", return_value=system):
+            self.assertEqual([(number.name, number.value) for number in machine.disk("/")],
+                             [("disk_used", str(600 * 4_096)), ("disk_free", str(350 * 4_096))])
+
+
 @needs_program
 class Record(ToolCase):
     def setUp(self) -> None:
@@ -156,7 +286,9 @@ class Record(ToolCase):
                     start=start, step=60)
 
     def test_usage(self) -> None:
-        self.check_usage("rrdi-record", "FILE", [[], ["a", "b"], ["-a"], [""]])
+        self.check_usage("rrdi-record", "[--load] [--memory] [--disk DIRECTORY] [--network INTERFACE] FILE",
+                         [[], ["a", "b"], ["-a"], [""], ["--memory"], ["--disk", "a"], ["--network", "", "a"],
+                          ["--load", "--load", "a"], ["a", "--load"]])
 
     def test_the_loads_in_their_order(self) -> None:
         self.make("a.rrdi", self.now - 120)
@@ -170,6 +302,40 @@ class Record(ToolCase):
         info = self.rrdi("info", "new.rrdi")
         for line in ("step = 60", "rra[1].steps = 10", "rra[3].cf = MAX", "rra[2].rows = 3000"):
             self.assertIn(line, info)
+
+    def test_other_numbers(self) -> None:
+        """The machine's memory, a file system and an interface, in one file; what is expected was added up by hand."""
+        self.write("meminfo", "MemTotal:     1000 kB\nMemFree:       100 kB\nMemAvailable:  500 kB\nBuffers:        20 kB\n"
+                              "Cached:        300 kB\nSReclaimable:   80 kB\nSwapTotal:     200 kB\nSwapFree:      150 kB\n")
+        (self.folder / "net").mkdir()
+        self.write("net/dev", "Inter-|   Receive |  Transmit\n face |bytes packets|bytes\n"
+                              "    lo: 7 1 0 0 0 0 0 0 7 1 0 0 0 0 0 0\n  eth0:5000 1 0 0 0 0 0 0 600 1 0 0 0 0 0 0\n")
+        words = ("--network", "eth0", "--memory", "--disk", ".", "m.rrdi")
+        self.env["RRDI_PROC"] = str(self.folder)
+        self.assertEqual(self.tool("rrdi-record", *words), Ran(0, "", ""))
+        head, values = self.rrdi("lastupdate", "m.rrdi").splitlines()
+        self.assertEqual(head, "time: mem_used mem_cached mem_free swap_used disk_used disk_free net_in net_out")
+        numbers = values.split()[1:]
+        self.assertEqual(numbers[:4], ["512000.000000", "409600.000000", "102400.000000", "51200.000000"])
+        self.assertEqual(numbers[6:], ["5000", "600"])
+        found = os.statvfs(self.folder)
+        self.assertAlmostEqual((float(numbers[4]) + float(numbers[5])) / found.f_frsize,
+                               found.f_blocks - found.f_bfree + found.f_bavail, delta=100_000)
+        self.assertIn("ds[6].type = DERIVE\nds[6].minimal_heartbeat = 150\nds[6].min = 0", self.rrdi("info", "m.rrdi"))
+
+    def test_fewer_numbers(self) -> None:
+        """What a run does not record is unknown, and what the file has not is refused."""
+        self.make("a.rrdi", self.now - 120)
+        self.write("meminfo", "MemTotal: 9 kB\n")
+        ran = self.tool("rrdi-record", "--load", "--memory", "a.rrdi", env={"RRDI_PROC": str(self.folder)})
+        self.assertEqual(ran, Ran(1, "", f"rrdi-record: {self.folder}/meminfo has no Buffers\n"))
+        ran = self.tool("rrdi-record", "--disk", ".", "a.rrdi")
+        self.assertEqual(ran, Ran(1, "", "rrdi-record: a.rrdi lacks one of disk_used, disk_free; record it in another file\n"))
+        (self.folder / "net").mkdir()
+        self.write("net/dev", " face |bytes\n    lo: 7 1 0 0 0 0 0 0 7 1\n")
+        ran = self.tool("rrdi-record", "--network", "eth9", "n.rrdi", env={"RRDI_PROC": str(self.folder)})
+        self.assertEqual(ran, Ran(1, "", f"rrdi-record: {self.folder}/net/dev has no interface eth9, only lo\n"))
+        self.assertFalse((self.folder / "n.rrdi").exists())
 
     def test_it_flushes_to_the_disk(self) -> None:
         """Each command flushes: also `create`, and `last`, which may repair the file."""
@@ -219,7 +385,8 @@ class Record(ToolCase):
         for text, reason in ((b"no database", "not ours"), (b"RRD\0" + newer[4:], "not ours"), (b"hi", "truncated at 2"),
                              (newer[:5] + b"\x09" + newer[6:], "version"), (bytes(100), "not ours")):
             self.write("b.rrdi", text)
-            self.assertEqual(self.record("b.rrdi"), Ran(1, "", f"rrdi-record: b.rrdi: file: {reason}\n"))
+            ran = self.record("b.rrdi")
+            self.assertEqual((ran.status, ran.err.splitlines()[0]), (1, f"rrdi-record: b.rrdi: file: {reason}"))
             self.assertEqual(self.read("b.rrdi"), text)
         self.assertFalse((self.folder / "b.rrdi.refused").exists())
 
@@ -271,7 +438,7 @@ class Record(ToolCase):
             time.sleep(1)
             self.assertIsNone(run.poll())
             self.assertEqual(self.rrdi("last", "a.rrdi"), f"{self.now - 120}\n")
-        self.assertEqual(run.wait(20), 0)
+        self.assertEqual(run.wait(HANG), 0)
 
     def test_it_waits_not_for_ever(self) -> None:
         path = self.write("a.lock", "")

@@ -11,11 +11,12 @@ from cases import needs_program
 from doubles import TOP
 from tool_case import NO_RRDTOOL, RRDTOOL, Ran, ToolCase
 
-from rrdi.tools import fetching, program
+from rrdi.tools import program
+from rrdi.tools import rows as rrdtool_rows
 from rrdi.tools.answers import Printed
 from rrdi.tools.command_line import Failure
-from rrdi.tools.program import Archive, Settings, Source
-from rrdi.tools.rrdtool.commands import needed
+from rrdi.printed import Archive, Settings, Source
+from rrdi.tools.rrdtool.running import Commands, needed
 from rrdi.tools.rrdtool.pipe import split
 from rrdi.tools.rrdtool.texts import VERSION, raw_text
 
@@ -64,7 +65,7 @@ class Choice(unittest.TestCase):
     """Which archive a fetch takes; resolutions are 10, 30 and 60 seconds, and the last time is 1,000."""
 
     def choose(self, function: str, start: int, resolution: int, *archives: Archive) -> int:
-        return fetching.choose(settings(*archives), function, start, 1_000, resolution)
+        return rrdtool_rows.choose(settings(*archives), function, start, 1_000, resolution)
 
     def test_choices(self) -> None:
         fine, middle, coarse = (Archive("AVERAGE", "0.5", steps, rows) for steps, rows in ((1, 20), (3, 20), (6, 16)))
@@ -85,16 +86,40 @@ class Choice(unittest.TestCase):
     def test_rows_that_an_archive_lacks_are_unknown(self) -> None:
         now = settings(Archive("AVERAGE", "0.5", 3, 3))
         with mock.patch.object(program, "ask", return_value="time: g\n960: 1.000000\n990: nan\n") as asked:
-            rows = fetching.rows_of("f", now, 0, 845, 1_030)
+            rows = rrdtool_rows.rows_of("f", now, 0, 845, 1_030)
         self.assertEqual((rows.start, rows.end, rows.step), (840, 1_050, 30))
         self.assertEqual(rows.cells, [[None], [None], [None], [1.0], [None], [None], [None]])
         self.assertEqual(" ".join(asked.call_args[0][0]), "fetch f AVERAGE --resolution 30 --start 900 --end 989")
         with mock.patch.object(program, "ask", return_value="time: g\n"):
-            self.assertEqual(fetching.rows_of("f", now, 0, 840, 990).end, 1_020)
+            self.assertEqual(rrdtool_rows.rows_of("f", now, 0, 840, 990).end, 1_020)
         with mock.patch.object(program, "ask") as asked:
-            self.assertEqual(fetching.rows_of("f", now, 0, 2_000, 2_009).cells, [[None]])
-            self.assertEqual(fetching.rows_of("f", now, 0, 0, 10).cells, [[None]])
+            self.assertEqual(rrdtool_rows.rows_of("f", now, 0, 2_000, 2_009).cells, [[None]])
+            self.assertEqual(rrdtool_rows.rows_of("f", now, 0, 0, 10).cells, [[None]])
         asked.assert_not_called()
+
+
+class Spans(unittest.TestCase):
+    """The span of a fetch, which `fetch` gets as RRDtool would have it."""
+
+    def asked(self, *words: str) -> List[int]:
+        with mock.patch("rrdi.tools.rrdtool.running.fetch") as asked:
+            Commands(lambda: 1_700_000_000.5).fetched(["f", "AVERAGE", *words])
+        return list(asked.call_args[0][2:])
+
+    def test_aligned_starts(self) -> None:
+        """The start moves down to a multiple of the resolution, and the end by as many seconds."""
+        for start in range(1_000_000_000, 1_000_000_062, 7):
+            for end in (start, start + 1, start + 59, start + 3_605):
+                for resolution in (1, 7, 60, 300):
+                    words = ["-s", str(start), "-e", str(end), "-r", str(resolution)]
+                    moved = start % resolution
+                    self.assertEqual(self.asked(*words), [start, end, resolution], words)
+                    for option in ("-a", "--align-start"):
+                        self.assertEqual(self.asked(*words, option), [start - moved, end - moved, resolution], words)
+
+    def test_without_words(self) -> None:
+        self.assertEqual(self.asked(), [1_700_000_000 - 86_400, 1_700_000_000, 1])
+        self.assertEqual(self.asked("-r", "5m", "-a", "-s", "end-1h"), [1_699_996_200, 1_699_999_800, 300])
 
 
 @needs_program

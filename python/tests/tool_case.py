@@ -6,16 +6,18 @@ import contextlib
 import io
 import os
 import pty
+import re
 import resource
 import subprocess
 import sys
 import unittest
 from typing import Any, Dict, List, NamedTuple, Optional
 
-from cases import needs_library, needs_program, new_folder
+from cases import HANG, needs_library, needs_program, new_folder
 from doubles import PROGRAM, TOP
 from rrdi.feeding.feeder import Feeder
-from rrdi.feeding.writers import ByLibrary, ByProgram
+from rrdi.feeding.writers import BatchWriter
+from rrdi.by_program import ByProgram
 from rrdi.library import load_library
 from rrdi.tools import rrdtool_program
 
@@ -49,11 +51,11 @@ class EachWriter:
 
     @needs_program
     def test_by_program(self: Any) -> None:
-        self.of_files(ByProgram(PROGRAM or ""))
+        self.of_files(BatchWriter(ByProgram(PROGRAM or "")))
 
     @needs_library
     def test_by_the_library_itself(self: Any) -> None:
-        self.of_files(ByLibrary(load_library()))
+        self.of_files(BatchWriter(load_library()))
 
 
 class ToolCase(unittest.TestCase):
@@ -92,7 +94,7 @@ class ToolCase(unittest.TestCase):
                 resource.setrlimit(resource.RLIMIT_FSIZE, (size, size))
         with open(stdout or os.devnull, "wb") as out:
             ran = subprocess.run(words, input=given.encode(), stdout=out if stdout else subprocess.PIPE, cwd=self.folder,
-                                 stderr=subprocess.PIPE, env={**self.env, **(env or {})}, preexec_fn=limit, timeout=120)
+                                 stderr=subprocess.PIPE, env={**self.env, **(env or {})}, preexec_fn=limit, timeout=10 * HANG)
         return Ran(ran.returncode, (ran.stdout or b"").decode(errors="replace"), ran.stderr.decode(errors="replace"))
 
     def tool(self, name: str, *words: str, given: str = "", env: Optional[Dict[str, str]] = None,
@@ -140,4 +142,7 @@ class ToolCase(unittest.TestCase):
             self.assertIn("Exit status:", ran.out)
         for words in wrong:
             with self.subTest(words=words):
-                self.assertEqual(self.tool(name, *words), Ran(2, "", f"usage: {name} {usage}\n"))
+                ran = self.tool(name, *words)
+                self.assertEqual((ran.status, ran.out), (2, ""))
+                # A further line may say which option was meant.
+                self.assertRegex(ran.err, f"^{re.escape(f'usage: {name} {usage}')}\n({name}: there is no option .*\n)?$")

@@ -6,7 +6,7 @@
     span, names, rows = rrdtool.fetch("load.rrd", "AVERAGE", "-s", "end-1h", "-e", "now")
 
 A program that says `import rrdtool` gets this module if the folder `compat` beside the package is first on its path.
-The arguments are in RRDtool's own syntax (docs/rrdtool-words.md). Every error raises `OperationalError`, as in RRDtool's
+The arguments are in RRDtool's own syntax (docs/rrdtool-options.md). Every error raises `OperationalError`, as in RRDtool's
 module. A function that rrdi does not have, such as `graph`, raises `OperationalError` with the function's name.
 """
 from __future__ import annotations
@@ -18,6 +18,7 @@ from typing import Callable, List, NoReturn, Optional, Tuple, Union
 from .. import __version__ as __version__
 from .. import commands
 from ..errors import Error, OperationalError, ProgrammingError
+from ..printed import Settings, settings_of
 from ..results import Info, LastUpdate, Table, info_of, last_update
 from .resizing import RESIZED, resize_copy
 from .syntax import Untranslatable
@@ -36,11 +37,11 @@ class _ByLibrary:
     def last(self, file: str) -> int:
         return commands.last(file)
 
-    def info(self, file: str) -> str:
+    def settings(self, file: str) -> Optional[Settings]:
         try:
-            return commands.run_on(file, ["info"])
+            return settings_of(commands.run_on(file, ["info"]))
         except Error:
-            return ""
+            return None
 
 
 def _flat(given: Tuple[object, ...]) -> List[str]:

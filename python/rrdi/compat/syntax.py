@@ -4,9 +4,12 @@ from __future__ import annotations
 import re
 from typing import Dict, List, Tuple
 
-Options = List[Tuple[str, str]]
+from ..amounts import WITH_EXPONENT
+
+GivenOptions = List[Tuple[str, str]]
 
 LONGEST_NUMBER = 1_024  # characters; no number needs more, and rounding costs the square of them
+NUMBER = re.compile(WITH_EXPONENT)
 LENGTHS = {"s": 1, "m": 60, "h": 3600, "d": 86400, "w": 7 * 86400, "M": 31 * 86400, "y": 366 * 86400}
 
 # Each option with its letter and its name in this module. The names of options with a value end in =.
@@ -35,7 +38,7 @@ class Untranslatable(Exception):
     """A feature that rrdi does not have, or a word that cannot be read."""
 
 
-def read_options(command: str, words: List[str]) -> Tuple[Options, List[str]]:
+def read_options(command: str, words: List[str]) -> Tuple[GivenOptions, List[str]]:
     """Returns the options in their order, each with its value, and the other words."""
     takes_value: Dict[str, bool] = {}
     by_letter: Dict[str, str] = {}
@@ -43,7 +46,7 @@ def read_options(command: str, words: List[str]) -> Tuple[Options, List[str]]:
         name, letter = option.split()
         takes_value[name.rstrip("=")] = name.endswith("=")
         by_letter[letter] = name.rstrip("=")
-    options: Options = []
+    options: GivenOptions = []
     others: List[str] = []
     words = list(words)
     while words:
@@ -77,7 +80,7 @@ def read_number(text: str) -> str:
     """Returns a number as rrdi reads it: without an exponent, rounded to a millionth."""
     if re.fullmatch(r"[-+]?nan", text, re.IGNORECASE) or text == "U":
         return "U"
-    if len(text) > LONGEST_NUMBER or not re.fullmatch(r"[-+]?([0-9]+(\.[0-9]*)?|\.[0-9]+)([eE][-+]?[0-9]{1,3})?", text):
+    if len(text) > LONGEST_NUMBER or not NUMBER.fullmatch(text):
         return text  # rrdi refuses the text and names it
     if re.fullmatch(r"-?\d+(\.\d{1,6})?", text):
         return text

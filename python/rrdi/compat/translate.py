@@ -5,8 +5,10 @@ import os
 import re
 from typing import Callable, Dict, List, Optional, Protocol, Tuple
 
-from .syntax import OPTIONS, Options, Untranslatable, read_length, read_number, read_options
-from .times import Moment
+from ..limits import FUNCTIONS
+from ..printed import Settings
+from .syntax import OPTIONS, GivenOptions, Untranslatable, read_length, read_number, read_options
+from .at_style import Moment, span
 
 # A command's name, FILE, and its other words.
 Command = List[str]
@@ -18,8 +20,8 @@ class Questions(Protocol):
     def last(self, file: str) -> int:
         """Returns the time of the last sample. Without a database, this ends the translation."""
 
-    def info(self, file: str) -> str:
-        """Returns the text of `rrdi info`; no text if there is no database, which rrdi reports later."""
+    def settings(self, file: str) -> Optional[Settings]:
+        """Returns the settings; None if there is no database, which rrdi reports later."""
 
 
 def translate(command: str, words: List[str], now: int, questions: Questions) -> List[Command]:
@@ -45,8 +47,8 @@ class Translation:
     def __init__(self, now: int, questions: Questions):
         self.now, self.questions = now, questions
 
-    def translate(self, command: str, options: Options, words: List[str]) -> List[Command]:
-        ways: Dict[str, Callable[[Options, List[str]], List[Command]]] = {
+    def translate(self, command: str, options: GivenOptions, words: List[str]) -> List[Command]:
+        ways: Dict[str, Callable[[GivenOptions, List[str]], List[Command]]] = {
             "create": self.create, "update": self.update, "fetch": self.fetch, "tune": self.tune}
         if command in ways:
             return ways[command](options, words)
@@ -59,7 +61,7 @@ class Translation:
 
     # ---- create
 
-    def create(self, options: Options, words: List[str]) -> List[Command]:
+    def create(self, options: GivenOptions, words: List[str]) -> List[Command]:
         file, *definitions = words
         step, told = 300, []
         for name, value in options:
@@ -87,7 +89,7 @@ class Translation:
 
     # ---- update
 
-    def update(self, options: Options, words: List[str]) -> List[Command]:
+    def update(self, options: GivenOptions, words: List[str]) -> List[Command]:
         file, *samples = words
         told: List[str] = []
         last: Optional[int] = None
@@ -120,13 +122,13 @@ class Translation:
 
     # ---- fetch
 
-    def fetch(self, options: Options, words: List[str]) -> List[Command]:
+    def fetch(self, options: GivenOptions, words: List[str]) -> List[Command]:
         given = dict(options)
         told = []
         if "--resolution" in given:
             told += ["--resolution", read_length(given["--resolution"], "resolution")]
         if any(name in given for name in ("--start", "--end", "--align-start")):
-            begin, until = self.span(given.get("--start", "end-1d"), given.get("--end", "now"))
+            begin, until = span(given.get("--start", "end-1d"), given.get("--end", "now"), self.now)
             if "--align-start" in given:
                 before = begin % int(told[1] if told and told[1] != "0" else 1)
                 begin, until = begin - before, until - before
@@ -134,20 +136,9 @@ class Translation:
         file, *function = words
         return [["fetch", file, *function, *told]]
 
-    def span(self, first: str, second: str) -> Tuple[int, int]:
-        """Returns the start and the end. One of them may be relative to the other."""
-        start, end = Moment(first, self.now), Moment(second, self.now)
-        if start.base and end.base:
-            raise Untranslatable("--start and --end cannot both be relative to each other")
-        if end.base:
-            begin = start.seconds()
-            return begin, end.seconds(start=begin)
-        until = end.seconds()
-        return start.seconds(end=until), until
-
     # ---- tune
 
-    def tune(self, options: Options, words: List[str]) -> List[Command]:
+    def tune(self, options: GivenOptions, words: List[str]) -> List[Command]:
         file, *others = words
         if not options and not others:
             raise Untranslatable("tune needs an option or an archive")
@@ -189,18 +180,19 @@ class Translation:
 
     def step_of(self, file: str) -> int:
         """Returns the step of a file. If there is no database, rrdi reports the reason later."""
-        found = re.match(r"step = (\d+)\n", self.questions.info(file))
-        return int(found[1]) if found else 1
+        settings = self.questions.settings(file)
+        return settings.step if settings else 1
 
     def rows_of(self, file: str, number: str) -> Optional[int]:
         """Returns the number of rows of an archive of a file; None if rrdi reports no such archive."""
-        found = re.search(rf"^rra\[{number}\]\.rows = (\d+)$", self.questions.info(file), re.MULTILINE)
-        return int(found[1]) if found else None
+        settings = self.questions.settings(file)
+        rows = {str(at): archive.rows for at, archive in enumerate(settings.archives)} if settings else {}
+        return rows.get(number)
 
 
 def archive(definition: str, parts: List[str], step: int) -> List[str]:
     """Returns an archive's definition in parts, with its lengths in steps and rows."""
-    if parts[1] not in ("AVERAGE", "MIN", "MAX", "LAST"):
+    if parts[1] not in FUNCTIONS:
         raise Untranslatable(f"rrdi has no function {parts[1]}: {definition}")
     if len(parts) != 5:
         return parts

@@ -8,23 +8,23 @@ import time
 from concurrent.futures import ThreadPoolExecutor
 from dataclasses import dataclass
 from queue import Empty, SimpleQueue
-from typing import Dict, List, Optional, Set, Tuple
+from typing import Callable, Dict, List, Optional, Set, Tuple
 
+from ..limits import LONGEST_LINE
 from .writers import Outcome, Writer, text_of
 
-LONGEST = 65_536  # bytes of a line of a batch
 UPDATE = b"update "
-SHORT = LONGEST - len(UPDATE)  # bytes of a line whose sample cannot be too long
+SHORT = LONGEST_LINE - len(UPDATE)  # bytes of a line whose sample cannot be too long
 DIGITS = frozenset(b"0123456789")
 FIRST_PAUSE, LONGEST_PAUSE = 0.1, 60.0  # seconds
 SAMPLES_OF_A_LINE = 100
 READ = 1 << 18  # bytes of one read of the input
-LONGEST_LINE = 1 << 24  # bytes of a line of the input, which may have many samples
+LONGEST_GIVEN = 1 << 24  # bytes of a line of the input, which may have many samples
 LONGEST_SHOWN = 4_096  # bytes of a bad line in a message
 
 
 @dataclass
-class Options:
+class FeedOptions:
     seconds: int = 60
     jobs: int = 4
     held: int = 1_000_000
@@ -41,7 +41,7 @@ class Waiting:
     due: float
 
 
-def shown(line: bytes) -> str:
+def line_text(line: bytes) -> str:
     """Returns a line for a message: without its end, and with control characters as escapes."""
     text = text_of(line[:LONGEST_SHOWN]).strip() + (".." if len(line) > LONGEST_SHOWN else "")
     return "".join(letter if letter.isprintable() else ascii(letter)[1:-1] for letter in text)
@@ -50,7 +50,7 @@ def shown(line: bytes) -> str:
 class Feeder:
     """Reads lines, each with a FILE and its samples. `name` begins each message."""
 
-    def __init__(self, options: Options, writer: Writer, name: str = "rrdi-feed"):
+    def __init__(self, options: FeedOptions, writer: Writer, name: str = "rrdi-feed"):
         self.options, self.writer, self.name = options, writer, name
         # The samples of each file, and the time at which the first of them arrived. Files are in the order of these times.
         self.held: Dict[bytes, List[bytes]] = {}
@@ -63,6 +63,8 @@ class Feeder:
         self.threads = ThreadPoolExecutor(options.jobs)
         self.count, self.is_ending, self.is_hurried, self.has_failed = 0, False, False, False
         self.bad_lines = 0
+        # Returns what was wrong with a refused sample of a file; the reason is rrdi's.
+        self.explain: Callable[[bytes, bytes, str], str] = lambda file, sample, reason: ""
         # The beginning of a line whose end has not arrived. If that line is too long, its end is passed over.
         self.rest, self.is_too_long = b"", False
 
@@ -78,7 +80,7 @@ class Feeder:
     def say_bad(self, reason: str, line: bytes) -> None:
         """Reports a line from which no sample was read."""
         self.bad_lines += 1
-        self.say(f"{reason}, got: {shown(line)}")
+        self.say(f"{reason}, got: {line_text(line)}")
 
     def say_lost(self, file: bytes, reason: str, samples: List[bytes]) -> None:
         """Reports samples that may be lost, in lines that the user can feed again."""
@@ -97,8 +99,8 @@ class Feeder:
             self.is_too_long = False
         if self.is_too_long:
             rest = b""
-        elif len(rest) > LONGEST_LINE:
-            self.say_bad(f"a line has over {LONGEST_LINE} bytes", rest)
+        elif len(rest) > LONGEST_GIVEN:
+            self.say_bad(f"a line has over {LONGEST_GIVEN} bytes", rest)
             rest, self.is_too_long = b"", True
         self.rest = rest
         self.take_all(lines if data else [rest])
@@ -128,8 +130,8 @@ class Feeder:
             return
         now = b"%d" % int(time.time())
         samples = [now + sample[1:] if sample.startswith(b"N:") else sample for sample in samples]
-        if any(len(UPDATE + sample) > LONGEST for sample in samples):
-            self.say_bad(f"a sample has over {LONGEST} bytes", line)
+        if any(len(UPDATE + sample) > LONGEST_LINE for sample in samples):
+            self.say_bad(f"a sample has over {LONGEST_LINE} bytes", line)
             return
         self.hold(file, samples)
 
@@ -165,6 +167,9 @@ class Feeder:
             self.say_lost(file, outcome.lost, samples)
         for sample, reason in outcome.refused:
             self.say(f"{text_of(file)} {text_of(sample)}: {reason}")
+            detail = self.explain(file, sample, reason)
+            if detail:
+                self.say(detail)
         if outcome.again:
             pause = self.pauses.get(file, FIRST_PAUSE)
             self.pauses[file] = min(2 * pause, LONGEST_PAUSE)
@@ -185,10 +190,12 @@ class Feeder:
         """Starts a batch for each file that is due and has no running batch."""
         self.end_batches()
         now, is_full = time.monotonic(), self.count >= self.options.held
-        if self.is_hurried:
+        # A signal may come at any moment, and then counts for the next time.
+        is_hurried, self.is_hurried = self.is_hurried, False
+        if is_hurried:
             # A file with a running batch stays due until that batch has ended.
             self.since = dict.fromkeys(self.since, now - self.options.seconds)
-        for file in [file for file, waiting in self.waiting.items() if self.is_hurried or now >= waiting.due]:
+        for file in [file for file, waiting in self.waiting.items() if is_hurried or now >= waiting.due]:
             self.start(file)
         due = []
         for file, since in self.since.items():
@@ -198,7 +205,6 @@ class Feeder:
         for file in due:
             if file not in self.running and file not in self.waiting:
                 self.start(file)
-        self.is_hurried = False
         if is_full and self.waiting and not self.running:
             # All held samples are for files that cannot be opened.
             self.give_up(max(self.waiting, key=lambda file: len(self.waiting[file].samples)))

@@ -7,14 +7,14 @@ import re
 import time
 from typing import Dict, List, Sequence, Tuple
 
+from ..amounts import WITH_EXPONENT
 from ..compat.syntax import read_number
-from ..making import NewFile
-from .feeder import Feeder, Options
+from ..making import make
+from .feeder import Feeder, FeedOptions
 from .rules import BadLine, Names
 from .writers import Outcome, Writer
 
-# Each text matches in one way at most, so that a text which does not match costs no more than its length.
-NUMBER = re.compile(rb"[-+]?([0-9]+(\.[0-9]*)?|\.[0-9]+)([eE][-+]?[0-9]{1,3})?|[-+]?[nN][aA][nN]|U")
+NUMBER = re.compile(WITH_EXPONENT.encode() + rb"|[-+]?[nN][aA][nN]|U")
 TIME = re.compile(rb"([0-9]+)(\.[0-9]*)?")
 NOW = (b"-1", b"N")
 AHEAD = 86_400  # seconds by which a time may be later than the present: later samples of the file would be refused
@@ -45,7 +45,7 @@ def as_sample(value: bytes, moment: bytes) -> bytes:
 class MetricFeeder(Feeder):
     """Reads lines, each with the name of a metric, a value and a time."""
 
-    def __init__(self, options: Options, writer: Writer, names: Names, name: str = "rrdi-feed"):
+    def __init__(self, options: FeedOptions, writer: Writer, names: Names, name: str = "rrdi-feed"):
         self.names, self.creating = names, Creating(writer)
         super().__init__(options, self.creating, name)
 
@@ -77,6 +77,10 @@ def with_start(arguments: Sequence[str], sample: bytes) -> List[str]:
     return ["--start", str(max(first - 1, 0)), *arguments]
 
 
+class NotCreated(Exception):
+    """Why a file could not be created."""
+
+
 class Creating:
     """A writer that first creates a file that does not exist, if the file has arguments of create."""
 
@@ -97,11 +101,14 @@ class Creating:
 
     def create(self, file: bytes, arguments: Sequence[str]) -> str:
         """Creates a database if no file has its name. Returns the reason if that fails, and otherwise nothing."""
+        def fill(new: str) -> None:
+            reason = self.writer.create(os.fsencode(new), arguments)
+            if reason:
+                raise NotCreated(reason)
         try:
-            with NewFile(file, makes_folder=True) as new:
-                reason = self.writer.create(os.fsencode(new.unfinished), arguments)
-                if not reason:
-                    new.appear()
-                return reason
+            make(file, fill, makes_folder=True)
+            return ""
+        except NotCreated as refused:
+            return str(refused)
         except OSError as error:
             return f"cannot create: {(error.strerror or str(error)).lower()}"

@@ -1,17 +1,14 @@
-"""Passes the samples of one file to rrdi: in this process by the C library, or by a process of the program."""
+"""Passes the samples of one file to rrdi, in one batch."""
 from __future__ import annotations
 
-import os
-import subprocess
 from typing import List, NamedTuple, Protocol, Sequence, Tuple
 
-from ..choice import chosen_library, program_path
+from ..by_program import NoAnswer
 from ..damaged import is_being_made
+from ..environment import is_synced, milliseconds
 from ..errors import CANNOT_OPEN, NO_MEMORY, OK, TRUNCATED, reason_of
-from ..library import Library
-from ..words import is_synced, milliseconds, present
-
-EMPTY = "file: truncated at 0"
+from ..protocol import OnFiles
+from ..words import present
 
 
 class Outcome(NamedTuple):
@@ -34,13 +31,18 @@ def text_of(data: bytes) -> str:
     return data.decode(errors="replace")
 
 
-class ByLibrary:
-    def __init__(self, library: Library):
-        self.library = library
+class BatchWriter:
+    """Writes by the library, or by the program in its place."""
+
+    def __init__(self, rrdi: OnFiles):
+        self.rrdi = rrdi
 
     def write(self, file: bytes, samples: List[bytes]) -> Outcome:
         lines = b"update " + b"\nupdate ".join(samples)
-        answer = self.library.batch_file(file, lines, present(None), milliseconds(None), is_synced(None))
+        try:
+            answer = self.rrdi.batch_file(file, lines, present(None), milliseconds(None), is_synced(None))
+        except NoAnswer as none:
+            return Outcome(lost=str(none)) if none.status else Outcome(again=str(none))
         is_empty = answer.fault == TRUNCATED and answer.at == 0
         if answer.fault in (CANNOT_OPEN, NO_MEMORY) or is_empty and is_being_made(file):
             return Outcome(again=reason_of(answer.fault, answer.output))
@@ -51,54 +53,8 @@ class ByLibrary:
 
     def create(self, file: bytes, arguments: Sequence[str]) -> str:
         words = "\0".join(["create", *arguments]).encode()
-        answer = self.library.run_file(file, words, present(None), milliseconds(None), is_synced(None))
+        try:
+            answer = self.rrdi.run_file(file, words, present(None), milliseconds(None), is_synced(None))
+        except NoAnswer as none:
+            return str(none)
         return "" if answer.fault == OK else reason_of(answer.fault, answer.output)
-
-
-class ByProgram:
-    def __init__(self, program: str):
-        self.program = program
-
-    def write(self, file: bytes, samples: List[bytes]) -> Outcome:
-        # The time printed after each update shows which update a refusal belongs to.
-        given = b"".join(b"update %b\nlast\n" % sample for sample in samples)
-        try:
-            # The batch runs in a session of its own, so that a key that ends feed does not end a batch that writes.
-            ran = subprocess.run([os.fsencode(self.program), b"batch", file], input=given, stdout=subprocess.PIPE,
-                                 stderr=subprocess.PIPE, start_new_session=True)
-        except OSError as error:
-            return Outcome(again=f"{self.program}: {error.strerror}")
-        # A further line, `rrdi: FILE: ..`, says why FILE cannot be opened or written.
-        lines = [line for line in text_of(ran.stderr).splitlines() if not line.startswith("rrdi: ")]
-        reason = "\n".join(lines).strip().replace("ERROR: ", "")
-        if not ran.stdout and (reason == "cannot open" or reason == EMPTY and is_being_made(file)):
-            return Outcome(again=reason)
-        if reason or ran.returncode not in (0, 1):
-            return Outcome(lost=reason or f"{self.program} ended with {ran.returncode}")
-        answers = iter(text_of(ran.stdout).splitlines())
-        refused = []
-        for sample in samples:
-            answer = next(answers, "ERROR: no result")
-            if answer.startswith("ERROR: "):
-                refused.append((sample, answer[len("ERROR: "):]))
-                next(answers, None)
-        return Outcome(refused=tuple(refused))
-
-    def create(self, file: bytes, arguments: Sequence[str]) -> str:
-        try:
-            ran = subprocess.run([os.fsencode(self.program), b"create", file, *arguments], stdin=subprocess.DEVNULL,
-                                 stdout=subprocess.DEVNULL, stderr=subprocess.PIPE, start_new_session=True)
-        except OSError as error:
-            return f"{self.program}: {error.strerror}"
-        if ran.returncode == 0:
-            return ""
-        first = (text_of(ran.stderr).splitlines() or [f"{self.program} ended with {ran.returncode}"])[0]
-        return first.replace("ERROR: ", "")
-
-
-def chosen_writer() -> Writer:
-    """Returns a writer by what `rrdi.choice` chooses: the program or the library."""
-    library = chosen_library()
-    if library is None:
-        return ByProgram(program_path())
-    return ByLibrary(library)

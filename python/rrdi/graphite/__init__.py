@@ -1,5 +1,5 @@
 """Graphite's storage in files of rrdi: `rrdi.graphite.carbon` writes for carbon, `rrdi.graphite.web` reads for graphite-web.
 
-docs/many-machines.md says how to set them up, and how they differ from whisper. Only these two modules import
+docs/graphite.md says how to set them up, and how they differ from whisper. Only these two modules import
 Graphite's own packages.
 """

@@ -15,13 +15,12 @@ from carbon import instrumentation, log
 from carbon.database import TimeSeriesDatabase
 
 from ..library import load_library
+from ..limits import MOST_CHANGES
 from ..reader.selected import OpenFile
 from .layout import METHODS, Retentions, check_retentions, method_of, template
 from .losses import Losses
 from .slots import Point
-from .store import Options, Store
-
-MOST_CHANGES = 100_000  # of a journal
+from .store import StoreOptions, Store
 
 
 def whole_number(settings: Any, name: str, default: int, most: int) -> int:
@@ -63,7 +62,7 @@ class RrdiDatabase(TimeSeriesDatabase):  # type: ignore[misc]
         most_future = whole_number(settings, "RRDI_MAX_FUTURE", 600, 10**9)
         interval = settings.CARBON_METRIC_INTERVAL
         self.losses = Losses(log.msg, interval or 60)
-        options = Options(settings.LOCAL_DATA_DIR, self.journal, most_future, bool(settings.TAG_HASH_FILENAMES))
+        options = StoreOptions(settings.LOCAL_DATA_DIR, self.journal, most_future, bool(settings.TAG_HASH_FILENAMES))
         self.store = Store(options, self.losses)
         if interval > 0:
             every(interval, self.report)

@@ -20,7 +20,7 @@ class TooMuch(Exception):
     """A pattern stands for more than it may; the text is for the log."""
 
 
-class Found(NamedTuple):
+class MetricEntry(NamedTuple):
     """A file of a metric, or a folder with metrics."""
 
     relative: str  # the path below the data folder
@@ -128,7 +128,7 @@ class Walk:
         self.waiting: List[Tuple[str, int]] = [("", 0)]  # folders, with the part that is looked for there
         self.seen: Set[Tuple[str, int]] = set()
 
-    def found(self) -> Iterator[Found]:
+    def found(self) -> Iterator[MetricEntry]:
         while self.waiting:
             relative, at = self.waiting.pop()
             if (relative, at) in self.seen:
@@ -143,8 +143,8 @@ class Walk:
             if at + 1 < len(self.parts):
                 self.enter(relative, folders, at + 1)
                 continue
-            yield from (Found(os.path.join(relative, name + SUFFIX), True) for name in sorted(files))
-            yield from (Found(os.path.join(relative, name), False) for name in sorted(folders))
+            yield from (MetricEntry(os.path.join(relative, name + SUFFIX), True) for name in sorted(files))
+            yield from (MetricEntry(os.path.join(relative, name), False) for name in sorted(folders))
 
     def enter(self, relative: str, names: "Sequence[str] | Set[str]", at: int) -> None:
         """Adds folders to those in which a part is looked for, the first name last."""
@@ -172,7 +172,7 @@ class Walk:
         return False
 
 
-def find(top: str, pattern: str) -> Iterator[Found]:
+def find(top: str, pattern: str) -> Iterator[MetricEntry]:
     """What a pattern matches below a data folder, each once. No part of a pattern leaves the folder.
 
     # Errors

@@ -7,7 +7,7 @@ from __future__ import annotations
 
 from typing import Dict, Iterable, List, NamedTuple
 
-from ..reader.selected import Archive, OpenFile
+from ..reader.selected import OpenFile, StoredArchive
 from .slots import Slots
 
 
@@ -54,7 +54,7 @@ def plan(file: OpenFile, slots: Slots) -> Plan:
     return cut(slots, front.last, times, kept)
 
 
-def oldest_time(archive: Archive, last: int) -> int:
+def oldest_time(archive: StoredArchive, last: int) -> int:
     """The time from which on all steps up to `last` are rows of an archive of single steps."""
     return (last // archive.seconds - archive.rows) * archive.seconds
 

@@ -9,7 +9,8 @@ import struct
 from typing import Dict, List, NamedTuple, Optional, Sequence, Tuple
 
 from ..amounts import MILLION
-from ..reader.selected import Archive, Outline
+from ..limits import LATEST, LONGEST_STEP, MOST_ARCHIVES, MOST_CELLS, MOST_ROWS, MOST_STEPS
+from ..reader.selected import Outline, StoredArchive
 
 # The functions of Graphite, and rrdi's archive for each.
 METHODS: Dict[str, str] = {"average": "AVERAGE", "sum": "AVERAGE", "avg_zero": "AVERAGE", "last": "LAST", "max": "MAX",
@@ -17,8 +18,6 @@ METHODS: Dict[str, str] = {"average": "AVERAGE", "sum": "AVERAGE", "avg_zero": "
 # These have a second source, which is 0 where the first one is unknown.
 WITH_ZEROS = frozenset({"sum", "avg_zero"})
 ZERO = "zero"
-MOST_ROWS, MOST_STEPS, MOST_ARCHIVES, MOST_CELLS = 1_000_000, 1_000_000, 128, 8_000_000
-LONGEST_STEP, LONGEST_HEARTBEAT = 1_000_000, 9_999_999_999
 DEFAULT_XFF, DEFAULT_METHOD = 0.5, "average"
 
 Retentions = Sequence[Tuple[int, int]]
@@ -64,7 +63,7 @@ def template(retentions: Retentions, xff: Optional[float], method: Optional[str]
     share = unknown_share(DEFAULT_XFF if xff is None else xff)
     words = [f"--step {step} --journal {journal} DS:{name}:GAUGE:{step}:U:U"]
     if name in WITH_ZEROS:
-        words.append(f"DS:{ZERO}:GAUGE:{LONGEST_HEARTBEAT}:U:U")
+        words.append(f"DS:{ZERO}:GAUGE:{LATEST}:U:U")
     words += [f"RRA:{METHODS[name]}:0.{share:06}:{seconds // step}:{rows}" for seconds, rows in ordered]
     return Template(step, ordered[-1][0], name in WITH_ZEROS, " ".join(words))
 
@@ -102,7 +101,7 @@ def method_of(outline: Outline) -> str:
     return outline.archives[0].function.lower()
 
 
-def archives_of(outline: Outline, method: str) -> List[Archive]:
+def archives_of(outline: Outline, method: str) -> List[StoredArchive]:
     """The archives that Graphite reads, the finest first."""
     function = METHODS[method]
     found = [archive for archive in outline.archives if archive.function == function] or list(outline.archives)

@@ -4,7 +4,7 @@ from __future__ import annotations
 from typing import List, NamedTuple, Optional
 
 from ..amounts import MILLION
-from ..reader.selected import Archive, Cells, OpenFile
+from ..reader.selected import Cells, OpenFile, StoredArchive
 from .layout import archives_of, method_of
 
 
@@ -52,7 +52,7 @@ def value_of(method: str, cells: Optional[Cells], steps: int) -> Optional[float]
     return None if zeros is None else zeros * (steps if method == "sum" else 1) / MILLION
 
 
-def unfinished_value(method: str, archive: Archive) -> Optional[float]:
+def unfinished_value(method: str, archive: StoredArchive) -> Optional[float]:
     """The value of the row that is being filled, which whisper shows too if enough of its slots are known."""
     (known, amount), steps = archive.partial[0], archive.steps
     if known == 0 or (steps - known) * MILLION > archive.xff * steps:

@@ -5,11 +5,10 @@ import math
 from typing import Dict, Iterable, List, Mapping, NamedTuple, Tuple
 
 from ..amounts import gauge_text
-from ..words import LONGEST_LINE
+from ..limits import LATEST, LONGEST_LINE
 
 Point = Tuple[float, float]  # a time in seconds since 1970, and a value
 Slots = Dict[int, str]  # by the end of each slot, the value of its last point
-LATEST = 9_999_999_999
 
 
 class Line(NamedTuple):

@@ -6,25 +6,31 @@ import time
 from typing import Callable, Dict, Iterable, List, Mapping, NamedTuple, Optional, Tuple
 
 from ..commands import batch
-from ..damaged import set_aside
-from ..errors import Damaged, Error
-from ..making import NewFile
+from ..errors import Error
+from ..making import make
 from ..reader.selected import Front, OpenFile
+from ..waiting import MOST_OF_A_FILE, MOST_OF_ALL, newest, why
 from .late import plan
 from .layout import Template
 from .losses import Losses
 from .names import path_of
 from .slots import Line, Point, Slots, lines_of, sort_points
 
-# Points of a file that can't be written wait for the next ones of their metric. At most so many wait.
-MOST_WAITING, MOST_WAITING_OF_ALL = 10_000, 1_000_000
+MOST_KNOWN = 100_000  # files whose first numbers are remembered
 
 
-class Options(NamedTuple):
+class StoreOptions(NamedTuple):
     folder: str
     journal: int = 16
     most_future: int = 600  # seconds
     is_hashed: bool = True  # how files of tagged metrics are named
+
+
+class Known(NamedTuple):
+    """The first numbers of a file as the last batch left them, and which file it is."""
+
+    front: Front
+    identity: Tuple[int, int]  # the device and the inode
 
 
 class Tried(NamedTuple):
@@ -38,9 +44,10 @@ class Tried(NamedTuple):
 class Store:
     """The files of all metrics below a folder. One thread writes."""
 
-    def __init__(self, options: Options, losses: Losses, clock: Callable[[], float] = time.time):
+    def __init__(self, options: StoreOptions, losses: Losses, clock: Callable[[], float] = time.time):
         self.options, self.losses, self._clock = options, losses, clock
         self._new: Dict[str, Template] = {}  # the files that are to be made with their first points
+        self._known: Dict[str, Known] = {}
         self._waiting: Dict[str, List[Point]] = {}
         self._count = 0  # of all points that wait
 
@@ -73,10 +80,8 @@ class Store:
         new = self._new.pop(path, None)
         try:
             self._write(metric, path, given, new)
-        except Damaged as fault:
-            self._wait(metric, path, given, set_aside(path, fault))
         except (Error, OSError) as fault:
-            self._wait(metric, path, given, str(fault))
+            self._wait(metric, path, given, why(path, fault))
 
     # ---- Points that wait
 
@@ -87,9 +92,8 @@ class Store:
 
     def _wait(self, metric: str, path: str, points: List[Point], reason: str) -> None:
         """Keeps points for the next write of their metric; if there are too many, the oldest are lost."""
-        room = min(MOST_WAITING, MOST_WAITING_OF_ALL - self._count)
-        kept = points[max(len(points) - room, 0):]
-        self.losses.add(metric, {"failed": len(points) - len(kept)}, reason)
+        kept, lost = newest(points, min(MOST_OF_A_FILE, MOST_OF_ALL - self._count))
+        self.losses.add(metric, {"failed": lost}, reason)
         if kept:
             self._waiting[path] = kept
             self._count += len(kept)
@@ -99,11 +103,12 @@ class Store:
 
     def _write(self, metric: str, path: str, points: List[Point], new: Optional[Template]) -> None:
         """Gives points to a file. What is refused, since another program changed the file meanwhile, is tried again."""
-        front = None if new else read_front(path)
-        step = front.step if front else new.step if new else 1
+        known = None if new else self._known_of(path)
+        step = known.front.step if known else new.step if new else 1
         slots, left_out = sort_points(points, step, self._clock() + self.options.most_future)
         if slots:
-            tried = (self._begin(path, slots, new) if new else None) or put(path, slots, front)
+            tried = (self._begin(path, slots, new) if new else None) or put(path, slots, known)
+            self._remember(path, known, slots, tried)
             if tried.slots:
                 self.losses.add(metric, tried.counts)
                 tried = put(path, tried.slots, None)
@@ -114,28 +119,44 @@ class Store:
         if left_out:
             self.losses.add(metric, left_out)
 
+    def _known_of(self, path: str) -> Known:
+        """Returns the first numbers of a file. They are read once, and then follow from what was written."""
+        known = self._known.pop(path, None)
+        return known if known and known.identity == identity_of(os.stat(path)) else read_known(path)
+
+    def _remember(self, path: str, known: Optional[Known], slots: Slots, tried: Tried) -> None:
+        if known and min(slots) > known.front.last and not tried.slots and not tried.reason:
+            if len(self._known) >= MOST_KNOWN:
+                self._known.clear()
+            self._known[path] = known._replace(front=known.front._replace(last=max(slots)))
+
     def _begin(self, path: str, slots: Slots, new: Template) -> Optional[Tried]:
         """Makes a file with its first slots. None if there is a file."""
         start = new.start(min(slots))
         lines = [Line(new.create(start), ())]
         lines += lines_of(slots, start, new.step, new.has_zeros, self.options.journal)
-        with NewFile(path, makes_folder=True) as fresh:
-            tried = give(fresh.unfinished, 0, lines, slots, {})
-            if not fresh.is_filled():
-                return Tried({}, {"refused": len(slots)}, tried.reason)
-            return tried if fresh.appear() else None
+
+        def fill(fresh: str) -> Tried:
+            tried = give(fresh, 0, lines, slots, {})
+            return tried if os.path.exists(fresh) else Tried({}, {"refused": len(slots)}, tried.reason)
+        return make(path, fill, makes_folder=True)
 
 
-def read_front(path: str) -> Front:
+def identity_of(found: os.stat_result) -> Tuple[int, int]:
+    return found.st_dev, found.st_ino
+
+
+def read_known(path: str) -> Known:
     with OpenFile(path) as file:
-        return file.front
+        return Known(file.front, identity_of(os.fstat(file.file)))
 
 
-def put(path: str, slots: Slots, front: Optional[Front]) -> Tried:
-    """Gives slots to a file that is there; late ones by reverts."""
-    front = front or read_front(path)
+def put(path: str, slots: Slots, known: Optional[Known]) -> Tried:
+    """Gives slots to a file that is there; late ones by reverts. If another program has taken back samples meanwhile, all
+    slots are left, because the interval before the first one was another than it seemed."""
+    front = (known or read_known(path)).front
     if min(slots) > front.last:
-        return give(path, 0, lines_of(slots, front.last, front.step, front.sources > 1, front.depth), slots, {})
+        return give(path, 0, lines_of(slots, front.last, front.step, front.sources > 1, front.depth), slots, {}, front.last)
     with OpenFile(path) as file:
         front, chosen = file.front, plan(file, slots)
     counts = {"rewritten": chosen.put_in, "late": chosen.lost}
@@ -143,11 +164,14 @@ def put(path: str, slots: Slots, front: Optional[Front]) -> Tried:
     return give(path, chosen.reverts, lines, chosen.slots, counts)
 
 
-def give(path: str, reverts: int, lines: List[Line], slots: Slots, counts: Mapping[str, int]) -> Tried:
-    """Runs a batch. The slots of its refused lines are left."""
+def give(path: str, reverts: int, lines: List[Line], slots: Slots, counts: Mapping[str, int], last: int = 0) -> Tried:
+    """Runs a batch. The slots of its refused lines are left, and all of them if the file's time is before `last`."""
     if not lines:
         return Tried({}, counts)
-    ran = batch(path, ["revert"] * reverts + [line.text for line in lines])
-    refused: List[Tuple[int, str]] = [(one.number - 1 - reverts, one.reason) for one in ran.refused]
+    before = ["last"] if last else ["revert"] * reverts
+    ran = batch(path, before + [line.text for line in lines])
+    if last and int(ran.output.partition("\n")[0] or last) < last:
+        return Tried(slots, counts, "another program has changed the file")
+    refused: List[Tuple[int, str]] = [(one.number - 1 - len(before), one.reason) for one in ran.refused]
     left = {end: slots[end] for number, _ in refused if number >= 0 for end in lines[number].slots}
     return Tried(left, counts, refused[0][1] if refused else "")

@@ -4,20 +4,18 @@ from __future__ import annotations
 import re
 from typing import Callable, Iterable, Iterator, Optional, Tuple
 
-from .amounts import BOUND_LIMIT, MILLION, Losses, as_text, raw_value
-from .dump import Archive, OldFile, Refusal, Source
+from ..amounts import MILLION
+from ..limits import FUNCTIONS, LATEST, LONGEST_STEP, MOST_ARCHIVES, MOST_CELLS, MOST_ROWS, MOST_SOURCES, MOST_STEPS, TYPES
+from .dump import RrdArchive, RrdFile, Refusal, RrdSource
+from .rounding import BOUND_LIMIT, Converter, as_text, raw_value
 from .plan import note_made_up_rows, plan
 from .rates import SourceRates, unfinished_step
 from .steps import Stretches
 
-TYPES = ("GAUGE", "COUNTER", "DERIVE", "ABSOLUTE")
-FUNCTIONS = ("AVERAGE", "MIN", "MAX", "LAST")
-MOST_SOURCES, MOST_ARCHIVES, MOST_CELLS = 64, 128, 8_000_000
-LATEST = 9_999_999_999  # the latest time and the longest heartbeat of rrdi, in seconds
 SAMPLES_OF_A_LINE, BYTES_OF_A_LINE = 200, 65_000
 
 
-def choose_sources(old: OldFile, note: Callable[[str], None]) -> list[Source]:
+def choose_sources(old: RrdFile, note: Callable[[str], None]) -> list[RrdSource]:
     """Returns the data sources that rrdi can have.
 
     # Errors
@@ -38,7 +36,7 @@ def choose_sources(old: OldFile, note: Callable[[str], None]) -> list[Source]:
     return chosen
 
 
-def choose_archives(old: OldFile, sources: int, note: Callable[[str], None]) -> list[Archive]:
+def choose_archives(old: RrdFile, sources: int, note: Callable[[str], None]) -> list[RrdArchive]:
     """Returns the archives that rrdi can have, each with the time that its rows cover.
 
     # Errors
@@ -48,9 +46,9 @@ def choose_archives(old: OldFile, sources: int, note: Callable[[str], None]) -> 
     for archive in old.archives:
         if archive.function not in FUNCTIONS:
             why = "this function is not supported"
-        elif archive.steps > MILLION:
+        elif archive.steps > MOST_STEPS:
             why = "a row in rrdi has at most 1,000,000 steps"
-        elif archive.row_count > MILLION:
+        elif archive.row_count > MOST_ROWS:
             why = "an archive in rrdi has at most 1,000,000 rows"
         else:
             archive.place(old.step, old.last)
@@ -91,7 +89,7 @@ def as_words(rates: Iterable[int | None]) -> str:
     return "".join(":" + as_text(rate) for rate in rates)
 
 
-def share_of(archive: Archive) -> str:
+def share_of(archive: RrdArchive) -> str:
     """Returns the xff with which rrdi allows as many unknown steps in a row as RRDtool does."""
     wanted = archive.allowed_unknown()
     parts = min(int(archive.share * MILLION + 0.5), MILLION - 1)
@@ -102,21 +100,35 @@ def share_of(archive: Archive) -> str:
     return as_text(parts)
 
 
-class Batch:
+def updates(samples: Iterable[str]) -> Iterator[str]:
+    """Yields lines with these samples. A line has as many of them as it may have."""
+    words: list[str] = []
+    size = 0
+    for sample in samples:
+        if words and (len(words) == SAMPLES_OF_A_LINE or size + len(sample) > BYTES_OF_A_LINE):
+            yield " ".join(["update", *words])
+            words, size = [], 0
+        words.append(sample)
+        size += len(sample) + 1
+    if words:
+        yield " ".join(["update", *words])
+
+
+class RrdBatch:
     """Writes the lines of a batch."""
 
-    def __init__(self, old: OldFile, journal: str | None, note: Callable[[str], None]):
-        if old.step > MILLION:
+    def __init__(self, old: RrdFile, journal: str | None, note: Callable[[str], None]):
+        if old.step > LONGEST_STEP:
             raise Refusal("a step of rrdi has at most 1,000,000 seconds")
         if old.last > LATEST:
             raise Refusal(f"the last time is after {LATEST}")
-        self.old, self.journal, self.note, self.losses = old, journal, note, Losses()
+        self.old, self.journal, self.note, self.converter = old, journal, note, Converter()
         self.sources = choose_sources(old, note)
         self.archives = choose_archives(old, len(self.sources), note)
         self.raw = [self.raw_of(source) for source in self.sources]
         self.last_given = old.last - any(raw is not None for raw in self.raw)
 
-    def raw_of(self, source: Source) -> str | None:
+    def raw_of(self, source: RrdSource) -> str | None:
         """Returns the line with the last raw value of a counter.
 
         The line is one more sample after the types are set. The rate of this sample is unknown, so the sample covers only
@@ -134,8 +146,8 @@ class Batch:
         old, whole = self.old, self.old.last - self.old.last % self.old.step
         spans = plan(self.archives, whole)
         note_made_up_rows(self.archives, spans, self.note)
-        columns = [SourceRates(source.column, old.step, whole, self.losses).all_rates(spans)
-                   + unfinished_step(source, whole, old.last, self.losses) for source in self.sources]
+        columns = [SourceRates(source.column, old.step, whole, self.converter).all_rates(spans)
+                   + unfinished_step(source, whole, old.last, self.converter) for source in self.sources]
         self.start = spans[0].begin if spans else whole
         return merge(columns)
 
@@ -149,7 +161,7 @@ class Batch:
         if not stretches:
             self.start = self.last_given
         yield self.create()
-        yield from self.updates(stretches)
+        yield from updates(self.samples(stretches))
         yield from map(self.tune, self.sources)
         if self.last_given < self.old.last:
             words = (raw or "U" if source.kind in ("COUNTER", "DERIVE") else as_text(rate)
@@ -166,30 +178,22 @@ class Batch:
                   for archive in self.archives]
         return " ".join(words)
 
-    def updates(self, stretches: list[tuple[int, Rates]]) -> Iterator[str]:
-        words: list[str] = []
-        size, before = 0, self.start
+    def samples(self, stretches: list[tuple[int, Rates]]) -> Iterator[str]:
+        before = self.start
         for number, (time, rates) in enumerate(stretches):
             if number == len(stretches) - 1:
                 time = self.last_given
-            if time <= before:
-                continue
-            before, word = time, f"{time}{as_words(rates)}"
-            if words and (len(words) == SAMPLES_OF_A_LINE or size + len(word) > BYTES_OF_A_LINE):
-                yield " ".join(["update", *words])
-                words, size = [], 0
-            words.append(word)
-            size += len(word) + 1
-        if words:
-            yield " ".join(["update", *words])
+            if time > before:
+                before = time
+                yield f"{time}{as_words(rates)}"
 
-    def tune(self, source: Source) -> str:
+    def tune(self, source: RrdSource) -> str:
         heartbeat = min(source.heartbeat, LATEST)
         if heartbeat < source.heartbeat:
             self.note(f"source {source.name}: its heartbeat becomes {LATEST}, the longest in rrdi")
         words = [f"tune --heartbeat {source.name}:{heartbeat}"]
         for option, bound in (("--minimum", source.minimum), ("--maximum", source.maximum)):
-            amount = self.losses.amount(bound, BOUND_LIMIT)
+            amount = self.converter.amount(bound, BOUND_LIMIT)
             if amount is not None:
                 words.append(f"{option} {source.name}:{as_text(amount)}")
         if source.kind != "GAUGE":
@@ -197,15 +201,15 @@ class Batch:
         return " ".join(words)
 
 
-def batch_of(old: OldFile, journal: str | None, note: Callable[[str], None]) -> Iterator[str]:
+def batch_of(old: RrdFile, journal: str | None, note: Callable[[str], None]) -> Iterator[str]:
     """Yields the lines of the batch that creates the database. Reports to `note` whatever cannot be converted.
 
     # Errors
     `Refusal` if rrdi cannot have such a database.
     """
-    batch = Batch(old, journal, note)
+    batch = RrdBatch(old, journal, note)
     yield from batch.lines()
-    if batch.losses.too_large:
+    if batch.converter.too_large:
         note("numbers that are too large for rrdi became unknown, or no bound")
-    if batch.losses.too_small:
+    if batch.converter.too_small:
         note("numbers below half a millionth became 0")

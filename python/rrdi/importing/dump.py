@@ -13,7 +13,7 @@ class Refusal(Exception):
 
 
 @dataclass
-class Source:
+class RrdSource:
     """A data source of the old file; `column` is the index of its cells in the rows."""
 
     column: int
@@ -28,7 +28,7 @@ class Source:
 
 
 @dataclass
-class Archive:
+class RrdArchive:
     """An archive of the old file. The cells are in the order of the rows, the oldest row first."""
 
     number: int
@@ -68,35 +68,35 @@ class Archive:
 
 
 @dataclass
-class OldFile:
+class RrdFile:
     """The contents of a file of RRDtool."""
 
     step: int
     last: int
-    sources: list[Source]
-    archives: list[Archive]
+    sources: list[RrdSource]
+    archives: list[RrdArchive]
 
 
 def text_of(element: ElementTree.Element, name: str, default: str = "") -> str:
     return (element.findtext(name) or default).strip()
 
 
-def read_source(element: ElementTree.Element, column: int) -> Source:
-    return Source(
+def read_source(element: ElementTree.Element, column: int) -> RrdSource:
+    return RrdSource(
         column, text_of(element, "name"), text_of(element, "type"), int(text_of(element, "minimal_heartbeat", "1")),
         float(text_of(element, "min", "nan")), float(text_of(element, "max", "nan")), text_of(element, "last_ds", "U"),
         float(text_of(element, "value", "nan")), int(text_of(element, "unknown_sec", "0")))
 
 
-def read_archive(element: ElementTree.Element, number: int, cells: array[float], columns: int) -> Archive:
+def read_archive(element: ElementTree.Element, number: int, cells: array[float], columns: int) -> RrdArchive:
     parts = element.findall("cdp_prep/ds")
-    return Archive(
+    return RrdArchive(
         number, text_of(element, "cf"), int(text_of(element, "pdp_per_row", "1")),
         float(text_of(element, "params/xff", "0")), [float(text_of(part, "value", "nan")) for part in parts],
         [int(text_of(part, "unknown_datapoints", "0")) for part in parts], cells, columns)
 
 
-def read_dump(stream: IO[bytes], progress: Callable[[int], None] = lambda cells: None) -> OldFile:
+def read_dump(stream: IO[bytes], progress: Callable[[int], None] = lambda cells: None) -> RrdFile:
     """Reads the output of `rrdtool dump`, and reports the number of cells to `progress`, every thousand rows.
 
     # Errors
@@ -104,8 +104,8 @@ def read_dump(stream: IO[bytes], progress: Callable[[int], None] = lambda cells:
     - `Refusal` if a row has another number of cells than the file has data sources.
     """
     step = last = -1
-    sources: list[Source] = []
-    archives: list[Archive] = []
+    sources: list[RrdSource] = []
+    archives: list[RrdArchive] = []
     cells, total, rows = array("d"), 0, 0
     for _, element in ElementTree.iterparse(stream):
         tag = element.tag
@@ -132,10 +132,10 @@ def read_dump(stream: IO[bytes], progress: Callable[[int], None] = lambda cells:
             total += len(cells)
             cells = array("d")
             element.clear()
-    return OldFile(step, last, sources, archives)
+    return RrdFile(step, last, sources, archives)
 
 
-def read_file(rrdtool: str, file: str, progress: Callable[[int], None] = lambda cells: None) -> OldFile:
+def read_rrd(rrdtool: str, file: str, progress: Callable[[int], None] = lambda cells: None) -> RrdFile:
     """Reads a file by `rrdtool dump`.
 
     # Errors

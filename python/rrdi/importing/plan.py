@@ -3,10 +3,10 @@ from __future__ import annotations
 
 from collections.abc import Callable
 
-from .dump import Archive
+from .dump import RrdArchive
 
 
-def rank(archive: Archive) -> tuple[int, int]:
+def rank(archive: RrdArchive) -> tuple[int, int]:
     """Orders archives by their information: the steps themselves first, then averages, then the other functions."""
     return (0 if archive.steps == 1 else 1 if archive.function == "AVERAGE" else 2, archive.steps)
 
@@ -19,7 +19,7 @@ class Span:
     `above_beside` has the archives with rows as long as those of `above`, and `above_twice` is the next coarser archive.
     """
 
-    def __init__(self, begin: int, end: int, archive: Archive, archives: list[Archive]):
+    def __init__(self, begin: int, end: int, archive: RrdArchive, archives: list[RrdArchive]):
         self.begin, self.end, self.archive, self.archives = begin, end, archive, archives
         self.beside = self.companions(archive, archives)
         self.above = self.coarser(archive, archives)
@@ -32,15 +32,15 @@ class Span:
         self.most_hidden = min(archive.steps - most - 1 for most in allowed)
 
     @staticmethod
-    def coarser(archive: Archive, archives: list[Archive]) -> Archive | None:
+    def coarser(archive: RrdArchive, archives: list[RrdArchive]) -> RrdArchive | None:
         """Returns the next coarser archive of averages whose rows consist of whole rows of this archive."""
         found = [other for other in archives if other.function == "AVERAGE" and other.seconds > archive.seconds
                  and other.seconds % archive.seconds == 0]
         return min(found, key=lambda other: other.seconds) if found else None
 
     @staticmethod
-    def companions(archive: Archive, archives: list[Archive]) -> dict[str, Archive]:
-        found: dict[str, Archive] = {}
+    def companions(archive: RrdArchive, archives: list[RrdArchive]) -> dict[str, RrdArchive]:
+        found: dict[str, RrdArchive] = {}
         for other in archives:
             if other.steps == archive.steps:
                 before = found.get(other.function)
@@ -49,7 +49,7 @@ class Span:
         return found
 
 
-def plan(archives: list[Archive], whole: int) -> list[Span]:
+def plan(archives: list[RrdArchive], whole: int) -> list[Span]:
     """Cuts the time up to `whole`, the end of the last whole step, into spans, each with its best archive."""
     begin, spans = min([whole, *(archive.begin for archive in archives)]), []
     while begin < whole:
@@ -61,7 +61,7 @@ def plan(archives: list[Archive], whole: int) -> list[Span]:
     return spans
 
 
-def note_made_up_rows(archives: list[Archive], spans: list[Span], note: Callable[[str], None]) -> None:
+def note_made_up_rows(archives: list[RrdArchive], spans: list[Span], note: Callable[[str], None]) -> None:
     """Reports the time up to which the rows of an archive are computed from rows of other functions."""
     for archive in archives:
         until = 0

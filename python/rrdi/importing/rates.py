@@ -4,8 +4,9 @@ from __future__ import annotations
 import math
 from dataclasses import dataclass, field
 
-from .amounts import MILLION, Losses
-from .dump import Archive, Source
+from ..amounts import MILLION
+from .rounding import Converter
+from .dump import RrdArchive, RrdSource
 from .plan import Span
 from .steps import Row, Stretches, Wanted, lay, sum_of_rest
 
@@ -57,8 +58,8 @@ def is_mean(wanted: float, mean: float, size: float) -> bool:
 class SourceRates:
     """Computes the rates of one source from its rows."""
 
-    def __init__(self, column: int, step: int, whole: int, losses: Losses):
-        self.column, self.step, self.whole, self.losses = column, step, whole, losses
+    def __init__(self, column: int, step: int, whole: int, converter: Converter):
+        self.column, self.step, self.whole, self.converter = column, step, whole, converter
         self.coarser: Coarser | None = None
 
     def all_rates(self, spans: list[Span]) -> Stretches:
@@ -70,14 +71,14 @@ class SourceRates:
         return later
 
     def amount(self, value: float) -> int | None:
-        return self.losses.amount(value)
+        return self.converter.amount(value)
 
     def rates_of_steps(self, span: Span) -> Stretches:
         archive, column = span.archive, self.column
         return [(time, self.amount(archive.cell(time, column)))
                 for time in range(span.begin + self.step, span.end + 1, self.step)]
 
-    def exact(self, archive: Archive | None, time: int) -> float:
+    def exact(self, archive: RrdArchive | None, time: int) -> float:
         """Returns a cell as rrdtool prints it; for an unfinished row, the mean, minimum, .. of its known steps so far."""
         if archive is None or not archive.has(time):
             return math.nan
@@ -90,13 +91,13 @@ class SourceRates:
                 value /= known
         return value if self.amount(value) is not None else math.nan
 
-    def cell(self, archive: Archive | None, time: int) -> int | None:
+    def cell(self, archive: RrdArchive | None, time: int) -> int | None:
         return self.amount(self.exact(archive, time))
 
-    def known_so_far(self, archive: Archive) -> int:
+    def known_so_far(self, archive: RrdArchive) -> int:
         return (self.whole - archive.end) // self.step - archive.unknown_steps[self.column]
 
-    def row(self, beside: dict[str, Archive], time: int) -> Row:
+    def row(self, beside: dict[str, RrdArchive], time: int) -> Row:
         average = beside.get("AVERAGE")
         return Row(average is not None and average.has(time), self.exact(average, time),
                    self.cell(beside.get("MIN"), time), self.cell(beside.get("MAX"), time),
@@ -198,7 +199,7 @@ class SourceRates:
                 self.compare_coarser(span, above, self.coarser, later)
         return self.coarser
 
-    def parts_of(self, span: Span, above: Archive, end: int, later: Stretches) -> Parts:
+    def parts_of(self, span: Span, above: RrdArchive, end: int, later: Stretches) -> Parts:
         """Returns the rows of the span of which a coarser row consists, and the sum of the rates after the span."""
         parts, seconds = Parts(), span.archive.seconds
         average = span.beside.get("AVERAGE")
@@ -221,7 +222,7 @@ class SourceRates:
                 break
         return parts
 
-    def compare_coarser(self, span: Span, above: Archive, coarser: Coarser, later: Stretches) -> None:
+    def compare_coarser(self, span: Span, above: RrdArchive, coarser: Coarser, later: Stretches) -> None:
         """Compares a coarser row with the rows of which it consists.
 
         If their average differs, some steps of known rows were unknown, or some steps of unknown rows were known.
@@ -280,7 +281,7 @@ class SourceRates:
                     return True
         return False
 
-    def find_hidden(self, span: Span, above: Archive, coarser: Coarser, parts: Parts, mean: float) -> None:
+    def find_hidden(self, span: Span, above: RrdArchive, coarser: Coarser, parts: Parts, mean: float) -> None:
         """Sets the number of known steps of the unknown rows, their mean, and their minimum and maximum.
 
         If there is an average above the coarser row, this average gives the number. Otherwise the number is the largest that
@@ -305,7 +306,7 @@ class SourceRates:
                 coarser.hidden_maximum = None if is_maximum_shown else most
                 return
 
-    def find_below_unknown(self, span: Span, above: Archive, coarser: Coarser, excess: int, later: Stretches) -> bool:
+    def find_below_unknown(self, span: Span, above: RrdArchive, coarser: Coarser, excess: int, later: Stretches) -> bool:
         """Finds unknown steps of known rows, or known steps of unknown rows, in an unknown coarser row.
 
         There are at least `excess` unknown steps. The row of the next coarser archive gives their number; the method looks
@@ -337,7 +338,7 @@ class SourceRates:
                 return True
         return False
 
-    def parts_below(self, span: Span, above: Archive, times: range, last: int, later: Stretches) -> Parts | None:
+    def parts_below(self, span: Span, above: RrdArchive, times: range, last: int, later: Stretches) -> Parts | None:
         """Returns the coarser rows that end at `times`, and the rows of which the coarser row that ends at `last` consists.
 
         Returns None if an unknown row follows, or if unknown steps of a known row explain the difference.
@@ -377,10 +378,10 @@ class SourceRates:
         return round(count) if 0 < count <= above.steps and abs(count - round(count)) < 0.01 else 0
 
 
-def unfinished_step(source: Source, whole: int, last: int, losses: Losses) -> Stretches:
+def unfinished_step(source: RrdSource, whole: int, last: int, converter: Converter) -> Stretches:
     """Returns the rates of the unfinished step: first the unknown seconds, then the mean of the known seconds."""
     if last == whole:
         return []
     known = last - whole - source.unknown_seconds
     rates: Stretches = [(whole + source.unknown_seconds, None)] if 0 < source.unknown_seconds < last - whole else []
-    return rates + [(last, losses.amount(source.partial_sum / known) if known > 0 else None)]
+    return rates + [(last, converter.amount(source.partial_sum / known) if known > 0 else None)]

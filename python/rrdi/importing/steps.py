@@ -5,7 +5,7 @@ import math
 from dataclasses import dataclass, replace
 from typing import List, Optional, Tuple
 
-from .amounts import MILLION
+from ..amounts import MILLION
 
 # Rates of one data source: the end of each stretch of time, and the rate up to this end in millionths; None is unknown.
 Stretches = List[Tuple[int, Optional[int]]]

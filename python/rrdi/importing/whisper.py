@@ -11,17 +11,17 @@ from typing import BinaryIO, Callable, Dict, Iterator, List, NamedTuple, Optiona
 
 from ..amounts import gauge_text
 from ..graphite.layout import METHODS, WITH_ZEROS, check_retentions, template
-from .batch import BYTES_OF_A_LINE, LATEST, SAMPLES_OF_A_LINE
+from ..limits import LATEST, MOST_ARCHIVES
+from .batch import updates
 from .dump import Refusal
 
 # The numbers of whisper's aggregation methods.
 NUMBERS = {1: "average", 2: "sum", 3: "last", 4: "max", 5: "min", 6: "avg_zero", 7: "absmax", 8: "absmin"}
 HEAD, ARCHIVE, POINT = struct.Struct("!2LfL"), struct.Struct("!3L"), struct.Struct("!Ld")
-MOST_ARCHIVES = 128
 JOURNAL = 16
 
 
-class OldArchive(NamedTuple):
+class WhisperArchive(NamedTuple):
     """An archive of whisper: the seconds of a point, the number of points, and the values by the times of their slots."""
 
     seconds: int
@@ -38,10 +38,10 @@ class OldArchive(NamedTuple):
         return max(self.values) + self.seconds
 
 
-class OldWhisper(NamedTuple):
+class WhisperFile(NamedTuple):
     method: str
     xff: float
-    archives: List[OldArchive]  # the finest first
+    archives: List[WhisperArchive]  # the finest first
 
 
 def read_points(file: BinaryIO, offset: int, seconds: int, rows: int) -> Dict[int, float]:
@@ -55,7 +55,7 @@ def read_points(file: BinaryIO, offset: int, seconds: int, rows: int) -> Dict[in
     return {when: value for when, value in found.items() if when > newest - rows * seconds and when % seconds == 0}
 
 
-def read_whisper(path: str) -> OldWhisper:
+def read_whisper(path: str) -> WhisperFile:
     """Reads a file of whisper.
 
     # Errors
@@ -66,7 +66,7 @@ def read_whisper(path: str) -> OldWhisper:
         return read_open(file)
 
 
-def read_open(file: BinaryIO) -> OldWhisper:
+def read_open(file: BinaryIO) -> WhisperFile:
     """Reads an open file of whisper: its header, and the archives that the header names."""
     data = file.read(HEAD.size + MOST_ARCHIVES * ARCHIVE.size)
     try:
@@ -83,8 +83,8 @@ def read_open(file: BinaryIO) -> OldWhisper:
         check_retentions([(seconds, rows) for _, seconds, rows in infos])
     except (ValueError, ZeroDivisionError) as error:
         raise Refusal(str(error)) from None
-    archives = [OldArchive(seconds, rows, read_points(file, offset, seconds, rows)) for offset, seconds, rows in infos]
-    return OldWhisper(method, xff, sorted(archives, key=lambda archive: archive.seconds))
+    archives = [WhisperArchive(seconds, rows, read_points(file, offset, seconds, rows)) for offset, seconds, rows in infos]
+    return WhisperFile(method, xff, sorted(archives, key=lambda archive: archive.seconds))
 
 
 # ---- The batch
@@ -92,12 +92,12 @@ def read_open(file: BinaryIO) -> OldWhisper:
 Stretch = Tuple[int, Optional[str]]  # its end, and the value of each step up to there; None is unknown
 
 
-def spans(archives: List[OldArchive]) -> List[Tuple[OldArchive, int, int]]:
+def spans(archives: List[WhisperArchive]) -> List[Tuple[WhisperArchive, int, int]]:
     """The archives that have points, the finest last, each with the time that it gives. A finer archive begins with a
     whole point of the coarser one. Between two archives may be a time of which none has points: long after a point with
     a wrong time, for example."""
     having = [archive for archive in archives if archive.values]
-    found: List[Tuple[OldArchive, int, int]] = []
+    found: List[Tuple[WhisperArchive, int, int]] = []
     end = having[0].end if having else 0
     for archive, coarser in zip(having, [*having[1:], None]):
         begin = archive.begin if coarser is None else -(-archive.begin // coarser.seconds) * coarser.seconds
@@ -107,7 +107,7 @@ def spans(archives: List[OldArchive]) -> List[Tuple[OldArchive, int, int]]:
     return found
 
 
-def stretches(old: OldWhisper, note: Callable[[str], None]) -> List[Stretch]:
+def stretches(old: WhisperFile, note: Callable[[str], None]) -> List[Stretch]:
     """The values of all times from the first known one on; equal neighbours come as one stretch."""
     found: List[Stretch] = []
     lost, step = 0, old.archives[0].seconds
@@ -132,12 +132,12 @@ def add(found: List[Stretch], end: int, text: Optional[str]) -> None:
         found.append((end, text))
 
 
-def first_time(old: OldWhisper) -> int:
+def first_time(old: WhisperFile) -> int:
     """The time of the first known slot."""
     return min(slot for archive, begin, end in spans(old.archives) for slot in archive.values if begin <= slot < end)
 
 
-def samples(old: OldWhisper, first: int, start: int, note: Callable[[str], None]) -> Iterator[str]:
+def samples(old: WhisperFile, first: int, start: int, note: Callable[[str], None]) -> Iterator[str]:
     """The words of updates from the time `start`; what is known begins at `first`."""
     has_zeros = old.method in WITH_ZEROS
     if start < first:
@@ -148,7 +148,7 @@ def samples(old: OldWhisper, first: int, start: int, note: Callable[[str], None]
             yield f"{end}:{shown}:{'0' if text is None else text}" if has_zeros else f"{end}:{shown}"
 
 
-def whisper_batch(old: OldWhisper, journal: Optional[str], note: Callable[[str], None]) -> Iterator[str]:
+def whisper_batch(old: WhisperFile, journal: Optional[str], note: Callable[[str], None]) -> Iterator[str]:
     """Yields the lines of the batch that makes the database; what can't be converted goes to `note`.
 
     # Errors
@@ -163,11 +163,5 @@ def whisper_batch(old: OldWhisper, journal: Optional[str], note: Callable[[str],
     # A sample may be for many steps, so the heartbeat is set when all samples are in.
     heartbeat = f"DS:{old.method}:GAUGE:{made.step}:"
     yield made.create(start).replace(heartbeat, f"DS:{old.method}:GAUGE:{LATEST}:")
-    words: List[str] = []
-    for word in samples(old, first, start, note):
-        if words and (len(words) == SAMPLES_OF_A_LINE or sum(map(len, words)) + len(words) + len(word) > BYTES_OF_A_LINE):
-            yield " ".join(["update", *words])
-            words = []
-        words.append(word)
-    yield " ".join(["update", *words])
+    yield from updates(samples(old, first, start, note))
     yield f"tune --heartbeat {old.method}:{made.step}"

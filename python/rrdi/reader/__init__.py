@@ -3,8 +3,9 @@ from __future__ import annotations
 
 from ..amounts import MILLION, Millionths
 from ..errors import Damaged
+from ..limits import FUNCTIONS, LATEST, TYPES
 from .files import opened, read, read_bytes, read_file, settled
-from .pieces import FUNCTIONS, LATEST, TOP, TYPES, UNKNOWN, VERSIONS, Parts, Reader
+from .pieces import TOP, UNKNOWN, VERSIONS, Parts, Reader
 from .undo import Stored, checksum
 
 # The reason why bytes are not a database.

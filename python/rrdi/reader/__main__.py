@@ -1,14 +1,28 @@
-"""Reads a database of rrdi from its file, as docs/file-format.md describes the bytes, and prints it.
+"""Prints a database of rrdi as JSON, CSV or OpenMetrics, without the program.
 
-    python3 -m rrdi.reader json|csv|openmetrics|check FILE
+usage: python3 -m rrdi.reader json|csv|openmetrics|check FILE
 
-FILE may be - for standard input. json prints all of the database, including its journal; csv and openmetrics print the
-known rows of all archives; check prints nothing. The reader reads the file under a shared lock. If another program holds
-the lock, the reader tries again for the seconds that the variable RRDI_WAIT sets, 5 by default. If a change of the file
-was interrupted, the reader reads the database that the next command of rrdi would find.
+example:
+  python3 -m rrdi.reader csv load.rrdi > load.csv
 
-Exit status: 0; 2 after wrong arguments; otherwise 1, with one line on standard error. If FILE is not a database, this
-line has the first fault, as rrdi reports it. docs/reading.md also explains how to use the reader as a Python module.
+formats:
+  json                 all of the database, with its journal
+  csv, openmetrics     the known rows of all archives
+  check                nothing; the status says whether FILE is a database
+
+FILE may be - for standard input. It is read under a shared lock. If a change of
+it was interrupted, you get the database that the next command of rrdi would
+find.
+
+environment:
+  RRDI_WAIT            seconds to wait for a program that changes FILE
+                       (default: 5)
+
+docs/export.md also explains how to use the reader as a Python module.
+
+Exit status: 0; 2 after wrong arguments; otherwise 1, with one line on standard
+error. If FILE is not a database, this line has the first fault, as rrdi reports
+it.
 """
 from __future__ import annotations
 

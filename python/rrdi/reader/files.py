@@ -7,7 +7,7 @@ from typing import Iterator
 
 from ..errors import Damaged
 from ..locks import SHARED, close, locked, open_locked
-from ..words import milliseconds
+from ..environment import milliseconds
 from .pieces import Parts, Reader
 from .undo import Stored
 

@@ -6,19 +6,18 @@ from typing import Any, Dict, List, Optional, Tuple, Union
 
 from ..amounts import MILLION, Millionths
 from ..errors import BAD_BLOCK, BAD_ENTRY, NOT_OURS, TRAILING, TRUNCATED, VERSION, Damaged
+from ..limits import (FUNCTIONS, LATEST, LONGEST_STEP, MOST_ARCHIVES, MOST_CELLS, MOST_CHANGES, MOST_ROWS, MOST_SOURCES,
+                      MOST_STEPS, TYPES)
 from .undo import Stored
 
 Parts = Dict[str, Any]
 
-TYPES = ["GAUGE", "COUNTER", "DERIVE", "ABSOLUTE"]
-FUNCTIONS = ["AVERAGE", "MIN", "MAX", "LAST"]
 NAME = frozenset(b"abcdefghijklmnopqrstuvwxyzABCDEFGHIJKLMNOPQRSTUVWXYZ0123456789_")
 TOP = (2**64 - 1) * MILLION  # the largest absolute value of a rate, a cell and a bound, in millionths
-LATEST = 9_999_999_999  # the latest time, and the longest heartbeat
 UNKNOWN = -(2**127)  # the number that represents an unknown cell or raw value, and no bound
 
 # By version: the encoding of the header, and the maximum numbers of journal entries, archives and cells.
-VERSIONS = {1: (">IQHHHH", 1_000, 64, 4_000_000), 2: (">IQIHHI", 100_000, 128, 8_000_000)}
+VERSIONS = {1: (">IQHHHH", 1_000, 64, 4_000_000), 2: (">IQIHHI", MOST_CHANGES, MOST_ARCHIVES, MOST_CELLS)}
 SETTINGS = "20sBQ16s16s16s"
 
 
@@ -110,7 +109,7 @@ class Reader:
     def head(self, number: int) -> Parts:
         """Reads an archive's settings and adds the archive at the given number."""
         function, steps, xff, rows = self.take(">BIII")
-        self.check(function < len(FUNCTIONS), 1 <= steps <= MILLION, xff < MILLION, 1 <= rows <= MILLION)
+        self.check(function < len(FUNCTIONS), 1 <= steps <= MOST_STEPS, xff < MILLION, 1 <= rows <= MOST_ROWS)
         self.row_counts.insert(number, rows)
         self.check(self.sources * sum(self.row_counts) <= self.most_cells)
         return {"function": FUNCTIONS[function], "steps": steps, "xff": Millionths(xff)}
@@ -130,8 +129,8 @@ class Reader:
             raise Damaged("file: version", None, VERSION)
         header, most_changes, most_archives, self.most_cells = VERSIONS[version]
         self.step_length, last, depth, self.sources, archive_count, entries = self.take(header)
-        self.check(1 <= self.step_length <= MILLION, last <= LATEST, 1 <= depth <= most_changes)
-        self.check(1 <= self.sources <= 64, 1 <= archive_count <= most_archives, entries <= depth)
+        self.check(1 <= self.step_length <= LONGEST_STEP, last <= LATEST, 1 <= depth <= most_changes)
+        self.check(1 <= self.sources <= MOST_SOURCES, 1 <= archive_count <= most_archives, entries <= depth)
         sources: List[Parts] = []
         for _ in range(self.sources):
             *fields, known, total = self.take(">" + SETTINGS + "I16s")
@@ -217,7 +216,7 @@ class Reader:
         number, = self.take(">H")
         self.check(number < len(archives))
         count, = self.take(">I")
-        self.check(1 <= count <= MILLION, count != self.row_counts[number])
+        self.check(1 <= count <= MOST_ROWS, count != self.row_counts[number])
         self.row_counts[number] = count
         self.check(self.sources * sum(self.row_counts) <= self.most_cells)
         return {"change": "resize", "archive": number, "rows": self.old_rows(archives[number], count)}

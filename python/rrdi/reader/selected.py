@@ -34,7 +34,7 @@ class Front(NamedTuple):
     entries: int
 
 
-class Archive(NamedTuple):
+class StoredArchive(NamedTuple):
     """An archive: its settings, where its cells are in the file, and its unfinished row.
 
     `partial` has, for each source, the number of known steps, and their sum, minimum, maximum or last one.
@@ -60,7 +60,8 @@ class Outline(NamedTuple):
     step: int
     last: int
     sources: Tuple[str, ...]
-    archives: Tuple[Archive, ...]
+    steps: Tuple[Tuple[int, Millionths], ...]  # of each source the known seconds of the unfinished step, and their sum
+    archives: Tuple[StoredArchive, ...]
     cells_end: int
 
 
@@ -100,7 +101,15 @@ class OpenFile:
             self._outline = self._read_outline()
         return self._outline
 
-    def rows(self, archive: Archive, first: int, last: int) -> Dict[int, Cells]:
+    def settings(self) -> Parts:
+        """Returns all pieces before the first cell, by their names. Each archive has its number of rows as `row_count`."""
+        reader = Reader(self._stored)
+        found = self._taken_outline(reader)
+        for archive, count in zip(found["archives"], reader.row_counts):
+            archive["row_count"] = count
+        return found
+
+    def rows(self, archive: StoredArchive, first: int, last: int) -> Dict[int, Cells]:
         """Returns the cells of the rows that end from `first` to `last`, by their times, as far as the archive has them."""
         seconds, count = archive.seconds, self.front.sources
         newest = self.front.last // seconds
@@ -168,10 +177,11 @@ class OpenFile:
         at = reader.at
         for archive, rows in zip(found["archives"], reader.row_counts):
             partial = tuple((part["known_steps"], part["value"]) for part in archive["preparations"])
-            archives.append(Archive(archive["function"], archive["steps"], int(archive["xff"]), rows,
+            archives.append(StoredArchive(archive["function"], archive["steps"], int(archive["xff"]), rows,
                                     front.step * archive["steps"], at, partial))
             at += CELL * front.sources * rows
-        return Outline(front.step, front.last, tuple(source["name"] for source in found["sources"]), tuple(archives), at)
+        return Outline(front.step, front.last, tuple(source["name"] for source in found["sources"]),
+                       tuple((source["known_seconds"], source["sum"]) for source in found["sources"]), tuple(archives), at)
 
 
 def _truncated(at: int) -> Damaged:

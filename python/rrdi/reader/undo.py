@@ -59,12 +59,11 @@ def read_record(read: Read, at: int) -> Optional[Record]:
     return Record(length, first)
 
 
-def read_slots(read: Read, tail: int, most: int) -> Optional[List[Slot]]:
-    """Returns the slots after the record at `tail`, up to the first one that is broken; None if there are more than
-    `most`. Keeps none of their bytes."""
+def read_slots(read: Read, tail: int) -> List[Slot]:
+    """Returns the slots after the record at `tail`, up to the first one that is broken. Keeps none of their bytes."""
     found: List[Slot] = []
     at = tail + LONG
-    while len(found) <= most:
+    while True:
         data = read(at, SLOT.size + PAGE)
         if len(data) < SLOT.size:
             return found
@@ -75,7 +74,6 @@ def read_slots(read: Read, tail: int, most: int) -> Optional[List[Slot]]:
             return found
         found.append(Slot(place, count, at + SLOT.size))
         at += SLOT.size + PAGE
-    return None
 
 
 class Stored:
@@ -97,6 +95,8 @@ class Stored:
             self._stand_for_new(size, CUT_MARKS[start[:4]])
         elif start[:8] == UNDO_MARK and len(start) == UNDO_SIZE:
             self._stand_for_old(size, int.from_bytes(start[8:], "big"))
+        if self._front:
+            self._window = b""
 
     @classmethod
     def of_file(cls, file: int) -> Stored:
@@ -120,11 +120,9 @@ class Stored:
     def _stand_for_old(self, size: int, tail: int) -> None:
         """Under an undo mark there is a database of which some bytes are in the record and in the slots."""
         record = read_record(self._read, tail) if tail < size else None
-        # A change keeps each old page once.
-        slots = read_slots(self._read, tail, record.length // PAGE + 1) if record else None
-        if record is None or slots is None:
+        if record is None:
             return
-        self._length, self._front, self._slots = record.length, record.first, slots
+        self._length, self._front, self._slots = record.length, record.first, read_slots(self._read, tail)
         for number, slot in enumerate(self._slots):
             for page in range(slot.place // PAGE, (slot.place + slot.size - 1) // PAGE + 1):
                 self._by_page.setdefault(page, []).append(number)
@@ -145,11 +143,12 @@ class Stored:
     def __getitem__(self, part: slice) -> bytes:
         begin, end, _ = part.indices(self._length)
         at = begin - self._window_at
-        if not self._front and at >= 0 and end <= self._window_at + len(self._window):
-            return self._window[at:end - self._window_at]
-        if self._front or end - begin >= PAGE:
+        if at >= 0 and end <= self._window_at + len(self._window):
+            return self._window[at:max(end - self._window_at, 0)]
+        if end - begin >= PAGE:
             return self._taken(begin, end)
-        self._window, self._window_at = self._read(begin, PAGE), begin
+        # The bytes of a page are put together once, however many pieces of it are taken.
+        self._window, self._window_at = self._taken(begin, min(begin + PAGE, self._length)), begin
         return self._window[:max(end - begin, 0)]
 
     def _taken(self, begin: int, end: int) -> bytes:

@@ -1,15 +1,28 @@
-"""Runs carbon-cache with the database rrdi.
+"""Runs Graphite's carbon-cache with rrdi's files instead of whisper's.
 
-    rrdi-carbon-cache [OPTION ..] start|stop|status
+usage: rrdi-carbon-cache [OPTION..] start|stop|status
 
-The options are those of carbon-cache, and `carbon-cache --help` lists them. carbon knows a database only if its class
-was imported before carbon reads carbon.conf; this program imports the class, and then does what carbon-cache does.
+example:
+  rrdi-carbon-cache --config=/etc/carbon/carbon.conf start
 
-carbon.conf needs `DATABASE = rrdi`. Further settings: RRDI_LIBRARY (the C library, if the package would not find it),
-RRDI_JOURNAL (16, how many slots of a metric can come late), and RRDI_MAX_FUTURE (600, by how many seconds a point may
-be ahead of the clock). docs/many-machines.md has more.
+The options are those of carbon-cache, which `carbon-cache --help` lists.
+carbon.conf needs the line `DATABASE = rrdi`. carbon knows a database only if
+its class was imported first: this program does that, and then what carbon-cache
+does.
 
-Exit status: that of carbon-cache; 1 and a line on standard error if carbon or the C library is not installed.
+options:
+  -h, --help           show this help and exit
+
+environment:
+  RRDI_LIBRARY         the C library, if the package would not find it
+  RRDI_JOURNAL         how many slots of a metric can come late (default: 16)
+  RRDI_MAX_FUTURE      how many seconds a point may be ahead of the clock
+                       (default: 600)
+
+docs/graphite.md has more.
+
+Exit status: that of carbon-cache; 1 and a line on standard error if carbon or
+the C library is not installed.
 """
 from __future__ import annotations
 

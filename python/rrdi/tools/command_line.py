@@ -27,6 +27,10 @@ class Tool(NamedTuple):
     run: Callable[[List[str]], int]
     version: str = ""
 
+    def main(self) -> int:
+        """Runs the tool with the arguments of this process, and returns its exit status."""
+        return run(self)
+
 
 def called_name(tool: Tool) -> str:
     """Returns the name by which a tool was started, so that messages have the name of a link or an old name."""
@@ -48,10 +52,17 @@ def error_text(error: OSError) -> str:
     return f"{error.filename}: {reason}" if error.filename else reason
 
 
+def add_line(name: str, hint: str) -> None:
+    """Prints a further line, if there is something to say."""
+    if hint:
+        print(f"{name}: {hint}", file=sys.stderr)
+
+
 def run(tool: Tool, words: Optional[List[str]] = None) -> int:
     """Runs a tool and returns its exit status.
 
-    The status is 0 if all went well, 1 and one line on standard error after a failure, and 2 after wrong arguments.
+    The status is 0 if all went well, 1 and a line on standard error after a failure, and 2 after wrong arguments. A further
+    line says which option was meant, or that a file is RRDtool's.
     """
     words = sys.argv[1:] if words is None else words
     name = called_name(tool)
@@ -68,9 +79,15 @@ def run(tool: Tool, words: Optional[List[str]] = None) -> int:
         return status
     except WrongArguments as wrong:
         print(f"{name}: {wrong}" if str(wrong) else f"usage: {name} {tool.usage}", file=sys.stderr)
+        if not str(wrong):
+            from .hints import option_hint  # few runs fail
+            add_line(name, option_hint(words, tool.help or ""))
         return 2
     except Failure as failure:
         print(f"{name}: {failure}", file=sys.stderr)
+        if str(failure).endswith("file: not ours"):
+            from .hints import file_hint
+            add_line(name, file_hint(words))
     except BrokenPipeError:
         give_up_output()
         return 1
@@ -98,9 +115,10 @@ class Progress:
     """
 
     FIRST, NEXT = 1.0, 0.2  # seconds
+    BAR = 30  # characters of a bar
 
-    def __init__(self, what: str, clock: Callable[[], float] = time.monotonic):
-        self.what, self.clock = what, clock
+    def __init__(self, what: str, clock: Callable[[], float] = time.monotonic, has_bar: bool = False):
+        self.what, self.clock, self.has_bar = what, clock, has_bar
         self.is_on = sys.stderr.isatty()
         self.due = clock() + self.FIRST
         self.is_shown = False
@@ -110,8 +128,10 @@ class Progress:
         if not self.is_on or self.clock() < self.due:
             return
         self.due = self.clock() + self.NEXT
-        count = f"{done:,}" if not total else f"{min(100 * done // total, 100)} %"
-        print(f"\r{self.what}: {count}\x1b[K", end="", file=sys.stderr, flush=True)
+        share = min(100 * done // total, 100) if total else 0
+        count = f"{share} %" if total else f"{done:,}"
+        bar = f"[{'#' * (share * self.BAR // 100):<{self.BAR}}] " if total and self.has_bar else ""
+        print(f"\r{self.what}: {bar}{count}\x1b[K", end="", file=sys.stderr, flush=True)
         self.is_shown = True
 
     def end(self) -> None:

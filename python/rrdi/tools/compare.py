@@ -1,32 +1,44 @@
-"""Compares the rows of a file of RRDtool with the rows of the database that was made from this file.
+"""Compares the rows of an RRDtool file with those of the database made from it.
 
-    rrdi-compare OLD.rrd NEW.rrdi
+usage: rrdi-compare OLD.rrd NEW.rrdi
 
-For each archive, one line has these numbers: cells that agree; cells that are known in only one of the files; cells that
-differ by more than a millionth (and by more than the eleventh digit, the last digit that rrdtool prints); and the time
-of the newest row that does not agree. rrdtool must be installed. The variable RRDI may name the program rrdi.
+example:
+  rrdi-import room.rrd room.rrdi && rrdi-compare room.rrd room.rrdi
 
-Exit status: 0 if all cells agree; 1 if a cell does not agree, if the files have no archive to compare, or if a program
-failed; 2 after wrong arguments.
+options:
+  -h, --help           show this help and exit
+  --version            show the version and exit
+
+For each archive you get a line with the cells that agree, those that are known
+in only one of the files, those that differ, and the time of the newest row that
+does not agree. To differ is to be more than a millionth apart, and more than
+the eleventh digit, the last that rrdtool prints. rrdtool must be installed.
+
+environment:
+  RRDI                 a program to run instead of the C library, or of the
+                       rrdi on the PATH
+
+Exit status: 0 if all cells agree; 1 if one does not, if there is no archive to
+compare, or if a program failed; 2 after wrong arguments.
 """
 from __future__ import annotations
 
 import math
 import re
-import sys
 from typing import Dict, Iterator, List, NamedTuple, Optional
 
+from ..limits import FUNCTIONS
+from ..printed import printed_rows
 from . import program, rrdtool_program
-from .command_line import Failure, Tool, WrongArguments, run
+from .command_line import Failure, Tool, WrongArguments
 
-FUNCTIONS = ("AVERAGE", "MIN", "MAX", "LAST")
 # rrdtool prints eleven digits, and rrdi rounds to a millionth.
 MOST_APART, SHARE_APART = 0.0000010001, 1e-10
 
-Cells = Dict[int, Dict[str, float]]
+OldCells = Dict[int, Dict[str, float]]
 
 
-class Span(NamedTuple):
+class ArchiveSpan(NamedTuple):
     """The rows of an archive of the old file."""
 
     function: str
@@ -77,7 +89,7 @@ class Counts:
         return self.cells > 0 and self.agree == self.cells
 
 
-def spans(info: str) -> Iterator[Span]:
+def spans(info: str) -> Iterator[ArchiveSpan]:
     """Yields the rows of each archive that rrdi can have, from the output of `rrdtool info`."""
     found = dict(re.findall(r"^(\S+) = (.*)$", info, re.MULTILINE))
     for number in range(len(found)):
@@ -87,10 +99,10 @@ def spans(info: str) -> Iterator[Span]:
         if function in FUNCTIONS:
             seconds = int(found["step"]) * int(found[f"rra[{number}].pdp_per_row"])
             end = int(found["last_update"]) // seconds * seconds
-            yield Span(function, seconds, max(end - int(found[f"rra[{number}].rows"]) * seconds, 0), end - 1)
+            yield ArchiveSpan(function, seconds, max(end - int(found[f"rra[{number}].rows"]) * seconds, 0), end - 1)
 
 
-def old_cells(text: str) -> Cells:
+def old_cells(text: str) -> OldCells:
     """Reads the output of `rrdtool fetch`."""
     lines = text.splitlines()
     names = lines[0].split() if lines else []
@@ -102,20 +114,20 @@ def old_cells(text: str) -> Cells:
     return rows
 
 
-def compare_archive(old: str, new: str, span: Span) -> Counts:
+def compare_archive(old: str, new: str, span: ArchiveSpan) -> Counts:
     words = [span.function, "-r", str(span.seconds), "-s", str(span.begin), "-e", str(span.end)]
     try:
         cells = old_cells(rrdtool_program.ask(["fetch", old, *words]))
     except Failure as failure:
         raise Failure(f"rrdtool does not fetch {span.function} from {old}: {failure}") from None
     try:
-        printed = program.ask(["fetch", program.file_argument(new), *words])
-    except program.Refused as refused:
-        raise Failure(f"rrdi does not fetch {span.function} from {new}: {refused}") from None
-    names, rows = program.printed_rows(printed)
+        text = program.ask(["fetch", new, *words])
+    except program.CommandFailed as failed:
+        raise Failure(f"rrdi does not fetch {span.function} from {new}: {failed}") from None
+    rows = printed_rows(text)
     counts = Counts()
-    for time, row in rows.items():
-        for name, cell in zip(names, row):
+    for time, row in zip(rows.times, rows.words):
+        for name, cell in zip(rows.names, row):
             counts.add(time, cells.get(time, {}).get(name, math.nan), float(cell))
     return counts
 
@@ -143,11 +155,4 @@ def compare(words: List[str]) -> int:
 
 
 TOOL = Tool("rrdi-compare", "OLD.rrd NEW.rrdi", __doc__, compare)
-
-
-def main() -> int:
-    return run(TOOL)
-
-
-if __name__ == "__main__":
-    sys.exit(main())
+main = TOOL.main

@@ -1,25 +1,38 @@
-"""Moves a database of rrdi to RRDtool.
+"""Turns a database of rrdi back into an RRDtool file.
 
-    rrdi-export FILE.rrdi NEW.rrd
-    rrdi-export FILE.rrdi > moved.xml
+usage: rrdi-export FILE.rrdi NEW.rrd
+       rrdi-export FILE.rrdi > MOVED.xml
 
-The first form makes NEW.rrd with `rrdtool restore`; NEW.rrd must not exist. The second form prints the XML that
-`rrdtool restore` takes, and needs no RRDtool. The XML has the data sources, the archives, all rows, and the unfinished
-rows. FILE may be - for standard input. rrdi-export reads FILE itself, under a shared lock: if another program is
-changing FILE, rrdi-export waits for the seconds that the variable RRDI_WAIT sets, 5 by default.
+example:
+  rrdi-export room.rrdi room.rrd && rrdtool info room.rrd
 
-Exit status: 0; 1 and one line on standard error if FILE cannot be read or is not a database, or if NEW.rrd cannot be
-created; 2 after wrong arguments. docs/to-rrdtool.md lists what cannot be converted.
+The first form makes NEW.rrd, which must not exist, by `rrdtool restore`. The
+second prints the XML that `rrdtool restore` takes, and needs no RRDtool. Both
+have the data sources, the archives, all rows and the unfinished ones.
+
+options:
+  -h, --help           show this help and exit
+  --version            show the version and exit
+
+FILE may be - for standard input. It is read under a shared lock.
+
+environment:
+  RRDI_WAIT            seconds to wait for a program that changes FILE
+                       (default: 5)
+
+docs/moving-files.md says what cannot be converted.
+
+Exit status: 0; 1 and one line on standard error if FILE cannot be read or is
+not a database, or if NEW.rrd cannot be created; 2 after wrong arguments.
 """
 from __future__ import annotations
 
 import os
 import subprocess
-import sys
 from typing import Any, Dict, Iterator, List, Optional
 
 from . import rrdtool_program
-from .command_line import Failure, Progress, Tool, WrongArguments, run
+from .command_line import Failure, Progress, Tool, WrongArguments
 from .reading import read_file
 
 
@@ -101,11 +114,4 @@ def convert(words: List[str]) -> int:
 
 
 TOOL = Tool("rrdi-export", "FILE.rrdi [NEW.rrd]", __doc__, convert)
-
-
-def main() -> int:
-    return run(TOOL)
-
-
-if __name__ == "__main__":
-    sys.exit(main())
+main = TOOL.main

@@ -1,52 +1,74 @@
-"""Feeds many databases of rrdi from lines on standard input, each with a FILE and its samples.
+"""Feeds many databases: takes samples as lines, and writes each file once a minute.
 
-    rrdi-feed [--seconds SECONDS] [--jobs JOBS] [--held SAMPLES] [--patience SECONDS]
-              [--graphite DIRECTORY [--rules RULES]]
+usage: rrdi-feed [OPTION..] < LINES
 
-A line is FILE TIME:VALUE[:VALUE..].. and UPDATE may precede FILE. A TIME N becomes the time at which the line arrived.
-rrdi-feed holds the samples of a FILE for SECONDS (60) after the first one arrived; then one batch on FILE takes
-them. So each FILE is read and written once in that time, however many samples it gets. Up to JOBS (4) batches run at a
-time, and never two on one FILE. While rrdi-feed holds SAMPLES (1000000), it reads no more lines.
+examples:
+  echo 'load.rrdi N:0.42' | rrdi-feed
+  socat -u UDP4-RECV:2003 STDOUT | rrdi-feed --graphite data --rules feed.rules
 
-With --graphite, a line is NAME VALUE TIME, as Graphite's programs send it. The sample goes to the file NAME.rrdi in
-DIRECTORY. RULES is a file that maps names to other files, and creates files that do not exist. A line of RULES is
-NAME FILE [ARGUMENTS OF create..]. A * in NAME matches within one part of a name, ** over several parts; a star in FILE
-is what the same star of NAME matched. The first line whose NAME matches applies. No file outside DIRECTORY is written.
+A line is FILE TIME:VALUE[:VALUE..].., and UPDATE may precede FILE. A TIME N is
+the time at which the line arrived.
 
-If rrdi can't open FILE (another program has its lock), rrdi-feed keeps the samples and tries again after a pause, which
-doubles from a tenth of a second to a minute. At the end of the input, and after SIGTERM, SIGINT and SIGHUP, rrdi-feed
-passes on all that it holds; it goes on trying for --patience SECONDS (30) and then gives up. After SIGUSR1 it passes on
-all that it holds, and goes on. If rrdi-feed is killed or the system crashes, the samples that it held are lost.
+options:
+  --seconds SECONDS    hold the samples of a FILE this long (default: 60)
+  --jobs JOBS          write so many files at a time (default: 4)
+  --held SAMPLES       at so many samples, read no more lines until some are
+                       written (default: 1000000)
+  --patience SECONDS   at the end, go on trying files that cannot be opened
+                       for this long (default: 30)
+  --graphite DIRECTORY
+                       read Graphite's lines, NAME VALUE TIME, and write the
+                       file NAME.rrdi in DIRECTORY
+  --rules RULES        with --graphite: a file that maps names to other files,
+                       and creates files that do not exist
+  -h, --help           show this help and exit
+  --version            show the version and exit
 
-rrdi-feed reports each bad line, each refused sample, and each one that may be lost, on standard error. Exit status: 0;
-1 if a line was bad, or a sample was refused or may be lost, or DIRECTORY or RULES can't be used; 2 after wrong
-arguments. The batches are run in this process by the C library librrdi. If there is none, or the variable RRDI names a
-program, each batch is a process, `rrdi batch FILE`. docs/feeding.md has more.
+A line of RULES is NAME FILE [ARGUMENTS OF create..], and the first one whose
+NAME matches counts. * in NAME matches within one part of a name, ** over
+several parts; a star in FILE is what the same star in NAME matched. No file
+outside DIRECTORY is written.
+
+If FILE cannot be opened, because another program has its lock, its samples are
+kept and tried again after a pause, which doubles from a tenth of a second to a
+minute. At the end of the input, and after SIGTERM, SIGINT and SIGHUP, all
+samples are written; after SIGUSR1 too, and then it goes on. A kill or a crash
+of the system costs the samples that are still held.
+
+The C library librrdi writes the files. If there is none, or the variable RRDI
+names a program, each batch is a process, `rrdi batch FILE`, which is four to
+five times as slow. docs/feeding.md has more.
+
+Exit status: 0; 1 if a line was bad, a sample was refused or may be lost (each
+is reported on standard error), or DIRECTORY or RULES cannot be used; 2 after
+wrong arguments.
 """
 from __future__ import annotations
 
 import os
 import re
 import signal
-import sys
 import tempfile
-from typing import List, NamedTuple, Optional
+from typing import Dict, List, NamedTuple, Optional
 
-from ..feeding.feeder import Feeder, Options
+from ..choice import chosen
+from ..explaining import why_refused
+from ..feeding.feeder import Feeder, FeedOptions
 from ..feeding.metrics import Creating, MetricFeeder
 from ..feeding.rules import EACH_NAME, BadRule, Names, Rule, read_rules
-from ..feeding.writers import Writer, chosen_writer
-from .command_line import Failure, Tool, WrongArguments, called_name, run
+from ..feeding.writers import BatchWriter, Writer
+from . import program
+from .command_line import Failure, Tool, WrongArguments, called_name
 
 
-class Arguments(NamedTuple):
-    options: Options
+class FeedArguments(NamedTuple):
+    options: FeedOptions
     directory: Optional[str]
     rules: Optional[str]
 
 
-def read_arguments(words: List[str]) -> Arguments:
-    options, directory, rules = Options(), None, None
+def read_arguments(words: List[str]) -> FeedArguments:
+    options, directory, rules = FeedOptions(), None, None
     while words:
         if len(words) < 2 or not words[0].startswith("--"):
             raise WrongArguments
@@ -62,7 +84,7 @@ def read_arguments(words: List[str]) -> Arguments:
         words = words[2:]
     if rules is not None and directory is None:
         raise WrongArguments
-    return Arguments(options, directory, rules)
+    return FeedArguments(options, directory, rules)
 
 
 def rules_of(path: Optional[str], writer: Writer) -> List[Rule]:
@@ -88,8 +110,35 @@ def rules_of(path: Optional[str], writer: Writer) -> List[Rule]:
     return rules
 
 
-def feeder_of(arguments: Arguments) -> Feeder:
-    writer, name = chosen_writer(), called_name(TOOL)
+class Explaining:
+    """Explains refusals. Asks each file at most once for its sources."""
+
+    MOST_KEPT = 1_000  # files
+
+    def __init__(self) -> None:
+        self.settings: Dict[bytes, str] = {}
+
+    def why(self, file: bytes, sample: bytes, reason: str) -> str:
+        """Returns what was wrong with a refused sample; nothing if that is not known."""
+        return why_refused(sample.decode(errors="replace"), reason, lambda question: self.ask(file, question[0]))
+
+    def ask(self, file: bytes, question: str) -> str:
+        if file not in self.settings and len(self.settings) < self.MOST_KEPT:
+            try:
+                self.settings[file] = program.ask([question, os.fsdecode(file)])
+            except Failure:
+                self.settings[file] = ""
+        return self.settings.get(file, "")
+
+
+def feeder_of(arguments: FeedArguments) -> Feeder:
+    feeder = made_feeder(arguments)
+    feeder.explain = Explaining().why
+    return feeder
+
+
+def made_feeder(arguments: FeedArguments) -> Feeder:
+    writer, name = BatchWriter(chosen()), called_name(TOOL)
     if arguments.directory is None:
         return Feeder(arguments.options, writer, name)
     if not os.path.isdir(arguments.directory):
@@ -108,11 +157,4 @@ def feed(words: List[str]) -> int:
 
 USAGE = "[--seconds SECONDS] [--jobs JOBS] [--held SAMPLES] [--patience SECONDS] [--graphite DIRECTORY [--rules RULES]]"
 TOOL = Tool("rrdi-feed", USAGE, __doc__, feed)
-
-
-def main() -> int:
-    return run(TOOL)
-
-
-if __name__ == "__main__":
-    sys.exit(main())
+main = TOOL.main

@@ -1,12 +1,24 @@
-"""Draws databases of rrdi, and files of RRDtool, by RRDtool's own grapher.
+"""Draws rrdi's databases, and RRDtool's files, with RRDtool's own grapher.
 
-    rrdi-graph PICTURE [OPTION..] DEF:x=FILE:SOURCE:FUNCTION.. LINE1:x#ff0000:name..
-    rrdi-graph load.png --start end-1d --end now DEF:a=load.rrdi:load1:AVERAGE AREA:a#88aa00:load
+usage: rrdi-graph PICTURE [OPTION..] DEF:x=FILE:SOURCE:FUNCTION.. LINE1:x#RGB..
 
-The arguments are those of `rrdtool graph`, which rrdgraph(1) describes. A DEF with a file of rrdi gets its rows from
-rrdi, with step, start, end and reduce; files of both programs can be in one picture. rrdi-graph prints the size of the
-picture and the texts of PRINT. If PICTURE is -, rrdi-graph writes the picture to standard output. The program is rrdi,
-or the program that the variable RRDI names. RRDtool's library must be installed (Debian: librrd8, with rrdtool).
+example:
+  rrdi-graph load.png --start end-1d --end now \\
+      DEF:a=load.rrdi:load1:AVERAGE AREA:a#88aa00:load
+
+The arguments are those of `rrdtool graph`, as rrdgraph(1) describes them. A DEF
+with a file of rrdi gets its rows from rrdi, with step, start, end and reduce.
+You get the size of the picture and the texts of PRINT. If PICTURE is -, the
+picture goes to standard output. RRDtool's library must be installed (Debian:
+librrd8, which comes with rrdtool).
+
+options, besides those of rrdtool graph:
+  -h, --help           as the first word: show this help and exit
+  --version            as the first word: show the version and exit
+
+environment:
+  RRDI                 a program to run instead of the C library, or of the
+                       rrdi on the PATH
 
 Exit status: 0; 1 if nothing was drawn; 2 after wrong arguments.
 """
@@ -16,7 +28,7 @@ import sys
 from typing import List
 
 from .answers import plain
-from .command_line import Tool, WrongArguments, run
+from .command_line import Tool, WrongArguments
 from .graphing import Grapher
 
 
@@ -28,11 +40,4 @@ def draw(words: List[str]) -> int:
 
 
 TOOL = Tool("rrdi-graph", "PICTURE ARGUMENTS OF RRDTOOL GRAPH..", __doc__, draw)
-
-
-def main() -> int:
-    return run(TOOL)
-
-
-if __name__ == "__main__":
-    sys.exit(main())
+main = TOOL.main

@@ -9,21 +9,9 @@ from typing import List
 from .answers import Printed, lines_of
 from .command_line import Failure
 from .exponents import exponent
-from .fetching import fetch
+from .kinds import is_of_rrdi
 from .librrd import PREFIX, Exported, Info, Librrd
-from .program import Rows
-
-# The first bytes of a file of rrdi: without a change, and during a change.
-MARKS = (b"RRDI", b"RRDC", b"RRDc", b"RRDU")
-
-
-def is_of_rrdi(file: str) -> bool:
-    """Checks by its first bytes whether a file is one of rrdi's."""
-    try:
-        with open(file, "rb") as opened:
-            return opened.read(4) in MARKS
-    except OSError:
-        return False
+from .rows import Rows, fetch
 
 
 def rewrite(word: str) -> str:

@@ -1,109 +1,136 @@
-"""Moves a file of RRDtool, or of Graphite's whisper, to rrdi.
+"""Moves files of RRDtool, or of Graphite's whisper, to rrdi.
 
-    rrdi-import [--journal DEPTH] OLD.rrd|OLD.wsp NEW.rrdi
-    rrdi-import [--journal DEPTH] OLD.rrd|OLD.wsp > moved.batch
+usage: rrdi-import [--journal DEPTH] OLD.rrd|OLD.wsp NEW.rrdi
+       rrdi-import [--journal DEPTH] OLD.rrd|OLD.wsp > MOVED.batch
+       rrdi-import [--journal DEPTH] --into DIRECTORY OLD|TREE..
+       rrdi-import [--journal DEPTH] --in-place OLD.rrd|TREE..
 
-The first form creates NEW.rrdi, which must not exist. The second form prints the batch that `rrdi batch NEW.rrdi` takes.
-The batch creates a database with the same step, data sources and archives, and updates the database with rates that give
-the rows of the old file again. `rrdtool dump` reads OLD.rrd, so rrdtool must be installed. --journal DEPTH sets how many
-changes the new database can revert. docs/from-rrdtool.md explains the conversion. If the old file's name ends in .wsp,
-the new database has the layout of Graphite's storage over rrdi (docs/many-machines.md).
+examples:
+  rrdi-import room.rrd room.rrdi && rrdi-compare room.rrd room.rrdi
+  rrdi-import --in-place /var/lib/munin
 
-Exit status: 0 if the file was converted; 1 and a line on standard error if the file cannot be converted; 2 after wrong
-arguments. rrdi-import lists on standard error whatever it cannot convert.
+The first form creates NEW.rrdi, which must not exist. The second prints what
+`rrdi batch NEW.rrdi` takes: a database with the same step, data sources and
+archives, and updates with rates that give the same rows again.
+
+The other forms convert many files: those that are named, and all below the
+directories TREE whose names end in .rrd or .wsp. They print a line for each
+file with what was left out, and a line with the counts. First stop the
+programs that record into the old files.
+
+options:
+  --journal DEPTH      how many changes the new database can revert
+                       (default: 16); you cannot change it later
+  --into DIRECTORY     make DIRECTORY/NAME.rrdi of NAME.rrd or NAME.wsp, and
+                       keep the subdirectories of a TREE
+  --in-place           give the new database the name, owner and mode of the
+                       old file, which becomes NAME.rrd.old; a file stays as
+                       it is if it cannot be converted whole
+  -h, --help           show this help and exit
+  --version            show the version and exit
+
+No existing file is ever replaced by another one's database. rrdtool must be
+installed to read OLD.rrd. A file whose name ends in .wsp gets the layout of
+Graphite's storage over rrdi (docs/graphite.md). What cannot be converted
+is listed on standard error; docs/moving-files.md says why.
+
+Exit status: 0 if all files were converted with all their data sources; 1 if
+not, and a line on standard error says why; 2 after wrong arguments.
 """
 from __future__ import annotations
 
-import os
 import re
-import sys
 from typing import Iterator, List, NamedTuple, Optional
 
-from ..importing.batch import batch_of
-from ..importing.dump import Refusal, read_file
-from ..importing.whisper import read_whisper, whisper_batch
-from ..making import NewFile
-from ..words import in_one_line
-from . import program, rrdtool_program
-from .command_line import Failure, Progress, Tool, WrongArguments, called_name, run, say
+from ..importing.dump import Refusal
+from .command_line import Failure, Progress, Tool, WrongArguments, called_name, say
+from .conversion import Conversion, make
+from .import_many import import_many
 
-WHISPER = ".wsp"
-LONGEST_NOTE = 1_000  # characters
+INTO, IN_PLACE = "--into", "--in-place"
 
 
-class Arguments(NamedTuple):
+class ImportArguments(NamedTuple):
+    """The arguments: of one file the new name, of many files the directory, or none if they are converted in place."""
+
     journal: Optional[str]
-    old: str
+    is_many: bool
+    old: List[str]
     new: Optional[str]
 
 
-def read_arguments(words: List[str]) -> Arguments:
-    journal = None
-    if words[:1] == ["--journal"]:
-        if len(words) < 2 or not re.fullmatch("[0-9]{1,12}", words[1]):
+def read_arguments(words: List[str]) -> ImportArguments:
+    journal: Optional[str] = None
+    into: Optional[str] = None
+    is_in_place = False
+    words = list(words)
+    while words and words[0].startswith("--"):
+        option = words.pop(0)
+        if option == "--journal" and journal is None and words and re.fullmatch("[0-9]{1,12}", words[0]):
+            journal = words.pop(0)
+        elif option == INTO and into is None and words:
+            into = words.pop(0)
+        elif option == IN_PLACE and not is_in_place:
+            is_in_place = True
+        else:
             raise WrongArguments
-        journal, words = words[1], words[2:]
-    if not 1 <= len(words) <= 2 or any(not word or word.startswith("-") for word in words):
+    if any(not word or word.startswith("-") for word in words) or into is not None and (not into or is_in_place):
         raise WrongArguments
-    return Arguments(journal, words[0], words[1] if len(words) == 2 else None)
+    is_many = is_in_place or into is not None
+    if not 1 <= len(words) <= (len(words) if is_many else 2):
+        raise WrongArguments
+    if is_many:
+        return ImportArguments(journal, True, words, into)
+    return ImportArguments(journal, False, words[:1], words[1] if len(words) == 2 else None)
 
 
-def note(text: str) -> None:
-    """Reports what cannot be converted, in one line, whatever the old file's texts have in them."""
-    shown = text if len(text) <= LONGEST_NOTE else f"{text[:LONGEST_NOTE]}.."
-    say(called_name(TOOL), in_one_line(shown))
+def counted(lines: Iterator[str]) -> Iterator[str]:
+    """Passes on the lines of a batch, and shows how many there were."""
+    progress = Progress("converting")
+    for count, line in enumerate(lines, 1):
+        progress.show(count)
+        yield line
+    progress.end()
 
 
-def lines_of(arguments: Arguments) -> Iterator[str]:
-    """Reads the old file and yields the lines of the batch."""
-    if arguments.old.endswith(WHISPER):
-        yield from whisper_batch(read_whisper(arguments.old), arguments.journal, note)
-        return
-    progress = Progress(f"reading {arguments.old}")
+def import_one(old: str, new: Optional[str], journal: Optional[str]) -> int:
+    """Converts one file, and returns the status."""
+    conversion = Conversion(old, journal, lambda text: say(called_name(TOOL), text))
+    progress = Progress(f"reading {old}")
+
+    def reading(done: int, size: int) -> None:
+        progress.show(done, size)
+
+    lines = ended(conversion.lines(reading), progress)
+    if new is None:
+        for line in lines:
+            print(line)
+    else:
+        make(new, counted(lines))
+    return 1 if conversion.skipped else 0
+
+
+def ended(lines: Iterator[str], progress: Progress) -> Iterator[str]:
+    """Passes on the lines. The first line says that the old file is read, which clears the line of progress."""
     try:
-        size = os.path.getsize(arguments.old)
-    except OSError:
-        size = 0  # rrdtool reports the error
-    old = read_file(rrdtool_program.found(), arguments.old, lambda cells: progress.show(8 * cells, size))
-    progress.end()
-    yield from batch_of(old, arguments.journal, note)
-
-
-def make(new: str, lines: Iterator[str]) -> None:
-    """Creates a database with a batch. The database gets its name when it is complete."""
-    if os.path.lexists(new):
-        raise Failure(f"{new} already exists")
-    given, progress = [], Progress("converting")
-    for line in lines:
-        given.append(line)
-        progress.show(len(given))
-    progress.end()
-    with NewFile(new) as made:
-        program.batch(made.unfinished, given)
-        if not made.appear():
-            raise Failure(f"{new} already exists")
+        for line in lines:
+            progress.end()
+            yield line
+    finally:
+        progress.end()
 
 
 def convert(words: List[str]) -> int:
     arguments = read_arguments(words)
+    if arguments.is_many:
+        return import_many(arguments.old, arguments.new, arguments.journal, called_name(TOOL))
     try:
-        lines = lines_of(arguments)
-        if arguments.new is not None:
-            make(arguments.new, lines)
-        else:
-            for line in lines:
-                print(line)
+        return import_one(arguments.old[0], arguments.new, arguments.journal)
     except Refusal as refusal:
-        raise Failure(str(refusal)) from None
-    return 0
+        old = arguments.old[0]
+        raise Failure(str(refusal) if old in str(refusal) else f"{old}: {refusal}") from None
 
 
-TOOL = Tool("rrdi-import", "[--journal DEPTH] OLD.rrd|OLD.wsp [NEW.rrdi]", __doc__, convert)
-
-
-def main() -> int:
-    return run(TOOL)
-
-
-if __name__ == "__main__":
-    sys.exit(main())
+TOOL = Tool("rrdi-import", "[--journal DEPTH] OLD.rrd|OLD.wsp [NEW.rrdi]\n"
+            "       rrdi-import [--journal DEPTH] --into DIRECTORY|--in-place OLD|TREE..", __doc__, convert)
+main = TOOL.main

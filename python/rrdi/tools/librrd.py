@@ -8,13 +8,12 @@ from __future__ import annotations
 import ctypes
 from typing import Any, Callable, List, NamedTuple, Optional, Tuple
 
+from ..limits import FUNCTIONS
 from .command_line import Failure
-from .program import Rows
+from .rows import Rows
 
 NAMES = ("librrd.so.8", "librrd.so.4", "librrd.so")
 NOT_INSTALLED = "RRDtool's library librrd is not installed (Debian: apt install librrd8)"
-# The functions, in the order of their numbers in RRDtool.
-FUNCTIONS = ("AVERAGE", "MIN", "MAX", "LAST")
 
 # RRDtool calls the callback for a file with this prefix.
 PREFIX = "cb//"
@@ -121,6 +120,7 @@ class Librrd:
         """Returns the rows that RRDtool requests. An exception becomes RRDtool's error, and is kept for the caller."""
         try:
             assert self.question is not None
+            # RRDtool numbers these functions as rrdi orders them, and then its others.
             if not 0 <= function < len(FUNCTIONS):
                 raise Failure("rrdi has no such function")
             rows = self.question(text(file), FUNCTIONS[function], start[0], end[0], step[0])

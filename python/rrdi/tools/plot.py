@@ -1,197 +1,196 @@
-"""Draws the rows that rrdi fetches, by gnuplot: a line for each source, with gaps where no value is known.
+"""Draws rows with gnuplot: a line for each source, with gaps where none is known.
 
-    rrdi-plot FILE PICTURE FUNCTION [ARGUMENTS OF FETCH..]
-    rrdi-plot load.rrdi load.png AVERAGE --start 1700000000 --end 1700086400
+usage: rrdi-plot FILE PICTURE [FUNCTION] [options]
 
-PICTURE ends in .png or .svg; rrdi-plot writes the picture at the end, if all went well. The line of a row covers the
-row's seconds. Times are in the time zone that the variable TZ names, or in the machine's. gnuplot runs the commands in
-the variable RRDI_PLOT_SETUP before it draws. The program is rrdi, or the program that the variable RRDI names. gnuplot
-must be installed.
+examples:
+  rrdi-plot load.rrdi load.png
+  rrdi-plot load.rrdi week.svg MAX -s -7d --dark
+  rrdi-plot net.rrdi net.png AVERAGE --source in,out --area --unit B/s
 
-Exit status: 0; 1 if there is nothing to draw or a program failed; 2 after wrong arguments.
+PICTURE ends in .png or .svg, and is written at the end, if all went well. A
+row's line covers its seconds. The legend has the last, least, mean and
+greatest value of each source. If the file has archives of MIN and MAX beside
+that of AVERAGE, with rows of the same length, a band shows their span.
+
+options:
+  -s, --start START    begin there (default: a day before END, or the first
+                       known row since then); times are RRDtool's, such as
+                       -7d, or 2026-11-25 14:00
+  -e, --end END        end there (default: now, or the last update if that is
+                       over a day ago)
+  -r, --resolution N   choose the archive whose rows cover about N seconds
+                       (default: as the picture has points)
+  --source NAME,..     draw these sources, in this order (default: all)
+  --area               fill the area under each line
+  --stack              draw the areas on top of each other
+  --fit                do not begin the axis at 0
+  --no-band            draw no band
+  --no-legend          draw no legend
+  --dark               light lines on a dark ground
+  --unit UNIT          write a unit after the numbers, such as B/s
+  --title TEXT         instead of the file's name
+  --size WIDTHxHEIGHT  the size of the picture in points (default: 900 wide,
+                       and as high as the legend needs)
+  -h, --help           show this help and exit
+  --version            show the version and exit
+
+environment:
+  RRDI                 a program to run instead of the C library, or of the
+                       rrdi on the PATH
+  RRDI_PLOT_SETUP      commands that gnuplot runs before it draws
+  TZ                   the time zone, if not the machine's
+
+gnuplot must be installed. docs/plotting.md has pictures.
+
+Exit status: 0; 1 if there is nothing to draw or a program failed; 2 after
+wrong arguments.
 """
 from __future__ import annotations
 
-import math
 import os
+import re
 import shutil
-import subprocess
-import sys
-import tempfile
 import time
-from typing import Callable, Dict, Iterator, List, NamedTuple, Tuple
+from typing import Dict, List, NamedTuple, Optional, Set, Tuple
 
+from ..printed import Settings, printed_rows
+from ..words import in_one_line
 from . import program
-from .command_line import Failure, Tool, WrongArguments, run
+from .command_line import Failure, Tool, WrongArguments
+from .options import function_at, given_words, number_of
+from .plotting.gnuplot import TERMINALS, Picture, draw, legend_rows
+from .plotting.look import DARK, LIGHT, WIDTH, size_of
+from .plotting.numbers import axis
+from .plotting.columns import Columns, chosen, columns_of, limits, series_of, since_known
+from .spans import DAY, length_text, span_of, time_text, zone_of
 
-TERMINALS = {".png": "pngcairo size 800,300", ".svg": "svg size 800,300"}
-DAY, MONTH = 86_400, 2_678_400  # seconds
-DISTANCES = (1, 2, 5, 10, 20, 30, 60, 120, 300, 600, 1_200, 1_800, 3_600, 7_200, 10_800, 21_600, 43_200, DAY, 2 * DAY,
-             4 * DAY, 7 * DAY, 14 * DAY, MONTH, 2 * MONTH, 3 * MONTH, 6 * MONTH, 12 * MONTH)
-MOST_LABELS = 7
-QUARTER = 900  # time zones differ by quarters of an hour
-MONTHS = ("Jan", "Feb", "Mar", "Apr", "May", "Jun", "Jul", "Aug", "Sep", "Oct", "Nov", "Dec")
-NOTHING = "nothing to draw: no known value, or fewer than two rows"
+VALUES = {"-s": "start", "-e": "end", "-r": "resolution", **{f"--{name}": name for name in (
+    "start", "end", "resolution", "source", "unit", "title", "size")}}
+FLAGS = {f"--{name}" for name in ("area", "stack", "fit", "no-band", "no-legend", "dark")}
+MOST_BANDS = 4  # more of them hide each other
+LEAST_SIZE, MOST_SIZE = 200, 10_000  # points
 
 
-class Points(NamedTuple):
-    """The points of a picture: the names of the sources, and for each point its time and its cells as drawn."""
-
-    names: List[str]
-    points: List[Tuple[int, str]]
+class PlotOptions(NamedTuple):
+    file: str
+    picture: str
+    function: Optional[str]
+    values: Dict[str, str]
+    flags: Set[str]
 
     @property
-    def begin(self) -> int:
-        return self.points[0][0]
-
-    @property
-    def end(self) -> int:
-        return self.points[-1][0]
+    def style(self) -> str:
+        return "stack" if "--stack" in self.flags else "area" if "--area" in self.flags else "lines"
 
 
-def points_of(names: List[str], rows: Dict[int, List[str]]) -> Points:
-    """Returns two points for each row, at the beginning and the end of its seconds. Rows follow each other without gaps.
-
-    # Errors
-    `Failure` if there are fewer than two rows, or no cell is known.
-    """
-    times = list(rows)
-    if len(times) < 2 or not any(cell != "nan" for cells in rows.values() for cell in cells):
-        raise Failure(NOTHING)
-    seconds = times[1] - times[0]
-    found = []
-    for ended, cells in rows.items():
-        found += [(ended - seconds, " ".join(cells)), (ended, " ".join(cells))]
-    return Points(names, found)
+def read_options(words: List[str]) -> PlotOptions:
+    given = given_words(words, VALUES, FLAGS)
+    if not 2 <= len(given.others) <= 3 or os.path.splitext(given.others[1])[1] not in TERMINALS:
+        raise WrongArguments
+    number_of(given.values, "resolution")
+    return PlotOptions(given.others[0], given.others[1], function_at(given.others, 2), given.values, set(given.flags))
 
 
-# ---- The labels of times
-
-Label = Tuple[str, int]
-
-
-def distance_of(seconds: int) -> int:
-    """Returns a distance between labels with which at most seven labels fit into this number of seconds."""
-    for distance in DISTANCES:
-        if seconds / distance <= MOST_LABELS:
-            return distance
-    distance = DISTANCES[-1]
-    while seconds / distance > MOST_LABELS:
-        distance *= 2
-    return distance
-
-
-def label_times(begin: int, end: int, distance: int) -> Iterator[Label]:
-    """Labels times that are round in the time zone; the first label of a day has the day too."""
-    by, day = math.gcd(distance, QUARTER), ""
-    for at in range(begin - begin % by, end + by, by):
-        now = time.localtime(at)
-        if not begin <= at <= end or (now.tm_hour * 3_600 + now.tm_min * 60 + now.tm_sec) % distance:
-            continue
-        text = f"{now.tm_hour:02}:{now.tm_min:02}" + (f":{now.tm_sec:02}" if distance < 60 else "")
-        is_same_day = day == f"{now.tm_mday:02} {MONTHS[now.tm_mon - 1]}"
-        day = f"{now.tm_mday:02} {MONTHS[now.tm_mon - 1]}"
-        yield (text if is_same_day else f"{text}\\n{day}"), at
-
-
-def local_time(year: int, month: int, day: int) -> int:
-    """Returns the midnight at which a day begins; days and months may be out of range."""
-    return int(time.mktime((year, month, day, 0, 0, 0, 0, 0, -1)))
-
-
-def label_days(begin: int, end: int, distance: int) -> Iterator[Label]:
-    """Labels midnights of the time zone. A day with a change of clocks is an hour shorter or longer."""
-    first, last = time.localtime(begin), None
-    for passed in range((end - begin) // DAY + 3):
-        at = local_time(first.tm_year, first.tm_mon, first.tm_mday + passed)
-        now = time.localtime(at)
-        if not begin <= at <= end or (now.tm_hour, now.tm_min) != (0, 0):
-            continue
-        if last is None or at - last >= distance - 7_200:
-            last = at
-            yield f"{now.tm_mday:02} {MONTHS[now.tm_mon - 1]}\\n{now.tm_year}", at
-
-
-def label_months(begin: int, end: int, distance: int) -> Iterator[Label]:
-    """Labels the first days of months."""
-    first, months = time.localtime(begin), int(distance / MONTH + 0.5)
-    for passed in range((end - begin) // (28 * DAY) + 3):
-        at = local_time(first.tm_year, first.tm_mon + passed, 1)
-        now = time.localtime(at)
-        if begin <= at <= end and (now.tm_year * 12 + now.tm_mon - 1) % months == 0:
-            yield f"{MONTHS[now.tm_mon - 1]}\\n{now.tm_year}", at
-
-
-def labels(begin: int, end: int) -> List[Label]:
-    """Returns at most about seven labels at round times of the time zone, so that the labels do not overlap."""
-    distance = distance_of(end - begin)
-    way: Callable[[int, int, int], Iterator[Label]]
-    way = label_times if distance < DAY else label_days if distance < MONTH else label_months
-    return list(way(begin, end, distance))
-
-
-# ---- gnuplot
-
-def commands(folder: str, terminal: str, points: Points) -> str:
-    """Returns the commands of gnuplot that draw the points."""
-    marks = ", ".join(f'"{text}" {at}' for text, at in labels(points.begin, points.end))
-    setup = os.environ.get("RRDI_PLOT_SETUP") or os.environ.get("LOOK", "")
-    return (f"set terminal {terminal} noenhanced\n"
-            f"set output '{folder}/picture'\n"
-            "set xdata time\n"
-            "set timefmt '%s'\n"
-            "# The format says that a label has two lines.\n"
-            'set format x "\\n"\n'
-            f"set xtics ({marks})\n"
-            "set key outside right top autotitle columnheader noenhanced\n"
-            "set grid\n"
-            f"set xrange ['{points.begin}':'{points.end}']\n"
-            f"{setup}\n"
-            f"plot for [column = 2:{len(points.names) + 1}] '{folder}/points' using 1:column "
-            "with lines linewidth 1.5\n")
-
-
-def draw(file: str, picture: str, terminal: str, points: Points) -> None:
-    """Draws the points by gnuplot, and then writes the picture.
+def read_size(text: Optional[str]) -> Tuple[int, int]:
+    """Returns a width and a height; a height of 0 is as high as the legend needs.
 
     # Errors
-    `Failure` if gnuplot drew nothing; gnuplot's message is on standard error.
+    `WrongArguments` if the text is no size.
     """
-    with tempfile.TemporaryDirectory(prefix="rrdi-plot") as folder:
-        lines = [" ".join(["time", *points.names])] + [f"{at} {cells}" for at, cells in points.points]
-        with open(f"{folder}/points", "w", encoding="utf-8") as written:
-            written.write("\n".join(lines) + "\n")
-        with open(f"{folder}/commands", "w", encoding="utf-8", errors="surrogateescape") as written:
-            written.write(commands(folder, terminal, points))
-        ran = subprocess.run(["gnuplot", f"{folder}/commands"], capture_output=True)
-        if ran.returncode != 0:
-            sys.stderr.write(ran.stderr.decode(errors="replace"))
-            raise Failure(f"gnuplot did not draw {file}")
-        if not os.path.exists(f"{folder}/picture"):
-            raise Failure(f"gnuplot did not draw {file}")
-        shutil.copyfile(f"{folder}/picture", picture)
+    if text is None:
+        return WIDTH, 0
+    found = re.fullmatch(r"(\d{1,5})(?:[x,](\d{1,5}))?", text)
+    sizes = [int(part) for part in found.groups() if part] if found else [0]
+    if not all(LEAST_SIZE <= size <= MOST_SIZE for size in sizes):
+        raise WrongArguments(f"--size must be WIDTHxHEIGHT, each from {LEAST_SIZE} to {MOST_SIZE}, not {text!r}")
+    return sizes[0], sizes[1] if len(sizes) > 1 else 0
+
+
+# ---- Rows
+
+def as_time(text: Optional[str]) -> Optional[str]:
+    """Returns a time for `span_of`. A whole number is seconds since 1970, as `rrdi fetch` takes it."""
+    return f"epoch+{text}" if text is not None and re.fullmatch("[0-9]{1,10}", text) else text
+
+
+def span(settings: Settings, options: PlotOptions) -> Tuple[int, int]:
+    """Returns the start and the end of the picture."""
+    now = int(time.time())
+    end = now if now - settings.last < DAY else settings.last
+    return span_of(as_time(options.values.get("start")), as_time(options.values.get("end")), end)
+
+
+def fetch(options: PlotOptions, function: str, resolution: int, begin: int, until: int) -> Columns:
+    """Returns the rows that have seconds between two times."""
+    printed = printed_rows(program.ask(["fetch", options.file, function, "--resolution", str(resolution),
+                                        "--start", str(begin), "--end", str(until - 1)]))
+    return columns_of(list(printed.names), dict(zip(printed.times, printed.words)))
+
+
+def fetch_for(options: PlotOptions, function: str, width: int, begin: int, until: int) -> Columns:
+    """Returns the rows of a picture with this width: without a start, those from the first known row on."""
+    def with_resolution(begin: int) -> Columns:
+        resolution = int(options.values.get("resolution") or max((until - begin) // width, 1))
+        return fetch(options, function, resolution, begin, until)
+    rows = with_resolution(begin)
+    if "start" in options.values:
+        return rows
+    first = since_known(rows).begin
+    return since_known(with_resolution(first)) if first > begin else rows
+
+
+def band(options: PlotOptions, settings: Settings, rows: Columns) -> "tuple[Columns, Columns] | None":
+    """Returns the rows of MIN and of MAX that go with rows of AVERAGE, if the file has them."""
+    if rows.seconds == settings.step or "--no-band" in options.flags:
+        return None
+    try:
+        low, high = (fetch(options, function, rows.seconds, rows.begin, rows.end) for function in ("MIN", "MAX"))
+    except Failure:  # there are none, or they have no known value
+        return None
+    return (low, high) if low.times == high.times == rows.times else None
+
+
+# ---- The picture
+
+def subtitle_of(function: str, rows: Columns) -> str:
+    return (f"{function} of {length_text(rows.seconds)}, {time_text(rows.begin)} to {time_text(rows.end)} "
+            f"{zone_of(rows.begin, rows.end)}")
+
+
+def picture_of(options: PlotOptions) -> Picture:
+    """Reads the rows and returns the picture of them."""
+    width, height = read_size(options.values.get("size"))
+    settings = program.settings(options.file)
+    function = options.function or settings.archives[0].function
+    begin, until = span(settings, options)
+    rows = fetch_for(options, function, width, begin, until)
+    names = options.values["source"].split(",") if "source" in options.values else rows.names
+    found = band(options, settings, rows) if function == "AVERAGE" and options.style != "stack" else None
+    rows = chosen(rows, names)
+    has_band = found is not None and len(names) <= MOST_BANDS
+    low, high = (chosen(one, names) for one in found) if found else (None, None)
+    series = series_of(rows, low, high, options.style == "stack")
+    least, greatest = limits(series, has_band)
+    if least >= 0 and "--fit" not in options.flags or options.style != "lines":
+        least, greatest = min(least, 0), max(greatest, 0)
+    unit = options.values.get("unit", "")
+    marks = axis(least, greatest, unit)
+    has_legend = "--no-legend" not in options.flags
+    size = size_of(width, height, max(map(len, marks.texts)), legend_rows(width, names) if has_legend else 0)
+    title = options.values.get("title", os.path.splitext(os.path.basename(options.file))[0])
+    return Picture(rows, series, marks, in_one_line(title), subtitle_of(function, rows), in_one_line(unit), options.style,
+                   has_band, has_legend, DARK if "--dark" in options.flags else LIGHT, size)
 
 
 def plot(words: List[str]) -> int:
-    if len(words) < 3:
-        raise WrongArguments
-    file, picture, *arguments = words
-    terminal = TERMINALS.get(os.path.splitext(picture)[1])
-    if terminal is None:
-        raise WrongArguments
+    options = read_options(words)
     if shutil.which("gnuplot") is None:
         raise Failure("gnuplot is not installed (Debian: apt install gnuplot-nox)")
-    draw(file, picture, terminal, points_of(*program.printed_rows(
-        program.ask(["fetch", program.file_argument(file), *arguments]))))
+    with program.naming(options.file):
+        picture = picture_of(options)
+    draw(options.file, options.picture, picture)
     return 0
 
 
-TOOL = Tool("rrdi-plot", "FILE PICTURE.png|PICTURE.svg FUNCTION [ARGUMENTS OF FETCH..]", __doc__, plot)
-
-
-def main() -> int:
-    return run(TOOL)
-
-
-if __name__ == "__main__":
-    sys.exit(main())
+TOOL = Tool("rrdi-plot", "FILE PICTURE.png|PICTURE.svg [FUNCTION] [options]", __doc__, plot)
+main = TOOL.main

@@ -1,36 +1,63 @@
-"""Records the load averages of this machine in a database, once. The first run creates the database. For cron:
+"""Records numbers of this machine, once; cron repeats it.
 
-    * * * * * RRDI=/usr/local/bin/rrdi /usr/local/bin/rrdi-record /var/lib/rrdi/load.rrdi
+usage: rrdi-record [--load] [--memory] [--disk DIRECTORY] [--network INTERFACE] FILE
 
-rrdi-record runs rrdi with RRDI_SYNC=1, and holds the lock FILE.lock while it runs. FILE.1, FILE.2 and FILE.3 are copies,
-made an hour apart, the newest first. If FILE is a damaged database, rrdi-record keeps it as FILE.refused and restores the
-newest readable copy. A file of another kind, or of a newer rrdi, is an error, and stays as it is. docs/recording.md has
-more. The program is rrdi, or the program that the variable RRDI names. The variable LOADAVG names the file with the load
-averages, instead of /proc/loadavg.
+examples, for crontab -e:
+  * * * * * RRDI=/usr/local/bin/rrdi /usr/local/bin/rrdi-record $HOME/load.rrdi
+  * * * * * RRDI=/usr/local/bin/rrdi /usr/local/bin/rrdi-record --memory --disk / $HOME/memory.rrdi
+
+options, which say what is recorded (default: --load):
+  --load               load1, load5 and load15, the load averages
+  --memory             mem_used, mem_cached, mem_free and swap_used, in bytes
+  --disk DIRECTORY     disk_used and disk_free of its file system, in bytes
+  --network INTERFACE  net_in and net_out of eth0, for example, in bytes per
+                       second
+  -h, --help           show this help and exit
+  --version            show the version and exit
+
+files:
+  FILE                 the database, which the first run creates, with a year
+                       of what its options name
+  FILE.1, .2, .3       copies, an hour apart, the newest first
+  FILE.refused         a damaged database, which the newest readable copy
+                       has replaced
+  FILE.lock            held while rrdi-record runs
+
+Each change is flushed to the disk, as with RRDI_SYNC=1. A FILE of another
+kind, or of a newer rrdi, is an error and stays as it is.
+
+environment:
+  RRDI                 a program to run instead of the C library, or of the
+                       rrdi on the PATH
+  LOADAVG              the file with the averages (default: /proc/loadavg)
+  RRDI_PROC            the directory of the system's files (default: /proc)
+
+docs/recording.md has more, also on how to record something else.
 
 Exit status: 0; 1 if the sample was not recorded; 2 after wrong arguments.
 """
 from __future__ import annotations
 
 import os
-import re
 import shutil
-import sys
 from contextlib import contextmanager
-from typing import Iterator, List, NamedTuple
+from functools import partial
+from typing import Callable, Dict, Iterator, List, NamedTuple
 
 from ..damaged import held, is_being_made
 from ..locks import EXCLUSIVE, close, lock
-from ..making import NewFile
+from ..making import NewFile, make
 from ..reader.undo import MARK
-from . import program
-from .command_line import Failure, Tool, WrongArguments, called_name, run, say
+from . import machine, program
+from .command_line import Failure, Tool, WrongArguments, called_name, say
+from .machine import Number
 
+WHAT = ("--load", "--memory", "--disk", "--network")  # the order of the sources
 COPIES = 3
 HOUR = 3_600  # seconds between copies
 PATIENCE = 30.0  # seconds for which a run waits for another run
-DEFINITIONS = ["DS:load1:GAUGE:150:0:U", "DS:load5:GAUGE:150:0:U", "DS:load15:GAUGE:150:0:U",
-               "RRA:AVERAGE:0.5:1:1440", "RRA:AVERAGE:0.5:10:1008", "RRA:AVERAGE:0.5:180:3000", "RRA:MAX:0.5:180:3000"]
+HEARTBEAT = 150  # seconds: one run that fails leaves no gap
+ARCHIVES = ["RRA:AVERAGE:0.5:1:1440", "RRA:AVERAGE:0.5:10:1008", "RRA:AVERAGE:0.5:180:3000", "RRA:MAX:0.5:180:3000"]
 
 
 @contextmanager
@@ -62,9 +89,13 @@ def copy(old: str, new: str) -> None:
         made.replace()
 
 
-def fill(made: NewFile) -> None:
-    """Fills a new file with an empty database."""
-    program.ask(["create", program.file_argument(made.unfinished), "--step", "60", *DEFINITIONS])
+Fill = Callable[[str], object]  # creates an empty database
+
+
+def fill_for(numbers: List[Number]) -> Fill:
+    """Returns what creates an empty database for these numbers."""
+    definitions = [f"DS:{number.name}:{number.type}:{HEARTBEAT}:0:U" for number in numbers]
+    return lambda new: program.ask(["create", new, "--step", "60", *definitions, *ARCHIVES])
 
 
 # ---- Damaged files
@@ -72,14 +103,14 @@ def fill(made: NewFile) -> None:
 DAMAGED = ("truncated at ", "bad block at ", "bad entry ", "trailing at ")
 
 
-class Found(NamedTuple):
+class Condition(NamedTuple):
     """The last time of a database, or how the database is damaged."""
 
     last: int
     damage: str = ""
 
 
-def look(file: str) -> Found:
+def look(file: str) -> Condition:
     """Asks for the last time of a database.
 
     # Errors
@@ -87,14 +118,14 @@ def look(file: str) -> Found:
     one that another program is making.
     """
     try:
-        return Found(program.last(file))
-    except program.Refused as refused:
-        _, _, damage = str(refused).partition("file: ")
+        return Condition(program.last(file))
+    except program.CommandFailed as failed:
+        _, _, damage = str(failed).partition("file: ")
         if not damage.startswith(DAMAGED) or not has_mark(file):
-            raise Failure(f"{file}: {refused}") from None
+            raise Failure(f"{file}: {failed}") from None
         if damage == "truncated at 0" and is_being_made(file):
-            raise Failure(f"{file}: {refused}; another program may be making the file") from None
-        return Found(0, damage)
+            raise Failure(f"{file}: {failed}; another program may be making the file") from None
+        return Condition(0, damage)
 
 
 def has_mark(file: str) -> bool:
@@ -109,12 +140,12 @@ def newest_copy(file: str) -> str:
         try:
             program.last(f"{file}.{number}")
             return f"{file}.{number}"
-        except program.Refused:
+        except program.CommandFailed:
             continue
     return ""
 
 
-def restore(file: str, damage: str) -> None:
+def restore(file: str, damage: str, fill: Fill) -> None:
     """Replaces a damaged file by its newest readable copy, or by an empty database, and keeps the damaged one.
 
     # Errors
@@ -129,25 +160,23 @@ def restore(file: str, damage: str) -> None:
             if chosen:
                 shutil.copy(chosen, made.unfinished)
             else:
-                fill(made)
+                fill(made.unfinished)
             made.replace()
     what = f"; restored from {chosen}" if chosen else " and no copy is readable; started an empty database"
     say(called_name(TOOL), f"{file} is damaged ({damage}){what}")
 
 
-def make_ready(file: str) -> int:
+def make_ready(file: str, fill: Fill) -> int:
     """Creates or restores the file if necessary, and returns its last time.
 
     # Errors
     `Failure` if the file cannot be opened or read, or is no database of this rrdi.
     """
     if not os.path.exists(file):
-        with NewFile(file) as made:
-            fill(made)
-            made.appear()  # or another program has made the file meanwhile
+        make(file, fill)  # or another program has made the file meanwhile
     found = look(file)
     if found.damage:
-        restore(file, found.damage)
+        restore(file, found.damage, fill)
         found = look(file)
     return found.last
 
@@ -156,7 +185,7 @@ def keep_copies(file: str, last: int) -> None:
     """Copies the file if the newest copy is at least an hour older; renames the older copies."""
     try:
         copied = program.last(f"{file}.1")
-    except program.Refused:
+    except program.CommandFailed:
         copied = 0
     if last - copied < HOUR:
         return
@@ -166,33 +195,56 @@ def keep_copies(file: str, last: int) -> None:
     copy(file, f"{file}.1")
 
 
-def read_loads() -> List[str]:
-    """Returns the load averages of 1, 5 and 15 minutes, as the system prints them."""
-    path = os.environ.get("LOADAVG") or "/proc/loadavg"
-    with open(path, encoding="ascii", errors="replace") as file:
-        loads = file.readline().split()[:3]
-    if len(loads) != 3 or not all(re.fullmatch(r"\d+(\.\d+)?", load) for load in loads):
-        raise Failure(f"{path} has no three load averages")
-    return loads
+class RecordArguments(NamedTuple):
+    """The arguments: what reads the numbers, in their order, and the database."""
+
+    readers: List[Callable[[], List[Number]]]
+    file: str
+
+
+def read_arguments(words: List[str]) -> RecordArguments:
+    readers: Dict[str, Callable[[], List[Number]]] = {}
+    words = list(words)
+    while words and words[0].startswith("--"):
+        option = words.pop(0)
+        if option in readers or option not in WHAT:
+            raise WrongArguments
+        if option in ("--load", "--memory"):
+            readers[option] = machine.load if option == "--load" else machine.memory
+        elif words and words[0]:
+            readers[option] = partial(machine.disk if option == "--disk" else machine.network, words.pop(0))
+        else:
+            raise WrongArguments
+    if len(words) != 1 or not words[0] or words[0].startswith("-"):
+        raise WrongArguments
+    return RecordArguments([readers[option] for option in WHAT if option in readers] or [machine.load], words[0])
 
 
 def record(words: List[str]) -> int:
-    if len(words) != 1 or not words[0] or words[0].startswith("-"):
-        raise WrongArguments
-    file = words[0]
+    arguments = read_arguments(words)
+    file = arguments.file
     os.environ["RRDI_SYNC"] = "1"
     with alone(file + ".lock"):
-        keep_copies(file, make_ready(file))
-        program.ask(["update", file, ":".join(["N", *read_loads()])])
+        numbers = [number for reader in arguments.readers for number in reader()]
+        keep_copies(file, make_ready(file, fill_for(numbers)))
+        update(file, numbers)
     return 0
 
 
-TOOL = Tool("rrdi-record", "FILE", __doc__, record)
+def update(file: str, numbers: List[Number]) -> None:
+    """Adds a sample. Sources of the file that are not among the numbers are unknown.
+
+    # Errors
+    `Failure` if rrdi refuses the sample, for example because the file lacks a source.
+    """
+    names = [number.name for number in numbers]
+    try:
+        program.ask(["update", file, "--template", ":".join(names), ":".join(["N", *(number.value for number in numbers)])])
+    except program.CommandFailed as failed:
+        if str(failed) == "no such data source":
+            raise Failure(f"{file} lacks one of {', '.join(names)}; record it in another file") from None
+        raise
 
 
-def main() -> int:
-    return run(TOOL)
-
-
-if __name__ == "__main__":
-    sys.exit(main())
+TOOL = Tool("rrdi-record", "[--load] [--memory] [--disk DIRECTORY] [--network INTERFACE] FILE", __doc__, record)
+main = TOOL.main

@@ -1,22 +1,40 @@
-"""Runs commands in RRDtool's syntax on rrdi's files, and prints what RRDtool prints.
+"""Takes RRDtool's commands for rrdi's files, and answers as RRDtool does.
 
-    rrdi-rrdtool COMMAND ARGUMENT..
-    rrdi-rrdtool [--exact] [--lengths] - [DIRECTORY]
-    rrdi-rrdtool [--exact | --rrdi | --show] COMMAND ARGUMENT..
+usage: rrdi-rrdtool [--exact | --rrdi | --show] COMMAND ARGUMENT..
+       rrdi-rrdtool [--exact] [--lengths] - [DIRECTORY]
 
-COMMAND is create, update, updatev, tune, resize, fetch, first, last, lastupdate, info, graph, graphv or xport, with
-RRDtool's options, times such as now-1h, durations such as 5m, and exponents. graph, graphv and xport need RRDtool's
-library, which draws the picture; rrdi-graph --help has more.
+examples:
+  rrdi-rrdtool fetch room.rrdi AVERAGE -s now-1h
+  rrdi-rrdtool --show update room.rrdi 'now:2.05e1'
 
-The second form is RRDtool's pipe mode: it reads a command per line from standard input. After each command it prints the
-command's output and `OK`, or `ERROR` and the reason. Pipe mode also has cd, mkdir, ls, pwd and quit. With --exact,
-numbers have 17 digits instead of RRDtool's 11; with --rrdi the output is rrdi's own; with --show rrdi-rrdtool prints the
-commands of rrdi and changes nothing. With --lengths an answer in pipe mode begins with a line that has OK or ERROR and
-the number of bytes of each text that follows, so no text reads as an answer. The program is rrdi, or the program that
-the variable RRDI names. docs/migrate.md has more.
+COMMAND is create, update, updatev, tune, resize, fetch, first, last,
+lastupdate, info, graph, graphv or xport, with RRDtool's options, times such as
+now-1h, durations such as 5m, and exponents. graph, graphv and xport need
+RRDtool's library (rrdi-graph --help).
 
-Exit status: 0; 1 and `ERROR: REASON` on standard error if the command is refused; 2 after wrong arguments. In pipe mode
-the status is 0 at the end of the input and after quit.
+With - you get RRDtool's pipe mode: a command per line on standard input, and
+after each its output and OK, or ERROR and the reason. Pipe mode also has cd,
+mkdir, ls, pwd and quit.
+
+options:
+  --exact              print 17 digits instead of RRDtool's 11
+  --rrdi               print what rrdi prints
+  --show               print rrdi's commands instead of running them
+                       (neither --show nor --rrdi can resize)
+  --lengths            begin each answer in pipe mode with the number of bytes
+                       of each text that follows, so no text reads as an answer
+  -h, --help           show this help and exit
+  --version            show the version and exit
+
+environment:
+  RRDI                 a program to run instead of the C library, or of the
+                       rrdi on the PATH
+
+docs/migrate.md has more.
+
+Exit status: 0; 1 and `ERROR: REASON` on standard error if the command is
+refused; 2 after wrong arguments. In pipe mode: 0 at the end of the input and
+after quit.
 """
 from __future__ import annotations
 
@@ -26,9 +44,9 @@ from typing import TYPE_CHECKING, List
 
 from .. import program
 from ..answers import Printed, lines_of, plain
-from ..command_line import Failure, Tool, WrongArguments, error_text, give_up_output, run
+from ..command_line import Failure, Tool, WrongArguments, error_text, give_up_output
 from ..exponents import be_exact
-from .commands import Commands, shown
+from .running import Commands, commands_for
 from .texts import VERSION
 
 # A command imports what it alone needs, because the imports are most of what a call costs.
@@ -84,7 +102,7 @@ def run_pipe(words: List[str], has_lengths: bool) -> int:
 def run_as_rrdi(name: str, words: List[str], is_shown: bool) -> int:
     """Translates a command to commands of rrdi, and runs them with rrdi's own output, or prints them."""
     import shlex
-    for command in shown(name, words):
+    for command in commands_for(name, words):
         if name == "resize":
             raise Failure("resize writes resize.rrd; use it without --rrdi and --show, or rrdi resize")
         if is_shown:
@@ -124,7 +142,4 @@ def run_words(words: List[str]) -> int:
 
 
 TOOL = Tool("rrdi-rrdtool", USAGE, __doc__, run_words, VERSION)
-
-
-def main() -> int:
-    return run(TOOL)
+main = TOOL.main

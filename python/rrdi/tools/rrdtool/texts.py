@@ -3,11 +3,12 @@
 # Without `annotations` of __future__: a named tuple whose types are texts makes a tool start a tenth slower.
 from typing import TYPE_CHECKING, List, NamedTuple, Optional
 
+from ...printed import Settings
 from ..exponents import exponent
-from ..program import Rows, Settings
+from ..rows import Rows
 
 if TYPE_CHECKING:
-    from ..outline import Outline
+    from ..unfinished import Unfinished
 
 VERSION = "RRDtool 1.7.2 (rrdi-rrdtool, on rrdi's files)"
 
@@ -35,9 +36,9 @@ def last_update_text(settings: Settings) -> str:
     return f"{names}\n\n{settings.last:10}:{values}\n"
 
 
-def source_lines(settings: Settings, outline: "Outline") -> List[str]:
+def source_lines(settings: Settings, unfinished: "Unfinished") -> List[str]:
     lines = []
-    for number, (source, part) in enumerate(zip(settings.sources, outline.steps)):
+    for number, (source, part) in enumerate(zip(settings.sources, unfinished.steps)):
         key = f"ds[{source.name}]"
         lines += [f"{key}.index = {number}", f'{key}.type = "{source.type}"',
                   f"{key}.minimal_heartbeat = {source.heartbeat}",
@@ -48,23 +49,23 @@ def source_lines(settings: Settings, outline: "Outline") -> List[str]:
     return lines
 
 
-def archive_lines(settings: Settings, outline: "Outline") -> List[str]:
+def archive_lines(settings: Settings, unfinished: "Unfinished") -> List[str]:
     lines = []
     for number, archive in enumerate(settings.archives):
         key = f"rra[{number}]"
         newest = settings.last // settings.resolution(number) % archive.rows
         lines += [f'{key}.cf = "{archive.function}"', f"{key}.rows = {archive.rows}", f"{key}.cur_row = {newest}",
                   f"{key}.pdp_per_row = {archive.steps}", f"{key}.xff = {exponent(float(archive.xff), 'NaN')}"]
-        for column, part in enumerate(outline.rows[number]):
+        for column, part in enumerate(unfinished.rows[number]):
             lines += [f"{key}.cdp_prep[{column}].value = {exponent(part.value, 'NaN')}",
                       f"{key}.cdp_prep[{column}].unknown_datapoints = {part.unknown_steps}"]
     return lines
 
 
-def info_text(file: str, settings: Settings, outline: "Outline") -> str:
+def info_text(file: str, settings: Settings, unfinished: "Unfinished") -> str:
     lines = [f'filename = "{file}"', 'rrd_version = "0003"', f"step = {settings.step}",
-             f"last_update = {settings.last}", f"header_size = {outline.header_size}",
-             *source_lines(settings, outline), *archive_lines(settings, outline)]
+             f"last_update = {settings.last}", f"header_size = {unfinished.header_size}",
+             *source_lines(settings, unfinished), *archive_lines(settings, unfinished)]
     return "\n".join(lines) + "\n"
 
 

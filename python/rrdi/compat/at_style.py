@@ -3,7 +3,7 @@ from __future__ import annotations
 
 import re
 import time
-from typing import List, NoReturn, Optional
+from typing import List, NoReturn, Optional, Tuple
 
 from .syntax import Untranslatable
 
@@ -164,3 +164,19 @@ class Moment:
         if told < 0:
             self.refuse()
         return told
+
+
+def span(first: str, second: str, now: int) -> Tuple[int, int]:
+    """Returns a start and an end, in seconds since 1970; one of them may be relative to the other.
+
+    # Errors
+    `Untranslatable` if one can't be parsed, or both are relative to each other.
+    """
+    start, end = Moment(first, now), Moment(second, now)
+    if start.base and end.base:
+        raise Untranslatable("--start and --end cannot both be relative to each other")
+    if end.base:
+        begin = start.seconds()
+        return begin, end.seconds(start=begin)
+    until = end.seconds()
+    return start.seconds(end=until), until

@@ -5,32 +5,37 @@ import os
 import re
 import time
 from contextlib import contextmanager
-from typing import Callable, Dict, Iterator, List, Tuple
+from typing import Callable, Dict, Iterator, List, Optional, Tuple
 
+from ...compat.at_style import span
 from ...compat.resizing import resize_copy
 from ...compat.syntax import Untranslatable, read_length, read_options
-from ...compat.translate import Command, Translation, translate
+from ...compat.translate import Command, translate
+from ...limits import FUNCTIONS
+from ...printed import Settings
 from .. import program
 from ..command_line import Failure
-from ..fetching import FUNCTIONS, fetch, rows_of
-from ..program import Refused, Rows, Settings
+from ..kinds import is_of_rrdtool
+from ..program import CommandFailed
+from ..rows import Rows, fetch, rows_of
 from .texts import NewCell, fetch_text, info_text, last_update_text, update_text
 
-CHANGES = ("create", "update", "tune", "resize")
 ELSEWHERE = {"dump": "rrdi-export prints the XML", "restore": "use rrdtool restore and rrdi-import",
              "list": "use ls", "flushcached": "rrdi has no daemon"}
 
 
-class Questions:
+class FileQuestions:
     """The facts about a file that the translation of some arguments needs."""
 
     def last(self, file: str) -> int:
         with explaining(file):
             return program.last(file)
 
-    def info(self, file: str) -> str:
-        ran = program.run(["info", program.file_argument(file)])
-        return ran.out if ran.status == 0 else ""
+    def settings(self, file: str) -> Optional[Settings]:
+        try:
+            return program.settings(file)
+        except CommandFailed:
+            return None
 
 
 def explain(file: str, reason: str) -> str:
@@ -47,17 +52,8 @@ def explaining(file: str) -> Iterator[None]:
     """Reports a refusal of rrdi in RRDtool's form."""
     try:
         yield
-    except Refused as refused:
-        raise Failure(explain(file, str(refused))) from None
-
-
-def is_of_rrdtool(file: str) -> bool:
-    """Checks by its first bytes whether a file is a file of RRDtool."""
-    try:
-        with open(file, "rb") as opened:
-            return opened.read(4) == b"RRD\0"
-    except OSError:
-        return False
+    except CommandFailed as failed:
+        raise Failure(explain(file, str(failed))) from None
 
 
 def explain_update(command: Command, reason: str, now: int) -> str:
@@ -122,7 +118,7 @@ class Commands:
             raise Failure(str(reason)) from None
 
     def translated(self, name: str, words: List[str]) -> List[Command]:
-        return translate(name, words, int(self.clock()), Questions())
+        return translate(name, words, int(self.clock()), FileQuestions())
 
     # ---- Changes
 
@@ -130,8 +126,8 @@ class Commands:
         for command in self.translated("create", words):
             try:
                 program.ask(command)
-            except Refused as refused:
-                raise Failure(f"creating '{command[1]}': {refused}") from None
+            except CommandFailed as failed:
+                raise Failure(f"creating '{command[1]}': {failed}") from None
         return ""
 
     def update(self, words: List[str]) -> str:
@@ -143,8 +139,8 @@ class Commands:
             now = int(self.clock())
             try:
                 program.ask(command)
-            except Refused as refused:
-                raise Failure(explain_update(command, str(refused), now)) from None
+            except CommandFailed as failed:
+                raise Failure(explain_update(command, str(failed), now)) from None
 
     def update_with_rows(self, words: List[str]) -> str:
         """Updates, and returns the rows that the update finished."""
@@ -152,7 +148,7 @@ class Commands:
         if not commands:
             return update_text([])
         file = commands[0][1]
-        before = Questions().last(file)
+        before = FileQuestions().last(file)
         self.run_updates(commands)
         settings = program.settings(file)
         times = [int(sample.split(":")[0]) for command in commands for sample in command[2:]
@@ -189,7 +185,7 @@ class Commands:
                     settings, pairs = program.settings(file), zip(others[::2], others[1::2])
                     others = [word for pair in pairs if needed(settings, *pair) for word in pair]
                 if others:
-                    program.ask(["tune", program.file_argument(file), *others])
+                    program.ask(["tune", file, *others])
         return ""
 
     def resize(self, words: List[str]) -> str:
@@ -199,8 +195,8 @@ class Commands:
             resize_copy(file, lambda copy: program.ask([name, copy, *others]))
         except OSError as error:
             raise Failure(f"opening '{error.filename}': {error.strerror}") from None
-        except Refused as refused:
-            raise Failure(explain(file, str(refused))) from None
+        except CommandFailed as failed:
+            raise Failure(explain(file, str(failed))) from None
         return ""
 
     # ---- Reading
@@ -220,8 +216,8 @@ class Commands:
         if function not in FUNCTIONS:
             raise Failure(f"unknown consolidation function '{function}'")
         given = dict(options)
-        start, end = Translation(int(self.clock()), Questions()).span(
-            given.get("--start", "end-1day"), given.get("--end", "now"))
+        start, end = span(
+            given.get("--start", "end-1day"), given.get("--end", "now"), int(self.clock()))
         resolution = int(read_length(given.get("--resolution", "1"), "resolution")) or 1
         if "--align-start" in given:
             start, end = start - start % resolution, end - start % resolution
@@ -238,11 +234,11 @@ class Commands:
 
     def first(self, words: List[str]) -> str:
         command = self.translated("first", words)[0]
-        return self.ask(command[1], ["first", program.file_argument(command[1]), *command[2:]])
+        return self.ask(command[1], command)
 
     def last(self, words: List[str]) -> str:
         file, _ = self.one_file("last", words)
-        return self.ask(file, ["last", program.file_argument(file)])
+        return self.ask(file, ["last", file])
 
     def ask(self, file: str, words: List[str]) -> str:
         with explaining(file):
@@ -258,24 +254,25 @@ class Commands:
 
     def info(self, words: List[str]) -> str:
         file, _ = self.one_file("info", words)
-        from ..outline import read_outline
-        return info_text(file, self.settings(file), read_outline(file))
+        from ..unfinished import read_unfinished
+        return info_text(file, self.settings(file), read_unfinished(file))
 
     def times(self, words: List[str]) -> str:
         """Returns a start and an end in seconds since 1970, as RRDs::times does."""
         if len(words) != 2:
             raise Failure("Usage: times <start> <end>")
-        return "{} {}\n".format(*Translation(int(self.clock()), Questions()).span(*words))
+        first, second = words
+        return "{} {}\n".format(*span(first, second, int(self.clock())))
 
 
-def shown(name: str, words: List[str], clock: Callable[[], float] = time.time) -> List[Command]:
+def commands_for(name: str, words: List[str], clock: Callable[[], float] = time.time) -> List[Command]:
     """Returns the commands of rrdi for a command of RRDtool.
 
     # Errors
     `Failure` if rrdi does not have the command or a feature in the arguments.
     """
     try:
-        return translate(name, words, int(clock()), Questions())
+        return translate(name, words, int(clock()), FileQuestions())
     except Untranslatable as reason:
         raise Failure(str(reason)) from None
 

@@ -1,12 +1,12 @@
-"""Amounts in whole millionths, as rrdi has them."""
+"""Converts numbers of RRDtool to whole millionths."""
 from __future__ import annotations
 
 import math
 import re
 from dataclasses import dataclass
 
-MILLION = 10**6
-RATE_LIMIT = 1e18  # rrdi takes values of a gauge with a smaller absolute value
+from ..amounts import LARGEST, Millionths, shortened
+
 BOUND_LIMIT = 2.0**64
 
 
@@ -17,11 +17,7 @@ def millionths(value: float) -> int:
 
 def as_text(amount: int | None) -> str:
     """Returns the text of an amount of millionths, without zeros at the end; U if the amount is unknown."""
-    if amount is None:
-        return "U"
-    whole, rest = divmod(abs(amount), MILLION)
-    text = f"{'-' * (amount < 0)}{whole}"
-    return text if rest == 0 else f"{text}.{rest:06}".rstrip("0")
+    return "U" if amount is None else shortened(str(Millionths(amount)))
 
 
 def raw_value(kind: str, text: str) -> str | None:
@@ -34,13 +30,13 @@ def raw_value(kind: str, text: str) -> str | None:
 
 
 @dataclass
-class Losses:
-    """The numbers that became unknown or 0."""
+class Converter:
+    """Converts numbers, and notes whether some became unknown or 0."""
 
     too_large: bool = False
     too_small: bool = False
 
-    def amount(self, value: float, limit: float = RATE_LIMIT) -> int | None:
+    def amount(self, value: float, limit: float = LARGEST) -> int | None:
         """Converts a number of RRDtool to millionths; nan, and an absolute value of `limit` or more, become None."""
         if math.isnan(value):
             return None

@@ -1,15 +1,25 @@
 """Reads rows as `rrdtool fetch` chooses them."""
-from __future__ import annotations
 
+# Without `annotations` of __future__: a named tuple whose types are texts makes a tool start a tenth slower.
 import math
-from typing import Dict, List, Optional
+from typing import Dict, List, NamedTuple, Optional
 
+from ..limits import FUNCTIONS
+from ..printed import Settings, printed_rows
 from . import program
 from .command_line import Failure
-from .program import Rows, Settings
 
-FUNCTIONS = ("AVERAGE", "MIN", "MAX", "LAST")
 NO_ARCHIVE = "the RRD does not contain an RRA matching the chosen CF"
+
+
+class Rows(NamedTuple):
+    """Rows of one archive. The first row ends at `start` + `step`, the last one at `end`; None is an unknown cell."""
+
+    start: int
+    end: int
+    step: int
+    names: List[str]
+    cells: List[List[Optional[float]]]
 
 
 def choose(settings: Settings, function: str, start: int, end: int, resolution: int) -> int:
@@ -54,9 +64,9 @@ def rows_of(file: str, settings: Settings, number: int, start: int, end: int) ->
     first, last = max(start, oldest), min(end, newest)
     found: Dict[int, List[str]] = {}
     if first < last:
-        printed = program.ask(["fetch", program.file_argument(file), settings.archives[number].function, "--resolution",
-                               str(step), "--start", str(first), "--end", str(last - 1)])
-        _, found = program.printed_rows(printed)
+        printed = printed_rows(program.ask(["fetch", file, settings.archives[number].function, "--resolution", str(step),
+                                            "--start", str(first), "--end", str(last - 1)]))
+        found = dict(zip(printed.times, printed.words))
     cells = [[as_float(cell) for cell in found[time]] if time in found else list(unknown)
              for time in range(start + step, end + 1, step)]
     return Rows(start, end, step, names, cells)
@@ -71,7 +81,7 @@ def fetch(file: str, function: str, start: int, end: int, resolution: int = 1) -
     """Returns the rows that `rrdtool fetch` prints.
 
     # Errors
-    - `program.Refused` if the file is not a database.
+    - `program.CommandFailed` if the file is not a database.
     - `Failure` if no archive has the function, or if `start` is after `end`.
     """
     if start > end:

@@ -1,0 +1,99 @@
+"""The program rrdi in the place of the C library: each call is a process."""
+from __future__ import annotations
+
+import os
+from typing import Iterator, List, Tuple
+
+from .errors import OK, fault_of
+from .protocol import DONE, Answer
+
+ERROR = b"ERROR: "
+ONE_NUMBER = frozenset({b"first", b"last"})  # the commands that print a line with nothing but a number
+
+
+class NoAnswer(Exception):
+    """The program did not start, for the system's `reason`, or it ended with a `status` that rrdi does not have."""
+
+    def __init__(self, program: str, reason: str, status: int = 0):
+        super().__init__(f"{program} ended with {status}" if status else f"{program}: {reason}")
+        self.program, self.reason, self.status = program, reason, status
+
+
+class ByProgram:
+    """The library's functions on files, by runs of a program. The program has its own clock, so `now` is not used.
+
+    # Errors
+    `NoAnswer` from each call if the program does not start or is killed.
+    """
+
+    def __init__(self, program: str):
+        self.program = program
+
+    def run_file(self, path: bytes, words: bytes, now: int, wait: int, syncs: bool) -> Answer:
+        name, *others = words.split(b"\0")
+        answer = self._ran([name, as_argument(path), *others], b"", wait, syncs, [0])
+        return answer if answer.fault or answer.output else DONE
+
+    def batch_file(self, path: bytes, lines: bytes, now: int, wait: int, syncs: bool) -> Answer:
+        # What `last` prints after each line shows which line an output is of.
+        given = lines.split(b"\n")
+        mixed = b"".join(line + b"\nlast\n" for line in given)
+        answer = self._ran([b"batch", as_argument(path)], mixed, wait, syncs, [0, 1])
+        if answer.fault != OK:
+            return answer
+        output, refused = of_lines(given, answer.output)
+        return answer._replace(output=output, refused=refused)
+
+    def _ran(self, words: List[bytes], given: bytes, wait: int, syncs: bool, ends: List[int]) -> Answer:
+        """Runs the program, which ends without a message with one of the statuses `ends`."""
+        import subprocess  # the library needs no process
+        env = {**os.environ, "RRDI_WAIT": str(wait // 1_000), "RRDI_SYNC": "1" if syncs else "0"}
+        try:
+            # In a session of its own, so that a key that ends a tool does not end a run that writes.
+            ran = subprocess.run([os.fsencode(self.program), *words], input=given, capture_output=True, env=env,
+                                 start_new_session=True)
+        except OSError as error:
+            raise NoAnswer(self.program, error.strerror or str(error)) from None
+        # The lines after the first one say why FILE cannot be opened or written, or how rrdi is used.
+        reason = ran.stderr.decode(errors="surrogateescape").strip().split("\n")[0].replace("ERROR: ", "", 1)
+        if not reason:
+            if ran.returncode not in ends:
+                raise NoAnswer(self.program, "", ran.returncode)
+            return Answer(OK, 0, 0, ran.stdout)
+        fault, at = fault_of(reason)
+        return Answer(fault, 0, at, reason.encode(errors="surrogateescape"))
+
+
+def as_argument(path: bytes) -> bytes:
+    """Returns a path as an argument that rrdi does not take for an option."""
+    return b"./" + path if path.startswith(b"-") else path
+
+
+def of_lines(given: List[bytes], printed: bytes) -> Tuple[bytes, Tuple[int, ...]]:
+    """Returns the output of the lines of a batch, and the numbers of the refused ones, from an output that has a line of
+    `last` after each of theirs."""
+    lines, kept, refused = iter(printed.splitlines(True)), [], []
+    for number, line in enumerate(given, 1):
+        name = (line.split() or [b""])[0]
+        found = output_of(name, lines)
+        kept += found
+        if found and found[0].startswith(ERROR):
+            refused.append(number)
+    return b"".join(kept), tuple(refused)
+
+
+def output_of(name: bytes, lines: Iterator[bytes]) -> List[bytes]:
+    """Takes the output of one command, and the line of `last` after it. Such a line has neither a colon nor an equals
+    sign, unless it is a refusal; each line of other commands has one of them, and a refused command prints one line."""
+    if not name:
+        next(lines, b"")
+        return []
+    first = next(lines, ERROR + b"no result\n")
+    if first.startswith(ERROR) or name in ONE_NUMBER:
+        next(lines, b"")
+        return [first]
+    found = []
+    while b":" in first or b"=" in first:
+        found.append(first)
+        first = next(lines, b"")
+    return found

@@ -1,0 +1,122 @@
+"""Converts one file of RRDtool or of whisper: reads the old file, and makes the new database."""
+from __future__ import annotations
+
+import os
+from typing import Callable, Iterable, Iterator, List, Optional
+
+from ..importing.batch import batch_of
+from ..importing.dump import read_rrd
+from ..importing.whisper import read_whisper, whisper_batch
+from ..making import NewFile
+from ..words import in_one_line
+from . import program, rrdtool_program
+from .command_line import Failure
+from .kinds import WHISPER_END
+
+LONGEST_NOTE = 1_000  # characters
+
+# Is told how many bytes of the old file are read, and how many there are.
+Reading = Callable[[int, int], None]
+
+
+def size_of(file: str) -> int:
+    """Returns the bytes of a file, or 0 if the system does not say: whoever reads the file reports the error."""
+    try:
+        return os.path.getsize(file)
+    except OSError:
+        return 0
+
+
+class Conversion:
+    """The conversion of one file. `notes` has what was left out or changed, each in one line; `skipped` is the number of
+    data sources that were left out, `sources` and `archives` are the numbers of those that the new database has."""
+
+    def __init__(self, old: str, journal: Optional[str], note: Callable[[str], None] = lambda text: None):
+        self.old, self.journal, self._note = old, journal, note
+        self.notes: List[str] = []
+        self.sources = self.archives = self.skipped = 0
+
+    def note(self, text: str) -> None:
+        """Keeps and passes on what cannot be converted, in one line, whatever the old file's texts have in them."""
+        shown = in_one_line(text if len(text) <= LONGEST_NOTE else f"{text[:LONGEST_NOTE]}..")
+        self.notes.append(shown)
+        self._note(shown)
+
+    def lines(self, reading: Reading = lambda done, size: None) -> Iterator[str]:
+        """Reads the old file, and yields the lines of the batch that makes the new database.
+
+        # Errors
+        - `Refusal` if the file can't be read, or rrdi can't have such a database.
+        - `OSError` if a file of whisper can't be opened or read.
+        - `Failure` if rrdtool is needed and not installed.
+        """
+        if self.old.endswith(WHISPER_END):
+            lines, there = whisper_batch(read_whisper(self.old), self.journal, self.note), 0
+        else:
+            size = size_of(self.old)
+            old = read_rrd(rrdtool_program.found(), self.old, lambda cells: reading(8 * cells, size))
+            lines, there = batch_of(old, self.journal, self.note), len(old.sources)
+        for line in lines:
+            if line.startswith("create "):
+                words = line.split(" ")
+                self.sources = sum(word.startswith("DS:") for word in words)
+                self.archives = sum(word.startswith("RRA:") for word in words)
+                self.skipped = max(there - self.sources, 0)
+            yield line
+
+
+def make(new: str, lines: Iterable[str], makes_folder: bool = False) -> None:
+    """Creates a database with a batch. The database gets its name when it is complete, and never that of another file.
+
+    # Errors
+    - `Failure` if there is a file of this name, or rrdi refuses the batch.
+    - `OSError` if the folder can't be made, or the system refuses the name.
+    """
+    if os.path.lexists(new):
+        raise Failure(f"{new} already exists")
+    given = list(lines)
+    with NewFile(new, makes_folder) as made:
+        try:
+            program.batch(made.unfinished, given)
+        except program.CommandFailed as failed:
+            raise Failure(f"{new}: {failed}") from None
+        if not made.appear():
+            raise Failure(f"{new} already exists")
+
+
+def kept_name(old: str) -> str:
+    """Returns the name that a file gets when a database takes its place.
+
+    # Errors
+    `Failure` if there is a file of that name.
+    """
+    kept = f"{old}.old"
+    if os.path.lexists(kept):
+        raise Failure(f"{kept} already exists")
+    return kept
+
+
+def swap_in(old: str, lines: Iterable[str], before: os.stat_result) -> None:
+    """Puts a new database in the place of a file, which keeps its content under its `kept_name`. The database gets the
+    owner and the mode of the file. `before` is the file's status from before it was read. There is no moment without a
+    file of the name.
+
+    # Errors
+    - `Failure` if the file has changed since `before`, or there is a file of the other name, or rrdi refuses the batch.
+    - `OSError` if the system refuses the owner, the mode or a name.
+    """
+    with NewFile(old) as made:
+        program.batch(made.unfinished, lines)
+        new = os.stat(made.unfinished)
+        if (new.st_uid, new.st_gid) != (before.st_uid, before.st_gid):
+            os.chown(made.unfinished, before.st_uid, before.st_gid)
+        os.chmod(made.unfinished, before.st_mode & 0o7777)
+        now = os.stat(old)
+        if (now.st_ino, now.st_size, now.st_mtime_ns) != (before.st_ino, before.st_size, before.st_mtime_ns):
+            raise Failure("it changed while it was converted; first stop what records into it")
+        kept = kept_name(old)
+        try:
+            os.link(old, kept)
+        except FileExistsError:
+            raise Failure(f"{kept} already exists") from None
+        made.replace()

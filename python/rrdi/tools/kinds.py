@@ -1,0 +1,32 @@
+"""Tells by the first bytes of a file of which program it is."""
+
+# The first bytes of a file of rrdi: without a change, and during a change.
+RRDI_MARKS = (b"RRDI", b"RRDC", b"RRDc", b"RRDU")
+RRDTOOL_MARK = b"RRD\0"
+# A file of whisper begins with the number of a method, 1 to 8; the name tells it from others.
+WHISPER_END = ".wsp"
+
+
+def first_bytes(file: str) -> bytes:
+    """Returns the first four bytes of a file, or fewer; none if it can't be read."""
+    try:
+        with open(file, "rb") as opened:
+            return opened.read(4)
+    except OSError:
+        return b""
+
+
+def is_of_rrdi(file: str) -> bool:
+    """Checks whether a file is one of rrdi's."""
+    return first_bytes(file) in RRDI_MARKS
+
+
+def is_of_rrdtool(file: str) -> bool:
+    """Checks whether a file is one of RRDtool's."""
+    return first_bytes(file) == RRDTOOL_MARK
+
+
+def is_of_whisper(file: str) -> bool:
+    """Checks whether a file is one of whisper's: by its name too, because a small number says little."""
+    begin = first_bytes(file)
+    return file.endswith(WHISPER_END) and begin[:3] == b"\0\0\0" and 1 <= (begin[3:] or b"\0")[0] <= 8

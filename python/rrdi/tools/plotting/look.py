@@ -1,0 +1,56 @@
+"""Colors and sizes of a picture, in light and in dark."""
+from __future__ import annotations
+
+from typing import NamedTuple, Tuple
+
+LIGHT_COLORS = ("#2f6fd0", "#e8702a", "#2a9d5c", "#d13b5e", "#8a5cd0", "#c99a06", "#0f9fb3", "#e0559c",
+                "#6b8e23", "#8c5a34", "#5661d6", "#b8390e", "#5f7d8c", "#1c4f8f", "#f2a65a", "#14724a")
+DARK_COLORS = ("#6ea6ff", "#ff9950", "#62d394", "#ff7591", "#bd96ff", "#f2cc4d", "#4fd6e8", "#ff8dc7",
+               "#b3d35e", "#d1a37c", "#9aa4ff", "#ff7d5c", "#9fb6c3", "#4b8fe0", "#ffd0a1", "#3fb181")
+
+
+class Look(NamedTuple):
+    background: str
+    text: str
+    faint: str  # of times and numbers
+    grid: str
+    colors: Tuple[str, ...]
+    fill: float  # the density of an area under a line
+    band: float
+
+
+LIGHT = Look("#ffffff", "#1f2328", "#59636e", "#e4e7eb", LIGHT_COLORS, 0.18, 0.22)
+DARK = Look("#181b1f", "#e6e9ee", "#9aa4b2", "#2c3138", DARK_COLORS, 0.22, 0.28)
+
+
+class Size(NamedTuple):
+    """The size of a picture, and of its parts, in points of the picture."""
+
+    width: int
+    height: int
+    top: int
+    left: int
+    right: int
+    bottom: int  # below the plot, with the labels of times and the legend
+    legend: int  # the upper end of the legend, from below
+
+    def across(self, points: float) -> str:
+        """Returns a distance from the left as gnuplot's part of the screen."""
+        return f"{points / self.width:.5f}"
+
+    def up(self, points: float) -> str:
+        """Returns a distance from below as gnuplot's part of the screen."""
+        return f"{points / self.height:.5f}"
+
+
+WIDTH, PLOT_HEIGHT, TOP, RIGHT = 900, 250, 66, 28
+TIMES_HEIGHT, ROW_HEIGHT, MARGIN = 44, 21, 14
+LETTER = 7.4  # the width of a letter
+
+
+def size_of(width: int, height: int, mark: int, legend_rows: int) -> Size:
+    """Returns the sizes for marks of the axis with at most `mark` letters. Without a height the legend has the room that it
+    needs, below a plot of the usual height."""
+    legend = legend_rows * ROW_HEIGHT + MARGIN if legend_rows else 0
+    bottom = legend + TIMES_HEIGHT
+    return Size(width, height or TOP + PLOT_HEIGHT + bottom, TOP, int(mark * LETTER) + 22, RIGHT, bottom, legend)
