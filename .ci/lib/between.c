@@ -14,10 +14,12 @@
    WHY=E         the error number of such a failure (EIO)
    KILL=N        the process is killed before call N
    FORK=N        before call N the process forks a child, which lives on for a minute and makes no call
+   NO_PAUSES=1   a pause takes no time, so that a run that waits for a lock ends at once
 
    The log has a line for each:
        grow SIZE given|refused
        NAME FILE SIZE GOT AT       open: FLAGS instead of AT, and the path; flock and fcntl: the operation instead of SIZE
+       pause NANOSECONDS
        fork CHILD
        end BLOCKS GROWTHS REFUSED MOST TOUCHED
    BLOCKS were not freed, MOST bytes were held at a time, and TOUCHED kilobytes were in memory at a time.
@@ -34,6 +36,7 @@
 #include <signal.h>
 #include <sys/stat.h>
 #include <sys/syscall.h>
+#include <time.h>
 #include <unistd.h>
 
 /* The C library's own functions. */
@@ -47,16 +50,22 @@ static long refuse, refuse_from, call, from, cut, interrupts, killed, forked, wh
 static long moves[MOST_MOVES], moves_count, turn;
 static const char *victim;
 static long victim_file = -1, victim_moves, wall = -1, wall_file = -1;
-static int is_begun, is_short_first, is_by_lines, counts_shrinks, log_file = -1, record_file = -1;
+static int is_begun, is_short_first, is_by_lines, counts_shrinks, has_no_pauses, log_file = -1, record_file = -1;
 
 static long number(const char *name) {
     const char *text = getenv(name);
     return text ? atol(text) : 0;
 }
 
+/* Opens a file of this library, at a number that the program would not get. */
 static int made(const char *name) {
     const char *path = getenv(name);
-    return path ? syscall(SYS_openat, AT_FDCWD, path, O_WRONLY | O_CREAT | O_TRUNC | O_APPEND | O_CLOEXEC, 0600) : -1;
+    if (!path)
+        return -1;
+    int file = syscall(SYS_openat, AT_FDCWD, path, O_WRONLY | O_CREAT | O_TRUNC | O_APPEND | O_CLOEXEC, 0600);
+    int high = syscall(SYS_fcntl, file, F_DUPFD_CLOEXEC, 500);
+    syscall(SYS_close, file);
+    return high;
 }
 
 static void read_moves(const char *text) {
@@ -85,6 +94,7 @@ static void begin(void) {
     why = number("WHY") ? number("WHY") : EIO;
     is_by_lines = number("LINES") == 1;
     counts_shrinks = number("SHRINKS") == 1;
+    has_no_pauses = number("NO_PAUSES") == 1;
     is_short_first = interrupts && getenv("MOVES");
     read_moves(getenv("MOVES"));
     log_file = made("LOG");
@@ -389,6 +399,23 @@ ssize_t pwrite(int file, const void *bytes, size_t size, off_t at) {
 
 ssize_t pwrite64(int file, const void *bytes, size_t size, off_t at) {
     return pwrite(file, bytes, size, at);
+}
+
+/* ---- pauses, which are no calls that may fail */
+
+int clock_nanosleep(clockid_t clock, int flags, const struct timespec *length, struct timespec *left) {
+    begin();
+    note(log_file, "pause %lld\n", length->tv_sec * 1000000000LL + length->tv_nsec);
+    return has_no_pauses || !syscall(SYS_clock_nanosleep, clock, flags, length, left) ? 0 : errno;
+}
+
+int nanosleep(const struct timespec *length, struct timespec *left) {
+    return clock_nanosleep(CLOCK_MONOTONIC, 0, length, left) ? -1 : 0;
+}
+
+int usleep(useconds_t microseconds) {
+    struct timespec length = {microseconds / 1000000, microseconds % 1000000 * 1000};
+    return nanosleep(&length, NULL);
 }
 
 /* Returns the maximum number of kilobytes that were in memory at a time, including those of the C library and the program. */

@@ -12,8 +12,6 @@ from typing import Iterable, Iterator
 # The calls that move bytes, and those that change a file.
 MOVING = frozenset({"read", "write", "pread", "pwrite"})
 CHANGING = frozenset({"pwrite", "ftruncate", "fsync", "fdatasync", "rename", "unlink"})
-# The low bits of the flags of `open`, which show whether a file is opened for writing.
-ACCESS = 3
 
 
 def build(folder: str | Path, only_calls: bool = False) -> str:
@@ -35,7 +33,7 @@ def settings(library: str, **values: object) -> dict[str, str]:
 
 @dataclass
 class Event:
-    """A line of the log: `grow`, `fork`, `end` or the name of a call, and the other words of the line."""
+    """A line of the log: `grow`, `pause`, `fork`, `end` or the name of a call, and the other words of the line."""
     kind: str
     words: list[str]
 
@@ -60,15 +58,11 @@ class Event:
 
     @property
     def is_call(self) -> bool:
-        return self.kind not in ("grow", "end", "fork")
+        return self.kind not in ("grow", "end", "fork", "pause")
 
     @property
     def is_refused(self) -> bool:
         return self.kind == "grow" and self.words[1] == "refused"
-
-    @property
-    def opens_to_write(self) -> bool:
-        return self.kind == "open" and int(self.words[3]) & ACCESS != 0
 
 
 def events_of(log: str | Path) -> list[Event]:
@@ -81,6 +75,11 @@ def events_of(log: str | Path) -> list[Event]:
 def calls_of(events: Iterable[Event]) -> list[Event]:
     """Returns the calls, in the order of their numbers."""
     return [event for event in events if event.is_call]
+
+
+def pauses_of(events: Iterable[Event]) -> list[int]:
+    """Returns the pauses of a run in nanoseconds."""
+    return [int(event.words[0]) for event in events if event.kind == "pause"]
 
 
 @dataclass(frozen=True)

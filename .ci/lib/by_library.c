@@ -3,7 +3,8 @@
    sees only the calls of librrdi. The program allocates nothing.
 
    RRDI_WAIT and RRDI_SYNC=1 have the same meaning as for rrdi. With IN_MEMORY=1 the program reads FILE itself, lets the
-   library run the command on the bytes, and writes the new file. With ROOM=N the first call has room for N bytes of output,
+   library run the command on the bytes, and writes the new file. With OPEN=1 the program opens FILE by rrdi_open, runs the command on
+   the open file, and closes it. With ROOM=N the first call has room for N bytes of output,
    and the second call for all bytes. With STACK=N the calls run in a thread with a stack of N bytes, and the file
    STACK_USED gets the number of bytes that were used. */
 #define _GNU_SOURCE
@@ -85,12 +86,37 @@ static void keep(const char *path, size_t length) {
 
 static struct rrdi_answer answer;
 
+/* Whether the words are a command that makes a database, for which there may be nothing to open. */
+static bool is_create(size_t length) {
+    return length >= 6 && !memcmp(words, "create", 6) && (length == 6 || !words[6]);
+}
+
+/* One call on a file that stays open for the call. Returns false if there is no such file, if it is to be made, or if its file
+   system has no locks. */
+static bool call_open(const uint8_t *name, size_t name_length, bool is_batch, size_t length, uint64_t now, uint64_t wait, bool syncs) {
+    struct rrdi_file opened = {0};
+    if (!is_batch && is_create(length))
+        return false;
+    rrdi_open(name, name_length, wait, syncs, &opened, output, output_room, &answer);
+    if (answer.fault)
+        return answer.fault != RRDI_CANNOT_OPEN || (answer.system_error != ENOENT && answer.system_error != EINVAL);
+    if (is_batch)
+        rrdi_batch_open(&opened, input, length, now, output, output_room, refused_lines, sizeof refused_lines / sizeof *refused_lines,
+                        &answer);
+    else
+        rrdi_run_open(&opened, words, length, now, output, output_room, &answer);
+    rrdi_close(&opened);
+    return true;
+}
+
 /* One call: of lines, or of words; on the file at a path, or on its bytes. */
 static void call(const char *path, bool is_batch, size_t length, bool has_file, size_t file_length, bool in_memory) {
     uint64_t now = time(NULL), wait = 1000 * number("RRDI_WAIT", 5);
     bool syncs = number("RRDI_SYNC", 0) == 1;
     const uint8_t *name = (const uint8_t *)path;
     size_t name_length = path ? strlen(path) : 0, refused_room = sizeof refused_lines / sizeof *refused_lines;
+    if (!in_memory && number("OPEN", 0) == 1 && call_open(name, name_length, is_batch, length, now, wait, syncs))
+        return;
     if (in_memory && is_batch)
         rrdi_batch(has_file, file, file_length, input, length, now, new_file, sizeof new_file, output, output_room,
                    refused_lines, refused_room, &answer);

@@ -19,6 +19,7 @@ READERS = frozenset({"fetch", "last", "info"})
 # The numbers of rows of files of one page, of a few pages, and of many pages.
 PAGE, PAGES, MANY = 4, 1_000, 4_000
 LOCK_SH, LOCK_EX, LOCK_UN = 1, 2, 8
+LAST_STREAM = 2
 # A change of many pages and of the length, which is interrupted before one of its last calls that change the file; and the
 # number of that call, counted from the end.
 INTERRUPTED = ("resize", FILE, "0", "GROW", "300")
@@ -48,6 +49,7 @@ class Task:
     made: str = ""
     foreign: bytes = b""
     form: str = ""
+    is_refused: bool = False
 
     @property
     def reads(self) -> bool:
@@ -61,13 +63,29 @@ class Task:
     def over_database(self) -> bool:
         return bool(self.made)
 
+    @property
+    def keeps(self) -> bool:
+        """Checks whether the run leaves the database as it is."""
+        return self.reads or self.is_refused or self.lines == "last\n"
+
+    def faults(self, answer: Answer, old: bytes | None, new: bytes | None) -> list[str]:
+        """Returns what is wrong with a run that no call disturbs: its status, its report, and whether it changes the
+        database."""
+        has_refused_line = "\nnothing\n" in self.lines
+        found = []
+        if (answer.status, answer.err != "") != (int(self.is_refused or has_refused_line), self.is_refused):
+            found.append(f"it ends with {answer}")
+        if (new == old) != self.keeps:
+            found.append("it changes the database" if self.keeps else "it changes nothing")
+        return found
+
     def fronts(self) -> list[str]:
         """Returns the prefixes of the batch, one up to each line."""
         lines = self.lines.splitlines(keepends=True)
         return ["".join(lines[:count]) for count in range(len(lines) + 1)]
 
 
-def single(name: str, line: str, **more: str) -> Task:
+def single(name: str, line: str, **more: Any) -> Task:
     command, *rest = line.split()
     return Task(name, (command, FILE, *rest), **more)
 
@@ -118,10 +136,10 @@ def over_interrupted() -> list[Task]:
     tasks = []
     for form in FORMS:
         for rows in (PAGE, PAGES):
-            more = {"made": made(rows), "form": form}
+            more: dict[str, Any] = {"made": made(rows), "form": form}
             tasks += [single(f"last over {form}, {rows} rows", "last", **more),
                       single(f"update over {form}, {rows} rows", "update 20:2", **more),
-                      single(f"a refused update over {form}, {rows} rows", "update 5:1", **more),
+                      single(f"a refused update over {form}, {rows} rows", "update 5:1", is_refused=True, **more),
                       single(f"create over {form}, {rows} rows", create(PAGE, value="0"), **more),
                       Task(f"batch over {form}, {rows} rows", ("batch", FILE), "last\nupdate 20:2\n", **more)]
     return tasks
@@ -222,6 +240,14 @@ def locks_of(calls: list[between.Event], file: str, changes: bool) -> list[str]:
             if kind == 0 or needed == LOCK_EX and kind != LOCK_EX:
                 faults.append(f"call {number}, {call.kind} of {file}, is made under {('no', 'a shared')[kind]} lock")
     return faults
+
+
+def calls_on_streams(calls: list[between.Event], file: str) -> list[str]:
+    """Returns the calls on a file by the number of a standard stream, by which a text for the stream would go into the file.
+    After such a number was closed, calls by it fail."""
+    low = {call.got for call in calls if call.kind == "open" and call.words[4:] == [file] and 0 <= call.got <= LAST_STREAM}
+    return [f"{call.kind} {' '.join(call.words)}" for call in calls
+            if call.kind in ("flock", "read", "pread", "write", "pwrite", "ftruncate") and call.file in low and call.got >= 0]
 
 
 # ---- The work of a script, in parts

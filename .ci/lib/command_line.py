@@ -21,7 +21,8 @@ def parser_of(doc: str | None) -> Parser:
 def parser_of_program(doc: str | None, default: Path | None = None) -> Parser:
     """Returns a parser that accepts PROGRAM. Without a default, PROGRAM must be given."""
     parser = parser_of(doc)
-    parser.add_argument("program", nargs="?" if default else None, default=default and str(default))
+    parser.add_argument("program", nargs="?" if default else None, default=default and str(default),
+                        help="the program that is tried" + (f" (default: {default})" if default else ""))
     return parser
 
 

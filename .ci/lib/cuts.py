@@ -65,7 +65,8 @@ class Cuts:
         self.record, self.chance = place.folder / "record", random.Random(task.name)
         self.known: dict[bytes, Found] = {}
         self.old = place.old(task)
-        self.new = place.run(task, self.old).held
+        plain = place.run(task, self.old)
+        self.new, self.answer = plain.held, plain.answer
 
     def disk(self, held: bytes | None) -> Disk:
         return Disk.of(held or b"", self.effort.whole)
@@ -124,7 +125,7 @@ class Cuts:
 
     def try_plain(self) -> list[Change]:
         answer, changes = self.run(self.task, self.old)
-        self.tally.want(answer.status in (0, 1), f"{self.task.name}: {answer}, {len(changes)} changes")
+        self.tally.want(answer == self.answer, f"{self.task.name}: with syncs {answer}, not {self.answer}")
         self.follow(CUTS, self.disk(self.old), changes, Wanted((self.new,)), "a power cut")
         if self.old is None:
             self.try_without_name()

@@ -80,14 +80,23 @@ static int tell_why(const char *text, const char *path, const char *reason) {
 
 static int lock_error;
 
+/* Returns for how many milliseconds a run waits for a lock. */
+static long wait_of(void) {
+    const char *text = getenv("RRDI_WAIT");
+    errno = 0;
+    unsigned long seconds = text && *text && strspn(text, "0123456789") == strlen(text) ? strtoul(text, NULL, 10) : 5;
+    if (errno)
+        seconds = 5;
+    return has("never-waits") ? 0 : 1000 * (long)(seconds < 3600 ? seconds : 3600);
+}
+
 /* Returns the reason of a run that waited for a lock, or could not lock the file. */
 static const char *in_use(void) {
     static char text[80];
     if (lock_error)
         return reason_of(lock_error);
-    const char *wait = getenv("RRDI_WAIT");
-    int seconds = wait && *wait && strspn(wait, "0123456789") == strlen(wait) ? atoi(wait) : 5;
-    snprintf(text, sizeof text, "in use by another program (waited %d second%s)", seconds, seconds == 1 ? "" : "s");
+    long seconds = wait_of() / 1000;
+    snprintf(text, sizeof text, "in use by another program (waited %ld second%s)", seconds, seconds == 1 ? "" : "s");
     return text;
 }
 
@@ -163,29 +172,28 @@ static struct base read_whole(int file) {
     return base;
 }
 
-static int locked_file = -1;
+static int locked_file = -1, lacks_locks;
 
 /* Checks whether an error of a lock says that the system has no locks. */
 static int has_no_locks(int number) {
-    return number == ENOSYS || number == EOPNOTSUPP || (has("goes-on-unlocked") && number != EWOULDBLOCK && number != EINTR);
+    return number == ENOSYS || number == EOPNOTSUPP || number == EINVAL || (has("goes-on-unlocked") && number != EWOULDBLOCK && number != EINTR);
 }
 
 static int lock(int file, int how) {
-    const char *text = getenv("RRDI_WAIT");
-    int is_whole = text && *text && strspn(text, "0123456789") == strlen(text) && atof(text) <= 3600;
-    double seconds = is_whole ? atof(text) : 5;
-    int pause = 1;
-    if (has("never-waits"))
-        seconds = 0;
+    long left = wait_of(), next = has("sleeps-long") ? 100 : 1;
     while (flock(file, how | LOCK_NB)) {
-        if (has_no_locks(errno) || (errno == EINTR && has("forgets-lock")))
+        if (has_no_locks(errno) || (errno == EINTR && has("forgets-lock"))) {
+            lacks_locks = 1;
             return has("needs-locks") ? -1 : 0;
+        }
         lock_error = errno == EWOULDBLOCK || errno == EINTR ? 0 : errno;
-        if (lock_error || seconds <= 0)
+        if (lock_error || left <= 0)
             return -1;
-        usleep(pause * 1000);
-        seconds -= pause / 1000.0;
-        pause = pause * 2 > 50 ? 50 : pause * 2;
+        long pause = next < left ? next : left;
+        if (!has("never-sleeps"))
+            usleep(pause * 1000);
+        left -= pause;
+        next = next * 2 > 50 ? 50 : next * 2;
     }
     locked_file = file;
     return 0;
@@ -377,7 +385,8 @@ static struct base revert(struct base base) {
     unsigned char *entry = base.bytes + base.length - ENTRY;
     uint64_t time;
     memcpy(&time, entry + 16, 8);
-    memcpy(row_at(base, time), entry + 24, ROW);
+    if (!has("reverts-less"))
+        memcpy(row_at(base, time), entry + 24, ROW);
     memcpy(&head_of(base)->last, entry, 8);
     memcpy(&head_of(base)->tuned, entry + 8, 8);
     head_of(base)->entries--;
@@ -405,7 +414,9 @@ static int execute(struct base *base, char **words, int count) {
     if (!base->bytes)
         return tell("no database");
     if (!strcmp(words[0], "update")) {
-        if ((uint64_t)atol(words[1]) <= head_of(*base)->last) {
+        if (has("refuses-some") && atol(words[1]) % 40 == 0)
+            return tell("no sample");
+        if (has("refuses-all") ||(uint64_t)atol(words[1]) <= head_of(*base)->last) {
             fprintf(stderr, "ERROR: not later than %lu\n", head_of(*base)->last);
             return 1;
         }
@@ -428,8 +439,10 @@ static int execute(struct base *base, char **words, int count) {
         *base = resize(*base, (words[2][0] == 'G' ? 1 : -1) * atol(words[3]));
         return -1;
     }
-    printf("%lu\n", head_of(*base)->last);
-    return fflush(stdout) ? tell("write failed") : 0;
+    if (has("fails-to-read") && !strcmp(words[0], "last"))
+        return tell("no database");
+    printf("%lu\n", head_of(*base)->last + has("prints-more"));
+    return !has("prints-late") && fflush(stdout) ? tell("write failed") : 0;
 }
 
 /* Reads the next byte of standard input. Returns 0 at the end, and -1 if a read failed. */
@@ -498,7 +511,7 @@ static int fault(struct base base) {
 /* Checks whether a file is a pipe without a name, which never waits for a program at its other end. */
 static int is_plain_pipe(const char *path, struct stat found) {
     struct statfs system;
-    return S_ISFIFO(found.st_mode) && !statfs(path, &system) && system.f_type == PIPEFS_MAGIC;
+    return S_ISFIFO(found.st_mode) && !has("refuses-pipes") && !statfs(path, &system) && system.f_type == PIPEFS_MAGIC;
 }
 
 /* Checks whether a path still names an open file: another program may have replaced it before the lock. */
@@ -521,11 +534,15 @@ static int over_file(char **words, int count, const char *path) {
     if (makes && has("breaks-links"))
         unlink(path);
     struct stat found;
+    if (makes && has("replaces-pipes") && !stat(path, &found) && S_ISFIFO(found.st_mode))
+        unlink(path);
+    if (has("refuses-moved") && strchr(path, ' '))
+        return tell_why("cannot open", path, reason_of(ENOENT));
     int is_odd = !makes && !stat(path, &found) && !S_ISREG(found.st_mode) && (!reads || !S_ISDIR(found.st_mode));
     if (is_odd && !(reads && (has("opens-pipes") || is_plain_pipe(path, found))))
         return tell_why("cannot open", path, "not a regular file");
-    int is_database = 0, file = open(path, makes ? O_RDWR | O_CREAT : reads ? O_RDONLY : O_RDWR, 0666);
-    if (file < 0 && !makes && errno != ENOENT) {
+    int is_database = 0, file = open(path, makes ? O_RDWR | O_CREAT : reads && !has("opens-to-write") ? O_RDONLY : O_RDWR, 0666);
+    if (file < 0 && !makes && errno != ENOENT && !(reads && has("opens-to-write"))) {
         why = errno;
         file = open(path, O_RDONLY);
         is_kept = 1;
@@ -547,6 +564,9 @@ static int over_file(char **words, int count, const char *path) {
             return has("writes-devices") ? 0 : tell_why("cannot write", path, errno ? reason_of(errno) : "not a regular file");
         old = read_whole(file);
         if (reads && old.bytes && !is_settled(old)) {
+            /* Without locks another program may be making the change. */
+            if (lacks_locks && !has("settles-unlocked"))
+                return tell("file: not ours");
             int again = open(path, O_RDWR);
             if (again < 0)
                 return tell_why("cannot open", path, reason_of(errno));
@@ -575,15 +595,26 @@ static int over_file(char **words, int count, const char *path) {
             memcpy(base.bytes, old.bytes, old.length);
         }
     }
+    if (is_batch && has("touches-file"))
+        pwrite(file, "x", 1, old.length);
+    if (is_kept && !reads && has("writes-first"))
+        return tell_why("cannot write", path, reason_of(why));
     int ended = is_batch ? run_lines(&base) : execute(&base, words, count);
     if (ended >= 0)
         return ended;
+    if (is_database && has("forgets-change"))
+        return ended == -2;
     if (has("loses-updates") && !strcmp(words[0], "update") && atol(words[1]) % 40 == 0)
         return 0;
     if (file < 0)
         file = open(path, O_RDWR | O_CREAT | (has("overwrites-new") ? 0 : O_EXCL), 0666);
     if (is_kept || file < 0 || (is_batch && !is_database && lock(file, LOCK_EX)) || (store(file, old, base, is_database)))
         return tell_why("cannot write", path, reason_of(why ? why : errno));
+    if (has("leaves-files")) {
+        char other[4096];
+        snprintf(other, sizeof other, "%s.linked", path);
+        open(other, O_RDWR | O_CREAT, 0666);
+    }
     if (has("breaks-links")) {
         unlink(path);
         file = open(path, O_RDWR | O_CREAT, 0666);

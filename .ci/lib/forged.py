@@ -5,20 +5,9 @@ import random
 from typing import Callable
 
 from lib import marks
-from lib.marks import PAGE, SIXTEEN, UNDO, number
+from lib.marks import LONG, PAGE, SHORT, SIXTEEN, UNDO, number, pages, record
 
-SHORT, LONG = 64, 128  # bytes of a record
 CUT, LONG_CUT = marks.SHORT_CUT, marks.LONG_CUT
-
-
-def record(at: int, length: int, first: bytes, size: int) -> bytes:
-    """Returns a record of this size, which may be the wrong one for the length."""
-    return marks.record(at, length, first)[:SHORT].ljust(size, b"\0")
-
-
-def pages(old: bytes) -> list[tuple[int, bytes]]:
-    """Returns the old bytes of all slots, one for each page, with their positions."""
-    return [(max(at, SIXTEEN), old[max(at, SIXTEEN):at + PAGE]) for at in range(0, len(old), PAGE)]
 
 
 # ---- Each way makes a file of an old and a new database.

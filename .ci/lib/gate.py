@@ -1,6 +1,6 @@
 """Runs the full check, and ends at the first step that fails.
 
-    .ci/run [--alone]
+    .ci/run [--alone] [--record]
 
 These three rows of steps run beside each other:
 
@@ -12,6 +12,8 @@ These three rows of steps run beside each other:
 .ci/run-built then tries the program, the programs of the tests and the C library that these steps have built.
 
 With --alone each planted bug is tried in a check of its own, by the kit's judge (about an hour of one processor more).
+With --record the last line of each step and script goes into docs/results.md; then no file outside docs may differ from
+the commit.
 
 The last lines say how long each step took. If nothing failed, the last line has the number of crates that were proved, of
 tests that passed, and of planted bugs that the prover refused in this run. The status is 0 if nothing failed."""
@@ -32,11 +34,13 @@ from io import StringIO
 from pathlib import Path
 from typing import NamedTuple
 
-from lib import command_line
+from lib import command_line, results
 from lib.self_test import SelfTest, answering
 from lib.tally import number_tried
 
 TOP = Path(__file__).resolve().parent.parent.parent
+# The seconds after which a test of a step that ends hangs, also on a busy machine.
+HANG = 300
 # The last line of `rt ci`: the numbers of passes and failures. And the last line of the tests of a crate.
 PASSED = re.compile(r"^(\d+) passed, 0 failed\b")
 TESTS = re.compile(r"^test result: ok\. (\d+) passed; 0 failed\b")
@@ -105,6 +109,7 @@ class Check:
     """A run of the full check."""
     top: Path
     folders: dict[str, Path]
+    at: str = ""
     passed: int = 0
     failed: int = 0
     times: list[tuple[str, float]] = field(default_factory=list)
@@ -129,6 +134,8 @@ class Check:
             self.times.append((step.name, seconds))
             is_well = self.is_well(step, started.returncode, lines)
             self.passed += passed_in(step, lines) if is_well else 0
+            if self.at and is_well and step.least and step.words[0] != LAST.words[0]:
+                results.record(step.name.split(), lines[-1], self.at, self.top / "docs/results.md")
         return is_well
 
     def start(self, step: Step) -> subprocess.Popen[str] | None:
@@ -146,7 +153,7 @@ class Check:
         """Shows the output of a step as it comes, and returns its lines. Lines of steps that run beside `rt ci` have the
         step's name before them."""
         lines = []
-        front = "" if step in (RT, LAST) else f"{Path(step.words[0]).name}: "
+        front = "" if step.words[0] in (RT.words[0], LAST.words[0]) else f"{Path(step.words[0]).name}: "
         for line in started.stdout or ():
             lines.append(line.strip())
             print(f"{front}{line}", end="", flush=True)
@@ -213,11 +220,11 @@ def take_built(folder: Path, top: Path) -> None:
             shutil.copy2(path, top / name)
 
 
-def run_all(top: Path, is_alone: bool = False) -> int:
+def run_all(top: Path, is_alone: bool = False, records: bool = False) -> int:
     """Runs all steps, and returns the status."""
     begin = time.monotonic()
     folder = Path(tempfile.mkdtemp(prefix="rrdi-check-"))
-    check = Check(top, {COPY: folder / "copy", WORKSPACE: folder / "workspace"})
+    check = Check(top, {COPY: folder / "copy", WORKSPACE: folder / "workspace"}, results.commit(top) if records else "")
     try:
         for it in check.folders.values():
             it.mkdir()
@@ -228,14 +235,14 @@ def run_all(top: Path, is_alone: bool = False) -> int:
     finally:
         shutil.rmtree(folder, ignore_errors=True)
     if not check.failed:
-        check.row((LAST,))
+        check.row((LAST._replace(words=(*LAST.words, *["--record"] * records)),))
     print("\n".join(check.last_lines(begin)), flush=True)
     return 1 if check.failed or not check.passed else 0
 
 
 def main(options: argparse.Namespace) -> int:
     install_tools()
-    return run_all(TOP, options.alone)
+    return run_all(TOP, options.alone, options.record)
 
 
 # What the commands of the steps print if all is well.
@@ -290,14 +297,14 @@ def test_order(test: SelfTest) -> None:
     """Tests what runs beside what, and that a failure ends the other steps."""
     begin = time.monotonic()
     ended, lines, _ = gate(".ci/self-tests", 1, more="sleep 1")
-    test.want(ended == 1 and time.monotonic() - begin < 30, f"a step fails: {lines}")
+    test.want(ended == 1 and time.monotonic() - begin < HANG, f"a step fails: {lines}")
     begin = time.monotonic()
     with tempfile.TemporaryDirectory() as folder:
-        slow = answering(folder, "slow", more="sleep 100")
+        slow = answering(folder, "slow", more=f"exec sleep {2 * HANG}")
         check = Check(Path(folder), {})
         with redirect_stdout(StringIO()):
             check.beside(((Step((slow,)), Step((slow,))), (Step(("false",)),)))
-        test.want(check.failed == 1 and time.monotonic() - begin < 30, "a failure ends the slow steps beside it")
+        test.want(check.failed == 1 and time.monotonic() - begin < HANG, "a failure ends the slow steps beside it")
         test.want(len(check.times) == 2, f"no step begins after a failure: {check.times}")
         check = Check(Path(folder), {})
         said = StringIO()
@@ -306,8 +313,32 @@ def test_order(test: SelfTest) -> None:
         test.want("left out: false: no-such-tool" in said.getvalue() and check.failed == 1, f"missing tools: {said.getvalue()}")
 
 
+def test_record(test: SelfTest) -> None:
+    """Tests that the results of the steps are recorded, and none of a program that differs from the commit."""
+    with tempfile.TemporaryDirectory() as name:
+        folder = Path(name)
+        repository(folder, "")
+        (folder / "docs").mkdir()
+        page = folder / "docs/results.md"
+        page.write_text(results.HEAD)
+        for words in (["add", "."], ["-c", "user.name=a", "-c", "user.email=a@b", "commit", "-q", "-m", "a"]):
+            subprocess.run(["git", *words], cwd=folder, check=True)
+        check = Check(folder, {}, results.commit(folder))
+        with redirect_stdout(StringIO()):
+            check.row((Step((".ci/self-tests",), 200), Step((".ci/run-cases",), 92), Step(("make", "record"))))
+        rows = page.read_text()
+        test.want("| `.ci/self-tests` | 300 tests: 0 wrong | " in rows and "run-cases" not in rows and "make" not in rows, f"recorded: {rows}")
+        (folder / "library/a").write_text("")
+        try:
+            results.commit(folder)
+            test.want(False, "a file that differs from the commit")
+        except ValueError:
+            test.want(True, "a file that differs from the commit")
+
+
 def self_test() -> int:
     test = SelfTest("run")
+    test_record(test)
     ended, lines, is_built = gate()
     test.want((ended, lines[-1], is_built) == (0, "212 passed, 0 failed", True), f"nothing fails: {lines[-8:]}")
     test.want(all(any(f"  {name}" in line for line in lines[-9:-1]) for name in TEXTS), f"the times of the steps: {lines[-9:]}")
@@ -333,6 +364,7 @@ def parser() -> command_line.Parser:
     parser = command_line.parser_of(__doc__)
     parser.prog = ".ci/run"
     parser.add_argument("--alone", action="store_true", help="try each planted bug alone, by the kit's judge")
+    parser.add_argument("--record", action="store_true", help="put the results into docs/results.md")
     return parser
 
 

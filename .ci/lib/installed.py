@@ -30,7 +30,7 @@ class Line(NamedTuple):
 
 
 @dataclass(frozen=True)
-class File:
+class InstalledFile:
     """A file or, with a target, a link. Its bytes may be unknown."""
     mode: int | None
     target: str = ""
@@ -38,7 +38,7 @@ class File:
 
 
 @dataclass(frozen=True)
-class Places:
+class Placeholders:
     """The repository, and what the names in braces stand for. A name may have several values: then a line with the name
     stands for several lines."""
     top: Path
@@ -70,7 +70,7 @@ def read_list(text: str) -> list[Line]:
     return lines
 
 
-def filled(line: Line, places: Places) -> Iterator[Line]:
+def filled(line: Line, places: Placeholders) -> Iterator[Line]:
     """Yields a line for each value of the first name in braces, and so on, until no name is left."""
     found = re.search(r"\{(\w+)\}", line.path + " " + line.source)
     if not found:
@@ -80,22 +80,22 @@ def filled(line: Line, places: Places) -> Iterator[Line]:
         yield from filled(line._replace(path=line.path.replace(found[0], value), source=line.source.replace(found[0], value)), places)
 
 
-def files_of(line: Line, places: Places) -> Iterator[tuple[str, File]]:
+def files_of(line: Line, places: Placeholders) -> Iterator[tuple[str, InstalledFile]]:
     """Yields the files for which a line stands."""
     if line.mode is None:
-        yield line.path, File(None, line.source)
+        yield line.path, InstalledFile(None, line.source)
     elif "*" not in line.source:
-        yield line.path, File(line.mode, data=content(line.path, line.source, places) if line.source else None)
+        yield line.path, InstalledFile(line.mode, data=content(line.path, line.source, places) if line.source else None)
     else:
         before, stars, after = re.split(r"(\*+)", line.source)
         pattern = f"{before}**/*{after}" if stars == "**" else line.source
         for found in places.top.glob(pattern):
             source = found.relative_to(places.top).as_posix()
             text = source[len(before):len(source) - len(after)]
-            yield line.path.replace(stars, text), File(line.mode, data=content(line.path, source, places))
+            yield line.path.replace(stars, text), InstalledFile(line.mode, data=content(line.path, source, places))
 
 
-def content(path: str, source: str, places: Places) -> bytes:
+def content(path: str, source: str, places: Placeholders) -> bytes:
     """Returns the bytes that a file has when it is installed: pages and settings name the place of the installation."""
     data = (places.top / source).read_bytes()
     shared = f"{places.one('PREFIX')}/share/rrdi/".encode()
@@ -107,7 +107,7 @@ def content(path: str, source: str, places: Places) -> bytes:
     return data
 
 
-def wanted(lines: list[Line], sections: tuple[str, ...], places: Places, *, has_library: bool) -> dict[str, File]:
+def wanted(lines: list[Line], sections: tuple[str, ...], places: Placeholders, *, has_library: bool) -> dict[str, InstalledFile]:
     """Returns the files of some sections."""
     chosen = [line for line in lines if line.section in sections and (has_library or not line.needs_library)]
     return {path: file for line in chosen for one in filled(line, places) for path, file in files_of(one, places)}
@@ -119,21 +119,21 @@ def plain(name: str, data: bytes) -> bytes:
     return gzip.decompress(data) if name.endswith(".gz") else data
 
 
-def in_folder(folder: Path) -> tuple[dict[str, File], dict[str, int]]:
+def in_folder(folder: Path) -> tuple[dict[str, InstalledFile], dict[str, int]]:
     """Returns the files below a folder, and the modes of the directories."""
     files, directories = {}, {}
     for path in folder.rglob("*"):
         name, mode = path.relative_to(folder).as_posix(), stat.S_IMODE(path.lstat().st_mode)
         if path.is_symlink():
-            files[name] = File(None, os.readlink(path))
+            files[name] = InstalledFile(None, os.readlink(path))
         elif path.is_dir():
             directories[name] = mode
         else:
-            files[name] = File(mode, data=plain(name, path.read_bytes()))
+            files[name] = InstalledFile(mode, data=plain(name, path.read_bytes()))
     return files, directories
 
 
-def in_package(package: Path) -> tuple[dict[str, File], dict[str, int], set[str]]:
+def in_package(package: Path) -> tuple[dict[str, InstalledFile], dict[str, int], set[str]]:
     """Returns the files below /usr of a package of Debian, the modes of the directories, and the owners. What is not below
     /usr keeps its path from the root."""
     packed = subprocess.run(["dpkg-deb", "--fsys-tarfile", str(package)], capture_output=True, check=True).stdout
@@ -146,20 +146,20 @@ def in_package(package: Path) -> tuple[dict[str, File], dict[str, int], set[str]
             if member.isdir():
                 directories[name] = member.mode
             elif member.issym():
-                files[name] = File(None, member.linkname)
+                files[name] = InstalledFile(None, member.linkname)
             else:
-                files[name] = File(member.mode, data=plain(name, archive.extractfile(member).read()))
+                files[name] = InstalledFile(member.mode, data=plain(name, archive.extractfile(member).read()))
     return files, directories, owners
 
 
-def in_wheel(wheel: Path) -> dict[str, File]:
+def in_wheel(wheel: Path) -> dict[str, InstalledFile]:
     with zipfile.ZipFile(wheel) as archive:
-        return {entry.filename: File(entry.external_attr >> 16 & 0o7777, data=archive.read(entry)) for entry in archive.infolist()}
+        return {entry.filename: InstalledFile(entry.external_attr >> 16 & 0o7777, data=archive.read(entry)) for entry in archive.infolist()}
 
 
 # ---- How they differ
 
-def differences(found: Mapping[str, File], listed: Mapping[str, File]) -> Iterator[str]:
+def differences(found: Mapping[str, InstalledFile], listed: Mapping[str, InstalledFile]) -> Iterator[str]:
     """Yields how the files that are found differ from those of the list."""
     for path in sorted(found.keys() | listed.keys()):
         file, right = found.get(path), listed.get(path)
@@ -171,11 +171,11 @@ def differences(found: Mapping[str, File], listed: Mapping[str, File]) -> Iterat
             yield f"{path} has other bytes than in the repository"
 
 
-def described(file: File) -> str:
+def described(file: InstalledFile) -> str:
     return f"a link to {file.target}" if file.mode is None else f"a file of mode {file.mode:o}"
 
 
-def directory_faults(found: Mapping[str, int], files: Mapping[str, File]) -> Iterator[str]:
+def directory_faults(found: Mapping[str, int], files: Mapping[str, InstalledFile]) -> Iterator[str]:
     """Yields the directories that have another mode than 755, and those without a file."""
     needed = {parent.as_posix() for path in files for parent in Path(path).parents}
     for path, mode in sorted(found.items()):

@@ -12,7 +12,7 @@ GROWTH = 120.0
 PATIENCE = 600.0
 
 
-class Task(NamedTuple):
+class LaneTask(NamedTuple):
     """A task that says whether it went well: what it waits for, its length in any unit, and the most memory it takes."""
     waits: tuple[str, ...]
     length: int
@@ -30,7 +30,7 @@ class Lanes:
     running: dict[str, float] = field(default_factory=dict)
     changed: threading.Condition = field(default_factory=threading.Condition)
 
-    def run(self, tasks: dict[str, Task]) -> dict[str, bool]:
+    def run(self, tasks: dict[str, LaneTask]) -> dict[str, bool]:
         """Runs the tasks, and returns whether each went well. A task that waits for one that did not go well is not run,
         and did not go well. Of the tasks that can be run, the one with the longest chain of others behind it comes first."""
         behind = lengths_behind(tasks)
@@ -52,7 +52,7 @@ class Lanes:
                     self.ended[key] = False
         return self.ended
 
-    def next_of(self, left: list[str], tasks: dict[str, Task], is_overdue: bool) -> str | None:
+    def next_of(self, left: list[str], tasks: dict[str, LaneTask], is_overdue: bool) -> str | None:
         """Returns the first task that can be run now."""
         ready = [key for key in left if all(it in self.ended for it in tasks[key].waits)]
         if not ready or len(self.running) >= self.number:
@@ -62,7 +62,7 @@ class Lanes:
         is_room = self.free() - promised >= tasks[ready[0]].memory
         return ready[0] if is_room or is_overdue else None
 
-    def work(self, key: str, task: Task) -> None:
+    def work(self, key: str, task: LaneTask) -> None:
         is_well = False
         try:
             is_well = task.run()
@@ -73,7 +73,7 @@ class Lanes:
                 self.changed.notify_all()
 
 
-def lengths_behind(tasks: dict[str, Task]) -> dict[str, int]:
+def lengths_behind(tasks: dict[str, LaneTask]) -> dict[str, int]:
     """Returns the length of the longest chain of tasks that begins with each task. A task stands after those that it
     waits for."""
     behind = {key: task.length for key, task in tasks.items()}

@@ -1,6 +1,7 @@
-/* Tests the four functions of rrdi.h: results without a fault, the number of each fault, buffers that are too small, the
-   numbers of refused lines, closed streams, pipes, limits, a lock that another process holds, threads. Run the program in an empty folder; it prints each
-   wrong result and the number of tests. */
+/* Tests the functions of rrdi.h: results without a fault, the number of each fault, buffers that are too small, the
+   numbers of refused lines, closed streams, pipes, limits, calls that fail, files that stay open, a lock that another
+   process holds, threads. The library's pauses and its reads of files go by this program. Run the program in an empty
+   folder; it prints each wrong result and the number of tests. */
 #define _GNU_SOURCE
 #include <errno.h>
 #include <fcntl.h>
@@ -12,43 +13,79 @@
 #include <sys/file.h>
 #include <sys/resource.h>
 #include <sys/stat.h>
+#include <sys/syscall.h>
+#include <sys/wait.h>
 #include <time.h>
 #include <unistd.h>
 
-#include "rrdi.h"
+#include "checks.h"
 
-#define WORDS(text) (const uint8_t *)(text), sizeof(text) - 1
-#define CREATE "create\0--step\00010\0--start\0000\0DS:g:GAUGE:100:U:U\0RRA:LAST:0.5:1:4"
 #define CREATE_LINE "create --step 10 --start 0 DS:g:GAUGE:100:U:U RRA:LAST:0.5:1:4\n"
 #define PATH "net.rrdi"
 #define THREADS 4
 #define UPDATES 50
 /* A call that waits for a pipe without an end is ended after this time. */
 #define MOST_SECONDS 60
-/* The microseconds in which a call in another thread comes to wait for a lock. */
-#define WAITED 300000
+/* The most milliseconds for which a call waits, and the longest pause. */
+#define MOST_WAIT 3600000
+#define LONGEST_PAUSE 50
 
-static int count, wrong;
-static uint8_t file[1 << 16], new_file[1 << 16], output[1 << 16];
+static uint8_t file[1 << 16], new_file[1 << 16];
 static size_t length;
 static bool has_file;
-static struct rrdi_answer answer;
 
-static bool want(bool is_right, const char *what) {
-    count++;
-    if (!is_right) {
-        wrong++;
-        printf("%s: fault %u, error %u, %s%srefused %llu, file %llu, output %llu, at %llu\n", what, answer.fault,
-               answer.system_error, answer.is_changed ? "changed, " : "", answer.is_cut ? "cut, " : "",
-               (unsigned long long)answer.refused, (unsigned long long)answer.file_length,
-               (unsigned long long)answer.output_length, (unsigned long long)answer.at);
-    }
-    return is_right;
+/* The pauses of calls that wait for a lock: how many there were, their milliseconds, and the longest and the first one. They
+   take no time if `has_no_pauses`. */
+static volatile uint64_t pauses, paused, longest, first;
+static bool has_no_pauses;
+
+int nanosleep(const struct timespec *time, struct timespec *left) {
+    uint64_t milliseconds = time->tv_sec * 1000 + time->tv_nsec / 1000000;
+    first = pauses ? first : milliseconds;
+    longest = milliseconds > longest ? milliseconds : longest;
+    paused += milliseconds;
+    pauses++;
+    return has_no_pauses ? 0 : syscall(SYS_nanosleep, time, left);
 }
 
-static bool gave(uint32_t fault, bool is_changed, const char *text) {
-    return answer.fault == fault && answer.is_changed == is_changed && !answer.is_cut &&
-           answer.output_length == strlen(text) && !memcmp(output, text, strlen(text));
+/* The error of one read of a file, 0 if all work; and how many work before, each of which moves at most a page. */
+static int read_error, works_left;
+
+static bool has_failed(size_t *size) {
+    if (read_error && *size > 4096)
+        *size = 4096;
+    if (!read_error || works_left-- > 0)
+        return false;
+    errno = read_error;
+    read_error = 0;
+    return true;
+}
+
+ssize_t read(int from, void *bytes, size_t size) {
+    return has_failed(&size) ? -1 : syscall(SYS_read, from, bytes, size);
+}
+
+ssize_t pread64(int from, void *bytes, size_t size, off_t at) {
+    return has_failed(&size) ? -1 : syscall(SYS_pread64, from, bytes, size, at);
+}
+
+ssize_t pread(int from, void *bytes, size_t size, off_t at) {
+    return pread64(from, bytes, size, at);
+}
+
+/* The error of one last write of a change, which takes the mark off the file; 0 if it works. */
+static int last_error;
+
+ssize_t pwrite64(int to, const void *bytes, size_t size, off_t at) {
+    if (!last_error || at || size != 4 || memcmp(bytes, "RRDI", 4))
+        return syscall(SYS_pwrite64, to, bytes, size, at);
+    errno = last_error;
+    last_error = 0;
+    return -1;
+}
+
+ssize_t pwrite(int to, const void *bytes, size_t size, off_t at) {
+    return pwrite64(to, bytes, size, at);
 }
 
 /* ---- in memory */
@@ -142,23 +179,8 @@ static void test_batch(void) {
 
 /* ---- on files */
 
-static void run_file(const char *path, const uint8_t *words, size_t words_length, uint64_t wait) {
-    rrdi_run_file((const uint8_t *)path, strlen(path), words, words_length, 0, wait, false, output, sizeof output, &answer);
-}
-
 static void batch_file(const uint8_t *lines, size_t lines_length, size_t room, uint64_t *refused, size_t refused_room) {
     rrdi_batch_file(WORDS(PATH), lines, lines_length, 0, 0, true, output, room, refused, refused_room, &answer);
-}
-
-static size_t held(const char *path) {
-    struct stat found;
-    return stat(path, &found) ? 0 : (size_t)found.st_size;
-}
-
-static void put(const char *path, const void *bytes, size_t size) {
-    FILE *to = fopen(path, "wb");
-    if (!to || fwrite(bytes, 1, size, to) != size || fclose(to))
-        exit(3);
 }
 
 static void test_run_file(void) {
@@ -262,23 +284,6 @@ static void batch(void) {
     rrdi_batch_file(WORDS("closed"), WORDS("last\nupdate 20:2\nupdate 5:1\n"), 0, 0, true, output, sizeof output, refused, 2, &answer);
 }
 
-static bool has_bytes(const char *path, const uint8_t *bytes, size_t size) {
-    static uint8_t found[1 << 16];
-    FILE *from = fopen(path, "rb");
-    size_t got = from ? fread(found, 1, sizeof found, from) : 0;
-    if (from)
-        fclose(from);
-    return got == size && !memcmp(found, bytes, size);
-}
-
-static size_t bytes_of(const char *path, uint8_t *bytes) {
-    FILE *from = fopen(path, "rb");
-    size_t got = from ? fread(bytes, 1, 1 << 16, from) : 0;
-    if (from)
-        fclose(from);
-    return got;
-}
-
 /* Checks that a call leaves the right bytes in its file, and no descriptor open, whatever streams are closed. */
 static void test_streams(void) {
     static uint8_t old[1 << 16], new[1 << 16];
@@ -315,10 +320,12 @@ static void *update_later(void *of) {
 static void write_to_streams(void) {
     int other = open("closed", O_RDWR), kept = fcntl(other, F_DUPFD_CLOEXEC, 10);
     pthread_t thread;
+    pauses = 0;
     close(other);
     if (kept < 0 || flock(kept, LOCK_EX) || pthread_create(&thread, NULL, update_later, NULL))
         exit(3);
-    usleep(WAITED);
+    while (!pauses)
+        usleep(1000);
     were_closed = true;
     for (int stream = 0; stream < 3; stream++)
         were_closed &= write(stream, "text", 4) < 0;
@@ -339,12 +346,10 @@ static void test_written_streams(void) {
     want(gave(RRDI_OK, true, "") && has_bytes("closed", new, new_size), "a file while another thread writes to closed streams");
 }
 
-static double seconds(void);
-
 /* A call on a pipe with a name or on a device ends at once, whatever time it may wait. */
 static void test_pipes(void) {
-    double begin = seconds();
     want(!mkfifo("fifo", 0600), "a pipe with a name");
+    pauses = 0;
     const char *names[] = {"fifo", "/dev/null", "/dev/zero"};
     for (size_t at = 0; at < 3; at++) {
         run_file(names[at], WORDS("last"), 60000);
@@ -354,7 +359,7 @@ static void test_pipes(void) {
         run_file(names[at], WORDS(CREATE), 60000);
         want(gave(RRDI_CANNOT_WRITE, false, "cannot write") && answer.system_error, "a create of a pipe or a device");
     }
-    want(seconds() - begin < 10, "calls on a pipe and on devices wait");
+    want(!pauses, "calls on a pipe and on devices wait");
 }
 
 /* Checks the error of the system under a limit on the size of files. */
@@ -375,12 +380,271 @@ static void test_limits(void) {
     want(has_bytes("limited", old, size), "the file after an update under a limit");
 }
 
+/* ---- a file that stays open */
+
+static struct rrdi_file opened;
+
+static void open_file(const char *path, uint64_t wait) {
+    rrdi_open((const uint8_t *)path, strlen(path), wait, false, &opened, output, sizeof output, &answer);
+}
+
+static void run_open(const uint8_t *words, size_t words_length) {
+    rrdi_run_open(&opened, words, words_length, 0, output, sizeof output, &answer);
+}
+
+/* A struct of zeros has no open file, and one that was closed has none. */
+static void test_unopened(const char *what) {
+    uint64_t refused[1];
+    run_open(WORDS("last"));
+    want(gave(RRDI_CANNOT_OPEN, false, "cannot open") && answer.system_error == EBADF && !opened.is_open, what);
+    rrdi_batch_open(&opened, WORDS("last\n"), 0, output, sizeof output, refused, 1, &answer);
+    want(gave(RRDI_CANNOT_OPEN, false, "cannot open") && answer.system_error == EBADF && !answer.refused, what);
+    rrdi_close(&opened);
+    want(!opened.is_open, what);
+}
+
+static void test_opening(void) {
+    test_unopened("a struct of zeros");
+    open_file("none", 0);
+    want(gave(RRDI_CANNOT_OPEN, false, "cannot open") && answer.system_error == ENOENT && !opened.is_open, "no file is opened");
+    open_file(".", 0);
+    want(gave(RRDI_CANNOT_OPEN, false, "cannot open") && answer.system_error == EISDIR, "a folder is opened");
+    open_file("\xff", 0);
+    want(gave(RRDI_CANNOT_OPEN, false, "cannot open"), "a path that is no text is opened");
+    put("bad", "RRDI", 4);
+    open_file("bad", 0);
+    want(gave(RRDI_TRUNCATED, false, "file: truncated at 4") && answer.at == 4 && !opened.is_open, "a damaged file is opened");
+    run_file("kept", WORDS(CREATE), 0);
+    open_file("kept", 0);
+    want(gave(RRDI_OK, false, "") && opened.is_open && !answer.system_error, "a file is opened");
+    open_file("bad", 0);
+    want(answer.fault == RRDI_TRUNCATED && !opened.is_open, "a damaged file is opened in place of another");
+    run_file("kept", WORDS("last"), 0);
+    want(gave(RRDI_OK, false, "0\n"), "a file that was let go of");
+}
+
+static void test_run_open(void) {
+    open_file("kept", 0);
+    run_open(WORDS("update\00010:1"));
+    want(gave(RRDI_OK, true, "") && held("kept") == 309, "update of an open file");
+    run_open(WORDS("last"));
+    want(gave(RRDI_OK, false, "10\n"), "last of an open file");
+    rrdi_run_open(&opened, WORDS("last"), 0, output, 2, &answer);
+    want(answer.fault == RRDI_OK && answer.is_cut && answer.output_length == 3, "last of an open file with room for two bytes");
+    run_open(WORDS("update\00010:1"));
+    want(gave(RRDI_REFUSED, false, "not later than 10") && held("kept") == 309, "an update that an open file refuses");
+    run_open(WORDS("update\00010"));
+    want(gave(RRDI_BAD_WORD, false, "unreadable sample 1"), "an unreadable word, for an open file");
+    run_open(WORDS("last\0\xff"));
+    want(gave(RRDI_USAGE, false, "usage"), "a word that is no text, for an open file");
+    run_open(WORDS("revert"));
+    want(gave(RRDI_OK, true, "") && held("kept") == 224, "revert of an open file");
+    run_open(WORDS("create\0DS:g:GAUGE:100:U:U"));
+    want(answer.fault && held("kept") == 224, "a create that is refused, on an open file");
+    run_open(WORDS("last"));
+    want(gave(RRDI_OK, false, "0\n"), "the database stays after a create that is refused");
+    run_open(WORDS(CREATE "\0RRA:MAX:0.5:1:4"));
+    want(gave(RRDI_OK, true, "") && held("kept") > 224, "create over an open file");
+    rrdi_close(&opened);
+    test_unopened("a file that was closed");
+}
+
+/* Runs the same commands on an open file and on a file at a path: the same bytes. */
+static void test_same_bytes(void) {
+    static uint8_t one[1 << 16], other[1 << 16];
+    char words[64];
+    run_file("one", WORDS(CREATE "\0RRA:AVERAGE:0.5:3:400"), 0);
+    run_file("other", WORDS(CREATE "\0RRA:AVERAGE:0.5:3:400"), 0);
+    open_file("one", 0);
+    for (int at = 1; at <= 100; at++) {
+        int size = at % 7 ? snprintf(words, sizeof words, "update%c%d:%d", 0, 10 * at, at) : snprintf(words, sizeof words, "revert");
+        run_open((const uint8_t *)words, size);
+        uint32_t fault = answer.fault;
+        run_file("other", (const uint8_t *)words, size, 0);
+        size_t length = bytes_of("other", other);
+        want(fault == RRDI_OK && answer.fault == RRDI_OK && bytes_of("one", one) == length && !memcmp(one, other, length),
+             "an open file and a file at a path");
+    }
+    rrdi_close(&opened);
+}
+
+static void test_batch_open(void) {
+    uint64_t refused[2] = {0, 0};
+    run_file("lines", WORDS(CREATE), 0);
+    open_file("lines", 0);
+    rrdi_batch_open(&opened, WORDS("update 10:1\nupdate 5:1\nlast\n"), 0, output, 20, refused, 2, &answer);
+    want(answer.fault == RRDI_NO_ROOM && answer.is_cut && answer.output_length == 28 && !answer.is_changed && held("lines") == 224,
+         "a batch on an open file without room for its output");
+    uint64_t room = answer.output_length;
+    run_file("lines", WORDS("last"), 0);
+    want(gave(RRDI_CANNOT_OPEN, false, "cannot open") && answer.system_error == EAGAIN, "a file stays locked after a batch without room");
+    rrdi_batch_open(&opened, WORDS("update 10:1\nupdate 5:1\nlast\n"), 0, output, room, refused, 1, &answer);
+    want(gave(RRDI_OK, true, "ERROR: not later than 10\n10\n") && held("lines") == 309, "a batch on an open file");
+    want(answer.refused == 1 && refused[0] == 2 && refused[1] == 0, "the number of the line that an open file refuses");
+    run_open(WORDS("last"));
+    want(gave(RRDI_OK, false, "10\n"), "last after a batch on an open file");
+    rrdi_close(&opened);
+}
+
+static void *close_later(void *of) {
+    (void)of;
+    run_open(WORDS("update\00030:1"));
+    bool is_right = gave(RRDI_OK, true, "");
+    rrdi_close(&opened);
+    return (void *)is_right;
+}
+
+/* An open file is locked; it may move to another thread; a forked child does not keep the lock. */
+static void test_open_locks(void) {
+    struct rrdi_file second = {0};
+    pthread_t thread;
+    void *is_right;
+    run_file("kept", WORDS(CREATE), 0);
+    open_file("kept", 0);
+    run_file("kept", WORDS("last"), 0);
+    want(gave(RRDI_CANNOT_OPEN, false, "cannot open") && answer.system_error == EAGAIN, "a reader of an open file");
+    rrdi_open(WORDS("kept"), 0, false, &second, output, sizeof output, &answer);
+    want(gave(RRDI_CANNOT_OPEN, false, "cannot open") && answer.system_error == EAGAIN && !second.is_open, "a file is opened twice");
+    fflush(stdout);
+    pid_t child = fork();
+    if (!child) {
+        pause();
+        _exit(0);
+    }
+    run_open(WORDS("update\00020:1"));
+    want(gave(RRDI_OK, true, ""), "an open file beside a forked child");
+    if (pthread_create(&thread, NULL, close_later, NULL) || pthread_join(thread, &is_right))
+        exit(3);
+    want(is_right && !opened.is_open, "an open file in another thread");
+    run_file("kept", WORDS("last"), 0);
+    want(gave(RRDI_OK, false, "30\n"), "a file that was closed, beside a forked child");
+    kill(child, SIGKILL);
+    waitpid(child, NULL, 0);
+}
+
+static void open_and_update(void) {
+    open_file("closed", 0);
+    run_open(WORDS("update\00020:2"));
+    rrdi_close(&opened);
+}
+
+/* After a change that failed the next call reads the file again; and a closed standard stream is no open file. */
+static void test_open_faults(void) {
+    static uint8_t old[1 << 16];
+    struct rlimit limit;
+    run_file("limited", WORDS(CREATE), 0);
+    size_t size = bytes_of("limited", old);
+    open_file("limited", 0);
+    getrlimit(RLIMIT_FSIZE, &limit);
+    struct rlimit less = {size, limit.rlim_max};
+    setrlimit(RLIMIT_FSIZE, &less);
+    run_open(WORDS("update\00010:1"));
+    bool is_right = gave(RRDI_CANNOT_WRITE, false, "cannot write") && answer.system_error;
+    setrlimit(RLIMIT_FSIZE, &limit);
+    want(is_right && has_bytes("limited", old, size), "an update of an open file under a limit");
+    run_file("limited", WORDS("last"), 0);
+    want(gave(RRDI_OK, false, "0\n"), "a file whose change failed is not locked");
+    run_open(WORDS("update\00010:1"));
+    want(gave(RRDI_OK, true, "") && held("limited") == 309 && !answer.system_error, "an update after a change that failed");
+    rrdi_close(&opened);
+    run_file("closed", WORDS(CREATE), 0);
+    want(without_streams(7, open_and_update) && gave(RRDI_OK, true, ""), "an open file without the standard streams");
+}
+
+/* A file whose change is valid, but still has its mark, stays locked: the next call removes the mark. */
+static void test_last_write(void) {
+    static uint8_t right[1 << 16];
+    const char *paths[] = {"marked", "unmarked"};
+    for (size_t at = 0; at < 2; at++) {
+        run_file(paths[at], WORDS("create\0--step\00010\0--start\0000\0DS:g:GAUGE:100:U:U\0RRA:LAST:0:1:2000"), 0);
+        open_file(paths[at], 0);
+        last_error = at ? 0 : EIO;
+        run_open(WORDS("update\00015000:3"));
+        want(gave(RRDI_OK, true, "") && !last_error, "an update of an open file whose last write fails");
+        run_file(paths[at], WORDS("update\00015010:77"), 0);
+        want(gave(RRDI_CANNOT_OPEN, false, "cannot open") && answer.system_error == EAGAIN, "a file whose last write failed is locked");
+        run_open(WORDS("update\00015020:4"));
+        want(gave(RRDI_OK, true, ""), "an update after a last write that failed");
+        rrdi_close(&opened);
+    }
+    want(has_bytes("marked", right, bytes_of("unmarked", right)), "the file after a last write that failed");
+}
+
+static void test_open(void) {
+    test_opening();
+    test_run_open();
+    test_same_bytes();
+    test_batch_open();
+    test_open_locks();
+    test_open_faults();
+    test_last_write();
+}
+
+/* Runs a command after which a read has failed, unless all was read before. Returns whether a read has failed. */
+static bool fail_read(const char *path, int error, int works) {
+    read_error = error;
+    works_left = works;
+    run_file(path, WORDS("last"), 0);
+    bool has_failed = !read_error;
+    read_error = 0;
+    want(has_failed ? answer.system_error == (uint32_t)error : answer.fault == RRDI_OK, "a read that fails");
+    return has_failed;
+}
+
+/* A read that fails is reported with the error of the system: of a file by the fault of one that can't be opened, and of a
+   pipe without a name by its own. */
+static void test_reads(void) {
+    static uint8_t old[1 << 16];
+    const int errors[] = {EIO, ESTALE};
+    run_file("pages", WORDS("create\0--step\00010\0--start\0000\0DS:g:GAUGE:100:U:U\0RRA:LAST:0.5:1:1000"), 0);
+    size_t size = bytes_of("pages", old);
+    int works = 0, ends[2];
+    for (size_t at = 0; at < 2; at++) {
+        for (works = 0; fail_read("pages", errors[at], works); works++)
+            want(answer.fault == RRDI_CANNOT_OPEN && has_bytes("pages", old, size), "a read of a file that fails");
+        want(works > 2, "reads that fail after the first one");
+        for (works = 0; works < 3; works++) {
+            char name[32];
+            if (pipe(ends) || write(ends[1], old, size) != (ssize_t)size)
+                exit(3);
+            close(ends[1]);
+            snprintf(name, sizeof name, "/dev/fd/%d", ends[0]);
+            want(fail_read(name, errors[at], works) && answer.fault == RRDI_READ, "a read of a pipe that fails");
+            close(ends[0]);
+        }
+    }
+}
+
 /* ---- locks and threads */
 
-static double seconds(void) {
-    struct timespec now;
-    clock_gettime(CLOCK_MONOTONIC, &now);
-    return now.tv_sec + now.tv_nsec / 1e9;
+/* Checks that calls on a locked file wait for so many milliseconds, in pauses of 1 to 50. */
+static void test_wait(uint64_t wait, uint64_t wanted) {
+    uint64_t refused[1];
+    for (int turn = 0; turn < 3; turn++) {
+        pauses = paused = longest = 0;
+        if (turn == 2)
+            rrdi_batch_file(WORDS(PATH), WORDS("last\n"), 0, wait, false, output, sizeof output, refused, 1, &answer);
+        else
+            run_file(PATH, turn ? (const uint8_t *)"last" : (const uint8_t *)"revert", turn ? 4 : 6, wait);
+        want(gave(RRDI_CANNOT_OPEN, false, "cannot open") && answer.system_error == EAGAIN, "a call on a locked file");
+        want(paused == wanted && longest <= LONGEST_PAUSE && (!wanted || first == 1) && (wanted < 1000 || longest == LONGEST_PAUSE),
+             "the milliseconds for which a call waits");
+    }
+}
+
+static void test_waits(void) {
+    const uint64_t waits[] = {0, 1, 2, 3, 7, 100, 113, 114, 299, 300, 5000, 60001};
+    int other = open(PATH, O_RDWR);
+    if (other < 0 || flock(other, LOCK_EX))
+        exit(3);
+    has_no_pauses = true;
+    for (size_t at = 0; at < sizeof waits / sizeof *waits; at++)
+        test_wait(waits[at], waits[at]);
+    test_wait(MOST_WAIT, MOST_WAIT);
+    test_wait(MOST_WAIT + 1, MOST_WAIT);
+    test_wait(UINT64_MAX, MOST_WAIT);
+    has_no_pauses = false;
+    close(other);
 }
 
 static void test_locks(void) {
@@ -389,15 +653,9 @@ static void test_locks(void) {
         exit(3);
     run_file(PATH, WORDS("last"), 0);
     want(gave(RRDI_OK, false, "10\n"), "last while another process reads");
-    double begin = seconds();
+    pauses = 0;
     run_file(PATH, WORDS("update\00020:1"), 0);
-    want(gave(RRDI_CANNOT_OPEN, false, "cannot open") && answer.system_error == EAGAIN && seconds() - begin < 0.2,
-         "an update that does not wait for a lock");
-    begin = seconds();
-    run_file(PATH, WORDS("update\00020:1"), 300);
-    double waited = seconds() - begin;
-    want(gave(RRDI_CANNOT_OPEN, false, "cannot open") && answer.system_error == EAGAIN && waited >= 0.3 && waited < 2,
-         "an update that waits 300 milliseconds for a lock");
+    want(gave(RRDI_CANNOT_OPEN, false, "cannot open") && answer.system_error == EAGAIN && !pauses, "an update that does not wait for a lock");
     run_file(PATH, WORDS(CREATE), 0);
     want(gave(RRDI_CANNOT_WRITE, false, "cannot write") && answer.system_error == EAGAIN && held(PATH) == 309,
          "a create over a file that is locked");
@@ -449,7 +707,10 @@ int main(void) {
     test_pipes();
     alarm(0);
     test_limits();
+    test_open();
+    test_reads();
     test_locks();
+    test_waits();
     test_threads();
     printf("%d tests: %d wrong\n", count, wrong);
     return wrong != 0;

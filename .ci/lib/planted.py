@@ -20,7 +20,7 @@ ERROR = re.compile(r"(?m)^(?:\./)?(\S+?):\d+:\d+: error: (`[^`]+`): (.*)$")
 OF_A_NAME = re.compile(r"has no field|is not in scope|has no `|was not admitted|cannot be named|is no name")
 
 
-class Place(NamedTuple):
+class EditedBody(NamedTuple):
     """The one function whose body an edit changes. The lines count from 1; the first is that of its attributes."""
     file: str
     # The type of a method, and then its trait, without a space; empty if the function is no method.
@@ -99,7 +99,7 @@ def pairs_of(edit: str) -> list[tuple[str, str, str]]:
     return pairs
 
 
-def place_of(edit: str, folder: Path) -> Place | None:
+def place_of(edit: str, folder: Path) -> EditedBody | None:
     """Returns the function that an edit changes, if all that the edit changes is in the body of one function."""
     places = set()
     for path, old, new in pairs_of(edit):
@@ -114,11 +114,11 @@ def place_of(edit: str, folder: Path) -> Place | None:
             return None
         first, last, name = found
         head = next(k for k in range(first, last) if FUNCTION.match(lines[k]))
-        places.add(Place(path, owner_of(lines, head), name, first + 1, last + 1))
+        places.add(EditedBody(path, owner_of(lines, head), name, first + 1, last + 1))
     return places.pop() if len(places) == 1 else None
 
 
-def is_symbol_of(place: Place, crate: str, symbol: str) -> bool:
+def is_symbol_of(place: EditedBody, crate: str, symbol: str) -> bool:
     """Checks whether a symbol, as `low::list::List::push`, can be that of the function. A method is named after its
     type's module, which need not be the module of its file, and a method of a trait after the type and the trait."""
     *path, name = symbol.split("::")
@@ -130,7 +130,7 @@ def is_symbol_of(place: Place, crate: str, symbol: str) -> bool:
     return path == [crate, *(module if module not in (["lib"], ["main"]) else [])]
 
 
-def is_refused(place: Place, crate: str, said: str) -> bool:
+def is_refused(place: EditedBody, crate: str, said: str) -> bool:
     """Checks whether a check refused a goal of the function itself. The function's own line must name open goals, one of
     which is reported within the function's lines, or must say that its proof is refused, and a file of this proof must
     have an error that is not about a name. An edit replaces lines by lines, so it moves no line."""

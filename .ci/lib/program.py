@@ -32,16 +32,18 @@ def error(text: str) -> str:
 
 # The faults after which one more line gives the reason.
 WITH_REASON = (error("cannot open"), error("cannot write"), error("file: read failed"))
+MORE = "rrdi: "
 
 
 def parted(err: str) -> tuple[str, str]:
-    """Returns the specified lines of standard error, and the reason in the line after them. That line, `rrdi: FILE:
-    REASON`, must follow if FILE cannot be opened, read or written. If it is missing, or another line follows, there is no
-    reason."""
+    """Returns the specified lines of standard error, and what the line after them says. That line, `rrdi: FILE: REASON`,
+    must follow if FILE cannot be opened, read or written; it gives the reason. After any other fault it may follow, and
+    gives advice. If it is missing, or another line follows, it says nothing."""
     *lines, last = err.splitlines(keepends=True) or [""]
-    if lines and lines[-1] in WITH_REASON and last.startswith("rrdi: ") and last.endswith("\n"):
-        return "".join(lines), last.rstrip("\n").rpartition(": ")[2]
-    return err, ""
+    if not (lines and lines[-1].startswith(error("")[:-1]) and last.startswith(MORE) and last.endswith("\n")):
+        return err, ""
+    said = last.rstrip("\n")
+    return "".join(lines), said.rpartition(": ")[2] if lines[-1] in WITH_REASON else said[len(MORE):]
 
 
 def waited(seconds: int) -> str:

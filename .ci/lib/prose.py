@@ -12,6 +12,8 @@ LINK = re.compile(r"(!?)\[((?:[^][]|\[[^]]*\])*)\]\(([^()\s]*)\)")
 FILE_NAME = re.compile(r"`?[\w./-]+\.(md|[13])`?$")
 ITEM = re.compile(r"\s*(?:[-*]|\d+\.)\s+")
 HEADING = re.compile(r"(#+)\s+(.*)")
+# The second line of a table.
+RULE = re.compile(r"\|[-:| ]+\|$")
 END = re.compile(r"(?<=[.!?])[)\"*]*\s+(?=[A-Z`*\[(\"])")
 
 IRREGULAR = """begun bound bought broken brought built chosen cut dealt done drawn driven drunk fed felt found given gone grown
@@ -28,11 +30,14 @@ SHORT, RUN, LONG_CELL = 8, 3, 25
 
 @dataclass
 class Page:
-    """The parts of a page: paragraphs and items of lists, cells of tables, links with their texts, and headings."""
+    """The parts of a page: paragraphs and items of lists, cells of tables, links with their texts, and headings.
+
+    `broken_tables` begin like a table, and are shown as text."""
     paragraphs: List[str]
     cells: List[str]
     links: List[Tuple[str, str]]
     headings: List[str]
+    broken_tables: List[str]
 
 
 def without_code(text: str) -> str:
@@ -65,13 +70,15 @@ def cells_of(lines: List[str]) -> List[str]:
 
 def parsed(text: str) -> Page:
     """Returns the parts of a page."""
-    page = Page([], [], [], [])
+    page = Page([], [], [], [], [])
     for lines in blocks(text):
         joined = " ".join(lines)
         page.links += [(words, target) for mark, words, target in LINK.findall(joined) if not mark]
         heading = HEADING.match(joined)
         if heading:
             page.headings.append(heading[2])
+        elif lines[0].startswith("|") and not (len(lines) > 1 and RULE.match(lines[1])):
+            page.broken_tables.append(joined)
         elif lines[0].startswith("|"):
             page.cells += cells_of(lines)
         elif not joined.startswith("!["):
@@ -114,9 +121,11 @@ def measures(page: Page) -> Dict[str, float]:
         "words": count,
         "passive %": 100 * sum(bool(PASSIVE.search(sentence)) for sentence in told) / (len(told) or 1),
         "weight": 1_000 * sum(len(WEIGHT.findall(sentence)) for sentence in told) / count,
+        "comma and": 1_000 * sum(sentence.count(", and ") for sentence in told) / count,
         "short runs": sum(map(runs_of_short, lengths)),
         "file links": sum(bool(FILE_NAME.match(text)) for text, _ in page.links),
         "long cells": sum(len(words(without_code(cell))) > LONG_CELL for cell in page.cells),
+        "broken tables": len(page.broken_tables),
         "questions": sum(sentences(paragraph)[:1] != [] and sentences(paragraph)[0].endswith("?") for paragraph in page.paragraphs),
     }
 

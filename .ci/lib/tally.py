@@ -7,6 +7,8 @@ from collections import Counter
 from dataclasses import dataclass, field
 from threading import Lock
 
+from lib import judgements
+
 # The maximum number of characters that are printed of one wrong result.
 MOST = 4_000
 LOCK = Lock()
@@ -27,6 +29,7 @@ class Tally:
     def want(self, is_right: bool, what: str) -> bool:
         """Reports what went wrong, unless all is right. Returns whether all is right."""
         if not is_right:
+            judgements.note()
             with LOCK:
                 self.wrong += 1
             if not self.is_quiet:

@@ -37,6 +37,20 @@ int main(int count, char **words) {
 """
 
 
+PAUSES = """
+#include <stdio.h>
+#include <time.h>
+#include <unistd.h>
+
+int main(void) {
+    struct timespec one = {1, 5}, other = {3600, 0};
+    int first = nanosleep(&one, NULL), second = clock_nanosleep(CLOCK_MONOTONIC, 0, &other, NULL), third = usleep(2500000);
+    fprintf(stderr, "%d %d %d", first, second, third);
+    return 0;
+}
+"""
+
+
 class Small(unittest.TestCase):
     def setUp(self) -> None:
         folder = tempfile.TemporaryDirectory()
@@ -49,6 +63,16 @@ class Small(unittest.TestCase):
     def told(self, **settings: object) -> str:
         self.file.unlink(missing_ok=True)
         return self.program.run([self.file], env=between.settings(self.library, **settings)).err
+
+    def test_pauses(self) -> None:
+        """An hour of pauses takes no time, and the log has each one; the numbers of the calls stay the same."""
+        subprocess.run(["cc", "-O0", "-w", "-x", "c", "-", "-o", self.folder / "pauses"], input=PAUSES, text=True, check=True)
+        log = self.folder / "log"
+        answer = Program(str(self.folder / "pauses")).run([], env=between.settings(self.library, LOG=log, NO_PAUSES=1))
+        events = between.events_of(log)
+        self.assertEqual((answer.status, answer.err), (0, "0 0 0"))
+        self.assertEqual(between.pauses_of(events), [1_000_000_005, 3_600 * 10**9, 2_500_000_000])
+        self.assertEqual([event.kind for event in between.calls_of(events) if event.kind == "pause"], [])
 
     def test_without_a_fault(self) -> None:
         log, record = self.folder / "log", self.folder / "record"
@@ -114,7 +138,5 @@ class Changes(unittest.TestCase):
         self.assertRaises(ValueError, Change, "rename")
 
     def test_events(self) -> None:
-        self.assertTrue(Event("open", ["-1", "0", "3", "2"]).opens_to_write)
-        self.assertFalse(Event("open", ["-1", "0", "3", "0"]).opens_to_write)
         self.assertTrue(Event("grow", ["5", "refused"]).is_refused)
         self.assertEqual(between.events_of("/no/such/log"), [])

@@ -4,7 +4,7 @@ import time
 import unittest
 from typing import Callable, List
 
-from lib.lanes import Lanes, Task, lengths_behind
+from lib.lanes import Lanes, LaneTask, lengths_behind
 
 
 class LanesOfTasks(unittest.TestCase):
@@ -13,7 +13,7 @@ class LanesOfTasks(unittest.TestCase):
         self.most = self.now = 0
         self.lock = threading.Lock()
 
-    def task(self, name: str, *waits: str, is_well: bool = True, memory: int = 0, length: int = 1) -> Task:
+    def task(self, name: str, *waits: str, is_well: bool = True, memory: int = 0, length: int = 1) -> LaneTask:
         def run() -> bool:
             with self.lock:
                 self.now += 1
@@ -23,7 +23,7 @@ class LanesOfTasks(unittest.TestCase):
                 self.now -= 1
                 self.done.append(name)
             return is_well
-        return Task(waits, length, memory, run)
+        return LaneTask(waits, length, memory, run)
 
     def lanes(self, number: int, free: Callable[[], int] = lambda: 100) -> Lanes:
         return Lanes(number, free, pause=0.01)
@@ -41,7 +41,7 @@ class LanesOfTasks(unittest.TestCase):
     def test_an_exception_is_a_failure(self) -> None:
         hook, threading.excepthook = threading.excepthook, lambda told: None
         try:
-            ended = self.lanes(1).run({"a": Task((), 1, 0, lambda: bool(1 // 0)), "b": self.task("b")})
+            ended = self.lanes(1).run({"a": LaneTask((), 1, 0, lambda: bool(1 // 0)), "b": self.task("b")})
         finally:
             threading.excepthook = hook
         self.assertEqual(ended, {"a": False, "b": True})

@@ -3,7 +3,7 @@ import tempfile
 import unittest
 from pathlib import Path
 
-from lib.planted import Place, body_at, is_refused, is_symbol_of, owner_of, place_of, stays_inside
+from lib.planted import EditedBody, body_at, is_refused, is_symbol_of, owner_of, place_of, stays_inside
 
 SOURCE = """/// Doubles.
 #[tactic(auto)]
@@ -55,17 +55,17 @@ class Bodies(unittest.TestCase):
 
 
 class Places(unittest.TestCase):
-    def place(self, edit: str) -> "Place | None":
+    def place(self, edit: str) -> "EditedBody | None":
         with tempfile.TemporaryDirectory() as folder:
             Path(folder, "src").mkdir()
             Path(folder, "src/low.rt").write_text(SOURCE)
             return place_of(edit, Path(folder))
 
     def test_an_edit_of_one_body(self) -> None:
-        twice = Place("src/low.rt", "", "twice", 1, 9)
+        twice = EditedBody("src/low.rt", "", "twice", 1, 9)
         self.assertEqual(self.place("file: src/low.rt\nold: x + x;\nnew: x;\n"), twice)
         self.assertEqual(self.place("file: src/low.rt\nold: x + x;\nnew: x;\nold:     sum\nnew:     x\n"), twice)
-        self.assertEqual(self.place("file: src/low.rt\nold: return 1;\nnew:\n"), Place("src/low.rt", "PairShow", "show", 12, 17))
+        self.assertEqual(self.place("file: src/low.rt\nold: return 1;\nnew:\n"), EditedBody("src/low.rt", "PairShow", "show", 12, 17))
 
     def test_other_edits_have_no_place(self) -> None:
         for edit in ("file: src/low.rt\nold: x < 100\nnew: x < 9\n", "file: src/low.rt\nold: seven = 7\nnew: seven = 8\n",
@@ -76,10 +76,10 @@ class Places(unittest.TestCase):
 
 class Symbols(unittest.TestCase):
     def test_symbols(self) -> None:
-        free, method = Place("src/a/b.rt", "", "f", 1, 2), Place("src/a/b.rt", "T", "f", 1, 2)
+        free, method = EditedBody("src/a/b.rt", "", "f", 1, 2), EditedBody("src/a/b.rt", "T", "f", 1, 2)
         for place, symbol, is_right in ((free, "c::a::b::f", True), (free, "c::a::f", False), (free, "c::a::b::g", False),
                                         (method, "c::x::T::f", True), (method, "c::x::U::f", False), (method, "c::x::T::g", False),
-                                        (Place("src/lib.rt", "", "f", 1, 2), "c::f", True)):
+                                        (EditedBody("src/lib.rt", "", "f", 1, 2), "c::f", True)):
             self.assertEqual(is_symbol_of(place, "c", symbol), is_right, symbol)
 
 
@@ -107,7 +107,7 @@ logic=not-proved
 
 class Verdicts(unittest.TestCase):
     def verdict(self, file: str, owner: str, name: str, first: int, last: int) -> bool:
-        return is_refused(Place(file, owner, name, first, last), "c", SAID)
+        return is_refused(EditedBody(file, owner, name, first, last), "c", SAID)
 
     def test_an_open_goal_of_the_function(self) -> None:
         self.assertTrue(self.verdict("src/mark.rt", "Shape", "size", 47, 55))
@@ -134,15 +134,15 @@ class Verdicts(unittest.TestCase):
 
     def test_a_goal_of_another_function_in_these_lines(self) -> None:
         said = SAID.replace("did not prove `slot_sum-requires`; it", "did not prove `returns-else`; it")
-        self.assertFalse(is_refused(Place("src/slot.rt", "", "read_slot", 60, 80), "c", said))
+        self.assertFalse(is_refused(EditedBody("src/slot.rt", "", "read_slot", 60, 80), "c", said))
 
     def test_a_harmless_edit_of_what_a_refused_function_calls(self) -> None:
         said = SAID + "note: src/mark.rt:5:5: it is not proved that what `number_at` requires holds (`number_at-requires`)\n"
-        self.assertFalse(is_refused(Place("src/mark.rt", "", "number_at", 1, 20), "c", said))
+        self.assertFalse(is_refused(EditedBody("src/mark.rt", "", "number_at", 1, 20), "c", said))
 
     def test_two_functions_of_one_name(self) -> None:
         said = SAID + "fn c::other::Shape::size: proved\n"
-        self.assertFalse(is_refused(Place("src/mark.rt", "Shape", "size", 47, 55), "c", said))
+        self.assertFalse(is_refused(EditedBody("src/mark.rt", "Shape", "size", 47, 55), "c", said))
 
 
 if __name__ == "__main__":

@@ -53,6 +53,10 @@ class Pages(unittest.TestCase):
             self.assertEqual(bool(prose.PASSIVE.search(text)), is_passive, text)
         self.assertEqual(len(prose.WEIGHT.findall("You should usually take it. Showing shoulders.")), 2)
 
+    def test_statements_joined_by_and(self) -> None:
+        found = prose.measures(prose.parsed("It reads the file, and the file stays. It reads and writes, if it may.\n"))
+        self.assertEqual((found["words"], round(found["comma and"])), (15, 67))
+
     def test_short_sentences_in_a_row(self) -> None:
         for lengths, wanted in (([3, 3], 0), ([3, 3, 3], 1), ([3, 3, 3, 3, 12, 1, 2, 3], 2), ([3, 9, 3, 3], 0)):
             self.assertEqual(prose.runs_of_short(lengths), wanted, lengths)
@@ -60,6 +64,10 @@ class Pages(unittest.TestCase):
     def test_long_cells_and_bars_in_code(self) -> None:
         page = prose.parsed("| a | b |\n|---|---|\n| `GROW\\|SHRINK` | " + "word " * 26 + "|\n")
         self.assertEqual((page.cells[0], prose.measures(page)["long cells"]), ("`GROW\\|SHRINK`", 1))
+
+    def test_a_table_that_has_lost_its_lines(self) -> None:
+        for text, count in (("| a | b |\n|---|---|\n| c | d |\n", 0), ("  | a | b | |---|---| | c\n  | d |\n", 1), ("| a |\n", 1)):
+            self.assertEqual(prose.measures(prose.parsed(text))["broken tables"], count, text)
 
     def test_file_names_as_texts(self) -> None:
         for text, is_name in (("files.md", True), ("`rrdi.1`", True), ("../README.md", True), ("files", False),

@@ -10,7 +10,7 @@ from pathlib import Path
 
 from lib import command_line, definitions, layout, manual
 from lib.between import Event
-from lib.changes import FILE, changes, is_refused, locks_of, parser_of_changes, readings, try_parts
+from lib.changes import FILE, calls_on_streams, changes, is_refused, locks_of, over_interrupted, parser_of_changes, readings, try_parts
 from lib.program import TOP, Answer, Program, environment, error, held, parted, put, waited
 from lib.self_test import SelfTest, answering
 from lib.tally import Tally, number_tried
@@ -51,7 +51,8 @@ class Faults(unittest.TestCase):
         self.assertEqual(parted(read + "rrdi: a: is a directory\n"), (read, "is a directory"))
         self.assertEqual(parted(error("write failed") + opened + "rrdi: a: is a directory\n"),
                          (error("write failed") + opened, "is a directory"))
-        for err in ("", write, error("usage") + "rrdi: a: b\n", write + "rrdi: a: b", write + "more\n", "rrdi: a: b\n",
+        self.assertEqual(parted(error("bad time") + "rrdi: --end is 1; write: 2\n"), (error("bad time"), "--end is 1; write: 2"))
+        for err in ("", write, error("usage") + "usage: a: b\n", write + "rrdi: a: b", write + "more\n", "rrdi: a: b\n",
                     write + "rrdi: a: b\nrrdi: a: b\n"):
             self.assertEqual(parted(err), (err, ""))
 
@@ -141,6 +142,19 @@ class Runs(unittest.TestCase):
         kinds = {task.words[0] for task in changes()}
         self.assertEqual(kinds, {"create", "update", "tune", "resize", "revert", "batch"})
 
+    def test_runs_without_a_fault(self) -> None:
+        """What a task must do if nothing disturbs it: without that, a comparison with it would show nothing."""
+        done, refused, old, new = Answer(0), Answer(1, "", error("not later than 10")), b"old", b"new"
+        for task in (*changes(), *readings(), *over_interrupted()):
+            right = refused if task.is_refused else Answer(1) if "nothing" in task.lines else done
+            after = old if task.keeps else new
+            self.assertEqual(task.faults(right, old, after), [], task.name)
+            for answer, left in ((right, new if task.keeps else old), (Answer(0 if right.status else 1, "", right.err), after),
+                                 (right._replace(err="" if right.err else error("cannot open")), after), (Answer(-9), after)):
+                self.assertEqual(len(task.faults(answer, old, left)), 1, (task.name, answer, left))
+        self.assertEqual({task.name.split(" over ")[0] for task in over_interrupted() if task.keeps}, {"last", "a refused update"})
+        self.assertEqual([task.name for task in changes() if task.keeps], ["batch that changes nothing"])
+
     def test_locks(self) -> None:
         call = lambda text: Event(text.split()[0], text.split()[1:])
         opened, locked, shared = call(f"open -1 0 4 2 {FILE}"), call("flock 4 6 0 0"), call("flock 4 5 0 0")
@@ -152,6 +166,13 @@ class Runs(unittest.TestCase):
         self.assertEqual(len(locks_of([opened, shared, reads, puts], FILE, False)), 1)
         self.assertEqual(locks_of([opened, locked, call("fcntl 4 1030 5 0"), call("read 5 10 10 0")], FILE, True), [])
         self.assertEqual(len(locks_of([opened, call("flock 4 6 -1 0"), reads], FILE, False)), 1)
+
+
+    def test_calls_on_streams(self) -> None:
+        call = lambda text: Event(text.split()[0], text.split()[1:])
+        for number, got, count in ((2, 10, 1), (0, 10, 1), (3, 10, 0), (2, -1, 0)):
+            calls = [call(f"open -1 0 {number} 2 {FILE}"), call(f"pwrite {number} 10 {got} 0"), call("open -1 0 1 2 other"), call("write 1 5 5 0")]
+            self.assertEqual(len(calls_on_streams(calls, FILE)), count, (number, got))
 
 
 class Layout(unittest.TestCase):
@@ -217,7 +238,7 @@ rrdi 0.2.0
         self.assertEqual(forms, {"tune": manual.plain(wanted), "last": "LAST", "info": "INFO"})
 
     def test_page(self) -> None:
-        text = "x\n\n    create [-s|--step SECONDS] D..\n    tune [--a B]\n         [-c|--d E]\n\nmore\n"
+        text = "x\n\n    rrdi create FILE [-s|--step SECONDS] D..\n    rrdi tune FILE [--a B]\n              [-c|--d E]\n\nmore\n"
         forms = manual.in_page(text)
         self.assertEqual(list(forms), ["create", "tune"])
         self.assertEqual(manual.options(forms["tune"]), [("", "a", "B"), ("c", "d", "E")])

@@ -1,0 +1,70 @@
+"""Tests that docs/trust.md names all the code that the theorem about FILE rests on, and that there is no other."""
+from __future__ import annotations
+
+import re
+import unittest
+from collections.abc import Iterator
+from pathlib import Path
+
+TOP = Path(__file__).resolve().parents[3]
+PAGE = TOP / "docs" / "trust.md"
+# The traits whose implementations say what a file has, and of which a false one would prove anything.
+IMPLEMENTATION = re.compile(r"^impl\b.*\b(Bytes|Disk|Storage) for (\w+)", re.MULTILINE)
+# The proofs by hand, which may say of a value what no check of the code sees.
+BY_HAND = {"crates/rrd_disk/proofs/record/Record/new/Proof.antt", "crates/rrd_disk/proofs/record/Record/note/Proof.antt",
+           "crates/rrd_disk/proofs/record/Record/TheSendSync/Send.antt",
+           "crates/rrd_ring/proofs/ring/row_mut/Proof.antt",
+           "library/rrdi_c/proofs/handle/Handle/into_unboxed/Proof.antt.in", "library/rrdi_c/proofs/handle/Handle/none/Proof.antt.in",
+           "library/rrdi_c/proofs/handle/Handle/of/Proof.antt.in",
+           "library/rrdi_c/proofs/unboxed/Unboxed/from_box/Proof.antt.in",
+           "library/rrdi_c/proofs/unboxed/Unboxed/into_box/Proof.antt.in"}
+
+# Words that may lead around the prover, and the lines that have one.
+WAY_AROUND = re.compile(r"\b(unsafe|axiom|postulate)\b", re.IGNORECASE)
+UNSAFE = {("crates/rrd_disk/src/record.rt", "unsafe impl Send for Record {}"),
+          ("library/rrdi_c/src/unboxed.rt.in", "unsafe { Box::from_raw(alloc, address) }")}
+
+
+def searched() -> Iterator[Path]:
+    """Gives the sources, definitions and proofs of the crates and of the C library."""
+    for folder in (TOP / "crates", TOP / "library"):
+        for part in ("src", "specs", "proofs"):
+            yield from (path for path in sorted(folder.glob(f"*/{part}/**/*")) if path.suffix in (".rt", ".antt", ".in"))
+
+
+def sources() -> Iterator[Path]:
+    """Gives the Rattle sources of the crates and of the C library, without the tests' own."""
+    for folder in (TOP / "crates", TOP / "library"):
+        for path in sorted(folder.glob("*/src/**/*.rt*")):
+            if not path.relative_to(folder).parts[0].startswith("tests_"):
+                yield path
+
+
+def implementations() -> set[str]:
+    """Returns each implementation, as `Bytes for Memory`."""
+    return {f"{found[1]} for {found[2]}" for path in sources() for found in IMPLEMENTATION.finditer(path.read_text())}
+
+
+class Trusted(unittest.TestCase):
+    def test_the_page_names_each_implementation(self) -> None:
+        named = set(re.findall(r"`((?:Bytes|Disk|Storage) for \w+)`", re.sub(r"\s+", " ", PAGE.read_text())))
+        self.assertEqual(named, implementations())
+
+    def test_no_other_proof_is_made_by_hand(self) -> None:
+        found = {str(path.relative_to(TOP)) for folder in ("crates", "library") for name in ("Proof.antt*", "TheSendSync/*.antt*")
+                 for path in (TOP / folder).glob(f"*/proofs/**/{name}")}
+        self.assertEqual(found, BY_HAND)
+
+    def test_the_page_names_what_a_search_for_unsafe_finds(self) -> None:
+        found = {(str(path.relative_to(TOP)), line.strip()) for path in searched() for line in path.read_text().splitlines()
+                 if WAY_AROUND.search(line.replace("#[unsafe(no_mangle)]", ""))}
+        self.assertEqual(found, UNSAFE)
+        self.assertIn("`unsafe impl Send for Record`; and one block in the C library", re.sub(r"\s+", " ", PAGE.read_text()))
+
+    def test_an_implementation_is_found(self) -> None:
+        text = "impl<'a, D: Disk> Storage for FileStorage<'a, D> {\nimpl Bytes for Memory {\n    impl Debug for Disk {\n"
+        self.assertEqual([found.groups() for found in IMPLEMENTATION.finditer(text)], [("Storage", "FileStorage"), ("Bytes", "Memory")])
+
+
+if __name__ == "__main__":
+    unittest.main()
