@@ -16,7 +16,9 @@ ARCHIVE = out/librrdi_c.a
 BUILD = out
 KIT = $(dir $(realpath $(shell command -v rt)))..
 OF_KIT = $(KIT)/c/libos_c.a $(KIT)/c/liblibc_c.a
-EXPORTS = rrdi_run rrdi_batch rrdi_run_file rrdi_batch_file
+EXPORTS = rrdi_run rrdi_batch rrdi_run_file rrdi_batch_file rrdi_open rrdi_run_open rrdi_batch_open rrdi_close
+# The functions of the headers alone, which have a manual page too.
+INLINE = rrdi_create_new rrdi_strerror rrdi_version rrdi_words
 # Where below PREFIX the library goes; Debian has lib/x86_64-linux-gnu.
 LIBDIR = lib
 LIBRARIES = $(DESTDIR)$(PREFIX)/$(LIBDIR)
@@ -106,14 +108,14 @@ install-directories:
 install-library: link-library install-directories
 	install -m 644 $(BUILD)/librrdi.so.0 $(BUILD)/librrdi.a "$(LIBRARIES)"
 	ln -sf librrdi.so.0 "$(LIBRARIES)/librrdi.so"
-	install -m 644 include/rrdi.h "$(HEADERS)"
+	install -m 644 include/rrdi.h include/rrdi_create.h "$(HEADERS)"
 	sed -e 's|@PREFIX@|$(PREFIX)|' -e 's|@LIBDIR@|$(LIBDIR)|' -e 's|@VERSION@|$(VERSION)|' include/rrdi.pc.in \
 		> "$(LIBRARIES)/pkgconfig/rrdi.pc"
 	chmod 644 "$(LIBRARIES)/pkgconfig/rrdi.pc"
 	rm -f "$(MANUALS_OF_C)/rrdi.3" $(EXPORTS:%="$(MANUALS_OF_C)/%.3")
 	$(call manual,docs/rrdi.3) > "$(MANUALS_OF_C)/rrdi.3.gz"
 	chmod 644 "$(MANUALS_OF_C)/rrdi.3.gz"
-	for name in $(EXPORTS); do ln -sf rrdi.3.gz "$(MANUALS_OF_C)/$$name.3.gz"; done
+	for name in $(EXPORTS) $(INLINE); do ln -sf rrdi.3.gz "$(MANUALS_OF_C)/$$name.3.gz"; done
 	-@$(UPDATE_LIBRARIES)
 
 # Earlier versions installed the pages of the program and the library without compression, and `man` would show those.
@@ -139,9 +141,10 @@ install-program: $(PROGRAM) install-directories
 
 uninstall:
 	rm -f "$(BINARIES)/rrdi" "$(MANUALS)/rrdi.1" "$(MANUALS)/rrdi.1.gz" "$(COMPLETIONS)/rrdi" "$(MODULES)/rrdi"
-	rm -f "$(HEADERS)/rrdi.h" "$(LIBRARIES)/pkgconfig/rrdi.pc" "$(LIBRARIES)/librrdi.a" "$(LIBRARIES)/librrdi.so" \
-		"$(LIBRARIES)/librrdi.so.0" "$(MANUALS_OF_C)/rrdi.3" $(EXPORTS:%="$(MANUALS_OF_C)/%.3") \
-		"$(MANUALS_OF_C)/rrdi.3.gz" $(EXPORTS:%="$(MANUALS_OF_C)/%.3.gz")
+	rm -f "$(HEADERS)/rrdi.h" "$(HEADERS)/rrdi_create.h" "$(LIBRARIES)/pkgconfig/rrdi.pc" "$(LIBRARIES)/librrdi.a" \
+		"$(LIBRARIES)/librrdi.so" "$(LIBRARIES)/librrdi.so.0" "$(MANUALS_OF_C)/rrdi.3" $(EXPORTS:%="$(MANUALS_OF_C)/%.3") \
+		"$(MANUALS_OF_C)/rrdi.3.gz" $(EXPORTS:%="$(MANUALS_OF_C)/%.3.gz") \
+		$(INLINE:%="$(MANUALS_OF_C)/%.3.gz")
 	@made=$$(LC_ALL=C sort -r "$(NOTED)" 2>/dev/null); rm -rf "$(SHARED)"; \
 	echo "$$made" | while read -r directory; do \
 		[ -z "$$directory" ] || rmdir "$(DESTDIR)$$directory" 2>/dev/null || :; \
@@ -178,7 +181,7 @@ ABOUT_RUNTIME = 'Multi-Arch: same' \
 	' of a file in memory. Every function is proved to meet its contract.'
 ABOUT_DEVELOPMENT = 'Multi-Arch: same' \
 	'Description: round-robin time-series database with exact undo (development)' \
-	' The header, the static library and the manual page of librrdi, which runs the' \
+	' The headers, the static library and the manual page of librrdi, which runs the' \
 	' commands of rrdi in a process. The example /usr/share/rrdi/examples/embed.c is' \
 	' in the package rrdi.'
 ABOUT_PYTHON = 'Description: round-robin time-series database with exact undo (Python 3)' \
