@@ -1,4 +1,4 @@
-"""Turns a database of rrdi back into an RRDtool file.
+"""Turns an rrdi database back into an RRDtool file.
 
 usage: rrdi-export FILE.rrdi NEW.rrd
        rrdi-export FILE.rrdi > MOVED.xml
@@ -6,7 +6,7 @@ usage: rrdi-export FILE.rrdi NEW.rrd
 example:
   rrdi-export room.rrdi room.rrd && rrdtool info room.rrd
 
-The first form makes NEW.rrd, which must not exist, by `rrdtool restore`. The
+The first form makes NEW.rrd, which must not exist, with `rrdtool restore`. The
 second prints the XML that `rrdtool restore` takes, and needs no RRDtool. Both
 have the data sources, the archives, all rows and the unfinished ones.
 

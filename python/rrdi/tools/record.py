@@ -32,7 +32,7 @@ environment:
   LOADAVG              the file with the averages (default: /proc/loadavg)
   RRDI_PROC            the directory of the system's files (default: /proc)
 
-docs/recording.md has more, also on how to record something else.
+docs/recording.md has more, and says how to record something else.
 
 Exit status: 0; 1 if the sample was not recorded; 2 after wrong arguments.
 """
