@@ -282,14 +282,13 @@ class BlocksByLibrary(WithLibrary, Blocks, unittest.TestCase):
         """No sample is lost whose call has returned, and the lock ends with the process."""
         rrdi.create(self.file, "DS:g:GAUGE:99:U:U", "RRA:LAST:0:1:500", step=1, start=0)
         for count in (1, 30, 200):
-            recorder = subprocess.Popen([sys.executable, "-B", "-c", RECORDER, str(TOP / "python"), str(self.file)],
-                                        stdout=subprocess.PIPE, text=True)
-            assert recorder.stdout is not None
-            for _ in range(count):
-                recorder.stdout.readline()
-            recorder.kill()
-            told = recorder.stdout.read().split()
-            recorder.wait()
+            words = [sys.executable, "-B", "-c", RECORDER, str(TOP / "python"), str(self.file)]
+            with subprocess.Popen(words, stdout=subprocess.PIPE, text=True) as recorder:
+                assert recorder.stdout is not None
+                for _ in range(count):
+                    recorder.stdout.readline()
+                recorder.kill()
+                told = recorder.stdout.read().split()
             last = rrdi.last(self.file, busy_timeout=0)
             self.assertIn(last - max([count, *map(int, told)]), (0, 1))
             rows = rrdi.fetch(self.file, "LAST", start=max(last - 500, 0), end=last - 1)[2]
