@@ -4,6 +4,7 @@ from __future__ import annotations
 
 import fcntl
 import os
+import random
 import resource
 import shutil
 import signal
@@ -36,6 +37,27 @@ class OfPath:
 
     def __getattr__(self, name: str) -> Callable[..., object]:
         return lambda *words, **options: getattr(rrdi, name)(self.path, *words, **options)
+
+
+def random_change(numbers: random.Random, now: int) -> Change:
+    """Returns a random command, which may be refused."""
+    sample = (now, numbers.choice([None, 1.5, -20, 7]), now // 3)
+    archive, setting = numbers.choice([0, 9]), numbers.choice(["RRA:MIN:0.5:1:9", "DELRRA:1", "x"])
+    commands: List[Change] = [
+        lambda to: to.update(sample), lambda to: to.update(sample, (now + 5, 1, now)), lambda to: to.revert(),
+        lambda to: to.update(sample), lambda to: to.tune(setting), lambda to: to.tune("--minimum", "g:U"),
+        lambda to: to.resize(archive, "GROW", 3), lambda to: to.resize(archive, "SHRINK", 2),
+        lambda to: to.batch([f"update {now}:1:2", "last", "revert", "info", f"update {now + 1}:U:9"]),
+        lambda to: to.fetch("AVERAGE", start=now - 100, end=now), lambda to: to.lastupdate()]
+    return numbers.choice(commands)
+
+
+def outcome(command: Change, to: Any) -> object:
+    """Returns what a command returned, or what its error says besides the path."""
+    try:
+        return command(to)
+    except rrdi.Error as error:
+        return type(error), error.reason, error.detail
 
 
 class Blocks(OfFiles):
@@ -205,6 +227,20 @@ class BlocksByLibrary(WithLibrary, Blocks, unittest.TestCase):
             except BlockingIOError:
                 return True
         return False
+
+    def test_random_commands(self) -> None:
+        """On an open file and by path: the same results, errors and files."""
+        other = self.folder / "other.rrdi"
+        for seed in range(30):
+            numbers, now = random.Random(seed), 1_600_000_000
+            for path in (self.file, other):
+                rrdi.create(path, *BOTH, step=10, start=now, journal=1 + seed % 5, overwrite=True)
+            with rrdi.Database(self.file) as database:
+                for _ in range(50):
+                    now += numbers.choice([0, 1, 7, 10, 25, 300])
+                    command = random_change(numbers, now)
+                    self.assertEqual(outcome(command, database), outcome(command, OfPath(other)), seed)
+                    self.assertEqual(self.bytes_of(), other.read_bytes(), seed)
 
     def test_the_lock(self) -> None:
         """From the first command to the end of the block nobody else gets in."""
