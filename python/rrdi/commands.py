@@ -23,7 +23,7 @@ import os
 from typing import Callable, Iterable, List, NamedTuple, Optional, Tuple, Type, TypeVar, Union, overload
 
 from .environment import is_synced, milliseconds
-from .errors import CANNOT_WRITE, OK, USAGE, Error, Exists, Refused, Unreadable, Usage, error_of, reason_of
+from .errors import CANNOT_WRITE, OK, USAGE, Busy, Error, Exists, Refused, Unreadable, Usage, error_of, reason_of
 from .fetching import fetched
 from .library import Answer, the_library
 from .results import AnyNumber, Info, LastUpdate, Table, Value, info_of, last_update
@@ -32,6 +32,7 @@ from .times import Span, Time, moment, span_word, time_word
 from .words import FilePath, Words, encoded, encoded_path, flat, options
 
 Filled = TypeVar("Filled")
+Lines = Union[str, Iterable[str]]
 
 
 class RefusedLine(NamedTuple):
@@ -49,10 +50,14 @@ class Batch(NamedTuple):
     refused: Tuple[RefusedLine, ...]
 
 
-def _failed(answer: Answer, path: FilePath) -> Exception:
+def failed(answer: Answer, path: FilePath) -> Error:
     """Returns the exception for the fault of an answer."""
     reason = reason_of(answer.fault, answer.output)
-    return error_of(answer.fault, reason, os.fsdecode(path), answer.at, answer.system_error)
+    error = error_of(answer.fault, reason, os.fsdecode(path), answer.at, answer.system_error)
+    if isinstance(error, Busy):
+        from .kept import is_open_here  # here, since most commands succeed
+        error.detail = "this program has it open by rrdi.Database" if is_open_here(encoded_path(path)) else ""
+    return error
 
 
 def run_on(path: FilePath, words: List[str], now: Optional[Time] = None, busy_timeout: Optional[float] = None,
@@ -61,8 +66,14 @@ def run_on(path: FilePath, words: List[str], now: Optional[Time] = None, busy_ti
     answer = the_library().run_file(encoded_path(path), encoded(words), moment(now), milliseconds(busy_timeout),
                                     is_synced(sync))
     if answer.fault != OK:
-        raise _failed(answer, path)
+        raise failed(answer, path)
     return answer.output.decode()
+
+
+def add_detail(error: Error, words: List[str], ask: Callable[[List[str]], str]) -> None:
+    """Adds to the error of a command which sample, value or time was wrong. `ask` runs a question on the same file."""
+    from .explaining import explain  # here, since most commands succeed
+    explain(error, words, ask)
 
 
 def run_explained(path: FilePath, words: List[str], now: Optional[Time] = None, busy_timeout: Optional[float] = None,
@@ -71,8 +82,7 @@ def run_explained(path: FilePath, words: List[str], now: Optional[Time] = None, 
     try:
         return run_on(path, words, now, busy_timeout, sync)
     except (Refused, Unreadable) as error:
-        from .explaining import explain  # here, since most commands succeed
-        explain(error, words, lambda question: run_on(path, question, now, 0, None))
+        add_detail(error, words, lambda question: run_on(path, question, now, 0, None))
         raise
 
 
@@ -90,6 +100,12 @@ def create(path: FilePath, *definitions: Words, step: Optional[Span] = None, sta
     `Exists`, a `FileExistsError`, if there is a file, and neither is True.
     """
     words = creation(definitions, step, start, journal, overwrite, exist_ok)
+    made(path, words, overwrite, exist_ok, now, busy_timeout, sync)
+
+
+def made(path: FilePath, words: List[str], overwrite: bool, exist_ok: bool, now: Optional[Time],
+         busy_timeout: Optional[float], sync: Optional[bool]) -> None:
+    """Runs the words of a creation: makes the file, replaces it, or keeps it."""
     if overwrite:
         run_explained(path, words, now, busy_timeout, sync)
     elif make_at(path, lambda new: run_explained(new, words, now, busy_timeout, sync)) is None:
@@ -243,7 +259,7 @@ def fetch_words(function: Words, words: Iterable[Words], resolution: Optional[Sp
 
 # ---- Lines
 
-def lines_of(lines: Union[str, Iterable[str]]) -> List[str]:
+def lines_of(lines: Lines) -> List[str]:
     """Returns the lines without their ends.
 
     # Errors
@@ -257,6 +273,22 @@ def lines_of(lines: Union[str, Iterable[str]]) -> List[str]:
     return found
 
 
+def text_of_lines(lines: List[str]) -> bytes:
+    """Returns lines as a batch reads them."""
+    return "\n".join(lines).encode(errors="surrogateescape")
+
+
+def batch_of(lines: List[str], answer: Answer, path: FilePath) -> Batch:
+    """Returns the batch of an answer.
+
+    # Errors
+    The `Error` of a fault.
+    """
+    if answer.fault != OK:
+        raise failed(answer, path)
+    return Batch(answer.output.decode(), refused_lines(lines, answer))
+
+
 def refused_lines(lines: List[str], answer: Answer) -> Tuple[RefusedLine, ...]:
     """Returns the refused lines of a batch. Each refused line printed one line with `ERROR: ` and its reason."""
     if not answer.refused:
@@ -266,16 +298,13 @@ def refused_lines(lines: List[str], answer: Answer) -> Tuple[RefusedLine, ...]:
     return tuple(RefusedLine(number, lines[number - 1], reason) for number, reason in zip(answer.refused, reasons))
 
 
-def batch(path: FilePath, lines: Union[str, Iterable[str]], *, now: Optional[Time] = None,
+def batch(path: FilePath, lines: Lines, *, now: Optional[Time] = None,
           busy_timeout: Optional[float] = None, sync: Optional[bool] = None) -> Batch:
     """Runs lines as `rrdi batch FILE` does: locks the file, reads the file once, and writes the file once.
 
     A refused line changes nothing, and the batch goes on with the next line. `refused` has the refused lines.
     """
     given = lines_of(lines)
-    text = "\n".join(given).encode(errors="surrogateescape")
-    answer = the_library().batch_file(encoded_path(path), text, moment(now), milliseconds(busy_timeout),
+    answer = the_library().batch_file(encoded_path(path), text_of_lines(given), moment(now), milliseconds(busy_timeout),
                                       is_synced(sync))
-    if answer.fault != OK:
-        raise _failed(answer, path)
-    return Batch(answer.output.decode(), refused_lines(given, answer))
+    return batch_of(given, answer, path)

@@ -1,84 +1,124 @@
-"""Many changes of one file, in one batch."""
+"""The database in a file, for a block of commands."""
 from __future__ import annotations
 
 import datetime
 import os
 from types import TracebackType
-from typing import List, NamedTuple, Optional, Sequence, Tuple, Type, overload
+from typing import List, Optional, Protocol, Type, overload
 
-from .commands import Batch, RefusedLine, batch, creation, fetch_words, make_at, run_explained
-from .errors import REFUSED, Error, Exists, Refused, error_of_line
+from .collecting import Collected
+from .collecting import RefusedLines as RefusedLines
+from .commands import Batch, Lines, RefusedLine, batch, creation, fetch_words, made, run_explained
 from .fetching import fetched
+from .kept import KeptFile
 from .results import AnyNumber, Info, LastUpdate, Table, Value, info_of, last_update
 from .samples import Sample, sample_words
 from .times import Span, Time, moment, seconds_of
-from .words import FilePath, Words, flat, line_of, options
+from .words import FilePath, Words, flat, options
 
 
-def _explained(reason: str, words: Sequence[str], path: Optional[str] = None) -> Error:
-    """Returns the exception for the reason of a refused line, with what its words show."""
-    from .explaining import explain  # here, since most lines succeed
-    error = error_of_line(reason, path)
-    explain(error, words)
-    return error
+class _Way(Protocol):
+    """When the commands run: at once, or together."""
+
+    refused: List[RefusedLine]
+
+    def time_of_samples(self) -> Optional[int]:
+        """Returns the time that replaces N; None if the command runs now, and may replace it."""
+
+    def begin(self) -> None: ...
+
+    def create(self, words: List[str], overwrite: bool, exist_ok: bool) -> None: ...
+
+    def change(self, words: List[str]) -> None: ...
+
+    def ask(self, words: List[str]) -> str: ...
+
+    def batch(self, lines: Lines) -> Batch: ...
+
+    def flush(self) -> None: ...
+
+    def end(self, is_whole: bool) -> None: ...
 
 
-class RefusedLines(Refused):
-    """Refused lines of a `Database`; `lines` has each line with its number and its reason."""
+class _AtOnce:
+    """Each command runs when it is called. In a block the file stays open."""
 
-    def __init__(self, path: str, lines: Tuple[RefusedLine, ...]):
-        one = lines[0]
-        first = _explained(one.reason, one.line.split())
-        more = f" (and {len(lines) - 1} more)" if len(lines) > 1 else ""
-        super().__init__(f"line {one.number}, {one.line}: {first}{more}", path, REFUSED)
-        self.lines = lines
+    def __init__(self, path: str, now: Optional[int], busy_timeout: Optional[float], sync: Optional[bool]):
+        self.path, self.now, self.busy_timeout, self.sync = path, now, busy_timeout, sync
+        self.refused: List[RefusedLine] = []
+        self._file: Optional[KeptFile] = None
 
-    def __reduce__(self) -> Tuple[object, ...]:
-        return RefusedLines, (self.path, self.lines)
+    def time_of_samples(self) -> Optional[int]:
+        return None
 
+    def begin(self) -> None:
+        self._file = self._file or KeptFile(self.path, self.busy_timeout, self.sync)
 
-class _Creation(NamedTuple):
-    """A waiting `create` of a file that did not exist: the place of its line, and whether another's file is kept."""
+    def create(self, words: List[str], overwrite: bool, exist_ok: bool) -> None:
+        if self._file is not None:
+            self._file.close()  # the next command opens the new file
+        made(self.path, words, overwrite, exist_ok, self.now, self.busy_timeout, self.sync)
 
-    place: int
-    exist_ok: bool
+    def change(self, words: List[str]) -> None:
+        self.ask(words)
+
+    def ask(self, words: List[str]) -> str:
+        if self._file is None:
+            return run_explained(self.path, words, self.now, self.busy_timeout, self.sync)
+        return self._file.run(words, self.now)
+
+    def batch(self, lines: Lines) -> Batch:
+        if self._file is None:
+            return batch(self.path, lines, now=self.now, busy_timeout=self.busy_timeout, sync=self.sync)
+        return self._file.batch(lines, self.now)
+
+    def flush(self) -> None:
+        pass
+
+    def end(self, is_whole: bool) -> None:
+        if self._file is not None:
+            self._file.close()
+        self._file = None
 
 
 class Database:
-    """The database in a file. Changes wait, and then run together.
+    """The database in a file, which stays open for a block.
 
         with rrdi.Database("net.rrdi") as database:
             database.update("10:1")
             database.update("20:2")
 
-    At the end of the block one call locks the file, reads the file, runs the waiting changes, writes the file once, and
-    unlocks the file. If the block ends by an exception, the waiting changes are dropped. A query such as `fetch` or
-    `last` first runs the waiting changes, in the same call; the changes are then in the file.
+    Each command runs when it is called, and its change is then in the file. The first command of a block opens the
+    file, and the end of the block closes it; in between the file is locked, so no other program can read it or change
+    it by rrdi. Without a block, each command opens and closes the file.
 
-    Each change is a line, counted from 1. A refused line changes nothing, and the other lines run. The end of the block,
-    or `flush`, raises `RefusedLines` with the refused lines. A time `N` is the time at which `update` was called.
+    With `collect=True` changes wait, and run together at the end of the block, in one call; the file is locked only
+    during a call. A query such as `fetch` or `last` first runs the waiting changes, in the same call. If the block ends
+    by an exception, the waiting changes are dropped. Each change is a line, counted from 1. A refused line changes
+    nothing, and the other lines run. The end of the block, or `flush`, raises `RefusedLines` with the refused lines. A
+    time `N` is the time at which `update` was called.
     """
 
-    def __init__(self, path: FilePath, *, now: Optional[Time] = None, busy_timeout: Optional[float] = None,
-                 sync: Optional[bool] = None):
+    def __init__(self, path: FilePath, *, collect: bool = False, now: Optional[Time] = None,
+                 busy_timeout: Optional[float] = None, sync: Optional[bool] = None):
         self.path = os.fsdecode(path)
         self.now = None if now is None else seconds_of(now)
-        self.busy_timeout, self.sync = busy_timeout, sync
-        self.refused: List[RefusedLine] = []
-        self._waiting: List[str] = []
-        self._creation: Optional[_Creation] = None
-        self._count = 0  # the lines that were run
+        self._way: _Way = _AtOnce(self.path, self.now, busy_timeout, sync)
+        if collect:
+            self._way = Collected(self.path, self.now, busy_timeout, sync)
+
+    @property
+    def refused(self) -> List[RefusedLine]:
+        """The refused lines that no exception has shown yet; only with `collect=True` there are any."""
+        return self._way.refused
 
     def __enter__(self) -> Database:
+        self._way.begin()
         return self
 
     def __exit__(self, kind: Optional[Type[BaseException]], error: Optional[BaseException],
                  trace: Optional[TracebackType]) -> None:
-        if kind is None:
-            self.flush()
-        else:
-            self._waiting.clear()
-            self._creation = None
+        self._way.end(kind is None)
 
     # ---- Changes
 
@@ -86,37 +126,32 @@ class Database:
                journal: Optional[int] = None, overwrite: bool = False, exist_ok: bool = False) -> None:
         """Creates a database, as `rrdi.create`.
 
-        Looks for a file at once, and again when the waiting changes run. If another program has made the file in
-        between, `flush` raises `Exists`, or with `exist_ok` runs the other changes.
+        With `collect=True`, looks for a file at once, and again when the waiting changes run. If another program has
+        made the file in between, `flush` raises `Exists`, or with `exist_ok` runs the other changes.
         """
         words = creation(definitions, step, start, journal, overwrite, exist_ok)
-        if not overwrite:
-            if self._is_created() or os.path.exists(self.path):
-                if exist_ok:
-                    return
-                raise Exists(self.path)
-            self._creation = _Creation(len(self._waiting), exist_ok)
-        self._add(*words)
-
-    def _is_created(self) -> bool:
-        """Returns whether a `create` waits."""
-        return any(line.startswith("create ") for line in self._waiting)
+        self._way.create(words, overwrite, exist_ok)
 
     def update(self, *samples: Sample, template: Optional[str] = None) -> None:
         """Adds samples, as `rrdi.update`: all samples of a call or none."""
-        self._add("update", *options(template=template), *sample_words(samples, self.path, moment(self.now)))
+        words = sample_words(samples, self.path, self._way.time_of_samples())
+        self._way.change(["update", *options(template=template), *words])
 
     def tune(self, *words: Words) -> None:
         """Changes settings, or adds or removes an archive, as `rrdi.tune`."""
-        self._add("tune", *flat(words))
+        self._way.change(["tune", *flat(words)])
 
     def resize(self, *words: Words) -> None:
         """Gives an archive more or fewer rows, as `rrdi.resize`."""
-        self._add("resize", *flat(words))
+        self._way.change(["resize", *flat(words)])
 
     def revert(self) -> None:
         """Undoes the newest change, as `rrdi.revert`; an `update` with many samples is one change."""
-        self._add("revert")
+        self._way.change(["revert"])
+
+    def batch(self, lines: Lines) -> Batch:
+        """Runs lines, as `rrdi.batch`: writes the file once. With `collect=True` the waiting changes run before."""
+        return self._way.batch(lines)
 
     def flush(self) -> None:
         """Runs the waiting changes.
@@ -125,25 +160,21 @@ class Database:
         - `RefusedLines` if the database refused lines, now or since the last time. The other lines are in the file.
         - another `Error` if nothing could be changed; the changes still wait.
         """
-        if self._waiting:
-            self._run([])
-        refused, self.refused = tuple(self.refused), []
-        if refused:
-            raise RefusedLines(self.path, refused)
+        self._way.flush()
 
     # ---- Queries
 
     def first(self, rraindex: Optional[int] = None) -> int:
         """Returns the time of the oldest row of an archive, as `rrdi.first`."""
-        return int(self._ask(["first", *options(rraindex=rraindex)]))
+        return int(self._way.ask(["first", *options(rraindex=rraindex)]))
 
     def last(self) -> int:
         """Returns the time of the last sample, as `rrdi.last`."""
-        return int(self._ask(["last"]))
+        return int(self._way.ask(["last"]))
 
     def info(self, *, values: Type[AnyNumber] = float) -> Info:
         """Returns the settings, as `rrdi.info`."""
-        return info_of(self._ask(["info"]), self.path, values)
+        return info_of(self._way.ask(["info"]), self.path, values)
 
     @overload
     def lastupdate(self, *, tz: Optional[datetime.tzinfo] = ...) -> LastUpdate[float]: ...
@@ -153,7 +184,7 @@ class Database:
 
     def lastupdate(self, *, values: type = float, tz: Optional[datetime.tzinfo] = None) -> object:
         """Returns the last raw values, as `rrdi.lastupdate`."""
-        return last_update(self._ask(["lastupdate"]), values, tz)
+        return last_update(self._way.ask(["lastupdate"]), values, tz)
 
     @overload
     def fetch(self, function: Words, *words: Words, resolution: Optional[Span] = ..., start: Optional[Time] = ...,
@@ -166,45 +197,5 @@ class Database:
     def fetch(self, function: Words, *words: Words, values: type = float, resolution: Optional[Span] = None,
               start: Optional[Time] = None, end: Optional[Time] = None) -> object:
         """Returns rows of one archive, as `rrdi.fetch`."""
-        return fetched(self._ask, fetch_words(function, words, resolution, start, end), moment(self.now), values)
-
-    # ---- Lines
-
-    def _add(self, *words: str) -> None:
-        self._waiting.append(line_of(words))
-
-    def _ask(self, words: List[str]) -> str:
-        """Runs the waiting changes and then a query; returns the output of the query."""
-        if not self._waiting:
-            return run_explained(self.path, words, self.now, self.busy_timeout, None)
-        before = len(self.refused)
-        output = self._run([line_of(words)])
-        if len(self.refused) > before and self.refused[-1].number == self._count + 1:
-            raise _explained(self.refused.pop().reason, words, self.path)
-        lines = output.splitlines()
-        return "\n".join(lines[sum(1 for line in lines if line.startswith("ERROR: ")):])
-
-    def _run(self, question: List[str]) -> str:
-        """Runs the waiting changes and then a query; returns the output of all. Keeps the refused lines."""
-        ran = self._ran(self._waiting + question)
-        self._creation = None
-        self.refused += [one._replace(number=one.number + self._count) for one in ran.refused]
-        self._count += len(self._waiting)
-        self._waiting.clear()
-        return ran.output
-
-    def _ran(self, lines: List[str]) -> Batch:
-        """Runs lines. If they create a file that did not exist, they run under another name, until it is whole."""
-        creation = self._creation
-        if creation is None:
-            return self._batch(self.path, lines)
-        ran = make_at(self.path, lambda new: self._batch(new, lines))
-        if ran is not None:
-            return ran
-        if not creation.exist_ok:
-            raise Exists(self.path)
-        lines[creation.place] = ""  # an empty line does nothing
-        return self._batch(self.path, lines)
-
-    def _batch(self, path: str, lines: List[str]) -> Batch:
-        return batch(path, lines, now=self.now, busy_timeout=self.busy_timeout, sync=self.sync)
+        asked = fetch_words(function, words, resolution, start, end)
+        return fetched(self._way.ask, asked, moment(self.now), values)

@@ -33,11 +33,11 @@ class Error(Exception):
 
     def __str__(self) -> str:
         if self.system_error in (errno.EAGAIN, errno.EWOULDBLOCK):
-            why = ": another program holds its lock"
+            why = f": {self.detail or 'another program holds its lock'}"
         else:
             why = f": {os.strerror(self.system_error)}" if self.system_error else ""
-        if self.detail:
-            why += f"{'; ' if why else ': '}{self.detail}"
+            if self.detail:
+                why += f"{'; ' if why else ': '}{self.detail}"
         return f"{self.path}: {self.reason}{why}" if self.path is not None else self.reason + why
 
 

@@ -1,4 +1,4 @@
-"""Finds the C library librrdi, and calls its four functions.
+"""Finds the C library librrdi, and calls its functions.
 
 A call lends the library buffers that belong to the calling thread, so several threads may call at the same time. During a
 call the interpreter's lock is free. docs/embedding.md has the library's own rules.
@@ -12,7 +12,7 @@ import threading
 from typing import List, Optional, Tuple
 
 from .errors import NO_ROOM
-from .protocol import DONE as DONE, Answer as Answer, Library as Library
+from .protocol import DONE as DONE, Answer as Answer, Library as Library, OpenedFile
 
 NAMES = ("librrdi.so.0", "librrdi.so")
 FIRST_ROOM = 65_536  # bytes of output
@@ -33,6 +33,14 @@ class _Answer(ctypes.Structure):
     file_length: int
     output_length: int
     at: int
+
+
+class _File(ctypes.Structure):
+    """`struct rrdi_file` of rrdi.h."""
+
+    _fields_ = [("is_open", ctypes.c_bool), ("reserved", ctypes.c_void_p)]
+
+    is_open: bool
 
 
 class _Room:
@@ -65,6 +73,8 @@ class _Rooms(threading.local):
 _BYTES, _LENGTH, _ADDRESS = ctypes.c_char_p, ctypes.c_size_t, ctypes.c_void_p
 _IN_MEMORY = [ctypes.c_bool, _BYTES, _LENGTH, _BYTES, _LENGTH, ctypes.c_uint64, _ADDRESS, _LENGTH, _ADDRESS, _LENGTH]
 _AT_PATH = [_BYTES, _LENGTH, _BYTES, _LENGTH, ctypes.c_uint64, ctypes.c_uint64, ctypes.c_bool, _ADDRESS, _LENGTH]
+_OPENING = [_BYTES, _LENGTH, ctypes.c_uint64, ctypes.c_bool, _ADDRESS, _ADDRESS, _LENGTH]
+_ON_OPEN = [_ADDRESS, _BYTES, _LENGTH, ctypes.c_uint64, _ADDRESS, _LENGTH]
 _REFUSED = [_ADDRESS, _LENGTH]
 
 
@@ -82,12 +92,18 @@ class CLibrary:
         self._batch.argtypes = [*_IN_MEMORY, *_REFUSED, _ADDRESS]
         self._run_file.argtypes = [*_AT_PATH, _ADDRESS]
         self._batch_file.argtypes = [*_AT_PATH, *_REFUSED, _ADDRESS]
-        for function in (self._run, self._batch, self._run_file, self._batch_file):
+        self._open, self.close_file = loaded.rrdi_open, loaded.rrdi_close
+        self.run_open, self.batch_open = loaded.rrdi_run_open, loaded.rrdi_batch_open
+        self._open.argtypes, self.close_file.argtypes = [*_OPENING, _ADDRESS], [_ADDRESS]
+        self.run_open.argtypes = [*_ON_OPEN, _ADDRESS]
+        self.batch_open.argtypes = [*_ON_OPEN, *_REFUSED, _ADDRESS]
+        for function in (self._run, self._batch, self._run_file, self._batch_file, self._open, self.run_open,
+                         self.batch_open, self.close_file):
             function.restype = None
-        self._rooms = _Rooms()
+        self.rooms = _Rooms()
 
     def run_file(self, path: bytes, words: bytes, now: int, wait: int, syncs: bool) -> Answer:
-        rooms = self._rooms
+        rooms = self.rooms
         answer, output = rooms.answer, rooms.output
         while True:
             self._run_file(path, len(path), words, len(words), now, wait, syncs, output.at, output.length,
@@ -97,7 +113,7 @@ class CLibrary:
             output.grow(answer.output_length)  # only a command that changes nothing prints so much
 
     def batch_file(self, path: bytes, lines: bytes, now: int, wait: int, syncs: bool) -> Answer:
-        rooms = self._rooms
+        rooms = self.rooms
         answer, output, refused = rooms.answer, rooms.output, rooms.refused
         refused.grow(8 * (lines.count(b"\n") + 1))
         while True:
@@ -108,7 +124,7 @@ class CLibrary:
             output.grow(answer.output_length)
 
     def run(self, data: Optional[bytes], words: bytes, now: int) -> Answer:
-        rooms, given = self._rooms, data or b""
+        rooms, given = self.rooms, data or b""
         answer, output, file = rooms.answer, rooms.output, rooms.file
         file.grow(len(given) + FIRST_ROOM)
         while True:
@@ -118,7 +134,7 @@ class CLibrary:
                 return _finished(rooms, None, file)
 
     def batch(self, data: Optional[bytes], lines: bytes, now: int) -> Answer:
-        rooms, given = self._rooms, data or b""
+        rooms, given = self.rooms, data or b""
         answer, output, file, refused = rooms.answer, rooms.output, rooms.file, rooms.refused
         file.grow(len(given) + FIRST_ROOM)
         refused.grow(8 * (lines.count(b"\n") + 1))
@@ -127,6 +143,51 @@ class CLibrary:
                         output.length, refused.at, refused.length // 8, rooms.answer_at)
             if not _needs_room(rooms):
                 return _finished(rooms, refused, file)
+
+
+    def open(self, path: bytes, wait: int, syncs: bool) -> Tuple[Answer, Optional[OpenedFile]]:
+        rooms, opened = self.rooms, _OpenedByC(self)
+        self._open(path, len(path), wait, syncs, opened.at, rooms.output.at, rooms.output.length, rooms.answer_at)
+        return _finished(rooms), opened if opened.file.is_open else None
+
+
+class _OpenedByC:
+    """A file that the C library keeps open. A file that nobody uses any longer is closed."""
+
+    def __init__(self, library: CLibrary):
+        self._library, self.file = library, _File()
+        self.at = ctypes.addressof(self.file)
+
+    def run(self, words: bytes, now: int) -> Answer:
+        rooms = self._library.rooms
+        answer, output = rooms.answer, rooms.output
+        while True:
+            self._library.run_open(self.at, words, len(words), now, output.at, output.length, rooms.answer_at)
+            if not answer.is_cut:
+                return _finished(rooms) if answer.fault or answer.output_length else DONE
+            output.grow(answer.output_length)
+
+    def batch(self, lines: bytes, now: int) -> Answer:
+        rooms = self._library.rooms
+        answer, output, refused = rooms.answer, rooms.output, rooms.refused
+        refused.grow(8 * (lines.count(b"\n") + 1))
+        while True:
+            self._library.batch_open(self.at, lines, len(lines), now, output.at, output.length, refused.at,
+                                     refused.length // 8, rooms.answer_at)
+            if answer.fault != NO_ROOM:
+                return _finished(rooms, refused)
+            output.grow(answer.output_length)
+
+    def close(self) -> None:
+        self._library.close_file(self.at)
+
+    def forget(self) -> None:
+        # The memory of the database stays with the child: to free it, the library would release the parent's lock.
+        self.file = _File()
+        self.at = ctypes.addressof(self.file)
+
+    def __del__(self) -> None:
+        self.close()
 
 
 def _needs_room(rooms: _Rooms) -> bool:

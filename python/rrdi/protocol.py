@@ -34,9 +34,25 @@ class OnFiles(Protocol):
     def batch_file(self, path: bytes, lines: bytes, now: int, wait: int, syncs: bool) -> Answer: ...
 
 
+class OpenedFile(Protocol):
+    """A file that stays open and locked, with its database in memory. One call at a time may use it."""
+
+    def run(self, words: bytes, now: int) -> Answer: ...
+
+    def batch(self, lines: bytes, now: int) -> Answer: ...
+
+    def close(self) -> None: ...
+
+    def forget(self) -> None:
+        """Leaves the file to the process that has opened it. A forked child calls this, and nothing else."""
+
+
 class Library(OnFiles, Protocol):
-    """Does the same on a database in memory too, given as the bytes of its file."""
+    """Does the same on a database in memory too, given as the bytes of its file, and on a file that stays open."""
 
     def run(self, data: Optional[bytes], words: bytes, now: int) -> Answer: ...
 
     def batch(self, data: Optional[bytes], lines: bytes, now: int) -> Answer: ...
+
+    def open(self, path: bytes, wait: int, syncs: bool) -> Tuple[Answer, Optional[OpenedFile]]:
+        """Opens, locks and reads a file, in which there has to be a database. Returns no file with a fault."""

@@ -9,7 +9,7 @@ import shutil
 import sys
 import tempfile
 from pathlib import Path
-from typing import Optional
+from typing import Optional, Tuple
 
 TOP = Path(__file__).resolve().parent.parent.parent
 sys.path.insert(0, str(TOP / "python"))
@@ -19,7 +19,7 @@ sys.dont_write_bytecode = True
 from rrdi import errors  # noqa: E402
 from rrdi.by_program import ByProgram  # noqa: E402
 from rrdi.library import library_path  # noqa: E402
-from rrdi.protocol import Answer  # noqa: E402
+from rrdi.protocol import Answer, OpenedFile  # noqa: E402
 
 
 def find_program() -> Optional[str]:
@@ -36,8 +36,15 @@ def has_library() -> bool:
     return library_path() is not None
 
 
-class Program(ByProgram):
-    """The library's four functions by runs of the program, with the reasons of the system."""
+class NothingStaysOpen:
+    """A library on a file system without locks, where no file can stay open."""
+
+    def open(self, path: bytes, wait: int, syncs: bool) -> Tuple[Answer, Optional[OpenedFile]]:
+        return Answer(errors.CANNOT_OPEN, errno.EINVAL, 0, b"cannot open"), None
+
+
+class Program(ByProgram, NothingStaysOpen):
+    """The library's functions by runs of the program, with the reasons of the system. No file stays open."""
 
     def __init__(self) -> None:
         super().__init__(PROGRAM or "")

@@ -1,6 +1,8 @@
 """Tests on the file of a database, in a folder of their own."""
 from __future__ import annotations
 
+import contextlib
+import os
 from typing import Any
 
 from cases import new_folder, use_library
@@ -27,6 +29,19 @@ class OfFiles:
         self.create()
         rrdi.update(self.file, "1600000010:1.5:5", "1600000020:U:8", "1600000030:-2.25:15")
         return self.file
+
+    @contextlib.contextmanager
+    def as_nobody(self: Any) -> Any:
+        """Root may open every file, so the calls are made as nobody."""
+        if os.geteuid() != 0:
+            yield
+            return
+        self.folder.chmod(0o755)
+        os.seteuid(65_534)
+        try:
+            yield
+        finally:
+            os.seteuid(0)
 
     def refuses(self: Any, kind: type, reason: str, call: Any, *words: Any, **options: Any) -> Any:
         """A call raises this exception with this reason, and the file stays as it is."""

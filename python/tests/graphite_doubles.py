@@ -14,7 +14,7 @@ import types
 from pathlib import Path
 from typing import Any, Dict, List, Mapping, Optional, Sequence, Tuple
 
-import doubles  # noqa: F401  (the package is on the path)
+from doubles import NothingStaysOpen  # and the package is on the path
 from rrdi.errors import CANNOT_OPEN
 from rrdi.library import Answer
 
@@ -156,7 +156,7 @@ class Collectd:
 BUSY = Answer(CANNOT_OPEN, errno.EAGAIN, 0, b"cannot open")
 
 
-class KeepingLibrary:
+class KeepingLibrary(NothingStaysOpen):
     """A C library that keeps the batches, and answers each with the next answer, or that all is well."""
 
     def __init__(self, *answers: Answer):

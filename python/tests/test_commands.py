@@ -2,7 +2,6 @@
 library, and with the built program in its place."""
 from __future__ import annotations
 
-import contextlib
 import datetime
 import fcntl
 import os
@@ -193,19 +192,6 @@ class Commands(OfFiles):
             self.assertEqual(rrdi.last(self.file), LAST)
             self.refuses_without_reading(rrdi.CannotWrite, "cannot write: Permission denied", rrdi.revert)
 
-    @contextlib.contextmanager
-    def as_nobody(self: Any) -> Any:
-        """Root may open every file, so the calls are made as nobody."""
-        if os.geteuid() != 0:
-            yield
-            return
-        self.folder.chmod(0o755)
-        os.seteuid(65_534)
-        try:
-            yield
-        finally:
-            os.seteuid(0)
-
     def refuses_without_reading(self: Any, kind: type, reason: str, call: Any) -> None:
         with self.assertRaises(kind) as raised:
             call(self.file)
@@ -355,10 +341,12 @@ class Batches(OfFiles):
         self.assertEqual(rrdi.last(file), 1_600_000_000)
 
 
-class Databases(OfFiles):
+class Collecting(OfFiles):
+    """Blocks whose changes wait."""
+
     def test_block(self: Any) -> None:
         file = self.create()
-        with rrdi.Database(file) as database:
+        with rrdi.Database(file, collect=True) as database:
             database.update("1600000010:1:2", "1600000020:2:5")
             database.update("1600000030:7", template="g")
             database.tune("--heartbeat", "g:50")
@@ -368,7 +356,7 @@ class Databases(OfFiles):
 
     def test_questions(self: Any) -> None:
         file = self.create()
-        with rrdi.Database(file) as database:
+        with rrdi.Database(file, collect=True) as database:
             self.assertEqual(database.last(), 1_600_000_000)
             database.update("1600000010:1.5:5")
             database.update("1600000010:2:5")
@@ -392,7 +380,7 @@ class Databases(OfFiles):
     def test_refused_lines(self: Any) -> None:
         file = self.create()
         with self.assertRaises(rrdi.Refused) as raised:
-            with rrdi.Database(file) as database:
+            with rrdi.Database(file, collect=True) as database:
                 database.update("1600000010:1:2")
                 database.update("1600000010:1:2")
                 database.last()
@@ -407,7 +395,7 @@ class Databases(OfFiles):
         self.assertEqual(rrdi.last(file), 1_600_000_020)
 
     def test_questions_that_are_refused(self: Any) -> None:
-        with rrdi.Database(self.create()) as database:
+        with rrdi.Database(self.create(), collect=True) as database:
             asked: List[Any] = [(rrdi.Refused, "no such archive", lambda: database.first(9)),
                                 (rrdi.Unreadable, "unreadable function", lambda: database.fetch("MEAN")),
                                 (rrdi.Usage, "usage", lambda: database.fetch("MAX", "--wrong"))]
@@ -421,16 +409,22 @@ class Databases(OfFiles):
                     self.assertEqual((type(raised.exception), raised.exception.reason), (kind, reason))
             self.assertEqual(database.refused, [])
 
+    def test_lines(self: Any) -> None:
+        with rrdi.Database(self.create(), collect=True) as database:
+            database.update("1600000010:1:2")
+            self.assertEqual(database.batch(["last", "update 1600000020:1:2"]), rrdi.Batch("1600000010\n", ()))
+            self.assertEqual(rrdi.last(self.file), 1_600_000_020)
+
     def test_an_exception_drops_what_waits(self: Any) -> None:
         before = self.create().read_bytes()
         with self.assertRaises(ZeroDivisionError):
-            with rrdi.Database(self.file) as database:
+            with rrdi.Database(self.file, collect=True) as database:
                 database.update("1600000010:1:2")
                 raise ZeroDivisionError
         self.assertEqual(self.file.read_bytes(), before)
 
     def test_what_waits_stays_after_a_fault(self: Any) -> None:
-        database = rrdi.Database(self.create(), busy_timeout=0)
+        database = rrdi.Database(self.create(), collect=True, busy_timeout=0)
         database.update("1600000010:1:2")
         with open(self.file, "rb") as other:
             fcntl.flock(other, fcntl.LOCK_EX)
@@ -441,7 +435,7 @@ class Databases(OfFiles):
         self.assertEqual(rrdi.info(self.file)["undoable"], 1)
 
     def test_words_that_are_no_line(self: Any) -> None:
-        database = rrdi.Database(self.create())
+        database = rrdi.Database(self.create(), collect=True)
         for wrong in ("1600000010:1:2\nrevert", "1600000010:1:2 1600000020:1:2", "", "\t", "1600000010:1:\xe4",
                       "9" * 70_000):
             with self.assertRaises(rrdi.Usage):
@@ -451,17 +445,17 @@ class Databases(OfFiles):
 
     def test_now(self: Any) -> None:
         rrdi.create(self.file, *BOTH, step=10, start=1_600_000_000)
-        with rrdi.Database(self.file) as database:
+        with rrdi.Database(self.file, collect=True) as database:
             database.update("N:1:2")
             time.sleep(1.1)
             database.update("N:3:4")
         self.assertLessEqual(abs(rrdi.last(self.file) - time.time()), 30)
-        with rrdi.Database(self.file, now=9_000_000_000) as database:
+        with rrdi.Database(self.file, collect=True, now=9_000_000_000) as database:
             database.update("N:1:2")
         self.assertEqual(rrdi.last(self.file), 9_000_000_000)
 
     def test_create(self: Any) -> None:
-        with rrdi.Database(self.file) as database:
+        with rrdi.Database(self.file, collect=True) as database:
             database.create(*BOTH, step=10, start=50, journal=5)
             database.update("60:1:2")
         self.assertEqual((rrdi.last(self.file), rrdi.info(self.file)["journal"]), (60, 5))
@@ -522,7 +516,7 @@ class BatchesByProgram(WithProgram, Batches, unittest.TestCase):
     pass
 
 
-class DatabasesByProgram(WithProgram, Databases, unittest.TestCase):
+class CollectingByProgram(WithProgram, Collecting, unittest.TestCase):
     pass
 
 
@@ -565,7 +559,7 @@ class BatchesByLibrary(WithLibrary, Batches, unittest.TestCase):
     pass
 
 
-class DatabasesByLibrary(WithLibrary, Databases, unittest.TestCase):
+class CollectingByLibrary(WithLibrary, Collecting, unittest.TestCase):
     pass
 
 

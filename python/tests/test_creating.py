@@ -108,36 +108,36 @@ class Creating(OfFiles):
 
 
 class InBlocks(Creating):
-    """`Database.create`, whose line waits."""
+    """`Database.create` with `collect`, where its line waits."""
 
     def test_a_file_stays(self: Any) -> None:
         file = self.fill()
         before = file.read_bytes()
         with self.assertRaises(rrdi.Exists):
-            with rrdi.Database(file) as database:
+            with rrdi.Database(file, collect=True) as database:
                 database.update("1600000040:1:2")
                 database.create(*ONE)
         self.assertEqual(file.read_bytes(), before)
         with self.assertRaises(ValueError):
-            rrdi.Database(file).create(*ONE, overwrite=True, exist_ok=True)
+            rrdi.Database(file, collect=True).create(*ONE, overwrite=True, exist_ok=True)
 
     def test_exist_ok(self: Any) -> None:
         for _ in range(2):
-            with rrdi.Database(self.file) as database:
+            with rrdi.Database(self.file, collect=True) as database:
                 database.create(*BOTH, step=10, start=5, exist_ok=True)
                 database.create(*ONE, exist_ok=True)  # the first one waits
                 database.update((rrdi.last(self.file) + 1 if self.file.exists() else 6, 1, 2))
         self.assertEqual((rrdi.last(self.file), rrdi.info(self.file)["undoable"], self.files()), (7, 2, ["f.rrdi"]))
 
     def test_overwrite(self: Any) -> None:
-        with rrdi.Database(self.fill()) as database:
+        with rrdi.Database(self.fill(), collect=True) as database:
             database.create(*BOTH, step=10, start=5, overwrite=True)
             database.update("6:1:2")
         self.assertEqual((rrdi.last(self.file), self.files()), (6, ["f.rrdi"]))
 
     def test_nothing_is_left_of_a_create_that_fails(self: Any) -> None:
         with self.assertRaises(rrdi.RefusedLines) as raised:
-            with rrdi.Database(self.file) as database:
+            with rrdi.Database(self.file, collect=True) as database:
                 database.create("DS:g:GAUGE:9:U:U")
                 database.update("N:1")
         self.assertEqual([line.reason for line in raised.exception.lines], ["no archive", "no database"])
@@ -151,7 +151,7 @@ class InBlocks(Creating):
         self.assertEqual(database.last(), 6)
 
     def test_changes_after_a_create(self: Any) -> None:
-        with rrdi.Database(self.file) as database:
+        with rrdi.Database(self.file, collect=True) as database:
             database.create(*ONE, start=5)
             self.assertEqual((database.last(), self.files()), (5, ["f.rrdi"]))
             database.update("6:1")
@@ -159,7 +159,7 @@ class InBlocks(Creating):
 
     def test_another_program_makes_the_file_meanwhile(self: Any) -> None:
         self.make_meanwhile(lambda: self.file.write_bytes(OTHERS))
-        database = rrdi.Database(self.file)
+        database = rrdi.Database(self.file, collect=True)
         database.create(*ONE)
         with self.assertRaises(rrdi.Exists):
             database.flush()
@@ -172,7 +172,7 @@ class InBlocks(Creating):
         chosen = self.library() or library.load_library()
         self.make_meanwhile(lambda: chosen.run_file(os.fsencode(self.file), "\0".join(
             ["create", "--start=5", *BOTH]).encode(), 0, 0, False))
-        database = rrdi.Database(self.file)
+        database = rrdi.Database(self.file, collect=True)
         database.tune("--heartbeat", "g:7")
         database.create(*ONE, exist_ok=True)
         database.update("6:1:2")
@@ -182,7 +182,7 @@ class InBlocks(Creating):
 
     def test_times(self: Any) -> None:
         begin = datetime.datetime(2020, 9, 13, 12, 26, 40, tzinfo=datetime.timezone.utc)
-        with rrdi.Database(self.file, now=begin + datetime.timedelta(seconds=3)) as database:
+        with rrdi.Database(self.file, collect=True, now=begin + datetime.timedelta(seconds=3)) as database:
             database.create(*ONE, step=datetime.timedelta(minutes=1), start=begin)
             database.update(("N", 5))
         self.assertEqual((rrdi.last(self.file), rrdi.info(self.file)["step"]), (1_600_000_003, 60))

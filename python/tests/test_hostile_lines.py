@@ -14,6 +14,7 @@ from unittest import mock
 import graphite_doubles as graphite
 import rrdi
 from cases import DataCase, use_library
+from doubles import NothingStaysOpen
 from hostile import HOSTILE, LONG, is_one_line
 from rrdi import collectd, commands, errors
 from rrdi.by_program import ByProgram
@@ -36,7 +37,7 @@ from rrdi.words import line_of
 NOW = 1_700_000_000
 
 
-class Keeping:
+class Keeping(NothingStaysOpen):
     """A library that keeps the calls, and accepts them."""
 
     def __init__(self) -> None:
@@ -94,9 +95,9 @@ class Calls(LineCase):
         path = str(self.folder / "f.rrdi")
         for word in HOSTILE:
             self.keeping.lines.clear()
-            with contextlib.suppress(errors.Usage), rrdi.Database(path) as database:
+            with contextlib.suppress(errors.Usage), rrdi.Database(path, collect=True) as database:
                 database.update("10:1", template=word)
-            with contextlib.suppress(errors.Usage), rrdi.Database(path) as database:
+            with contextlib.suppress(errors.Usage), rrdi.Database(path, collect=True) as database:
                 database.resize(0, "GROW", word)
             self.assertLessEqual(len(self.keeping.lines), 2, ascii(word[:60]))
             for line, words in zip(self.keeping.lines, ([f"--template={word}", "10:1"], ["0", "GROW", word])):

@@ -12,7 +12,7 @@ import unittest
 from typing import List, Optional, Tuple
 
 from cases import new_folder, use_library
-from doubles import TOP
+from doubles import TOP, NothingStaysOpen
 from test_recorder import Recorder
 from tool_case import ToolCase
 
@@ -111,7 +111,7 @@ class Record(unittest.TestCase):
             self.assertGreaterEqual(self.library.last_room(), count * len("ERROR: unreadable sample 18446744073709551615\n"))
 
 
-class KeptCalls:
+class KeptCalls(NothingStaysOpen):
     """A library that keeps the words of each call, and accepts them."""
 
     def __init__(self) -> None:

@@ -16,11 +16,14 @@ from doubles import has_library
 import rrdi
 from rrdi import library
 from rrdi.library import FIRST_ROOM, CLibrary, load_library
+from rrdi.protocol import OpenedFile
 
 POINTER, LENGTH, NUMBER = ctypes.c_void_p, ctypes.c_size_t, ctypes.c_uint64
 IN_MEMORY = [ctypes.c_bool, POINTER, LENGTH, POINTER, LENGTH, NUMBER, POINTER, LENGTH, POINTER, LENGTH]
 AT_PATH = [POINTER, LENGTH, POINTER, LENGTH, NUMBER, NUMBER, ctypes.c_bool, POINTER, LENGTH]
 REFUSED = [POINTER, LENGTH]
+OPENING = [POINTER, LENGTH, NUMBER, ctypes.c_bool, POINTER, POINTER, LENGTH, POINTER]
+ON_OPEN = [POINTER, POINTER, LENGTH, NUMBER, POINTER, LENGTH]
 
 
 class Called:
@@ -34,6 +37,11 @@ class Called:
             "rrdi_batch_file": (AT_PATH, REFUSED)}
         functions = {name: ctypes.CFUNCTYPE(None, *first, *refused, POINTER)(self.function(name, len(first) == 10))
                      for name, (first, refused) in prototypes.items()}
+        functions["rrdi_open"] = ctypes.CFUNCTYPE(None, *OPENING)(self.open)
+        functions["rrdi_close"] = ctypes.CFUNCTYPE(None, POINTER)(self.close)
+        functions["rrdi_run_open"] = ctypes.CFUNCTYPE(None, *ON_OPEN, POINTER)(self.on_open("rrdi_run_open"))
+        functions["rrdi_batch_open"] = ctypes.CFUNCTYPE(None, *ON_OPEN, *REFUSED, POINTER)(
+            self.on_open("rrdi_batch_open"))
         self.library = CLibrary(SimpleNamespace(**functions))  # type: ignore[arg-type]
 
     def function(self, name: str, is_in_memory: bool) -> Callable[..., None]:
@@ -51,6 +59,26 @@ class Called:
             self.answer(answer, name, file_at, file_room, output_at, room, words)
         return called
 
+    def open(self, path: int, length: int, wait: int, syncs: bool, file: int, output: int, room: int,
+             answer_at: int) -> None:
+        self.given.append(("rrdi_open", ctypes.string_at(path, length), wait, syncs))
+        answer, opened = library._Answer.from_address(answer_at), library._File.from_address(file)
+        answer.fault, answer.system_error, answer.is_cut, answer.output_length = self.fault, 11, False, len(self.output)
+        opened.is_open, opened.reserved = not self.fault, 4711
+        ctypes.memmove(output, self.output, len(self.output))
+
+    def close(self, file: int) -> None:
+        opened = library._File.from_address(file)
+        self.given.append(("rrdi_close", opened.is_open, opened.reserved))
+        opened.is_open = False
+
+    def on_open(self, name: str) -> Callable[..., None]:
+        def called(*words: Any) -> None:
+            file, text, length, now, output_at, room = words[:6]
+            self.given.append((name, library._File.from_address(file).reserved, ctypes.string_at(text, length), now))
+            self.answer(library._Answer.from_address(words[-1]), name, 0, 0, output_at, room, words)
+        return called
+
     def answer(self, answer: Any, name: str, file_at: int, file_room: int, output_at: int, room: int,
                words: Any) -> None:
         answer.fault, answer.system_error, answer.at, answer.is_changed = self.fault, 11, 7, False
@@ -63,7 +91,7 @@ class Called:
             answer.is_changed = True
             ctypes.memmove(file_at, self.file, len(self.file))
         if answer.is_cut:
-            answer.fault = 1 if name == "rrdi_batch_file" else self.fault
+            answer.fault = 1 if name in ("rrdi_batch_file", "rrdi_batch_open") else self.fault
             return
         ctypes.memmove(output_at, self.output, len(self.output))
         if "batch" in name:
@@ -112,14 +140,14 @@ class Rooms(unittest.TestCase):
     def test_rooms_that_shrink(self) -> None:
         called = Called(b"o" * (17 * FIRST_ROOM))
         called.library.run_file(b"f", b"fetch", 0, 0, False)
-        self.assertEqual(called.library._rooms.output.length, FIRST_ROOM)
+        self.assertEqual(called.library.rooms.output.length, FIRST_ROOM)
 
     def test_rooms_of_threads(self) -> None:
         called, found = Called(b"text"), []
 
         def call() -> None:
             called.library.run_file(b"f", b"last", 0, 0, False)
-            found.append((called.library._rooms.answer_at, called.library._rooms.output.at))
+            found.append((called.library.rooms.answer_at, called.library.rooms.output.at))
 
         call()
         thread = threading.Thread(target=call)
@@ -128,9 +156,58 @@ class Rooms(unittest.TestCase):
         self.assertEqual(len({address for rooms in found for address in rooms}), 4)
 
 
+class Opened(unittest.TestCase):
+    def opened(self, called: Called) -> OpenedFile:
+        answer, opened = called.library.open(b"f", 5_000, True)
+        self.assertEqual((answer.fault, called.given.pop()), (0, ("rrdi_open", b"f", 5_000, True)))
+        assert opened is not None
+        return opened
+
+    def test_words_of_a_call(self) -> None:
+        called = Called()
+        opened = self.opened(called)
+        self.assertEqual(opened.run(b"update\0" b"10:1", 2**40), library.DONE)
+        called.output, called.refused = b"ERROR: bad value\n", (2,)
+        answer = opened.batch(b"last\nupdate x", 7)
+        self.assertEqual((answer.output, answer.refused), (b"ERROR: bad value\n", (2,)))
+        opened.close()
+        del opened  # which closes once more
+        self.assertEqual(called.given, [("rrdi_run_open", 4711, b"update\0" b"10:1", 2**40),
+                                        ("rrdi_batch_open", 4711, b"last\nupdate x", 7),
+                                        ("rrdi_close", True, 4711), ("rrdi_close", False, 4711)])
+
+    def test_rooms_that_grow(self) -> None:
+        long = b"o" * (FIRST_ROOM + 1)
+        calls: List[Any] = [lambda of: of.run(b"info", 0), lambda of: of.batch(b"info", 0)]
+        for call in calls:
+            called = Called()
+            opened = self.opened(called)
+            called.output = long
+            self.assertEqual((call(opened).output, len(called.given)), (long, 2))
+
+    def test_a_fault(self) -> None:
+        called = Called(b"cannot open", fault=14)
+        answer, opened = called.library.open(b"f", 0, False)
+        self.assertEqual((answer.fault, answer.system_error, answer.output, opened), (14, 11, b"cannot open", None))
+
+    def test_what_nobody_uses_is_closed(self) -> None:
+        called = Called()
+        opened = self.opened(called)
+        del opened
+        self.assertEqual(called.given, [("rrdi_close", True, 4711)])
+
+    def test_what_a_child_forgets_stays_open(self) -> None:
+        called = Called()
+        opened = self.opened(called)
+        opened.forget()
+        del opened
+        self.assertEqual(called.given, [("rrdi_close", False, None)])
+
+
 class Places(unittest.TestCase):
-    def test_the_structure(self) -> None:
+    def test_the_structures(self) -> None:
         self.assertEqual((ctypes.sizeof(library._Answer), ctypes.alignment(library._Answer)), (304, 8))
+        self.assertEqual((ctypes.sizeof(library._File), ctypes.alignment(library._File)), (16, 8))
 
     def test_places(self) -> None:
         folder = new_folder(self)

@@ -297,7 +297,7 @@ class Errors(OfFiles):
 
     def test_of_lines_and_in_memory(self: Any) -> None:
         with self.assertRaises(rrdi.RefusedLines) as raised:
-            with rrdi.Database(self.create()) as database:
+            with rrdi.Database(self.create(), collect=True) as database:
                 database.update("1600000010:1:1,5")
         self.assertEqual(str(raised.exception), f"{self.file}: line 1, update 1600000010:1:1,5: unreadable sample 1: its "
                                                 "value 2 is '1,5'; write '1.5', with a point")

@@ -1,0 +1,128 @@
+"""Changes of one file that wait, and then run together, in one batch."""
+from __future__ import annotations
+
+import os
+from typing import List, NamedTuple, Optional, Sequence, Tuple
+
+from .commands import Batch, Lines, RefusedLine, batch, make_at, run_explained
+from .errors import REFUSED, Error, Exists, Refused, error_of_line
+from .times import moment
+from .words import line_of
+
+
+def _explained(reason: str, words: Sequence[str], path: Optional[str] = None) -> Error:
+    """Returns the exception for the reason of a refused line, with what its words show."""
+    from .explaining import explain  # here, since most lines succeed
+    error = error_of_line(reason, path)
+    explain(error, words)
+    return error
+
+
+class RefusedLines(Refused):
+    """Refused lines of a `Database`; `lines` has each line with its number and its reason."""
+
+    def __init__(self, path: str, lines: Tuple[RefusedLine, ...]):
+        one = lines[0]
+        first = _explained(one.reason, one.line.split())
+        more = f" (and {len(lines) - 1} more)" if len(lines) > 1 else ""
+        super().__init__(f"line {one.number}, {one.line}: {first}{more}", path, REFUSED)
+        self.lines = lines
+
+    def __reduce__(self) -> Tuple[object, ...]:
+        return RefusedLines, (self.path, self.lines)
+
+
+class _Creation(NamedTuple):
+    """A waiting `create` of a file that did not exist: the place of its line, and whether another's file is kept."""
+
+    place: int
+    exist_ok: bool
+
+
+class Collected:
+    """Changes that wait until a question, `flush` or the end of a block. One call then locks the file, reads it, runs
+    them and writes it once."""
+
+    def __init__(self, path: str, now: Optional[int], busy_timeout: Optional[float], sync: Optional[bool]):
+        self.path, self.now, self.busy_timeout, self.sync = path, now, busy_timeout, sync
+        self.refused: List[RefusedLine] = []
+        self._waiting: List[str] = []
+        self._creation: Optional[_Creation] = None
+        self._count = 0  # the lines that were run
+
+    def time_of_samples(self) -> Optional[int]:
+        return moment(self.now)
+
+    def begin(self) -> None:
+        pass
+
+    def create(self, words: List[str], overwrite: bool, exist_ok: bool) -> None:
+        if not overwrite:
+            if self._is_created() or os.path.exists(self.path):
+                if exist_ok:
+                    return
+                raise Exists(self.path)
+            self._creation = _Creation(len(self._waiting), exist_ok)
+        self.change(words)
+
+    def _is_created(self) -> bool:
+        """Returns whether a `create` waits."""
+        return any(line.startswith("create ") for line in self._waiting)
+
+    def change(self, words: List[str]) -> None:
+        self._waiting.append(line_of(words))
+
+    def ask(self, words: List[str]) -> str:
+        """Runs the waiting changes and then a query; returns the output of the query."""
+        if not self._waiting:
+            return run_explained(self.path, words, self.now, self.busy_timeout, None)
+        before = len(self.refused)
+        output = self._run([line_of(words)])
+        if len(self.refused) > before and self.refused[-1].number == self._count + 1:
+            raise _explained(self.refused.pop().reason, words, self.path)
+        lines = output.splitlines()
+        return "\n".join(lines[sum(1 for line in lines if line.startswith("ERROR: ")):])
+
+    def batch(self, lines: Lines) -> Batch:
+        if self._waiting:
+            self._run([])
+        return batch(self.path, lines, now=self.now, busy_timeout=self.busy_timeout, sync=self.sync)
+
+    def flush(self) -> None:
+        if self._waiting:
+            self._run([])
+        refused, self.refused = tuple(self.refused), []
+        if refused:
+            raise RefusedLines(self.path, refused)
+
+    def end(self, is_whole: bool) -> None:
+        if is_whole:
+            self.flush()
+        else:
+            self._waiting.clear()
+            self._creation = None
+
+    def _run(self, question: List[str]) -> str:
+        """Runs the waiting changes and then a query; returns the output of all. Keeps the refused lines."""
+        ran = self._ran(self._waiting + question)
+        self._creation = None
+        self.refused += [one._replace(number=one.number + self._count) for one in ran.refused]
+        self._count += len(self._waiting)
+        self._waiting.clear()
+        return ran.output
+
+    def _ran(self, lines: List[str]) -> Batch:
+        """Runs lines. If they create a file that did not exist, they run under another name, until it is whole."""
+        creation = self._creation
+        if creation is None:
+            return self._batch(self.path, lines)
+        ran = make_at(self.path, lambda new: self._batch(new, lines))
+        if ran is not None:
+            return ran
+        if not creation.exist_ok:
+            raise Exists(self.path)
+        lines[creation.place] = ""  # an empty line does nothing
+        return self._batch(self.path, lines)
+
+    def _batch(self, path: str, lines: List[str]) -> Batch:
+        return batch(path, lines, now=self.now, busy_timeout=self.busy_timeout, sync=self.sync)
