@@ -15,8 +15,9 @@ With --alone each planted bug is tried in a check of its own, by the kit's judge
 With --record the last line of each step and script goes into docs/results.md; then no file outside docs may differ from
 the commit.
 
-The last lines say how long each step took. If nothing failed, the last line has the number of crates that were proved, of
-tests that passed, and of planted bugs that the prover refused in this run. The status is 0 if nothing failed."""
+The last lines say how long each step took, and what the steps left out. If nothing failed, the last line has the number of
+crates that were proved, of tests that passed, and of planted bugs that the prover refused in this run. The status is 0 if
+nothing failed."""
 from __future__ import annotations
 
 import argparse
@@ -44,6 +45,8 @@ HANG = 300
 # The last line of `rt ci`: the numbers of passes and failures. And the last line of the tests of a crate.
 PASSED = re.compile(r"^(\d+) passed, 0 failed\b")
 TESTS = re.compile(r"^test result: ok\. (\d+) passed; 0 failed\b")
+# How a line begins that says what a step left out.
+LEFT_OUT = "left out: "
 # What a word of a step stands for: the copy without planted bugs, and the workspace of the planted bugs.
 COPY, WORKSPACE = "COPY", "WORKSPACE"
 
@@ -93,6 +96,13 @@ def counted(step: Step, lines: list[str]) -> int:
     return number_tried(last)
 
 
+def left_out_in(lines: list[str]) -> list[str]:
+    """Returns what a step left out: the lines right before its last one say so."""
+    whole = lines[:-1]
+    count = next((count for count, line in enumerate(reversed(whole)) if not line.startswith(LEFT_OUT)), len(whole))
+    return [line[len(LEFT_OUT):] for line in whole[len(whole) - count:]]
+
+
 def passed_in(step: Step, lines: list[str]) -> int:
     """Returns how many crates, tests and planted bugs a step adds to the last line of the full check."""
     if step.words == RT.words:
@@ -113,6 +123,7 @@ class Check:
     passed: int = 0
     failed: int = 0
     times: list[tuple[str, float]] = field(default_factory=list)
+    left_out: list[str] = field(default_factory=list)
     running: list[subprocess.Popen[str]] = field(default_factory=list)
     lock: threading.Lock = field(default_factory=threading.Lock)
 
@@ -120,7 +131,8 @@ class Check:
         """Runs a step, shows its output, and returns whether it went well and tried enough."""
         lacking = [tool for tool in step.tools if not shutil.which(tool)]
         if lacking:
-            print(f"left out: {step.name}: {', '.join(lacking)} not installed", flush=True)
+            with self.lock:
+                self.left_out.append(f"{step.name}: {', '.join(lacking)} not installed")
             return True
         begin = time.monotonic()
         started = self.start(step)
@@ -132,6 +144,7 @@ class Check:
         with self.lock:
             self.running.remove(started)
             self.times.append((step.name, seconds))
+            self.left_out += [f"{step.name}: {what}" for what in left_out_in(lines)]
             is_well = self.is_well(step, started.returncode, lines)
             self.passed += passed_in(step, lines) if is_well else 0
             if self.at and is_well and step.least and step.words[0] != LAST.words[0]:
@@ -193,11 +206,11 @@ class Check:
             thread.join()
 
     def last_lines(self, begin: float) -> list[str]:
-        """Returns the time of each step, and the last line."""
+        """Returns the time of each step, what was left out, and the last line."""
         rows = [*self.times, ("all, some beside each other", time.monotonic() - begin)]
         times = [f"{minutes(seconds):>8}  {name}" for name, seconds in rows]
         return [f"run: minutes of each step, on {len(os.sched_getaffinity(0))} processors", *times,
-                f"{self.passed} passed, {self.failed} failed"]
+                *(LEFT_OUT + what for what in self.left_out), f"{self.passed} passed, {self.failed} failed"]
 
 
 def copy_without_bugs(top: Path, folder: Path) -> None:
@@ -307,10 +320,10 @@ def test_order(test: SelfTest) -> None:
         test.want(check.failed == 1 and time.monotonic() - begin < HANG, "a failure ends the slow steps beside it")
         test.want(len(check.times) == 2, f"no step begins after a failure: {check.times}")
         check = Check(Path(folder), {})
-        said = StringIO()
-        with redirect_stdout(said):
+        with redirect_stdout(StringIO()):
             check.row((Step(("false",), tools=("no-such-tool",)), Step(("no-such-command",))))
-        test.want("left out: false: no-such-tool" in said.getvalue() and check.failed == 1, f"missing tools: {said.getvalue()}")
+        last = check.last_lines(begin)
+        test.want("left out: false: no-such-tool not installed" in last and check.failed == 1, f"missing tools: {last}")
 
 
 def test_record(test: SelfTest) -> None:
@@ -342,6 +355,9 @@ def self_test() -> int:
     ended, lines, is_built = gate()
     test.want((ended, lines[-1], is_built) == (0, "212 passed, 0 failed", True), f"nothing fails: {lines[-8:]}")
     test.want(all(any(f"  {name}" in line for line in lines[-9:-1]) for name in TEXTS), f"the times of the steps: {lines[-9:]}")
+    _, lines, _ = gate(".ci/run-cases", out="left out: not this\nother\nleft out: one\nleft out: two\n91 batches: 0 wrong\n")
+    told = ["left out: .ci/run-cases: one", "left out: .ci/run-cases: two", "212 passed, 0 failed"]
+    test.want(lines[-3:] == told and "left out: .ci/run-cases: not this" not in lines, f"what was left out: {lines[-5:]}")
     for name in TEXTS:
         ended, lines, _ = gate(name, 1)
         test.want(ended == 1 and lines[-1].endswith(" 1 failed"), f"{name} fails: {lines[-3:]}")

@@ -21,6 +21,8 @@ MAY_CALL = frozenset({"malloc", "realloc", "free", "memcpy", "memmove", "memset"
                       "open", "open64", "close", "read", "pread", "pread64", "pwrite", "pwrite64", "lseek", "lseek64",
                       "ftruncate", "ftruncate64", "fdatasync", "flock", "fcntl", "fcntl64", "statx", "realpath",
                       "nanosleep"})
+# What precedes the name of a system call that may have a bug.
+PLANTED = "planted_"
 # The functions of the compiler's own library, the linker and the start files: division of 128 bits, and those of each shared object.
 OF_LINKER = frozenset({"__udivti3", "__cxa_finalize", "__gmon_start__", "_ITM_deregisterTMCloneTable", "_ITM_registerTMCloneTable"})
 
@@ -46,6 +48,17 @@ class Library:
         subprocess.run(["cc", "-Wall", "-Wextra", "-Werror", "-O1", "-g", *flags, f"-I{TOP / 'include'}", str(HERE / source), *linked,
                         "-lpthread", *more, "-o", str(path)], check=True)
         return path
+
+    def planted(self, folder: Path) -> Library:
+        """Builds a copy of the static library that makes its system calls by planted_calls.c, in a new folder."""
+        folder.mkdir()
+        copy, calls = Library(folder), folder / "planted_calls.o"
+        subprocess.run(["cc", "-Wall", "-Wextra", "-Werror", "-O1", "-c", str(HERE / "planted_calls.c"), "-o", str(calls)], check=True)
+        renamed = {name[len(PLANTED):] for name in names(calls, "--defined-only") if name.startswith(PLANTED)}
+        words = [f"--redefine-sym={name}={PLANTED}{name}" for name in sorted(renamed & names(self.static, "-g", "--undefined-only"))]
+        subprocess.run(["objcopy", *words, str(self.static), str(copy.static)], check=True)
+        subprocess.run(["ar", "rs", str(copy.static), str(calls)], check=True, stderr=subprocess.DEVNULL)
+        return copy
 
     def by_library(self, name: str = "by-library", *, static: bool = False) -> Path:
         """Builds the program that runs rrdi's commands by the library."""

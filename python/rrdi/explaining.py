@@ -110,7 +110,7 @@ def why_no_number(text: str, advice: Callable[[str], str]) -> str:
         return "empty; U is unknown"
     if text.lower() in ("nan", "none", "null", "-nan", "+nan", "u", "unknown"):
         return f"{quoted(text)}; U is unknown"
-    if re.fullmatch(r"[+-]?\d*,\d+", text):
+    if "," in text and NUMBER.fullmatch(text.replace(",", ".", 1)):
         return f"{quoted(text)}; write {quoted(text.replace(',', '.'))}, with a point"
     if re.fullmatch(r"[+-]?(\d+\.?\d*|\.\d+)[eE][+-]?\d+", text):
         return f"{quoted(text)}, with an exponent; {advice(text)}"

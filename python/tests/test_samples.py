@@ -224,7 +224,8 @@ class Errors(OfFiles):
                 ("1" * 21, f"its value 2 is '{'1' * 21}', with more than 20 digits"),
                 ("1" * 60, f"its value 2 is '{'1' * 20}'.. (60 characters), with more than 20 digits"),
                 ("inf", "its value 2 is 'inf'; a value is a number, such as 21.5 or -3, or U for unknown"),
-                ("+5", "its value 2 is '+5'; a value is a number, such as 21.5 or -3, or U for unknown")):
+                *((wrong, f"its value 2 is {wrong!r}; a value is a number, such as 21.5 or -3, or U for unknown")
+                  for wrong in ("+5", "-,5", "1,", "+1,5", "1,1234567", f"{'1' * 21},5", "1,5,6", "1,5e3", "\u0663,\u0665"))):
             self.says(rrdi.Unreadable, f"unreadable sample 2: {text}", "1600000040:1:2", f"1600000050:1:{sample}")
         self.says(rrdi.Unreadable, "unreadable sample 1: 'x' has no value; write TIME:VALUE", "x")
         self.says(rrdi.Unreadable, "unreadable sample 1: '5' has no value; write TIME:VALUE", "5", template="g")

@@ -12,9 +12,6 @@ const MOST_DIGITS: usize = 20;
 /// The maximum number of digits after the point of a value.
 const MOST_DECIMALS: usize = 6;
 
-/// The maximum number of bytes of a number that is written again with a point.
-const MOST_BYTES: usize = 40;
-
 /// What other programs write for an unknown value, in small letters.
 const UNKNOWN: [&str; 7] = ["nan", "-nan", "+nan", "none", "null", "u", "unknown"];
 
@@ -25,7 +22,7 @@ pub(crate) enum ValueFault {
     Empty,
     /// Other programs write this for an unknown value.
     Unknown,
-    /// A number with a comma in place of the point.
+    /// A number but for a comma in place of the point.
     Comma,
     /// A number with an exponent.
     Exponent,
@@ -102,11 +99,21 @@ fn is_exponent(text: &[u8]) -> bool {
     !digits.is_empty() && digits_of(digits) == digits.len()
 }
 
+// Checks whether a point in place of a comma makes a number.
+fn needs_only_point(parts: &Parts<'_>) -> bool {
+    !parts.has_plus
+        && parts.whole > 0
+        && parts.whole <= MOST_DIGITS
+        && parts.decimals > 0
+        && parts.decimals <= MOST_DECIMALS
+        && parts.rest.is_empty()
+}
+
 // Returns why the parts of a text are no number.
 fn fault_of_parts(parts: &Parts<'_>) -> ValueFault {
     let has_digits = parts.whole > 0 || parts.decimals > 0;
     if parts.point == Some(b',') {
-        return if parts.decimals > 0 && parts.rest.is_empty() {
+        return if needs_only_point(parts) {
             ValueFault::Comma
         } else {
             ValueFault::Other
@@ -188,10 +195,8 @@ struct BadValue<'a>(&'a str, ValueFault);
 // Writes a number with a point in place of its comma.
 fn write_with_point<W: fmt::Write>(text: &str, f: &mut Formatter<W>) -> fmt::Result {
     match text.split_once(',') {
-        Some((whole, decimals)) if text.len() <= MOST_BYTES => {
-            write!(f, "; write '{whole}.{decimals}', with a point")
-        }
-        _ => write!(f, "; write a point in place of the comma"),
+        Some((whole, decimals)) => write!(f, "; write '{whole}.{decimals}', with a point"),
+        None => Ok(()),
     }
 }
 
