@@ -1,12 +1,12 @@
 -- Runs on the file at a path, by the records of their calls.
-use Rattle.std.proofs.Common.{◌≡◌, List, [], ◌∷◌, map, Option, Some, None, refl, sym, ◌∙◌, subst}
+use Rattle.std.proofs.Common.{◌≡◌, IsTrue, List, [], ◌∷◌, map, Option, Some, None, refl, sym, ◌∙◌, subst}
 use Rattle.rrd_spec.specs.Journal.Survivors.{Stored}
 use Rattle.rrd_store.specs.Runs as runs
 use Rattle.rrd_store.specs.Storages.{Held}
 use Rattle.rrd_disk.specs.Contents.{IsSound, contents_after, is_honest_by, is_sound_after, represented}
 use Rattle.rrd_disk.specs.Events.{Event}
-use Rattle.rrd_disk.specs.Replayed.{held_after}
-use Rattle.rrd_disk.specs.Runs.{AreHonest, AreRuns, FilesFollowSpecification, IsRun, Recorded, last_of}
+use Rattle.rrd_disk.specs.Replayed.{held_after, is_honest_after}
+use Rattle.rrd_disk.specs.Runs.{AreHonest, AreRuns, FilesFollowSpecification, IsRecordOf, IsRun, Recorded, last_of}
 use Rattle.rrd_disk.proofs.Contents.{Laws, file_unmarked, itself, sound_unmarked}
 
 -- ---- one run
@@ -22,14 +22,20 @@ run_from before after run none sound did = λ start honest is.
 
 -- ---- one run after another
 
-abbrev pub ended : List Recorded → List runs.Event
-ended recorded = map (λ (r : Recorded). runs.Ended r.run) recorded
+abbrev happenings : List Recorded → List runs.Event
+happenings recorded = map (λ (r : Recorded). r.run) recorded
+
+-- one run, ended or killed
+one_happened : (start : Held) (events : List Event) (run : runs.Event) → IsSound start → IsRecordOf events run → IsTrue (is_honest_after start events)
+    → IsSound (held_after start events) × runs.Happened (represented start) run (represented (held_after start events))
+one_happened start events (runs.Ended run) sound is honest = is start honest sound
+one_happened start events (runs.Killed run) sound is honest = is start honest sound
 
 happened : (start : Held) (recorded : List Recorded) → IsSound start → AreRuns recorded → AreHonest start recorded
-    → runs.HappenedAll (represented start) (ended recorded) (represented (last_of start recorded))
+    → runs.HappenedAll (represented start) (happenings recorded) (represented (last_of start recorded))
 happened start [] sound are honest = refl
 happened start (r ∷ later) sound are honest =
-    let one = are.0 start honest.0 sound in
+    let one = one_happened start r.events r.run sound are.0 honest.0 in
     (represented (held_after start r.events), one.1, happened (held_after start r.events) later one.0 are.1 honest.1)
 
 module _ (laws : Laws) where
@@ -47,4 +53,4 @@ module _ (laws : Laws) where
   files_follow follow start first recorded = λ is are honest.
       let all = happened start recorded (first_sound start first is) are honest in
       let last : Held = represented (last_of start recorded) in
-      follow start first (ended recorded) last is (subst (λ (h : Held). runs.HappenedAll h (ended recorded) last) (first_itself start first is) all)
+      follow start first (happenings recorded) last is (subst (λ (h : Held). runs.HappenedAll h (happenings recorded) last) (first_itself start first is) all)

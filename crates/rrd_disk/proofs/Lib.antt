@@ -4,6 +4,7 @@ pub mod Calling
 pub mod Contents
 pub mod FileRuns
 pub mod Fronts
+pub mod Kills
 pub mod Knowing
 pub mod Loaded
 pub mod Replaying

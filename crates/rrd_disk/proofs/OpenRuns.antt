@@ -5,23 +5,25 @@ use Rattle.rrd_store.specs.Runs as runs
 use Rattle.rrd_store.specs.Storages.{Held}
 use Rattle.rrd_disk.specs.Contents.{IsSound, represented}
 use Rattle.rrd_disk.specs.Events.{Event}
-use Rattle.rrd_disk.specs.OpenRuns.{AreOpenRuns, OpenFilesFollowSpecification, record_of}
+use Rattle.rrd_disk.specs.OpenRuns.{AreOpenRuns, OpenFilesFollowSpecification, RecordedOpen, record_of}
 use Rattle.rrd_disk.specs.Replayed.{held_after, is_honest_after}
-use Rattle.rrd_disk.specs.Runs.{Recorded}
 use Rattle.rrd_disk.proofs.Contents.{Laws}
-use Rattle.rrd_disk.proofs.FileRuns.{ended, first_itself, first_sound}
+use Rattle.rrd_disk.proofs.FileRuns.{first_itself, first_sound}
 
 abbrev pub held_or : Held → Option Held → Held
 held_or or None = or
 held_or or (Some held) = held
 
+abbrev ended : List RecordedOpen → List runs.Event
+ended recorded = map (λ (r : RecordedOpen). runs.Ended r.run) recorded
+
 -- a record that is honest after all runs was honest before them
-honest_before : (start : Held) (before : List Event) (recorded : List Recorded) → IsSound start → AreOpenRuns before recorded
+honest_before : (start : Held) (before : List Event) (recorded : List RecordedOpen) → IsSound start → AreOpenRuns before recorded
     → IsTrue (is_honest_after start (record_of before recorded)) → IsTrue (is_honest_after start before)
 honest_before start before [] sound are honest = honest
 honest_before start before (r ∷ later) sound are honest = (are.0 start (honest_before start r.events later sound are.1 honest) sound).0
 
-happened : (start : Held) (before : List Event) (recorded : List Recorded) → IsSound start → AreOpenRuns before recorded
+happened : (start : Held) (before : List Event) (recorded : List RecordedOpen) → IsSound start → AreOpenRuns before recorded
     → IsTrue (is_honest_after start (record_of before recorded))
     → runs.HappenedAll (represented (held_after start before)) (ended recorded) (represented (held_after start (record_of before recorded)))
 happened start before [] sound are honest = refl
@@ -31,7 +33,7 @@ happened start before (r ∷ later) sound are honest =
 
 module _ (laws : Laws) where
   pub open_files_follow : ((old : Held) (first : Option Stored) (events : List runs.Event) (new : Held) → runs.RunsFollowSpecification old first events new)
-      → (start : Held) (first : Option Stored) (opened : List Event) (recorded : List Recorded) → OpenFilesFollowSpecification start first opened recorded
+      → (start : Held) (first : Option Stored) (opened : List Event) (recorded : List RecordedOpen) → OpenFilesFollowSpecification start first opened recorded
   open_files_follow follow start first opened recorded = λ is same are honest.
       let sound = first_sound laws start first is in
       let all = happened start opened recorded sound are honest in

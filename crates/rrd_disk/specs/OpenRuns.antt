@@ -4,7 +4,6 @@ use Rattle.std.specs.Prelude.{◌≡◌, IsTrue, List, [], ◌∷◌, map, Optio
 use Rattle.rrd_disk.specs.Contents.{IsSound, represented}
 use Rattle.rrd_disk.specs.Events.{Event}
 use Rattle.rrd_disk.specs.Replayed.{held_after, is_honest_after}
-use Rattle.rrd_disk.specs.Runs.{Recorded}
 use Rattle.rrd_spec.specs.Journal.Survivors.{Stored}
 use Rattle.rrd_store.specs.Runs as runs
 use Rattle.rrd_store.specs.Sessions.{IsRead}
@@ -38,21 +37,26 @@ IsOpenRun before after run =
 abbrev pub IsAnyRun : runs.Run → Type 0
 IsAnyRun run = runs.DidIn None run None × runs.IsComputed None None run
 
+-- a run, and the calls on the file since it was opened, the newest first
+pub record RecordedOpen : Type 0 where
+  pub run : runs.Run
+  pub events : List Event
+
 -- each run did what its record says: it begins with the record of the run before
-abbrev pub AreOpenRuns : List Event → List Recorded → Type 0
+abbrev pub AreOpenRuns : List Event → List RecordedOpen → Type 0
 AreOpenRuns before [] = ⊤
 AreOpenRuns before (r ∷ later) = IsOpenRun before r.events r.run × AreOpenRuns r.events later
 
 -- the record after the runs
-abbrev pub record_of : List Event → List Recorded → List Event
+abbrev pub record_of : List Event → List RecordedOpen → List Event
 record_of before [] = before
 record_of before (r ∷ later) = record_of r.events later
 
 -- the main theorem, for a file that stays open
-abbrev pub OpenFilesFollowSpecification : Held → Option Stored → List Event → List Recorded → Type 0
+abbrev pub OpenFilesFollowSpecification : Held → Option Stored → List Event → List RecordedOpen → Type 0
 OpenFilesFollowSpecification start first opened recorded =
     (is : runs.IsFirst start first) → IsOpened opened → AreOpenRuns opened recorded
     → IsTrue (is_honest_after start (record_of opened recorded))
     → (last : runs.Standing)
-    × runs.LeadsAll (runs.Keeping (runs.first_of start first is)) (map (λ (r : Recorded). runs.Ended r.run) recorded) last
+    × runs.LeadsAll (runs.Keeping (runs.first_of start first is)) (map (λ (r : RecordedOpen). runs.Ended r.run) recorded) last
     × runs.IsFileOf (represented (held_after start (record_of opened recorded))) last
