@@ -1,6 +1,13 @@
--- Glue: the calls that a killed run did not make.
+-- Definition: the call that a kill interrupted. Glue: the calls that a killed run did not make.
 use Rattle.std.specs.Prelude.{Bool, true, false, ◌&&◌, List, [], ◌∷◌}
 use Rattle.rrd_disk.specs.Events.{Event, PutFailed, SizeFailed, SyncFailed}
+
+-- the first of the calls that a killed run did not end, of which the newest comes first: the kill interrupted it, and the run
+-- never came to the others
+abbrev pub interrupted : List Event → List Event
+interrupted [] = []
+interrupted (event ∷ []) = event ∷ []
+interrupted (event ∷ before ∷ earlier) = interrupted (before ∷ earlier)
 
 -- a call that failed, and may have changed the file if it had not
 abbrev pub is_failed : Event → Bool

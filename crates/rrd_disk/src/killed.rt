@@ -1,9 +1,10 @@
-//! Runs that are killed between two calls on the file.
+//! Runs that are killed.
 //!
-//! A kill leaves in the file what the calls before it left, and so does a system that fails each later call and changes
-//! nothing. So the killed run here is the program's own code on such a system.
+//! A kill leaves in the file what the calls before it left, and perhaps a part of the call that it interrupted. So does a
+//! system on which that call fails, and each later call too, and leaves nothing. A killed run is the program's own code on
+//! such a system.
 ghost use Rattle.std.specs.Prelude.{◌≡◌, ◌+◌, ◌++◌, ◌<◌, [], IsTrue};
-ghost use Rattle.rrd_disk.specs.Kills.{are_failed};
+ghost use Rattle.rrd_disk.specs.Kills.{are_failed, interrupted};
 ghost use Rattle.rrd_disk.specs.Runs.{IsKilledRun};
 ghost use Rattle.rrd_store.specs.Runs.{ByBatch, ByCommand};
 
@@ -17,9 +18,9 @@ use std::io::{self, Error, ErrorKind, Read, Write};
 /// Each later call fails, and `D` does not see it.
 #[derive(Drop)]
 pub struct Killed<D: Disk> {
-    disk: D,
+    system: D,
     calls_left: u64,
-    // The calls after the kill, which nobody makes.
+    // The call that the kill interrupts, and those after it, which nobody makes.
     missed: Record,
     ghost failed: { IsTrue (are_failed missed.events) },
     ghost alive: { 0 < calls_left → missed.events ≡ [] },
@@ -28,28 +29,28 @@ pub struct Killed<D: Disk> {
 impl<D: Disk> Killed<D> {
     ghost use Rattle.std.specs.Prelude.{OnErr, OnOk};
 
-    /// Creates the system on which the run is killed after `calls_left` more calls of `disk`.
-    pub fn new(disk: D, calls_left: u64) -> Killed<D>
-        ensures disk { result.disk ≡ disk }
+    /// Creates the system on which the run is killed after `calls_left` more calls of `system`.
+    pub fn new(system: D, calls_left: u64) -> Killed<D>
+        ensures system { result.system ≡ system }
         ensures missed { result.missed.events ≡ [] }
     {
         Killed {
-            disk,
+            system,
             calls_left,
             missed: Record::new(),
         }
     }
 
     /// Returns the system that the run had. Its record has the calls before the kill.
-    pub fn into_disk(self) -> D
-        ensures { result ≡ self.disk }
+    pub fn into_system(self) -> D
+        ensures { result ≡ self.system }
     {
-        self.disk
+        self.system
     }
 
     // Counts a call, or fails if the run was killed.
     fn live(&mut self) -> io::Result<()>
-        ensures disk { self.new.disk ≡ self.old.disk }
+        ensures system { self.new.system ≡ self.old.system }
         ensures missed { self.new.missed ≡ self.old.missed }
         ensures alive { OnOk result (self.new.missed.events ≡ []) }
         ensures count { OnOk result (self.new.calls_left + 1 ≡ self.old.calls_left) }
@@ -64,41 +65,41 @@ impl<D: Disk> Killed<D> {
 }
 
 impl<D: Disk> Disk for Killed<D> {
-    ghost events = { λ killed. killed.missed.events ++ D.Disk.events killed.disk };
+    ghost events = { λ killed. killed.missed.events ++ D.Disk.events killed.system };
 
     type File = D::File;
 
     fn alloc(&self) -> Global {
-        self.disk.alloc()
+        self.system.alloc()
     }
 
     fn open(&mut self, path: &str, opening: Opening) -> io::Result<Option<D::File>> {
         self.live()?;
-        self.disk.open(path, opening)
+        self.system.open(path, opening)
     }
 
     fn facts(&mut self, file: &D::File) -> io::Result<Facts> {
         self.live()?;
-        self.disk.facts(file)
+        self.system.facts(file)
     }
 
     fn facts_at(&mut self, path: &str) -> io::Result<Option<Facts>> {
         self.live()?;
-        self.disk.facts_at(path)
+        self.system.facts_at(path)
     }
 
     fn is_there(&self, path: &str) -> bool {
-        self.calls_left == 0 || self.disk.is_there(path)
+        self.calls_left == 0 || self.system.is_there(path)
     }
 
     fn read_at(&mut self, file: &D::File, bytes: &mut [u8], at: u64) -> io::Result<usize> {
         self.live()?;
-        self.disk.read_at(file, bytes, at)
+        self.system.read_at(file, bytes, at)
     }
 
     fn read_pipe(&mut self, file: &mut D::File, bytes: &mut [u8]) -> io::Result<usize> {
         self.live()?;
-        self.disk.read_pipe(file, bytes)
+        self.system.read_pipe(file, bytes)
     }
 
     fn write_at(&mut self, file: &D::File, bytes: &[u8], at: u64) -> io::Result<usize> {
@@ -106,7 +107,7 @@ impl<D: Disk> Disk for Killed<D> {
             self.missed.note(&Noted::PutFailed { at, bytes });
             return Err(killed);
         }
-        self.disk.write_at(file, bytes, at)
+        self.system.write_at(file, bytes, at)
     }
 
     fn set_length(&mut self, file: &D::File, length: u64) -> io::Result<()> {
@@ -114,7 +115,7 @@ impl<D: Disk> Disk for Killed<D> {
             self.missed.note(&Noted::SizeFailed(length));
             return Err(killed);
         }
-        self.disk.set_length(file, length)
+        self.system.set_length(file, length)
     }
 
     fn sync(&mut self, file: &D::File) -> io::Result<()> {
@@ -122,23 +123,24 @@ impl<D: Disk> Disk for Killed<D> {
             self.missed.note(&Noted::SyncFailed);
             return Err(killed);
         }
-        self.disk.sync(file)
+        self.system.sync(file)
     }
 
     fn pause(&self, milliseconds: u64) {
         if self.calls_left > 0 {
-            self.disk.pause(milliseconds);
+            self.system.pause(milliseconds);
         }
     }
 }
 
-/// Runs one command as [`run_command_at`] does, but kills the run after `calls` calls on the file.
+/// Runs one command as [`run_command_at`] does, but kills the run after `calls` calls on the file, or in the next call.
 ///
 /// The end and the text are those of a run whose later calls all fail: of a killed run nobody sees them.
 ///
-/// Theorem: if the record of the calls before the kill is that of an honest file that nobody else wrote, the file
-/// represents what it represented before the run, or what the definitions say of an accepted command. If it was no
-/// database before, it may also have bytes that are none.
+/// Theorem: if the record is that of an honest file that nobody else wrote, the file represents what it represented before
+/// the run, or what the definitions say of an accepted command. If there was no database, it may also be damaged. So it is
+/// between two calls (`between`), and in a call that wrote a first part of its bytes (`within`), but within one page all of
+/// them or none.
 pub fn run_command_killed<D: Disk, W: Write>(
     alloc: Global,
     disk: D,
@@ -147,8 +149,16 @@ pub fn run_command_killed<D: Disk, W: Write>(
     words: &Words<'_>,
     now: u64,
     out: &mut W,
-) -> FileRun<D, Result<(), TaskFault>>
-    ensures { D.events disk ≡ [] → IsKilledRun (D.events result.disk)
+) -> FileRun<Killed<D>, Result<(), TaskFault>>
+    ensures between { D.events disk ≡ [] → IsKilledRun (D.events result.disk.system)
+        (ByCommand (record {
+          words = words.now;
+          now = now;
+          out_before = W.contents out.old;
+          out_after = W.contents out.new;
+          end = result.end;
+        })) }
+    ensures within { D.events disk ≡ [] → IsKilledRun (interrupted result.disk.missed.events ++ D.events result.disk.system)
         (ByCommand (record {
           words = words.now;
           now = now;
@@ -158,14 +168,11 @@ pub fn run_command_killed<D: Disk, W: Write>(
         })) }
 {
     let killed = Killed::new(disk, calls);
-    let run = run_command_at(alloc, killed, place, words, now, out);
-    FileRun {
-        end: run.end,
-        disk: run.disk.into_disk(),
-    }
+    run_command_at(alloc, killed, place, words, now, out)
 }
 
-/// Runs each line of `reader` as [`run_batch_at`] does, but kills the run after `calls` calls on the file.
+/// Runs each line of `reader` as [`run_batch_at`] does, but kills the run after `calls` calls on the file, or in the next
+/// call.
 ///
 /// Theorem: as for [`run_command_killed`]. The file has the changes of all lines, or of none.
 pub fn run_batch_killed<D: Disk, R: Read, W: Write>(
@@ -177,8 +184,18 @@ pub fn run_batch_killed<D: Disk, R: Read, W: Write>(
     numbered: usize,
     reader: &mut R,
     out: &mut W,
-) -> FileRun<D, Result<FileBatchEnd, TaskFault>>
-    ensures { D.events disk ≡ [] → IsKilledRun (D.events result.disk)
+) -> FileRun<Killed<D>, Result<FileBatchEnd, TaskFault>>
+    ensures between { D.events disk ≡ [] → IsKilledRun (D.events result.disk.system)
+        (ByBatch (record {
+          now = now;
+          numbered = numbered;
+          in_before = R.remaining reader.old;
+          in_after = R.remaining reader.new;
+          out_before = W.contents out.old;
+          out_after = W.contents out.new;
+          end = result.end;
+        })) }
+    ensures within { D.events disk ≡ [] → IsKilledRun (interrupted result.disk.missed.events ++ D.events result.disk.system)
         (ByBatch (record {
           now = now;
           numbered = numbered;
@@ -190,9 +207,5 @@ pub fn run_batch_killed<D: Disk, R: Read, W: Write>(
         })) }
 {
     let killed = Killed::new(disk, calls);
-    let run = run_batch_at(alloc, killed, place, now, numbered, reader, out);
-    FileRun {
-        end: run.end,
-        disk: run.disk.into_disk(),
-    }
+    run_batch_at(alloc, killed, place, now, numbered, reader, out)
 }

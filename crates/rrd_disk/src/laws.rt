@@ -4,6 +4,7 @@
 ghost use Rattle.std.specs.Prelude.{List, Option};
 ghost use Rattle.rrd_disk.specs.Events.{Event};
 ghost use Rattle.rrd_disk.specs.OpenRuns.{OpenFilesFollowSpecification, RecordedOpen};
+ghost use Rattle.rrd_disk.specs.Replayed.{World};
 ghost use Rattle.rrd_disk.specs.Runs.{FilesFollowSpecification, Recorded};
 ghost use Rattle.rrd_spec.specs.Journal.Survivors.{Stored};
 ghost use Rattle.rrd_store.specs.Storages.{Held};
@@ -34,8 +35,8 @@ pub fn files_follow_specification()
 /// Each run is one by [`crate::OpenFile::run`] or [`crate::OpenFile::run_batch`], with the record of all calls on the file since
 /// it was opened. The premises are those of [`files_follow_specification`].
 pub fn open_files_follow_specification()
-    ensures { (start : Held) (first : Option Stored) (opened : List Event) (recorded : List RecordedOpen) →
-        OpenFilesFollowSpecification start first opened recorded }
+    ensures { (w : World) (first : Option Stored) (opened : List Event) (recorded : List RecordedOpen) →
+        OpenFilesFollowSpecification w first opened recorded }
 {
     file_begins();
     files_without_marks_stand_for_themselves();
