@@ -7,16 +7,16 @@ use Rattle.rrd_disk.specs.Asked.{FallsAsked, bytes_in, is_honest_in}
 use Rattle.rrd_disk.specs.Calls.{Falls}
 use Rattle.rrd_disk.specs.Events.{Event}
 use Rattle.rrd_disk.specs.Loading.{KeepsHonest}
-use Rattle.rrd_disk.specs.Replayed.{bytes_after, bytes_of, held_after, is_honest_after, is_there}
+use Rattle.rrd_disk.specs.Replayed.{World, bytes_after, bytes_of, held_after, is_honest_after, is_there}
 use Rattle.rrd_disk.specs.Storing.{KeepsOpen, TellsMark}
 use Rattle.rrd_disk.proofs.Asked.{for_each, still_there, was_there}
 
 -- what is so for each list is so for each start
 pub of_start : (P : List ℕ → List ℕ → Type 0) (old new : List Event)
     → ((s : List ℕ) → IsTrue (is_honest_in s new) → P (bytes_in s old) (bytes_in s new))
-    → (s : Held) → IsTrue (is_honest_after s new) → P (bytes_after s old) (bytes_after s new)
+    → (s : World) → IsTrue (is_honest_after s new) → P (bytes_after s old) (bytes_after s new)
 of_start P old new each s honest =
-    for_each (λ (t : Held). P (bytes_after t old) (bytes_after t new)) new each s honest
+    for_each (λ (t : World). P (bytes_after t old) (bytes_after t new)) new each s honest
 
 -- ---- whether there is a file
 
@@ -40,7 +40,7 @@ missing_of : (h : Held) → is_there h ≡ false → h ≡ Missing
 missing_of Missing none = refl
 missing_of (Bytes file) none = absurd (false≢true (sym none))
 
-both_missing : (old new : List Event) → FallsAsked old new → (s : Held) → IsTrue (is_honest_after s new) → is_there (held_after s new) ≡ false → is_there (held_after s old) ≡ false
+both_missing : (old new : List Event) → FallsAsked old new → (s : World) → IsTrue (is_honest_after s new) → is_there (held_after s new) ≡ false → is_there (held_after s old) ≡ false
 both_missing old new falls s honest none = elim (cases_Bool (is_there (held_after s old))) as (λ _. is_there (held_after s old) ≡ false) [
   | inl some ↦ absurd (false≢true (sym none ∙ still_there old new falls s honest some))
   | inr was ↦ was

@@ -3,12 +3,12 @@ use Rattle.std.proofs.Common.{◌≡◌, ℕ, ◌+◌, ◌-◌, ◌<◌, ◌≤�
 use Rattle.std.specs.Io.{ReadsAtMost}
 use Rattle.std.proofs.lemmas.List.{get_or_append_left, get_or-append_right}
 use Rattle.std.proofs.lemmas.Bool.{cases_lt}
-use Rattle.rrd_disk.specs.Calls.{IsGotAtOnce, KeepsHeld}
-use Rattle.rrd_disk.specs.Events.{Event, Got, Put, Sized}
-use Rattle.rrd_disk.specs.Replayed.{bytes_of, bytes_after, is_honest_after, is_honest_read}
-use Rattle.rrd_store.specs.Storages.{Held}
+use Rattle.rrd_disk.specs.Calls.{Falls, IsGotAtOnce, IsPartPut, IsSizedOrNot, LeavesPart, LeavesSized, PlaceStays}
+use Rattle.rrd_disk.specs.Events.{Event, Got, Put, PutFailed, SizeFailed, Sized}
+use Rattle.rrd_disk.specs.Replayed.{World, bytes_after, held_after, is_honest_after, is_honest_read, is_there}
 use Rattle.rrd_undo.specs.Calls.{AreAt, ArePut, IsSized}
-use Rattle.rrd_disk.proofs.Replaying.{put_is, read-AreAt, read_ends, read_is, read_within, sized_is}
+use Rattle.rrd_disk.proofs.Parts.{part_put, part_twice, sized_over, sized_twice}
+use Rattle.rrd_disk.proofs.Replaying.{honest_before, put_failed_is, put_failed_keeps_place, put_is, read-AreAt, read_ends, read_is, read_within, size_failed_is, size_failed_keeps_place, sized_is}
 
 -- ---- reading
 
@@ -31,7 +31,7 @@ got_once file at wanted n bytes few all honest =
 pub got_some : {E : Type 0} (r : Result ℕ E) (old mid new : List Event) (at : ℕ) (before bytes : List ℕ)
     → mid ≡ old → length before ≡ length bytes → ReadsAtMost r bytes
     → IfOk r (λ n. new ≡ Got at (length before) (take n bytes) ∷ mid)
-    → IfOk r (λ n. (s : Held) → IsTrue (is_honest_after s new) → IsGotAtOnce (bytes_after s old) at n bytes)
+    → IfOk r (λ n. (s : World) → IsTrue (is_honest_after s new) → IsGotAtOnce (bytes_after s old) at n bytes)
 got_some (Err e) old mid new at before bytes stays same bound ok = tt
 got_some (Ok n) old mid new at before bytes stays same bound ok = λ s honest.
     let now = subst (λ (events : List Event). IsTrue (is_honest_after s events)) ok honest in
@@ -77,20 +77,50 @@ more_so_far file at count more bytes rest new low few joined so_far got =
 
 -- ---- writing
 
+-- a write that ended well, after several that failed
 pub put_once : {E : Type 0} (r : Result ℕ E) (old mid new : List Event) (at : ℕ) (bytes : List ℕ)
-    → KeepsHeld old mid → IfOk r (λ n. new ≡ Put at bytes n ∷ mid)
-    → OnOk r ((s : Held) → IsTrue (is_honest_after s new) → 0 < length bytes → ArePut at bytes (bytes_after s old) (bytes_after s new))
-put_once (Err e) old mid new at bytes keeps ok = tt
-put_once (Ok n) old mid new at bytes keeps ok = λ s honest some.
+    → LeavesPart at bytes old mid → IfOk r (λ n. new ≡ Put at bytes n ∷ mid)
+    → OnOk r ((s : World) → IsTrue (is_honest_after s new) → 0 < length bytes → ArePut at bytes (bytes_after s old) (bytes_after s new))
+put_once (Err e) old mid new at bytes leaves ok = tt
+put_once (Ok n) old mid new at bytes leaves ok = λ s honest some.
     let now = subst (λ (events : List Event). IsTrue (is_honest_after s events)) ok honest in
-    subst (λ (file : List ℕ). ArePut at bytes file (bytes_after s new)) (ap bytes_of (keeps s))
+    part_put at bytes (bytes_after s old) (bytes_after s mid) (bytes_after s new) (leaves s (honest_before s mid (Put at bytes n) now))
     (subst (λ (events : List Event). ArePut at bytes (bytes_after s mid) (bytes_after s events)) (sym ok) (put_is s mid at bytes n some now))
 
+-- a write that failed again
+pub put_again : (old mid new : List Event) (at : ℕ) (bytes : List ℕ) → LeavesPart at bytes old mid → new ≡ PutFailed at bytes ∷ mid → LeavesPart at bytes old new
+put_again old mid new at bytes leaves err = λ s honest.
+    let now = subst (λ (events : List Event). IsTrue (is_honest_after s events)) err honest in
+    part_twice at bytes (bytes_after s old) (bytes_after s mid) (bytes_after s new) (leaves s (honest_before s mid (PutFailed at bytes) now))
+    (subst (λ (events : List Event). IsPartPut at bytes (bytes_after s mid) (bytes_after s events)) (sym err) (put_failed_is s mid at bytes now))
+
+pub put_again_falls : (old mid new : List Event) (at : ℕ) (bytes : List ℕ) → Falls old mid → new ≡ PutFailed at bytes ∷ mid → Falls old new
+put_again_falls old mid new at bytes falls err = λ s honest.
+    falls s (honest_before s mid (PutFailed at bytes) (subst (λ (events : List Event). IsTrue (is_honest_after s events)) err honest))
+
+pub put_again_place : (old mid new : List Event) (at : ℕ) (bytes : List ℕ) → PlaceStays old mid → new ≡ PutFailed at bytes ∷ mid → PlaceStays old new
+put_again_place old mid new at bytes stays err = λ s.
+    ap (λ (events : List Event). is_there (held_after s events)) err ∙ put_failed_keeps_place s mid at bytes ∙ stays s
+
 pub sized_once : {T E : Type 0} (r : Result T E) (old mid new : List Event) (count : ℕ)
-    → KeepsHeld old mid → OnOk r (new ≡ Sized count ∷ mid)
-    → OnOk r ((s : Held) → IsTrue (is_honest_after s new) → IsSized count (bytes_after s old) (bytes_after s new))
-sized_once (Err e) old mid new count keeps ok = tt
-sized_once (Ok x) old mid new count keeps ok = λ s honest.
+    → LeavesSized count old mid → OnOk r (new ≡ Sized count ∷ mid)
+    → OnOk r ((s : World) → IsTrue (is_honest_after s new) → IsSized count (bytes_after s old) (bytes_after s new))
+sized_once (Err e) old mid new count leaves ok = tt
+sized_once (Ok x) old mid new count leaves ok = λ s honest.
     let now = subst (λ (events : List Event). IsTrue (is_honest_after s events)) ok honest in
-    subst (λ (file : List ℕ). IsSized count file (bytes_after s new)) (ap bytes_of (keeps s))
+    sized_over count (bytes_after s old) (bytes_after s mid) (bytes_after s new) (leaves s (honest_before s mid (Sized count) now))
     (subst (λ (events : List Event). IsSized count (bytes_after s mid) (bytes_after s events)) (sym ok) (sized_is s mid count now))
+
+pub sized_again : (old mid new : List Event) (count : ℕ) → LeavesSized count old mid → new ≡ SizeFailed count ∷ mid → LeavesSized count old new
+sized_again old mid new count leaves err = λ s honest.
+    let now = subst (λ (events : List Event). IsTrue (is_honest_after s events)) err honest in
+    sized_twice count (bytes_after s old) (bytes_after s mid) (bytes_after s new) (leaves s (honest_before s mid (SizeFailed count) now))
+    (subst (λ (events : List Event). IsSizedOrNot count (bytes_after s mid) (bytes_after s events)) (sym err) (size_failed_is s mid count now))
+
+pub sized_again_falls : (old mid new : List Event) (count : ℕ) → Falls old mid → new ≡ SizeFailed count ∷ mid → Falls old new
+sized_again_falls old mid new count falls err = λ s honest.
+    falls s (honest_before s mid (SizeFailed count) (subst (λ (events : List Event). IsTrue (is_honest_after s events)) err honest))
+
+pub sized_again_place : (old mid new : List Event) (count : ℕ) → PlaceStays old mid → new ≡ SizeFailed count ∷ mid → PlaceStays old new
+sized_again_place old mid new count stays err = λ s.
+    ap (λ (events : List Event). is_there (held_after s events)) err ∙ size_failed_keeps_place s mid count ∙ stays s

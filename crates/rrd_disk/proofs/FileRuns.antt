@@ -1,12 +1,14 @@
 -- Runs on the file at a path, by the records of their calls.
-use Rattle.std.proofs.Common.{◌≡◌, List, [], ◌∷◌, map, Option, Some, None, refl, sym, ◌∙◌, subst}
+use Rattle.std.proofs.Common.{◌≡◌, IsTrue, List, [], ◌∷◌, map, Option, Some, None, refl, sym, ◌∙◌, subst}
 use Rattle.rrd_spec.specs.Journal.Survivors.{Stored}
 use Rattle.rrd_store.specs.Runs as runs
 use Rattle.rrd_store.specs.Storages.{Held}
+use Rattle.rrd_disk.specs.Asked.{held_of, world_in}
 use Rattle.rrd_disk.specs.Contents.{IsSound, contents_after, is_honest_by, is_sound_after, represented}
 use Rattle.rrd_disk.specs.Events.{Event}
-use Rattle.rrd_disk.specs.Replayed.{held_after}
-use Rattle.rrd_disk.specs.Runs.{AreHonest, AreRuns, FilesFollowSpecification, IsRun, Recorded, last_of}
+use Rattle.rrd_disk.specs.Replayed.{World, held_after, is_honest_after}
+use Rattle.rrd_disk.specs.Runs.{AreHonest, AreRuns, FilesFollowSpecification, IsRecordOf, IsRun, Recorded, last_of, left_by}
+use Rattle.rrd_disk.proofs.Asked.{world_in_held}
 use Rattle.rrd_disk.proofs.Contents.{Laws, file_unmarked, itself, sound_unmarked}
 
 -- ---- one run
@@ -16,21 +18,36 @@ pub run_from : (before after : List Event) (run : runs.Run) → before ≡ []
     → ((s : Option Held) → is_honest_by s after → is_sound_after s before → is_sound_after s after)
     → ((s : Option Held) → is_honest_by s after → is_sound_after s before → runs.DidIn (contents_after s before) run (contents_after s after))
     → IsRun after run
-run_from before after run none sound did = λ start honest is.
-    let begun : is_sound_after (Some start) before = subst (λ (events : List Event). is_sound_after (Some start) events) (sym none) is in
-    (sound (Some start) honest begun, subst (λ (events : List Event). runs.DidIn (contents_after (Some start) events) run (contents_after (Some start) after)) none (did (Some start) honest begun))
+run_from before after run none sound did = λ w honest is.
+    let code = held_of w in
+    let same = world_in_held w in
+    let now : IsTrue (is_honest_after (world_in code) after) = subst (λ (v : World). IsTrue (is_honest_after v after)) (sym same) honest in
+    let first : IsSound (world_in code).start = subst (λ (v : World). IsSound v.start) (sym same) is in
+    let begun : is_sound_after (Some code) before = subst (λ (events : List Event). is_sound_after (Some code) events) (sym none) first in
+    let last : IsSound (held_after (world_in code) after) = sound (Some code) now begun in
+    let ran : runs.Did (represented (world_in code).start) run (represented (held_after (world_in code) after)) =
+    subst (λ (events : List Event). runs.DidIn (contents_after (Some code) events) run (contents_after (Some code) after)) none (did (Some code) now begun) in (
+      subst (λ (v : World). IsSound (held_after v after)) same last,
+      subst (λ (v : World). runs.Did (represented v.start) run (represented (held_after v after))) same ran,
+    )
 
 -- ---- one run after another
 
-abbrev pub ended : List Recorded → List runs.Event
-ended recorded = map (λ (r : Recorded). runs.Ended r.run) recorded
+abbrev happenings : List Recorded → List runs.Event
+happenings recorded = map (λ (r : Recorded). r.run) recorded
+
+-- one run, ended or killed
+one_happened : (w : World) (events : List Event) (run : runs.Event) → IsSound w.start → IsRecordOf events run → IsTrue (is_honest_after w events)
+    → IsSound (held_after w events) × runs.Happened (represented w.start) run (represented (held_after w events))
+one_happened w events (runs.Ended run) sound is honest = is w honest sound
+one_happened w events (runs.Killed run) sound is honest = is w honest sound
 
 happened : (start : Held) (recorded : List Recorded) → IsSound start → AreRuns recorded → AreHonest start recorded
-    → runs.HappenedAll (represented start) (ended recorded) (represented (last_of start recorded))
+    → runs.HappenedAll (represented start) (happenings recorded) (represented (last_of start recorded))
 happened start [] sound are honest = refl
 happened start (r ∷ later) sound are honest =
-    let one = are.0 start honest.0 sound in
-    (represented (held_after start r.events), one.1, happened (held_after start r.events) later one.0 are.1 honest.1)
+    let one = one_happened (record { start = start; parts = r.parts }) r.events r.run sound are.0 honest.0 in
+    (represented (left_by start r), one.1, happened (left_by start r) later one.0 are.1 honest.1)
 
 module _ (laws : Laws) where
   -- the first file has no mark
@@ -47,4 +64,4 @@ module _ (laws : Laws) where
   files_follow follow start first recorded = λ is are honest.
       let all = happened start recorded (first_sound start first is) are honest in
       let last : Held = represented (last_of start recorded) in
-      follow start first (ended recorded) last is (subst (λ (h : Held). runs.HappenedAll h (ended recorded) last) (first_itself start first is) all)
+      follow start first (happenings recorded) last is (subst (λ (h : Held). runs.HappenedAll h (happenings recorded) last) (first_itself start first is) all)

@@ -8,8 +8,7 @@ use Rattle.rrd_disk.specs.Events.{Event}
 use Rattle.rrd_disk.specs.Calls.{Falls, IsGot, KeepsHeld}
 use Rattle.rrd_disk.specs.Fronts.{Begins}
 use Rattle.rrd_disk.specs.Known.{Measures, Owes, ShowsBytes}
-use Rattle.rrd_disk.specs.Replayed.{bytes_after, bytes_of, held_after, is_honest_after}
-use Rattle.rrd_store.specs.Storages.{Held}
+use Rattle.rrd_disk.specs.Replayed.{World, bytes_after, bytes_of, held_after, is_honest_after}
 use Rattle.rrd_undo.specs.Calls.{ArePut}
 
 -- the length, if a known one became longer
@@ -22,7 +21,7 @@ longer_is (Some m) end n old new is was more =
 
 pub measures_longer : (known result : Option ℕ) (at end : ℕ) (bytes : List ℕ) (old new : List Event)
     → result ≡ option_map (λ m. max m end) known → end ≡ at + length bytes → Falls old new → Measures known old
-    → ((s : Held) → IsTrue (is_honest_after s new) → ArePut at bytes (bytes_after s old) (bytes_after s new))
+    → ((s : World) → IsTrue (is_honest_after s new) → ArePut at bytes (bytes_after s old) (bytes_after s new))
     → Measures result new
 measures_longer known result at end bytes old new is ends falls was put s h n e =
     longer_is known end n (length (bytes_after s old)) (length (bytes_after s new)) (sym is ∙ e) (was s (falls s h))
@@ -75,9 +74,9 @@ front_of_longer bytes resized count had all_had more is =
     let all : take count bytes ≡ bytes = take_all count bytes more in
     ap (λ k. take k resized) all_had ∙ ap (take (length bytes)) (is ∙ ap (λ (b : List ℕ). b ++ zeros) all) ∙ take-append_seam bytes zeros
 
-pub got_behind : {E : Type 0} (r : Result ℕ E) (old part x : List ℕ) (had : ℕ) (file : Held → List ℕ) (Honest : Held → Type 0)
+pub got_behind : {E : Type 0} (r : Result ℕ E) (old part x : List ℕ) (had : ℕ) (file : World → List ℕ) (Honest : World → Type 0)
     → had ≤ length old → ReadsAtMost r part → take (had + length part) x ≡ take had old ++ part
-    → IfOk r (λ n. (s : Held) → Honest s → IsGot (file s) had n part)
-    → IfOk r (λ n. (s : Held) → Honest s → Begins (file s) (take had old) → Begins (file s) (take (had + n) x))
+    → IfOk r (λ n. (s : World) → Honest s → IsGot (file s) had n part)
+    → IfOk r (λ n. (s : World) → Honest s → Begins (file s) (take had old) → Begins (file s) (take (had + n) x))
 got_behind (Err e) old part x had file Honest room bound joined got = tt
 got_behind (Ok n) old part x had file Honest room bound joined got = λ s h begins. shown_behind (file s) old part x had n room bound.0 joined begins (got s h)

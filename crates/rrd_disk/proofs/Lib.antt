@@ -4,8 +4,11 @@ pub mod Calling
 pub mod Contents
 pub mod FileRuns
 pub mod Fronts
+pub mod Kills
 pub mod Knowing
 pub mod Loaded
+pub mod OpenRuns
+pub mod Overlays
+pub mod Parts
 pub mod Replaying
 pub mod Storing
-pub mod OpenRuns

@@ -6,7 +6,7 @@ use Rattle.rrd_file.specs.declared.fault.FileFault.TheVariants.{NotOurs, Version
 use Rattle.rrd_file.specs.Faults.{IsFault, IsOfFile}
 use Rattle.rrd_file.specs.Laws.{FrontHasTheFault, HasOneAnswer}
 use Rattle.rrd_spec.specs.Journal.Survivors.{Stored}
-use Rattle.rrd_store.specs.Storages.{Bytes, Decodes, Held, IsNoFile}
+use Rattle.rrd_store.specs.Storages.{Bytes, Decodes, IsNoFile}
 use Rattle.rrd_store.specs.declared.faults.TaskFault.{TaskFault}
 use Rattle.rrd_store.specs.declared.faults.TaskFault.TheVariants.{Command, Stream, File, CannotOpen, CannotWrite}
 use Rattle.rrd_tail.specs.Settled.{settled}
@@ -14,7 +14,7 @@ use Rattle.rrd_disk.specs.Asked.{bytes_in, is_honest_in}
 use Rattle.rrd_disk.specs.Events.{Event}
 use Rattle.rrd_disk.specs.Fronts.{Begins}
 use Rattle.rrd_disk.specs.Loading.{HasNoDatabase, IsJudged, IsJudgedFault, StandsSo, is_fault_of_bytes, is_of_bytes}
-use Rattle.rrd_disk.specs.Replayed.{bytes_after, is_honest_after}
+use Rattle.rrd_disk.specs.Replayed.{World, bytes_after, is_honest_after}
 use Rattle.rrd_disk.specs.declared.loading.Standing.{Standing}
 use Rattle.rrd_disk.specs.declared.loading.Standing.TheVariants.{Database, Unrecorded, Nothing}
 use Rattle.rrd_undo.specs.Fronts.{IsSettledFront}
@@ -103,8 +103,8 @@ front_read front read is_whole as_many reads file count is =
 pub stands_for_each : {E : Type 0} (result : Result (Option Standing) E) (front : SettledFront) (count : ℕ) (events : List Event)
     → IfOk result (λ found. IfSome found (λ standing. (file : List ℕ) (n : ℕ) → IsSettledFront file n front → StandsSo standing file))
     → ((s : List ℕ) → IsTrue (is_honest_in s events) → IsSettledFront (bytes_in s events) count front)
-    → IfOk result (λ found. IfSome found (λ standing. (s : Held) → IsTrue (is_honest_after s events) → StandsSo standing (bytes_after s events)))
+    → IfOk result (λ found. IfSome found (λ standing. (s : World) → IsTrue (is_honest_after s events) → StandsSo standing (bytes_after s events)))
 stands_for_each (Ok (Some standing)) front count events stands read =
-    for_each (λ (s : Held). StandsSo standing (bytes_after s events)) events (λ s h. stands (bytes_in s events) count (read s h))
+    for_each (λ (s : World). StandsSo standing (bytes_after s events)) events (λ s h. stands (bytes_in s events) count (read s h))
 stands_for_each (Ok None) front count events stands read = tt
 stands_for_each (Err fault) front count events stands read = tt

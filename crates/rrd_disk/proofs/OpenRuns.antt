@@ -1,40 +1,42 @@
 -- Runs on a file that stays open, by the record of their calls.
-use Rattle.std.proofs.Common.{◌≡◌, ◌∙◌, IsTrue, List, [], ◌∷◌, map, Option, Some, None, refl, sym, subst}
+use Rattle.std.proofs.Common.{◌∙◌, IsTrue, List, [], ◌∷◌, map, Option, Some, None, refl, subst}
 use Rattle.rrd_spec.specs.Journal.Survivors.{Stored}
 use Rattle.rrd_store.specs.Runs as runs
 use Rattle.rrd_store.specs.Storages.{Held}
 use Rattle.rrd_disk.specs.Contents.{IsSound, represented}
 use Rattle.rrd_disk.specs.Events.{Event}
-use Rattle.rrd_disk.specs.OpenRuns.{AreOpenRuns, OpenFilesFollowSpecification, record_of}
-use Rattle.rrd_disk.specs.Replayed.{held_after, is_honest_after}
-use Rattle.rrd_disk.specs.Runs.{Recorded}
+use Rattle.rrd_disk.specs.OpenRuns.{AreOpenRuns, OpenFilesFollowSpecification, RecordedOpen, record_of}
+use Rattle.rrd_disk.specs.Replayed.{World, held_after, is_honest_after}
 use Rattle.rrd_disk.proofs.Contents.{Laws}
-use Rattle.rrd_disk.proofs.FileRuns.{ended, first_itself, first_sound}
+use Rattle.rrd_disk.proofs.FileRuns.{first_itself, first_sound}
 
 abbrev pub held_or : Held → Option Held → Held
 held_or or None = or
 held_or or (Some held) = held
 
--- a record that is honest after all runs was honest before them
-honest_before : (start : Held) (before : List Event) (recorded : List Recorded) → IsSound start → AreOpenRuns before recorded
-    → IsTrue (is_honest_after start (record_of before recorded)) → IsTrue (is_honest_after start before)
-honest_before start before [] sound are honest = honest
-honest_before start before (r ∷ later) sound are honest = (are.0 start (honest_before start r.events later sound are.1 honest) sound).0
+abbrev ended : List RecordedOpen → List runs.Event
+ended recorded = map (λ (r : RecordedOpen). runs.Ended r.run) recorded
 
-happened : (start : Held) (before : List Event) (recorded : List Recorded) → IsSound start → AreOpenRuns before recorded
-    → IsTrue (is_honest_after start (record_of before recorded))
-    → runs.HappenedAll (represented (held_after start before)) (ended recorded) (represented (held_after start (record_of before recorded)))
-happened start before [] sound are honest = refl
-happened start before (r ∷ later) sound are honest =
-    let one = are.0 start (honest_before start r.events later sound are.1 honest) sound in
-    (represented (held_after start r.events), one.1, happened start r.events later sound are.1 honest)
+-- a record that is honest after all runs was honest before them
+honest_before : (w : World) (before : List Event) (recorded : List RecordedOpen) → IsSound w.start → AreOpenRuns before recorded
+    → IsTrue (is_honest_after w (record_of before recorded)) → IsTrue (is_honest_after w before)
+honest_before w before [] sound are honest = honest
+honest_before w before (r ∷ later) sound are honest = (are.0 w (honest_before w r.events later sound are.1 honest) sound).0
+
+happened : (w : World) (before : List Event) (recorded : List RecordedOpen) → IsSound w.start → AreOpenRuns before recorded
+    → IsTrue (is_honest_after w (record_of before recorded))
+    → runs.HappenedAll (represented (held_after w before)) (ended recorded) (represented (held_after w (record_of before recorded)))
+happened w before [] sound are honest = refl
+happened w before (r ∷ later) sound are honest =
+    let one = are.0 w (honest_before w r.events later sound are.1 honest) sound in
+    (represented (held_after w r.events), one.1, happened w r.events later sound are.1 honest)
 
 module _ (laws : Laws) where
   pub open_files_follow : ((old : Held) (first : Option Stored) (events : List runs.Event) (new : Held) → runs.RunsFollowSpecification old first events new)
-      → (start : Held) (first : Option Stored) (opened : List Event) (recorded : List Recorded) → OpenFilesFollowSpecification start first opened recorded
-  open_files_follow follow start first opened recorded = λ is same are honest.
-      let sound = first_sound laws start first is in
-      let all = happened start opened recorded sound are honest in
-      let last : Held = represented (held_after start (record_of opened recorded)) in
-      let begun = same start (honest_before start opened recorded sound are honest) sound ∙ first_itself laws start first is in
-      follow start first (ended recorded) last is (subst (λ (h : Held). runs.HappenedAll h (ended recorded) last) begun all)
+      → (w : World) (first : Option Stored) (opened : List Event) (recorded : List RecordedOpen) → OpenFilesFollowSpecification w first opened recorded
+  open_files_follow follow w first opened recorded = λ is same are honest.
+      let sound = first_sound laws w.start first is in
+      let all = happened w opened recorded sound are honest in
+      let last : Held = represented (held_after w (record_of opened recorded)) in
+      let begun = same w (honest_before w opened recorded sound are honest) sound ∙ first_itself laws w.start first is in
+      follow w.start first (ended recorded) last is (subst (λ (h : Held). runs.HappenedAll h (ended recorded) last) begun all)

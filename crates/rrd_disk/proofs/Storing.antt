@@ -21,7 +21,7 @@ use Rattle.rrd_disk.specs.Entries.{SaysEntry}
 use Rattle.rrd_disk.specs.Events.{Event}
 use Rattle.rrd_disk.specs.declared.file_bytes.Entry.{Entry}
 use Rattle.rrd_disk.specs.Loading.{IsDatabaseStanding, StandsSo}
-use Rattle.rrd_disk.specs.Replayed.{bytes_after, bytes_of, is_honest_after, is_there}
+use Rattle.rrd_disk.specs.Replayed.{World, bytes_after, bytes_of, is_honest_after, is_there}
 use Rattle.rrd_disk.specs.Storing.{IsLoaded, IsNearly, IsPrepared, IsReadable, IsReady, IsStanding, IsWritten}
 use Rattle.rrd_disk.specs.declared.loading.Standing.{Standing}
 use Rattle.rrd_disk.specs.declared.loading.Standing.TheVariants.{Database, Unrecorded, Nothing}
@@ -33,13 +33,13 @@ use Rattle.rrd_disk.proofs.Contents.{Laws, file_database, itself, none_by_start,
 
 -- a file that the run may change still has a database
 pub readable_kept : (found : Found) (old new : List Event) → Falls old new
-    → ((s : Held) → IsTrue (is_honest_after s new) → bytes_after s new ≡ bytes_after s old) → IsReadable found old → IsReadable found new
+    → ((s : World) → IsTrue (is_honest_after s new) → bytes_after s new ≡ bytes_after s old) → IsReadable found old → IsReadable found new
 readable_kept found old new falls same readable opened s honest denied =
     readable opened s (falls s honest) (subst IsNoFile (same s honest) denied)
 
 -- a file that represents a database still does
 pub standing_kept : (found : Found) (old new : List Event) → Falls old new
-    → ((s : Held) → IsTrue (is_honest_after s new) → bytes_after s new ≡ bytes_after s old) → IsStanding found old → IsStanding found new
+    → ((s : World) → IsTrue (is_honest_after s new) → bytes_after s new ≡ bytes_after s old) → IsStanding found old → IsStanding found new
 standing_kept found old new falls same standing stayed s honest denied =
     standing stayed s (falls s honest) (subst (λ (b : List ℕ). IsNoFile (settled b)) (same s honest) denied)
 

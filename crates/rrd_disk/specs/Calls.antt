@@ -1,12 +1,12 @@
 -- Definition: the events of the calls that open a file or look for it; the results of reading; and what the answers of several calls say.
-use Rattle.std.specs.Prelude.{◌≡◌, ◌⊎◌, [], ◌∷◌, ℕ, ◌+◌, ◌<◌, ◌≤◌, IsTrue, List, length, take, Option, Some, None}
+use Rattle.std.specs.Prelude.{◌≡◌, ◌⊎◌, [], ◌∷◌, ℕ, ◌+◌, ◌%◌, ◌<◌, ◌≤◌, IsTrue, List, length, take, Option, Some, None}
 use Rattle.rrd_disk.specs.Events.{Event, Found, Made, Missing}
-use Rattle.rrd_disk.specs.Replayed.{held_after, is_honest_after, is_there}
-use Rattle.rrd_store.specs.Storages.{Held, Missing as NoFile, Bytes}
+use Rattle.rrd_disk.specs.Replayed.{World, bytes_after, held_after, is_honest_after, is_there}
+use Rattle.rrd_store.specs.Storages.{Missing as NoFile, Bytes}
 use Rattle.rrd_disk.specs.declared.disk.Facts.{Facts}
 use Rattle.rrd_disk.specs.declared.disk.Opening.{Opening}
 use Rattle.rrd_disk.specs.declared.disk.Opening.TheVariants.{Read, Write, Make}
-use Rattle.rrd_undo.specs.Calls.{AreAt}
+use Rattle.rrd_undo.specs.Calls.{AreAt, ArePut, IsSized}
 
 -- a file was opened for this purpose
 abbrev pub opened_for : Opening → Event
@@ -36,20 +36,37 @@ pub record IsGot (file : List ℕ) (at n : ℕ) (bytes : List ℕ) : Type 0 wher
   pub within : 0 < n → at + n ≤ length file
   pub ends : n < length bytes → length file ≤ at + n
 
+-- a write that failed: no byte was written, or some of the first, and within one page all
+abbrev pub IsPartPut : ℕ → List ℕ → List ℕ → List ℕ → Type 0
+IsPartPut at bytes old new =
+    (new ≡ old) ⊎ ((n : ℕ) × (n ≤ length bytes) × (at % 4096 + length bytes ≤ 4096 → n ≡ length bytes) × ArePut at (take n bytes) old new)
+
+-- a change of the length that failed
+abbrev pub IsSizedOrNot : ℕ → List ℕ → List ℕ → Type 0
+IsSizedOrNot count old new = (new ≡ old) ⊎ IsSized count old new
+
 -- a record that is honest after some calls was honest before them
 abbrev pub Falls : List Event → List Event → Type 0
-Falls old new = (s : Held) → IsTrue (is_honest_after s new) → IsTrue (is_honest_after s old)
+Falls old new = (s : World) → IsTrue (is_honest_after s new) → IsTrue (is_honest_after s old)
+
+-- a write, or several tries of one, failed
+abbrev pub LeavesPart : ℕ → List ℕ → List Event → List Event → Type 0
+LeavesPart at bytes old new = (s : World) → IsTrue (is_honest_after s new) → IsPartPut at bytes (bytes_after s old) (bytes_after s new)
+
+-- the same of a change of the length
+abbrev pub LeavesSized : ℕ → List Event → List Event → Type 0
+LeavesSized count old new = (s : World) → IsTrue (is_honest_after s new) → IsSizedOrNot count (bytes_after s old) (bytes_after s new)
 
 -- the calls changed no byte, and made no file
 abbrev pub KeepsHeld : List Event → List Event → Type 0
-KeepsHeld old new = (s : Held) → held_after s new ≡ held_after s old
+KeepsHeld old new = (s : World) → held_after s new ≡ held_after s old
 
 -- the same, except that a file that is opened to be made is empty if there was none
 abbrev pub KeepsHeldFor : Opening → List Event → List Event → Type 0
 KeepsHeldFor Read old new = KeepsHeld old new
 KeepsHeldFor Write old new = KeepsHeld old new
-KeepsHeldFor Make old new = (s : Held) → (held_after s new ≡ held_after s old) ⊎ ((held_after s old ≡ NoFile) × (held_after s new ≡ Bytes []))
+KeepsHeldFor Make old new = (s : World) → (held_after s new ≡ held_after s old) ⊎ ((held_after s old ≡ NoFile) × (held_after s new ≡ Bytes []))
 
 -- the calls made no file and removed none
 abbrev pub PlaceStays : List Event → List Event → Type 0
-PlaceStays old new = (s : Held) → is_there (held_after s new) ≡ is_there (held_after s old)
+PlaceStays old new = (s : World) → is_there (held_after s new) ≡ is_there (held_after s old)

@@ -1,5 +1,6 @@
--- Definition: the database that a file represents, by the record of its calls.
+-- Definition: the database that a file represents. Glue: the same by the record of its calls, as `rrd_store` asks.
 use Rattle.std.specs.Prelude.{IsSome, IsTrue, List, Option, Some, None}
+use Rattle.rrd_disk.specs.Asked.{world_in}
 use Rattle.rrd_disk.specs.Events.{Event}
 use Rattle.rrd_disk.specs.Replayed.{held_after, is_honest_after}
 use Rattle.rrd_store.specs.Storages.{Held, Missing, Bytes, IsNoFile}
@@ -17,15 +18,15 @@ abbrev pub IsSound : Held → Type 0
 IsSound Missing = Unit {0}
 IsSound (Bytes bytes) = IsSome (mark_of bytes) → ¬ IsNoFile (settled bytes)
 
--- the same for what is assumed of the file before the first call; nothing is known if nothing is assumed
+-- the same for what is assumed of the file; nothing is known if nothing is assumed
 abbrev pub contents_after : Option Held → List Event → Option Held
 contents_after None events = None
-contents_after (Some start) events = Some (represented (held_after start events))
+contents_after (Some code) events = Some (represented (held_after (world_in code) events))
 
 abbrev pub is_honest_by : Option Held → List Event → Type 0
 is_honest_by None events = Unit {0}
-is_honest_by (Some start) events = IsTrue (is_honest_after start events)
+is_honest_by (Some code) events = IsTrue (is_honest_after (world_in code) events)
 
 abbrev pub is_sound_after : Option Held → List Event → Type 0
 is_sound_after None events = Unit {0}
-is_sound_after (Some start) events = IsSound (held_after start events)
+is_sound_after (Some code) events = IsSound (held_after (world_in code) events)

@@ -5,6 +5,7 @@ pub mod Entries
 pub mod EventCode
 pub mod Events
 pub mod Fronts
+pub mod Kills
 pub mod Known
 pub mod Loading
 pub mod Noting

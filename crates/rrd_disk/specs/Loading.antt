@@ -1,7 +1,7 @@
 -- Glue: what reading a file gives.
 use Rattle.std.specs.Prelude.{◌≡◌, Bool, false, IsTrue, List, ℕ, Some, None, Result, Ok, Err, true, ⊤}
 use Rattle.rrd_disk.specs.Events.{Event}
-use Rattle.rrd_disk.specs.Replayed.{bytes_after, held_after, is_honest_after, is_there}
+use Rattle.rrd_disk.specs.Replayed.{World, bytes_after, held_after, is_honest_after, is_there}
 use Rattle.rrd_disk.specs.declared.loading.Standing.{Standing}
 use Rattle.rrd_disk.specs.declared.loading.Standing.TheVariants.{Database, Unrecorded, Nothing}
 use Rattle.rrd_file.specs.declared.fault.FileFault.{FileFault}
@@ -9,22 +9,22 @@ use Rattle.rrd_file.specs.declared.fault.FileFault.TheVariants.{Truncated, Read,
 use Rattle.rrd_file.specs.Faults.{IsFile}
 use Rattle.rrd_file.specs.Laws.{IsValidStored}
 use Rattle.rrd_spec.specs.Journal.Survivors.{Stored}
-use Rattle.rrd_store.specs.Storages.{Bytes, Decodes, Held, IsNoFile}
+use Rattle.rrd_store.specs.Storages.{Bytes, Decodes, IsNoFile}
 use Rattle.rrd_store.specs.declared.faults.TaskFault.{TaskFault}
 use Rattle.rrd_store.specs.declared.faults.TaskFault.TheVariants.{Command, Stream, File, CannotOpen, CannotWrite}
 use Rattle.rrd_tail.specs.Settled.{settled}
 
 -- an honest file is as it was
 abbrev pub KeepsHonest : List Event → List Event → Type 0
-KeepsHonest old new = (s : Held) → IsTrue (is_honest_after s new) → held_after s new ≡ held_after s old
+KeepsHonest old new = (s : World) → IsTrue (is_honest_after s new) → held_after s new ≡ held_after s old
 
 -- an honest file that there was is still there
 abbrev pub IsStillThere : List Event → List Event → Type 0
-IsStillThere old new = (s : Held) → IsTrue (is_honest_after s new) → IsTrue (is_there (held_after s old)) → IsTrue (is_there (held_after s new))
+IsStillThere old new = (s : World) → IsTrue (is_honest_after s new) → IsTrue (is_there (held_after s old)) → IsTrue (is_there (held_after s new))
 
 -- the database of the file, or its fault
 abbrev pub ReadsFile : List Event → Result Stored TaskFault → Type 0
-ReadsFile events result = (s : Held) → IsTrue (is_honest_after s events) → Decodes (Some (Bytes (bytes_after s events))) result
+ReadsFile events result = (s : World) → IsTrue (is_honest_after s events) → Decodes (Some (Bytes (bytes_after s events))) result
 
 -- a fault that the bytes have, whatever bytes follow them
 abbrev pub IsJudgedFault : FileFault → Type 0

@@ -3,8 +3,7 @@
 use Rattle.std.specs.Prelude.{◌≡◌, IsTrue, List, [], ◌∷◌, map, Option, Some, None, ⊤}
 use Rattle.rrd_disk.specs.Contents.{IsSound, represented}
 use Rattle.rrd_disk.specs.Events.{Event}
-use Rattle.rrd_disk.specs.Replayed.{held_after, is_honest_after}
-use Rattle.rrd_disk.specs.Runs.{Recorded}
+use Rattle.rrd_disk.specs.Replayed.{World, held_after, is_honest_after}
 use Rattle.rrd_spec.specs.Journal.Survivors.{Stored}
 use Rattle.rrd_store.specs.Runs as runs
 use Rattle.rrd_store.specs.Sessions.{IsRead}
@@ -18,41 +17,46 @@ pub record IsKeptOf (held : Held) (database : Option Stored) : Type 0 where
 
 abbrev pub IsKept : List Event → Option Stored → Type 0
 IsKept events database =
-    (start : Held) → IsTrue (is_honest_after start events) → IsSound start → IsKeptOf (held_after start events) database
+    (w : World) → IsTrue (is_honest_after w events) → IsSound w.start → IsKeptOf (held_after w events) database
 
 -- the calls that opened the file changed nothing that the file represents
 abbrev pub IsOpened : List Event → Type 0
 IsOpened events =
-    (start : Held) → IsTrue (is_honest_after start events) → IsSound start
-    → represented (held_after start events) ≡ represented start
+    (w : World) → IsTrue (is_honest_after w events) → IsSound w.start
+    → represented (held_after w events) ≡ represented w.start
 
 -- the record has these calls before the run, and those after it. From each file for which all answers are honest, the run did
 -- what the definitions say to the file that the calls before it left
 abbrev pub IsOpenRun : List Event → List Event → runs.Run → Type 0
 IsOpenRun before after run =
-    (start : Held) → IsTrue (is_honest_after start after) → IsSound start
-    → IsTrue (is_honest_after start before)
-    × runs.Did (represented (held_after start before)) run (represented (held_after start after))
+    (w : World) → IsTrue (is_honest_after w after) → IsSound w.start
+    → IsTrue (is_honest_after w before)
+    × runs.Did (represented (held_after w before)) run (represented (held_after w after))
 
 -- whatever the file is, the run did what the definitions say for some valid database, or for none
 abbrev pub IsAnyRun : runs.Run → Type 0
 IsAnyRun run = runs.DidIn None run None × runs.IsComputed None None run
 
+-- a run, and the calls on the file since it was opened, the newest first
+pub record RecordedOpen : Type 0 where
+  pub run : runs.Run
+  pub events : List Event
+
 -- each run did what its record says: it begins with the record of the run before
-abbrev pub AreOpenRuns : List Event → List Recorded → Type 0
+abbrev pub AreOpenRuns : List Event → List RecordedOpen → Type 0
 AreOpenRuns before [] = ⊤
 AreOpenRuns before (r ∷ later) = IsOpenRun before r.events r.run × AreOpenRuns r.events later
 
 -- the record after the runs
-abbrev pub record_of : List Event → List Recorded → List Event
+abbrev pub record_of : List Event → List RecordedOpen → List Event
 record_of before [] = before
 record_of before (r ∷ later) = record_of r.events later
 
 -- the main theorem, for a file that stays open
-abbrev pub OpenFilesFollowSpecification : Held → Option Stored → List Event → List Recorded → Type 0
-OpenFilesFollowSpecification start first opened recorded =
-    (is : runs.IsFirst start first) → IsOpened opened → AreOpenRuns opened recorded
-    → IsTrue (is_honest_after start (record_of opened recorded))
+abbrev pub OpenFilesFollowSpecification : World → Option Stored → List Event → List RecordedOpen → Type 0
+OpenFilesFollowSpecification w first opened recorded =
+    (is : runs.IsFirst w.start first) → IsOpened opened → AreOpenRuns opened recorded
+    → IsTrue (is_honest_after w (record_of opened recorded))
     → (last : runs.Standing)
-    × runs.LeadsAll (runs.Keeping (runs.first_of start first is)) (map (λ (r : Recorded). runs.Ended r.run) recorded) last
-    × runs.IsFileOf (represented (held_after start (record_of opened recorded))) last
+    × runs.LeadsAll (runs.Keeping (runs.first_of w.start first is)) (map (λ (r : RecordedOpen). runs.Ended r.run) recorded) last
+    × runs.IsFileOf (represented (held_after w (record_of opened recorded))) last

@@ -1,8 +1,28 @@
 -- Definition: the file after the calls of a record, and whether the answers are those of an honest file (own).
-use Rattle.std.specs.Prelude.{ℕ, ◌+◌, ◌-◌, ◌==◌, nat_le, Bool, true, false, ◌&&◌, ◌||◌, List, [], ◌∷◌, ◌++◌, length, take, drop, replicate, bytes_eq}
-use Rattle.rrd_disk.specs.Events.{Event, Made, Measured, Got, Put, Sized, Streamed}
+use Rattle.std.specs.Prelude.{ℕ, zero, suc, ◌+◌, ◌-◌, ◌%◌, ◌==◌, nat_le, Bool, true, false, not, ◌&&◌, ◌||◌, List, [], ◌∷◌, ◌++◌, length, take, drop, replicate, slice_index, bytes_eq}
+use Rattle.rrd_disk.specs.Events.{Event, Made, Measured, Got, Put, PutFailed, Sized, SizeFailed, Streamed}
 use Rattle.rrd_disk.specs.Events.{Missing as NotFound}
 use Rattle.rrd_store.specs.Storages.{Held, Missing, Bytes}
+
+-- ---- what is assumed
+
+-- what the file was before the first call; and what the calls left that failed. Each write that failed, the first one first, has
+-- a number: so many of its bytes were written all the same. The number of a change of the length is 0 if the file stayed as it
+-- was, and any other if the file got the length. Calls for which there is no number left nothing
+pub record World : Type 0 where
+  pub start : Held
+  pub parts : List ℕ
+
+-- how many of these calls failed that may have left something
+abbrev pub failures : List Event → ℕ
+failures [] = 0
+failures (PutFailed at bytes ∷ earlier) = suc (failures earlier)
+failures (SizeFailed count ∷ earlier) = suc (failures earlier)
+failures (_ ∷ earlier) = failures earlier
+
+-- the number of the next call, if it fails
+abbrev pub part_after : World → List Event → ℕ
+part_after w earlier = slice_index w.parts (failures earlier)
 
 -- ---- the effects of calls
 
@@ -10,27 +30,34 @@ use Rattle.rrd_store.specs.Storages.{Held, Missing, Bytes}
 unfoldable pub padded : List ℕ → ℕ → List ℕ
 padded file count = take count (file ++ replicate (count - length file) 0)
 
+-- the same, or the file as it was
+abbrev pub padded_or_not : List ℕ → ℕ → ℕ → List ℕ
+padded_or_not file count zero = file
+padded_or_not file count (suc part) = padded file count
+
 -- the file with these bytes written at an offset: zeros fill a gap before them, and no bytes change nothing
 unfoldable pub overlaid : List ℕ → ℕ → List ℕ → List ℕ
 overlaid file at [] = file
 overlaid file at (byte ∷ more) = padded file at ++ (byte ∷ more) ++ drop (at + length (byte ∷ more)) file
 
--- the bytes after a call of a file that had these before. A call that failed changed nothing: a premise about the system
-abbrev pub bytes_left : List ℕ → Event → List ℕ
-bytes_left file (Put at bytes taken) = overlaid file at bytes
-bytes_left file (Sized count) = padded file count
-bytes_left file _ = file
+-- the bytes after a call of a file that had these before, by the number of the call
+abbrev pub bytes_left : List ℕ → ℕ → Event → List ℕ
+bytes_left file part (Put at bytes taken) = overlaid file at bytes
+bytes_left file part (PutFailed at bytes) = overlaid file at (take part bytes)
+bytes_left file part (Sized count) = padded file count
+bytes_left file part (SizeFailed count) = padded_or_not file count part
+bytes_left file part _ = file
 
 -- one call makes a file where there was none
-abbrev pub left : Held → Event → Held
-left Missing Made = Bytes []
-left Missing _ = Missing
-left (Bytes file) event = Bytes (bytes_left file event)
+abbrev pub left : Held → ℕ → Event → Held
+left Missing part Made = Bytes []
+left Missing part _ = Missing
+left (Bytes file) part event = Bytes (bytes_left file part event)
 
--- the file after these calls, of which the newest comes first, if it was `start` before the first
-abbrev pub held_after : Held → List Event → Held
-held_after start [] = start
-held_after start (event ∷ earlier) = left (held_after start earlier) event
+-- the file after these calls, of which the newest comes first
+abbrev pub held_after : World → List Event → Held
+held_after w [] = w.start
+held_after w (event ∷ earlier) = left (held_after w earlier) (part_after w earlier) event
 
 abbrev pub bytes_of : Held → List ℕ
 bytes_of Missing = []
@@ -41,8 +68,8 @@ is_there Missing = false
 is_there (Bytes bytes) = true
 
 -- its bytes; none if there is no file
-abbrev pub bytes_after : Held → List Event → List ℕ
-bytes_after start events = bytes_of (held_after start events)
+abbrev pub bytes_after : World → List Event → List ℕ
+bytes_after w events = bytes_of (held_after w events)
 
 -- ---- honest answers
 
@@ -51,24 +78,30 @@ unfoldable pub is_honest_read : List ℕ → ℕ → ℕ → List ℕ → Bool
 is_honest_read file at wanted [] = (wanted == 0) || nat_le (length file) at
 is_honest_read file at wanted (byte ∷ more) = bytes_eq (take (length (byte ∷ more)) (drop at file)) (byte ∷ more)
 
--- an honest file with these bytes may have answered so. A write that took only some of its bytes is not honest: a premise
--- about the system. A failed call always is, and a pipe is no file
-abbrev pub is_honest_call : List ℕ → Event → Bool
-is_honest_call file NotFound = false
-is_honest_call file (Measured count) = count == length file
-is_honest_call file (Got at wanted bytes) = is_honest_read file at wanted bytes
-is_honest_call file (Put at bytes taken) = taken == length bytes
-is_honest_call file Streamed = false
-is_honest_call file _ = true
+-- a write that failed, and of which so many bytes were written: within one page all of them, or none. That is a premise about
+-- the system
+unfoldable pub is_honest_failure : ℕ → List ℕ → ℕ → Bool
+is_honest_failure at bytes part = not (nat_le (at % 4096 + length bytes) 4096) || ((part == 0) || nat_le (length bytes) part)
+
+-- an honest file with these bytes may have answered so. A write that reports only some of its bytes is not honest: a premise
+-- about the system. A pipe is no file
+abbrev pub is_honest_call : List ℕ → ℕ → Event → Bool
+is_honest_call file part NotFound = false
+is_honest_call file part (Measured count) = count == length file
+is_honest_call file part (Got at wanted bytes) = is_honest_read file at wanted bytes
+is_honest_call file part (Put at bytes taken) = taken == length bytes
+is_honest_call file part (PutFailed at bytes) = is_honest_failure at bytes part
+is_honest_call file part Streamed = false
+is_honest_call file part _ = true
 
 -- the same if there is no file
-abbrev pub is_honest_of : Held → Event → Bool
-is_honest_of Missing NotFound = true
-is_honest_of Missing Made = true
-is_honest_of Missing _ = false
-is_honest_of (Bytes file) event = is_honest_call file event
+abbrev pub is_honest_of : Held → ℕ → Event → Bool
+is_honest_of Missing part NotFound = true
+is_honest_of Missing part Made = true
+is_honest_of Missing part _ = false
+is_honest_of (Bytes file) part event = is_honest_call file part event
 
--- all answers are those of an honest file that was `start` before the first call, and that nobody else wrote
-abbrev pub is_honest_after : Held → List Event → Bool
-is_honest_after start [] = true
-is_honest_after start (event ∷ earlier) = is_honest_of (held_after start earlier) event && is_honest_after start earlier
+-- all answers are those of an honest file that nobody else wrote
+abbrev pub is_honest_after : World → List Event → Bool
+is_honest_after w [] = true
+is_honest_after w (event ∷ earlier) = is_honest_of (held_after w earlier) (part_after w earlier) event && is_honest_after w earlier

@@ -1,10 +1,9 @@
 //! The file of a run: its bytes, which are read and changed by the calls of the system.
 ghost use Rattle.std.specs.Prelude.{◌≡◌, ◌≤◌, ℕ, IfOk, IsTrue, List, OnOk, length, max, option_map};
-ghost use Rattle.rrd_disk.specs.Calls.{Falls, KeepsHeld, KeepsHeldFor, PlaceStays};
+ghost use Rattle.rrd_disk.specs.Calls.{Falls, KeepsHeld, KeepsHeldFor, LeavesPart, PlaceStays};
 ghost use Rattle.rrd_disk.specs.Known.{AreAll, Measures, Owes, ShowsBytes};
 ghost use Rattle.rrd_disk.specs.Openings.{HasLength};
-ghost use Rattle.rrd_disk.specs.Replayed.{bytes_after, held_after, is_honest_after};
-ghost use Rattle.rrd_store.specs.Storages.{Held};
+ghost use Rattle.rrd_disk.specs.Replayed.{World, bytes_after, held_after, is_honest_after};
 
 use crate::front::Front;
 use crate::locks::LockedFile;
@@ -165,9 +164,9 @@ impl<D: Disk> FileBytes<D> {
     // Returns the length of the file in bytes.
     fn file_length(&mut self) -> io::Result<u64>
         ensures falls { Falls (D.events self.old.disk) (D.events self.new.disk) }
-        ensures same { (s : Held) → IsTrue (is_honest_after s (D.events self.new.disk)) → held_after s (D.events self.new.disk) ≡ held_after s (D.events self.old.disk) }
+        ensures same { (s : World) → IsTrue (is_honest_after s (D.events self.new.disk)) → held_after s (D.events self.new.disk) ≡ held_after s (D.events self.old.disk) }
         ensures place { PlaceStays (D.events self.old.disk) (D.events self.new.disk) }
-        ensures ok { IfOk result (λ n. (s : Held) → IsTrue (is_honest_after s (D.events self.new.disk)) → n ≡ length (bytes_after s (D.events self.new.disk))) }
+        ensures ok { IfOk result (λ n. (s : World) → IsTrue (is_honest_after s (D.events self.new.disk)) → n ≡ length (bytes_after s (D.events self.new.disk))) }
     {
         self.mend()?;
         if let Some(length) = self.length {
@@ -267,7 +266,7 @@ impl<D: Disk> FileBytes<D> {
     /// A call failed, or memory ran out.
     pub(crate) fn read_more(&mut self) -> io::Result<()>
         ensures falls { Falls (D.events self.old.disk) (D.events self.new.disk) }
-        ensures same { (s : Held) → IsTrue (is_honest_after s (D.events self.new.disk)) → held_after s (D.events self.new.disk) ≡ held_after s (D.events self.old.disk) }
+        ensures same { (s : World) → IsTrue (is_honest_after s (D.events self.new.disk)) → held_after s (D.events self.new.disk) ≡ held_after s (D.events self.old.disk) }
     {
         let length = self.file_length()?;
         let had = self.front.len() as u64;
@@ -283,7 +282,7 @@ impl<D: Disk> FileBytes<D> {
     pub(crate) fn read_pipe(&mut self, pipe: &mut D::File, bytes: &mut Vec<u8>) -> io::Result<bool>
         ensures falls { Falls (D.events self.old.disk) (D.events self.new.disk) }
         ensures same { KeepsHeld (D.events self.old.disk) (D.events self.new.disk) }
-        ensures none { OnOk result ((s : Held) → IsTrue (is_honest_after s (D.events self.new.disk)) → ⊥) }
+        ensures none { OnOk result ((s : World) → IsTrue (is_honest_after s (D.events self.new.disk)) → ⊥) }
     {
         let had = bytes.len();
         let more = (had / 2).max(FIRST_PART as usize);
@@ -296,7 +295,7 @@ impl<D: Disk> FileBytes<D> {
 
     // Writes the old bytes back over a write that was cut short.
     fn put_back(&mut self, owed: Owed) -> io::Result<()>
-        requires { (s : Held) → IsTrue (is_honest_after s (D.events self.old.disk)) → ⊥ }
+        requires { (s : World) → IsTrue (is_honest_after s (D.events self.old.disk)) → ⊥ }
         ensures falls { Falls (D.events self.old.disk) (D.events self.new.disk) }
         ensures place { PlaceStays (D.events self.old.disk) (D.events self.new.disk) }
     {
@@ -327,7 +326,7 @@ impl<D: Disk> FileBytes<D> {
     /// A call failed. The write is then still to be taken back.
     pub(crate) fn mend(&mut self) -> io::Result<()>
         ensures falls { Falls (D.events self.old.disk) (D.events self.new.disk) }
-        ensures same { (s : Held) → IsTrue (is_honest_after s (D.events self.new.disk)) → held_after s (D.events self.new.disk) ≡ held_after s (D.events self.old.disk) }
+        ensures same { (s : World) → IsTrue (is_honest_after s (D.events self.new.disk)) → held_after s (D.events self.new.disk) ≡ held_after s (D.events self.old.disk) }
         ensures place { PlaceStays (D.events self.old.disk) (D.events self.new.disk) }
     {
         let Some(owed) = self.owed else {
@@ -355,23 +354,13 @@ impl<D: Disk> FileBytes<D> {
         self.read_to(length.min(at.saturating_add(count).max(PAGE) as u64))
     }
 
-    // Forgets the length of the file, and its bytes.
-    fn forget(&mut self)
-        ensures disk { self.new.disk ≡ self.old.disk }
-        ensures owed { self.new.owed ≡ self.old.owed }
-    {
-        self.front.clear();
-        self.length = None;
-    }
-
     // Writes bytes from byte `at` on. If the write is cut short, `owed` says how to take it back, if it is to be.
     fn write(&mut self, at: usize, bytes: &[u8], owed: Option<Owed>) -> io::Result<()>
         ensures falls { Falls (D.events self.old.disk) (D.events self.new.disk) }
         ensures place { PlaceStays (D.events self.old.disk) (D.events self.new.disk) }
-        ensures ok { OnOk result ((s : Held) → IsTrue (is_honest_after s (D.events self.new.disk))
+        ensures ok { OnOk result ((s : World) → IsTrue (is_honest_after s (D.events self.new.disk))
             → ArePut at bytes.now (bytes_after s (D.events self.old.disk)) (bytes_after s (D.events self.new.disk))) }
-        ensures err { OnErr result ((s : Held) → IsTrue (is_honest_after s (D.events self.new.disk))
-            → bytes_after s (D.events self.new.disk) ≡ bytes_after s (D.events self.old.disk)) }
+        ensures err { OnErr result (LeavesPart at bytes.now (D.events self.old.disk) (D.events self.new.disk)) }
     {
         if bytes.is_empty() {
             // A call that writes no bytes changes nothing, not even the length of the file.
@@ -397,7 +386,9 @@ impl<D: Disk> FileBytes<D> {
                 if failed.is_cut_short && owed.is_some() {
                     self.owed = owed;
                 } else {
-                    self.forget();
+                    // The write may have changed the file all the same.
+                    self.front.clear();
+                    self.length = None;
                 }
                 Err(failed.error)
             }
@@ -469,7 +460,11 @@ impl<D: Disk> Bytes for FileBytes<D> {
                 self.front.cut(count);
                 self.length = Some(count as u64);
             }
-            Err(_) => self.forget(),
+            Err(_) => {
+                // The file may have the new length all the same.
+                self.front.clear();
+                self.length = None;
+            }
         }
         ended
     }

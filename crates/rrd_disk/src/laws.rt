@@ -3,7 +3,8 @@
 //! The module is public only for readers of the contracts: no other crate calls these functions.
 ghost use Rattle.std.specs.Prelude.{List, Option};
 ghost use Rattle.rrd_disk.specs.Events.{Event};
-ghost use Rattle.rrd_disk.specs.OpenRuns.{OpenFilesFollowSpecification};
+ghost use Rattle.rrd_disk.specs.OpenRuns.{OpenFilesFollowSpecification, RecordedOpen};
+ghost use Rattle.rrd_disk.specs.Replayed.{World};
 ghost use Rattle.rrd_disk.specs.Runs.{FilesFollowSpecification, Recorded};
 ghost use Rattle.rrd_spec.specs.Journal.Survivors.{Stored};
 ghost use Rattle.rrd_store.specs.Storages.{Held};
@@ -15,9 +16,10 @@ use rrd_undo::laws::files_without_marks_stand_for_themselves;
 /// Theorem: after any list of runs on one file, the bytes that the file represents and all printed text are what the
 /// definitions compute.
 ///
-/// Each run is one by [`crate::run_command_at`] or [`crate::run_batch_at`], with the record of its calls on the file. The
-/// records are those of an honest file that was missing or had a database before the first run, and that nobody else
-/// wrote. Any call of a run may have failed.
+/// Each run is one by [`crate::run_command_at`] or [`crate::run_batch_at`], with the record of its calls on the file; or it
+/// was killed between two calls, as by [`crate::run_command_killed`] or [`crate::run_batch_killed`], and the record has the
+/// calls before the kill. A killed change was done or not done. The records are those of an honest file that was missing or
+/// had a database before the first run, and that nobody else wrote. Any call of a run may have failed.
 pub fn files_follow_specification()
     ensures { (start : Held) (first : Option Stored) (recorded : List Recorded) →
         FilesFollowSpecification start first recorded }
@@ -33,8 +35,8 @@ pub fn files_follow_specification()
 /// Each run is one by [`crate::OpenFile::run`] or [`crate::OpenFile::run_batch`], with the record of all calls on the file since
 /// it was opened. The premises are those of [`files_follow_specification`].
 pub fn open_files_follow_specification()
-    ensures { (start : Held) (first : Option Stored) (opened : List Event) (recorded : List Recorded) →
-        OpenFilesFollowSpecification start first opened recorded }
+    ensures { (w : World) (first : Option Stored) (opened : List Event) (recorded : List RecordedOpen) →
+        OpenFilesFollowSpecification w first opened recorded }
 {
     file_begins();
     files_without_marks_stand_for_themselves();

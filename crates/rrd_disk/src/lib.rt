@@ -6,6 +6,7 @@ mod cause;
 mod disk;
 mod file_bytes;
 mod front;
+mod killed;
 pub mod laws;
 mod loading;
 mod locks;
@@ -20,6 +21,7 @@ mod storage;
 
 pub use cause::Cause;
 pub use disk::{Disk, DiskFile, Facts, Kind, Lock, Opening};
+pub use killed::{Killed, run_batch_killed, run_command_killed};
 pub use open_file::{OpenFault, OpenFile};
 pub use place::{Location, OwnPlace, Place};
 pub use record::{Noted, Record};

@@ -4,10 +4,10 @@ ghost use Rattle.rrd_disk.specs.Asked.{FallsAsked};
 ghost use Rattle.rrd_disk.specs.Calls.{Falls, KeepsHeld};
 ghost use Rattle.rrd_disk.specs.Fronts.{Begins};
 ghost use Rattle.rrd_disk.specs.Loading.{HasNoDatabase, IsDatabaseStanding, IsJudged, IsOfAny, IsStillThere, IsValidStanding, KeepsHonest, ReadsFile, StandsSo, is_of_bytes};
-ghost use Rattle.rrd_disk.specs.Replayed.{bytes_after, is_honest_after};
+ghost use Rattle.rrd_disk.specs.Replayed.{World, bytes_after, is_honest_after};
 ghost use Rattle.rrd_tail.specs.Settled.{settled};
 ghost use Rattle.rrd_disk.specs.declared.loading.Standing.TheVariants.{Nothing};
-ghost use Rattle.rrd_store.specs.Storages.{Bytes, Decodes, Finds, Held, IsNoFile};
+ghost use Rattle.rrd_store.specs.Storages.{Bytes, Decodes, Finds, IsNoFile};
 ghost use Rattle.rrd_undo.specs.Fronts.{IsSettledFront};
 
 use crate::file_bytes::{FileBytes, longer_front};
@@ -103,7 +103,7 @@ pub(crate) fn load_pipe<D: Disk>(
 ) -> Result<Option<Database>, TaskFault>
     ensures falls { Falls (D.events file.old.disk) (D.events file.new.disk) }
     ensures same { KeepsHeld (D.events file.old.disk) (D.events file.new.disk) }
-    ensures finds { (s : Held) → IsTrue (is_honest_after s (D.events file.new.disk)) → (bytes : List ℕ) → Finds (Some (Bytes bytes)) result }
+    ensures finds { (s : World) → IsTrue (is_honest_after s (D.events file.new.disk)) → (bytes : List ℕ) → Finds (Some (Bytes bytes)) result }
     ensures valid { Finds None result }
 {
     let mut bytes = Vec::new(alloc);
@@ -258,7 +258,7 @@ fn standing_within<D: Disk>(
 ) -> Result<Option<Standing>, TaskFault>
     ensures falls { Falls (D.events file.old.disk) (D.events file.new.disk) }
     ensures same { KeepsHonest (D.events file.old.disk) (D.events file.new.disk) }
-    ensures stands { IfOk result (λ found. IfSome found (λ standing. (s : Held) → IsTrue (is_honest_after s (D.events file.new.disk)) → StandsSo standing (bytes_after s (D.events file.new.disk)))) }
+    ensures stands { IfOk result (λ found. IfSome found (λ standing. (s : World) → IsTrue (is_honest_after s (D.events file.new.disk)) → StandsSo standing (bytes_after s (D.events file.new.disk)))) }
     ensures valid { IfOk result (λ found. IfSome found IsValidStanding) }
     ensures err { IfErr result IsOfAny }
 {
@@ -283,7 +283,7 @@ pub(crate) fn find_standing<D: Disk>(
 ) -> Result<Standing, TaskFault>
     ensures falls { Falls (D.events file.old.disk) (D.events file.new.disk) }
     ensures same { KeepsHonest (D.events file.old.disk) (D.events file.new.disk) }
-    ensures stands { IfOk result (λ standing. (s : Held) → IsTrue (is_honest_after s (D.events file.new.disk)) → StandsSo standing (bytes_after s (D.events file.new.disk))) }
+    ensures stands { IfOk result (λ standing. (s : World) → IsTrue (is_honest_after s (D.events file.new.disk)) → StandsSo standing (bytes_after s (D.events file.new.disk))) }
     ensures valid { IfOk result IsValidStanding }
     ensures err { IfErr result IsOfAny }
 {
@@ -308,9 +308,9 @@ fn truncate<D: Disk>(file: &mut FileBytes<D>, end: usize) -> io::Result<()>
 // Settles a file.
 fn settle_file<D: Disk>(alloc: Global, file: &mut FileBytes<D>) -> io::Result<()>
     ensures falls { FallsAsked (D.events file.old.disk) (D.events file.new.disk) }
-    ensures stands { (s : Held) → IsTrue (is_honest_after s (D.events file.new.disk))
+    ensures stands { (s : World) → IsTrue (is_honest_after s (D.events file.new.disk))
         → settled (bytes_after s (D.events file.new.disk)) ≡ settled (bytes_after s (D.events file.old.disk)) }
-    ensures ok { OnOk result ((s : Held) → IsTrue (is_honest_after s (D.events file.new.disk))
+    ensures ok { OnOk result ((s : World) → IsTrue (is_honest_after s (D.events file.new.disk))
         → bytes_after s (D.events file.new.disk) ≡ settled (bytes_after s (D.events file.old.disk))) }
 {
     let mut buffer = Vec::new(alloc);
@@ -330,9 +330,9 @@ pub(crate) fn repair<D: Disk>(
 ) -> io::Result<()>
     ensures falls { Falls (D.events file.old.disk) (D.events file.new.disk) }
     ensures place { IsStillThere (D.events file.old.disk) (D.events file.new.disk) }
-    ensures stands { (s : Held) → IsTrue (is_honest_after s (D.events file.new.disk)) → IsDatabaseStanding standing.now
+    ensures stands { (s : World) → IsTrue (is_honest_after s (D.events file.new.disk)) → IsDatabaseStanding standing.now
         → settled (bytes_after s (D.events file.new.disk)) ≡ settled (bytes_after s (D.events file.old.disk)) }
-    ensures ok { OnOk result ((s : Held) → IsTrue (is_honest_after s (D.events file.new.disk)) → IsDatabaseStanding standing.now
+    ensures ok { OnOk result ((s : World) → IsTrue (is_honest_after s (D.events file.new.disk)) → IsDatabaseStanding standing.now
         → bytes_after s (D.events file.new.disk) ≡ settled (bytes_after s (D.events file.old.disk))) }
 {
     match standing {

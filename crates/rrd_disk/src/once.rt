@@ -2,9 +2,8 @@
 ghost use Rattle.std.specs.Prelude.{◌≡◌, ◌+◌, ◌<◌, ◌≤◌, ◌∷◌, IsTrue, length, IfErr, IfOk, OnErr, OnOk, take};
 ghost use Rattle.rrd_disk.specs.Fronts.{Begins};
 ghost use Rattle.std.specs.Io.{ReadsAtMost};
-ghost use Rattle.rrd_disk.specs.Calls.{Falls, IsGot, IsGotAtOnce, KeepsHeld, PlaceStays, opened};
-ghost use Rattle.rrd_disk.specs.Replayed.{bytes_after, held_after, is_honest_after};
-ghost use Rattle.rrd_store.specs.Storages.{Held};
+ghost use Rattle.rrd_disk.specs.Calls.{Falls, IsGot, IsGotAtOnce, KeepsHeld, LeavesPart, LeavesSized, PlaceStays, opened};
+ghost use Rattle.rrd_disk.specs.Replayed.{World, bytes_after, held_after, is_honest_after};
 ghost use Rattle.rrd_undo.specs.Calls.{ArePut, IsSized};
 
 use crate::{Disk, Opening};
@@ -32,10 +31,10 @@ pub(crate) fn open<D: Disk>(
 // Writes bytes from byte `at` on by one call, and returns the number of bytes that were written.
 fn put_some<D: Disk>(disk: &mut D, file: &D::File, bytes: &[u8], at: u64) -> io::Result<usize>
     ensures falls { Falls (D.events disk.old) (D.events disk.new) }
-    ensures whole { IfOk result (λ n. (s : Held) → IsTrue (is_honest_after s (D.events disk.new)) → n ≡ length bytes.now) }
-    ensures ok { OnOk result ((s : Held) → IsTrue (is_honest_after s (D.events disk.new)) → 0 < length bytes.now
+    ensures whole { IfOk result (λ n. (s : World) → IsTrue (is_honest_after s (D.events disk.new)) → n ≡ length bytes.now) }
+    ensures ok { OnOk result ((s : World) → IsTrue (is_honest_after s (D.events disk.new)) → 0 < length bytes.now
         → ArePut at bytes.now (bytes_after s (D.events disk.old)) (bytes_after s (D.events disk.new))) }
-    ensures err { OnErr result (KeepsHeld (D.events disk.old) (D.events disk.new)) }
+    ensures err { OnErr result (LeavesPart at bytes.now (D.events disk.old) (D.events disk.new)) }
     ensures place { PlaceStays (D.events disk.old) (D.events disk.new) }
 {
     for _ in 0..TRIES {
@@ -82,11 +81,10 @@ pub(crate) fn put<D: Disk>(
 ) -> Result<(), PutError>
     requires { 0 < length bytes.now }
     ensures falls { Falls (D.events disk.old) (D.events disk.new) }
-    ensures ok { OnOk result ((s : Held) → IsTrue (is_honest_after s (D.events disk.new))
+    ensures ok { OnOk result ((s : World) → IsTrue (is_honest_after s (D.events disk.new))
         → ArePut at bytes.now (bytes_after s (D.events disk.old)) (bytes_after s (D.events disk.new))) }
-    ensures err { OnErr result ((s : Held) → IsTrue (is_honest_after s (D.events disk.new))
-        → held_after s (D.events disk.new) ≡ held_after s (D.events disk.old)) }
-    ensures short { IfErr result (λ failed. IsTrue failed.is_cut_short → (s : Held) → IsTrue (is_honest_after s (D.events disk.new)) → ⊥) }
+    ensures err { OnErr result (LeavesPart at bytes.now (D.events disk.old) (D.events disk.new)) }
+    ensures short { IfErr result (λ failed. IsTrue failed.is_cut_short → (s : World) → IsTrue (is_honest_after s (D.events disk.new)) → ⊥) }
     ensures place { PlaceStays (D.events disk.old) (D.events disk.new) }
 {
     match put_some(disk, file, bytes, at) {
@@ -114,7 +112,7 @@ fn get_some<D: Disk>(disk: &mut D, file: &D::File, bytes: &mut [u8], at: u64) ->
     ensures bound { ReadsAtMost result bytes.new }
     ensures falls { Falls (D.events disk.old) (D.events disk.new) }
     ensures same { KeepsHeld (D.events disk.old) (D.events disk.new) }
-    ensures ok { IfOk result (λ n. (s : Held) → IsTrue (is_honest_after s (D.events disk.new))
+    ensures ok { IfOk result (λ n. (s : World) → IsTrue (is_honest_after s (D.events disk.new))
         → IsGotAtOnce (bytes_after s (D.events disk.old)) at n bytes.new) }
 {
     for _ in 0..TRIES {
@@ -138,7 +136,7 @@ pub(crate) fn get<D: Disk>(
     ensures bound { ReadsAtMost result bytes.new }
     ensures falls { Falls (D.events disk.old) (D.events disk.new) }
     ensures same { KeepsHeld (D.events disk.old) (D.events disk.new) }
-    ensures ok { IfOk result (λ n. (s : Held) → IsTrue (is_honest_after s (D.events disk.new))
+    ensures ok { IfOk result (λ n. (s : World) → IsTrue (is_honest_after s (D.events disk.new))
         → IsGot (bytes_after s (D.events disk.old)) at n bytes.new) }
 {
     let mut count = 0;
@@ -170,9 +168,9 @@ pub(crate) fn get_behind<D: Disk>(
     ensures length { length bytes.new ≡ length bytes.old }
     ensures falls { Falls (D.events disk.old) (D.events disk.new) }
     ensures same { KeepsHeld (D.events disk.old) (D.events disk.new) }
-    ensures shown { IfOk result (λ n. (s : Held) → IsTrue (is_honest_after s (D.events disk.new))
+    ensures shown { IfOk result (λ n. (s : World) → IsTrue (is_honest_after s (D.events disk.new))
         → Begins (bytes_after s (D.events disk.old)) (take had bytes.old) → Begins (bytes_after s (D.events disk.old)) (take (had + n) bytes.new)) }
-    ensures ends { IfOk result (λ n. (s : Held) → IsTrue (is_honest_after s (D.events disk.new))
+    ensures ends { IfOk result (λ n. (s : World) → IsTrue (is_honest_after s (D.events disk.new))
         → had + n < length bytes.new → length (bytes_after s (D.events disk.old)) ≤ had + n) }
 {
     get(disk, file, &mut bytes[had..], had as u64)
@@ -183,7 +181,7 @@ fn get_some_next<D: Disk>(disk: &mut D, file: &mut D::File, bytes: &mut [u8]) ->
     ensures bound { ReadsAtMost result bytes.new }
     ensures falls { Falls (D.events disk.old) (D.events disk.new) }
     ensures same { KeepsHeld (D.events disk.old) (D.events disk.new) }
-    ensures none { OnOk result ((s : Held) → IsTrue (is_honest_after s (D.events disk.new)) → ⊥) }
+    ensures none { OnOk result ((s : World) → IsTrue (is_honest_after s (D.events disk.new)) → ⊥) }
 {
     for _ in 0..TRIES {
         match disk.read_pipe(file, bytes) {
@@ -205,7 +203,7 @@ pub(crate) fn get_next<D: Disk>(
     ensures bound { ReadsAtMost result bytes.new }
     ensures falls { Falls (D.events disk.old) (D.events disk.new) }
     ensures same { KeepsHeld (D.events disk.old) (D.events disk.new) }
-    ensures none { OnOk result (0 < length bytes.old → (s : Held) → IsTrue (is_honest_after s (D.events disk.new)) → ⊥) }
+    ensures none { OnOk result (0 < length bytes.old → (s : World) → IsTrue (is_honest_after s (D.events disk.new)) → ⊥) }
 {
     let mut count = 0;
     while count < bytes.len() {
@@ -223,7 +221,7 @@ pub(crate) fn get_next<D: Disk>(
 pub(crate) fn measure<D: Disk>(disk: &mut D, file: &D::File) -> io::Result<u64>
     ensures falls { Falls (D.events disk.old) (D.events disk.new) }
     ensures same { KeepsHeld (D.events disk.old) (D.events disk.new) }
-    ensures ok { IfOk result (λ n. (s : Held) → IsTrue (is_honest_after s (D.events disk.new)) → n ≡ length (bytes_after s (D.events disk.old))) }
+    ensures ok { IfOk result (λ n. (s : World) → IsTrue (is_honest_after s (D.events disk.new)) → n ≡ length (bytes_after s (D.events disk.old))) }
 {
     Ok(disk.facts(file)?.length)
 }
@@ -231,9 +229,9 @@ pub(crate) fn measure<D: Disk>(disk: &mut D, file: &D::File) -> io::Result<u64>
 /// Sets the length of the file.
 pub(crate) fn set_length<D: Disk>(disk: &mut D, file: &D::File, length: u64) -> io::Result<()>
     ensures falls { Falls (D.events disk.old) (D.events disk.new) }
-    ensures ok { OnOk result ((s : Held) → IsTrue (is_honest_after s (D.events disk.new))
+    ensures ok { OnOk result ((s : World) → IsTrue (is_honest_after s (D.events disk.new))
         → IsSized length (bytes_after s (D.events disk.old)) (bytes_after s (D.events disk.new))) }
-    ensures err { OnErr result (KeepsHeld (D.events disk.old) (D.events disk.new)) }
+    ensures err { OnErr result (LeavesSized length (D.events disk.old) (D.events disk.new)) }
     ensures place { PlaceStays (D.events disk.old) (D.events disk.new) }
 {
     for _ in 0..TRIES {

@@ -1,8 +1,9 @@
-use Rattle.rrd_disk.specs.Calls.{Falls, KeepsHeld}
+use Rattle.rrd_disk.specs.Calls.{Falls, LeavesSized, PlaceStays}
 use Rattle.rrd_disk.proofs.once.set_length.Given as goal
 
 abbrev pub invariant-loop : goal.invariant-loop
 invariant-loop g l = record {
   falls : Falls (g.D.Disk.events l.fn.disk) (g.D.Disk.events l.disk);
-  same : KeepsHeld (g.D.Disk.events l.fn.disk) (g.D.Disk.events l.disk);
+  leaves : LeavesSized l.length (g.D.Disk.events l.fn.disk) (g.D.Disk.events l.disk);
+  place : PlaceStays (g.D.Disk.events l.fn.disk) (g.D.Disk.events l.disk);
 }

@@ -1,25 +1,39 @@
-use Rattle.std.proofs.Common.{◌≡◌, ◌∙◌, [], List, Option, None, Some, ap, sym, subst}
+use Rattle.std.proofs.Common.{◌≡◌, ◌∙◌, [], IsTrue, List, Option, Some, ap, sym, subst}
 use Rattle.rrd_spec.specs.Journal.Survivors.{Stored}
 use Rattle.rrd_store.specs.Sessions.{IsRead}
-use Rattle.rrd_store.specs.Storages.{Held}
+use Rattle.rrd_disk.specs.Asked.{held_of, world_in}
 use Rattle.rrd_disk.specs.Contents.{IsSound, represented}
 use Rattle.rrd_disk.specs.Events.{Event}
-use Rattle.rrd_disk.specs.Replayed.{held_after}
+use Rattle.rrd_disk.specs.OpenRuns.{IsKeptOf}
+use Rattle.rrd_disk.specs.Replayed.{World, held_after, is_honest_after}
+use Rattle.rrd_disk.proofs.Asked.{world_in_held}
 use Rattle.rrd_disk.proofs.OpenRuns.{held_or}
 use Rattle.rrd_disk.proofs.open_file.OpenFile.open.Goals as goal
 
 pub returns-in-Ok-clause-kept : goal.returns-in-Ok-clause-kept
-returns-in-Ok-clause-kept g c = λ start honest sound.
+returns-in-Ok-clause-kept g c = λ w honest sound.
     let events = g.D.Disk.events c.new-session.result.storage.bytes.disk in
+    let new = g.D.Disk.events c.load.new.self.storage.bytes.disk in
+    let same = world_in_held w in
+    let code = held_of w in
+    let now : IsTrue (is_honest_after (world_in code) new) = subst (λ (v : World). IsTrue (is_honest_after v new)) (sym same) honest in
+    let first : IsSound (world_in code).start = subst (λ (v : World). IsSound v.start) (sym same) sound in
     let begun : events ≡ [] = rw (c.new-session.ensures.storage, c.staying_open.ensures) c.requires in
-    let was : IsSound (held_after start events) = subst (λ (e : List Event). IsSound (held_after start e)) (sym begun) sound in
-    let none : IsRead (Some (represented (held_after start events))) c.new-session.result.database =
-    subst (λ (d : Option Stored). IsRead (Some (represented (held_after start events))) d) (sym c.new-session.ensures.database) tt in
-    record { sound = c.load.ensures.sound (Some start) honest was; read = c.load.ensures.read (Some start) honest was none }
+    let was : IsSound (held_after (world_in code) events) = subst (λ (e : List Event). IsSound (held_after (world_in code) e)) (sym begun) first in
+    let none : IsRead (Some (represented (held_after (world_in code) events))) c.new-session.result.database =
+    subst (λ (d : Option Stored). IsRead (Some (represented (held_after (world_in code) events))) d) (sym c.new-session.ensures.database) tt in
+    subst (λ (v : World). IsKeptOf (held_after v new) c.load.new.self.database) same
+    (record { sound = c.load.ensures.sound (Some code) now was; read = c.load.ensures.read (Some code) now was none })
 
 pub returns-in-Ok-clause-opened : goal.returns-in-Ok-clause-opened
-returns-in-Ok-clause-opened g c = λ start honest sound.
+returns-in-Ok-clause-opened g c = λ w honest sound.
     let events = g.D.Disk.events c.new-session.result.storage.bytes.disk in
+    let new = g.D.Disk.events c.load.new.self.storage.bytes.disk in
+    let same = world_in_held w in
+    let code = held_of w in
+    let now : IsTrue (is_honest_after (world_in code) new) = subst (λ (v : World). IsTrue (is_honest_after v new)) (sym same) honest in
+    let first : IsSound (world_in code).start = subst (λ (v : World). IsSound v.start) (sym same) sound in
     let begun : events ≡ [] = rw (c.new-session.ensures.storage, c.staying_open.ensures) c.requires in
-    let was : IsSound (held_after start events) = subst (λ (e : List Event). IsSound (held_after start e)) (sym begun) sound in
-    ap (held_or start) (c.load.ensures.stays (Some start) honest was) ∙ ap (λ (e : List Event). represented (held_after start e)) begun
+    let was : IsSound (held_after (world_in code) events) = subst (λ (e : List Event). IsSound (held_after (world_in code) e)) (sym begun) first in
+    let stays = ap (held_or (world_in code).start) (c.load.ensures.stays (Some code) now was) ∙ ap (λ (e : List Event). represented (held_after (world_in code) e)) begun in
+    subst (λ (v : World). represented (held_after v new) ≡ represented v.start) same stays
