@@ -81,7 +81,7 @@ flat_one : {A : Type 0} (f : A → List ℕ) (x : A) → flat_map f (x ∷ []) �
 flat_one f x = flat_map-cons f x [] ∙ append-nil (f x)
 
 -- one more item
-one_more : {A : Type 0} (f : A → List ℕ) (xs : List A) (i : ℕ) (x : A) → slice_get xs i ≡ Some x → flat_map f (take (i + 1) xs) ≡ flat_map f (take i xs) ++ f x
+pub one_more : {A : Type 0} (f : A → List ℕ) (xs : List A) (i : ℕ) (x : A) → slice_get xs i ≡ Some x → flat_map f (take (i + 1) xs) ≡ flat_map f (take i xs) ++ f x
 one_more f xs i x is =
     let inside : i < length xs = slice_get_within xs i x is in
     ap (flat_map f) (take_more xs i x inside ∙ ap (λ y. take i xs ++ y ∷ []) (get_or_from_slice_get xs i x x is))

@@ -8,6 +8,7 @@ use Rattle.rrd_spec.specs.Files.Filed.{Filed, filed, head_of, header_of}
 use Rattle.rrd_spec.specs.History.{Rra}
 use Rattle.rrd_spec.specs.Journal.Survivors.{Stored}
 use Rattle.rrd_file.specs.Layout.{body_pieces, saved_pieces, entry_pieces, head_pieces, layout, row_pieces, spelled}
+use Rattle.rrd_file.specs.Encoded.{cell_bytes, front_bytes, journal_bytes}
 use Rattle.rrd_file.specs.Layout.Pieces.{Piece, Mark, OfVersion, OfHeader, OfSource, OfArchive, OfPrep, OfRows, OfCell, spell}
 
 -- ---- bytes added in turn
@@ -50,3 +51,17 @@ joined_body f = ap spelled (append_assoc (map OfSource f.sources) (flat_map head
 
 pub joined_whole : (d : Stored) → layout d ≡ spelled (Mark ∷ OfVersion newest ∷ OfHeader (header_of newest d) ∷ []) ++ (spelled (body_pieces (filed newest d)) ++ spelled (flat_map entry_pieces d.journal))
 joined_whole d = joined_three (Mark ∷ OfVersion newest ∷ OfHeader (header_of newest d) ∷ []) (body_pieces (filed newest d)) (flat_map entry_pieces d.journal)
+
+-- a file in three parts
+pub joined_layout : (d : Stored) → layout d ≡ front_bytes d ++ (cell_bytes d.content ++ journal_bytes d)
+joined_layout d =
+    let head = spelled (Mark ∷ OfVersion newest ∷ OfHeader (header_of newest d) ∷ []) in
+    let f = filed newest d in
+    let sources = spelled (map OfSource f.sources) in
+    let heads = spelled (flat_map head_pieces f.heads) in
+    let cells = cell_bytes d.content in
+    let journal = journal_bytes d in
+    joined_whole d
+    ∙ ap (λ l. head ++ (l ++ journal)) (joined_body f)
+    ∙ ap (λ l. head ++ l) (append_assoc sources (heads ++ cells) journal ∙ ap (λ l. sources ++ l) (append_assoc heads cells journal) ∙ sym (append_assoc sources heads (cells ++ journal)))
+    ∙ sym (append_assoc head (sources ++ heads) (cells ++ journal))

@@ -33,3 +33,7 @@ pub mod Turns
 pub mod Rowed
 pub mod Filing
 pub mod CellRuns
+pub mod Stayed
+pub mod Overwritten
+pub mod SlotsHeld
+pub mod CellsHeld

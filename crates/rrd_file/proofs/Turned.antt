@@ -38,12 +38,12 @@ once n rows r h = elim (cases_lt n rows) [
 ]
 
 -- from the first place up to the newest, and on from the oldest
-record IsTurn (rows first slot place : ℕ) : Type 0 where
+pub record IsTurn (rows first slot place : ℕ) : Type 0 where
   pub inside : first < rows
   pub up : slot < rows - first → place ≡ first + slot
   pub round : rows - first ≤ slot → place ≡ slot - (rows - first)
 
-turn : (left rows slot : ℕ) → left < rows → slot < rows → IsTurn rows ((0 + rows - left) % rows) slot ((slot + rows - left) % rows)
+pub turn : (left rows slot : ℕ) → left < rows → slot < rows → IsTurn rows ((0 + rows - left) % rows) slot ((slot + rows - left) % rows)
 turn left rows slot l s = elim (once (0 + rows - left) rows (omega (arith, l)) (omega (arith, l))) [
   | inl some ↦ elim (once (slot + rows - left) rows (omega (arith, l)) (omega (arith, l, s))) [
     | inl low ↦ record { inside = omega (arith, some.0, some.1); up = λ h. omega (arith, l, s, some.0, some.1, low.0, low.1, h); round = λ h. omega (arith, l, s, some.0, some.1, low.0, low.1, h) }
@@ -70,7 +70,7 @@ turned_at rows first slot place s is =
     ]
 
 -- the rows slot by slot
-turned : ((resolution last : ℕ) (rows : List (List Cell)) (slot : ℕ) → StandsInPlace resolution last rows slot) → (size last : ℕ) (rows : List (List Cell)) → 0 < size → 0 < length rows
+pub turned : ((resolution last : ℕ) (rows : List (List Cell)) (slot : ℕ) → StandsInPlace resolution last rows slot) → (size last : ℕ) (rows : List (List Cell)) → 0 < size → 0 < length rows
     → let first = place_in size last (length rows) 0 in map (row_in size last rows) (range_with_len 0 (length rows)) ≡ drop first rows ++ take first rows
 turned stands size last rows some_size some_rows =
     let n = length rows in

@@ -5,6 +5,7 @@ pub mod Laws
 pub mod Examples
 pub mod Refusals
 pub mod Writer
+pub mod Encoded
 pub mod Reader
 pub mod Said
 pub mod Progress

@@ -5,12 +5,12 @@
 
 ghost use Rattle.std.specs.Prelude.{◌≡◌, ◌⊎◌, ℕ, List, OnOk, Some};
 ghost use Rattle.rrd_fixed.specs.Written.{Writes};
-ghost use Rattle.rrd_spec.specs.Files.Filed.{Filed, filed};
-ghost use Rattle.rrd_spec.specs.Limits.{newest};
+ghost use Rattle.rrd_spec.specs.Files.Filed.{Filed};
 ghost use Rattle.rrd_spec.specs.Files.Rebuilding.{due};
 ghost use Rattle.rrd_spec.specs.declared.due.Due.TheVariants.{EntryDue, NothingDue};
 ghost use Rattle.rrd_file.specs.Writer.{Gathers};
-ghost use Rattle.rrd_file.specs.Layout.{body_pieces, layout, spelled};
+ghost use Rattle.rrd_file.specs.Encoded.{front_bytes};
+ghost use Rattle.rrd_file.specs.Layout.{layout};
 ghost use Rattle.rrd_file.specs.Faults.{IsAnswer};
 ghost use Rattle.rrd_file.specs.Stages.{Body};
 ghost use Rattle.rrd_file.specs.Progress.{Ends, Reaches, Stands};
@@ -29,6 +29,7 @@ use writer::PieceWriter;
 
 mod archive;
 mod cells;
+mod encoded;
 mod fault;
 mod header;
 mod journal;
@@ -40,17 +41,20 @@ mod source;
 mod values;
 mod writer;
 
+pub use encoded::Encoded;
 pub use fault::FileFault;
 pub use length::encoded_length;
 
-// Writes the pieces between the header and the entries.
-fn write_body<W: Write>(out: &mut PieceWriter<'_, W>, database: &Database) -> Result<(), WriteFault>
-    ensures { Gathers W.contents out.old out.new
-        (spelled (body_pieces (filed newest database.now))) result }
+// Writes the pieces before the cells.
+fn write_front<W: Write>(
+    out: &mut PieceWriter<'_, W>,
+    database: &Database,
+) -> Result<(), WriteFault>
+    ensures { Gathers W.contents out.old out.new (front_bytes database.now) result }
 {
+    write_header(out, database)?;
     write_sources(out, database)?;
-    write_heads(out, database)?;
-    write_cells(out, database)
+    write_heads(out, database)
 }
 
 // Writes the layout. The last bytes wait in the writer.
@@ -60,8 +64,8 @@ fn write_layout<W: Write>(
 ) -> Result<(), WriteFault>
     ensures { Gathers W.contents out.old out.new (layout database.now) result }
 {
-    write_header(out, database)?;
-    write_body(out, database)?;
+    write_front(out, database)?;
+    write_cells(out, database)?;
     write_entries(out, database)
 }
 

@@ -8,7 +8,7 @@ use std::io::Write;
 
 mod block;
 
-pub(crate) use block::{BLOCK_SIZE, Block, MAX_PIECE_SIZE};
+pub(crate) use block::{BLOCK_SIZE, Block, MAX_PIECE_SIZE, put_cells};
 
 /// A writer with a block of 4,096 bytes, in which records wait until one write takes many pieces. Does not allocate.
 /// Pieces that wait are lost if `write_rest` is not called.

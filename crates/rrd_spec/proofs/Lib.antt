@@ -33,3 +33,5 @@ pub mod Fitting
 pub mod Outlined
 pub mod ReadBack
 pub mod Newest
+pub mod RowsStay
+pub mod MovesOn

@@ -101,7 +101,7 @@ mod_sum q i rows =
     ap (λ x. x % rows) is ∙ add-mul-mod_self_right (q % rows + i) (q / rows) rows
 
 -- the slot of the row in it, and no row before it stands there
-record IsPlace (q rows slot place : ℕ) : Type 0 where
+pub record IsPlace (q rows slot place : ℕ) : Type 0 where
   pub inside : place < rows
   pub here : (q + place) % rows ≡ slot
   pub first : (i : ℕ) → i < place → (q + i) % rows ≢ slot
@@ -123,7 +123,7 @@ placed r rows slot a b = elim (mod_once (slot + rows - r) rows (omega arith) (om
 ]
 
 -- different places have different slots
-same_place : (q i j rows : ℕ) → i < rows → j < rows → (q + i) % rows ≡ (q + j) % rows → i ≡ j
+pub same_place : (q i j rows : ℕ) → i < rows → j < rows → (q + i) % rows ≡ (q + j) % rows → i ≡ j
 same_place q i j rows a b h =
     let r = q % rows in
     let slot = (q + j) % rows in
@@ -140,7 +140,7 @@ same_place q i j rows a b h =
       ]
     ]
 
-is_place : (q rows slot : ℕ) → slot < rows → IsPlace q rows slot ((slot + rows - q % rows) % rows)
+pub is_place : (q rows slot : ℕ) → slot < rows → IsPlace q rows slot ((slot + rows - q % rows) % rows)
 is_place q rows slot b =
     let p = placed (q % rows) rows slot (omega arith) b in
     let place = (slot + rows - q % rows) % rows in

@@ -11,5 +11,6 @@ pub mod Validity
 pub mod Journal
 pub mod Outlines
 pub mod Slots
+pub mod Updates
 pub mod FiledOnce
 pub mod Versions

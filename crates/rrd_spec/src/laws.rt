@@ -21,7 +21,8 @@ ghost use Rattle.rrd_spec.specs.Laws.FiledOnce.{FiledOnce, RowsFiledOnce};
 ghost use Rattle.rrd_spec.specs.Laws.Outlines.{FiledOutline, JournalTakes, JournalTook, OutlineFollows, OutlineIsNeeded, OutlineSuffices, OutlinesAreNeeded, OutlinesSuffice};
 ghost use Rattle.rrd_spec.specs.Laws.Archives.{AddChanges, BlankAtFirst, CutsLives, RemoveChanges};
 ghost use Rattle.rrd_spec.specs.Limits.{Limits};
-ghost use Rattle.rrd_spec.specs.Laws.Slots.{AsManyCells, CellStandsInSlot, KeepsRow, PlaceHasSlot, PlacesDiffer, PutsBlock, PutsCell, PutsRow, ShowsInPlace, SlotHasPlace, StandsInPlace};
+ghost use Rattle.rrd_spec.specs.Laws.Slots.{AsManyCells, CellStandsInSlot, CellStaysInSlot, KeepsRow, PlaceHasSlot, PlacesDiffer, PutsBlock, PutsCell, PutsRow, ShowsInPlace, SlotHasPlace, StandsInPlace, StaysInSlot};
+ghost use Rattle.rrd_spec.specs.Laws.Updates.{UpdateIsLater};
 ghost use Rattle.rrd_spec.specs.Laws.EqualSteps.{SecondsOver, StepsInPieces, StepsOver, StepsWithin};
 ghost use Rattle.rrd_spec.specs.Laws.Versions.{ContentIsWithin, DatabaseIsWithin, EntryIsWithin, FirstTellsNoArchive, JournalIsWithin};
 ghost use Rattle.rrd_spec.specs.Journal.Survivors.{Action, Stored, State};
@@ -32,6 +33,7 @@ ghost use Rattle.rrd_spec.specs.declared.settings.DsDef.{DsDef};
 ghost use Rattle.rrd_spec.specs.declared.settings.RraDef.{RraDef};
 ghost use Rattle.rrd_spec.specs.declared.requests.tune.Tuning.{Tuning};
 ghost use Rattle.rrd_spec.specs.declared.requests.update.Given.{Given};
+ghost use Rattle.rrd_spec.specs.declared.requests.update.Update.{Update};
 ghost use Rattle.rrd_spec.specs.declared.version.Version.{Version};
 ghost use Rattle.rrd_spec.specs.Examples.Histories as worked;
 ghost use Rattle.rrd_spec.specs.Examples.Commands as commands;
@@ -159,6 +161,21 @@ pub fn rows_stand_in_slots()
         PutsRow resolution last rows slot row }
     ensures kept { (resolution last : ℕ) (rows : List (List Cell)) (slot : ℕ) (row : List Cell) (other : ℕ) →
         KeepsRow resolution last rows slot row other }
+{}
+
+/// Theorem: an accepted update leads to a later time, and each archive keeps its newest rows, which are now its oldest.
+pub fn updates_keep_newest_rows()
+    ensures { (base : Content) (update : Update) → UpdateIsLater base update }
+{}
+
+/// Theorem: after an update each row that it did not finish is in the slot in which it was before, and so are its cells.
+///
+/// An update finishes the newest rows, as many as it saved. So the slots of all others stay as they are in a file.
+pub fn rows_stay_in_slots()
+    ensures row { (resolution from to : ℕ) (saved rows : List (List Cell)) (slot : ℕ) →
+        StaysInSlot resolution from to saved rows slot }
+    ensures cell { (resolution from to sources : ℕ) (saved rows : List (List Cell)) (slot source : ℕ) (or : Cell) →
+        CellStaysInSlot resolution from to sources saved rows slot source or }
 {}
 
 /// Theorem: the cells of an archive in slot order are those of its rows, one for each data source.

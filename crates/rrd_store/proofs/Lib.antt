@@ -11,3 +11,4 @@ pub mod Standings
 pub mod StorageRuns
 pub mod FaultRuns
 pub mod Sessions
+pub mod Encodings

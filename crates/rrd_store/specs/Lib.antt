@@ -6,3 +6,4 @@ pub mod Batch
 pub mod Ending
 pub mod Runs
 pub mod Sessions
+pub mod Encoding

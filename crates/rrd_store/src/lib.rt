@@ -2,6 +2,7 @@
 #![tactic(auto)]
 
 mod batch;
+mod encoding;
 mod ending;
 mod faults;
 pub mod laws;

@@ -5,17 +5,21 @@ ghost use Rattle.rrd_spec.specs.Journal.Survivors.{Stored};
 ghost use Rattle.rrd_tool.specs.Commands.{effect};
 ghost use Rattle.rrd_tool.specs.Execution.{database_left};
 ghost use Rattle.rrd_store.specs.Batch.{IsFileBatch};
+ghost use Rattle.rrd_store.specs.Encoding.{AreOf};
 ghost use Rattle.rrd_store.specs.Runs.{ByBatch, ByCommand, IsComputed};
 ghost use Rattle.rrd_store.specs.Sessions.{IsFileBatchOn, IsRead, IsSingleOn, beside, kept_by, started};
 ghost use Rattle.rrd_store.specs.Single.{FindsOne, IsSingle, StartsFrom};
 ghost use Rattle.rrd_store.specs.Storages.{Finds, Held};
 
 use crate::batch::run_on;
+use crate::encoding::{encoded_after, reach_of, take_encoded};
 use crate::laws::storage_runs_follow_specification;
 use crate::single::finish;
 use crate::{Access, FileBatchEnd, Gate, Storage, TaskFault};
 use rrd_base::{Database, database_is_valid};
+use rrd_file::Encoded;
 use rrd_file::laws::layout_is_file;
+use rrd_spec::laws::updates_keep_newest_rows;
 use rrd_tool::{Command, Outcome, Words, execute, read_command};
 use std::alloc::Global;
 use std::io::{Read, Write};
@@ -29,7 +33,10 @@ pub struct Session<P: Storage + Drop> {
     storage: P,
     // The database that was read from the storage last, or written to the storage last.
     database: Option<Database>,
+    // The bytes of this database's file, once a command has written it.
+    encoded: Option<Encoded>,
     is_written: bool,
+    ghost encoded_is: { AreOf encoded database },
 }
 
 // Theorem: the database that an outcome has is valid.
@@ -82,6 +89,7 @@ impl<P: Storage + Drop> Session<P> {
         Session {
             storage,
             database: None,
+            encoded: None,
             is_written: false,
         }
     }
@@ -131,11 +139,15 @@ impl<P: Storage + Drop> Session<P> {
             → Finds (P.contents s self.old.storage) result }
         ensures taken { self.new.database ≡ None }
         ensures same { (d : Stored) → self.old.database ≡ Some d → result ≡ Ok (Some d) }
+        ensures encoded { IfOk result (λ found. AreOf self.new.encoded found) }
     {
         self.is_written = false;
         match self.database.take() {
             Some(database) => Ok(Some(database)),
-            None => self.storage.load(alloc, Access::ReadWrite),
+            None => {
+                self.encoded = None;
+                self.storage.load(alloc, Access::ReadWrite)
+            }
         }
     }
 
@@ -152,6 +164,7 @@ impl<P: Storage + Drop> Session<P> {
         ensures some { IfOk result (λ found. IsSome found) }
         ensures taken { self.new.database ≡ None }
         ensures same { (d : Stored) → self.old.database ≡ Some d → result ≡ Ok (Some d) }
+        ensures encoded { IfOk result (λ found. AreOf self.new.encoded found) }
     {
         match self.take(alloc)? {
             Some(database) => Ok(Some(database)),
@@ -200,6 +213,7 @@ impl<P: Storage + Drop> Session<P> {
             → IsRead (P.contents s self.old.storage) found) }
         ensures same { (d : Stored) → self.old.database ≡ Some d
             → (result ≡ Ok (started (effect command.now) d)) × (self.new.database ≡ beside (effect command.now) d) }
+        ensures encoded { IfOk result (λ found. AreOf self.new.encoded found) }
     {
         if let Command::Create(_) = command {
             return Ok(None);
@@ -231,15 +245,20 @@ impl<P: Storage + Drop> Session<P> {
             (W.contents out.old) (W.contents out.new) result }
     {
         layout_is_file();
+        updates_keep_newest_rows();
         self.is_written = false;
         let command = read_command(alloc, words, now)?;
+        let reach = reach_of(&command);
         let database = self.start(alloc, &command)?;
+        let encoded = take_encoded(&mut self.encoded, &database);
         let outcome = execute(alloc, database, command, out);
         outcome_is_valid(&outcome);
+        let encoded = encoded_after(alloc, encoded, reach, &outcome);
         let other = self.database.take();
-        let end = finish(alloc, &outcome, &mut self.storage, out);
+        let end = finish(alloc, &outcome, encoded.as_ref(), &mut self.storage, out);
         self.is_written = end.is_ok() && matches!(outcome, Outcome::Changed(_));
         self.database = database_kept(other, outcome, end);
+        self.encoded = encoded;
         end
     }
 
@@ -312,6 +331,7 @@ impl<P: Storage + Drop> Session<P> {
     {
         layout_is_file();
         let database = self.take(alloc)?;
+        let _before = self.encoded.take();
         let (end, kept) = run_on(
             alloc,
             database,

@@ -1,17 +1,20 @@
 //! One command on a stored database.
-ghost use Rattle.std.specs.Prelude.{◌≡◌, List, None, Option, Result, false, ℕ};
+ghost use Rattle.std.specs.Prelude.{◌≡◌, IfSome, List, None, Option, Result, Some, false, ℕ};
 ghost use Rattle.std.specs.Io.KnownBytes.{Keeps};
+ghost use Rattle.rrd_file.specs.Encoded.{Encodes};
 ghost use Rattle.rrd_tool.specs.Commands.{effect};
-ghost use Rattle.rrd_tool.specs.Execution.{fault_left, has_changed};
+ghost use Rattle.rrd_tool.specs.Execution.{database_left, fault_left, has_changed};
 ghost use Rattle.rrd_tool.specs.Lines.{is_empty};
 ghost use Rattle.rrd_store.specs.Runs.{ByCommand, IsComputed};
 ghost use Rattle.rrd_store.specs.Single.{Ends, IsSingle, StartsFrom, access_for};
-ghost use Rattle.rrd_store.specs.Storages.{Held};
+ghost use Rattle.rrd_store.specs.Encoding.{IsOf};
+ghost use Rattle.rrd_store.specs.Storages.{Held, Leaves};
 
 use crate::laws::storage_runs_follow_specification;
-use crate::stored::store;
+use crate::stored::{store, store_encoded};
 use crate::{Access, Storage, TaskFault};
 use rrd_base::Database;
+use rrd_file::Encoded;
 use rrd_fixed::flush;
 use rrd_tool::{Command, Fault, Outcome, Words, execute, read_command};
 use std::alloc::Global;
@@ -58,13 +61,37 @@ fn start<P: Storage>(
     }
 }
 
-/// Flushes the output of a command, or writes the database that the command changed.
+// Writes the database that a command changed.
+fn write<P: Storage>(
+    alloc: Global,
+    database: &Database,
+    encoded: Option<&Encoded>,
+    storage: &mut P,
+) -> Result<(), TaskFault>
+    requires { IfSome encoded (λ e. Encodes e.now database.now) }
+    ensures falls { (s : Option Held) → P.is_honest s storage.new → P.is_honest s storage.old }
+    ensures sound { (s : Option Held) → P.is_honest s storage.new → P.is_sound s storage.old
+        → P.is_sound s storage.new }
+    ensures unknown { (s : Option Held) → P.contents s storage.old ≡ None → P.contents s storage.new ≡ None }
+    ensures left { (s : Option Held) → P.is_honest s storage.new → P.is_sound s storage.old
+        → Leaves (Some database.now) (P.contents s storage.old) (P.contents s storage.new) result }
+{
+    match encoded {
+        Some(encoded) => store_encoded(storage, encoded, database),
+        None => store(alloc, storage, Some(database)),
+    }
+}
+
+/// Flushes the output of a command, or writes the database that the command changed. `encoded` are the bytes of this
+/// database, if they are in memory.
 pub(crate) fn finish<P: Storage, W: Write>(
     alloc: Global,
     outcome: &Outcome,
+    encoded: Option<&Encoded>,
     storage: &mut P,
     out: &mut W,
 ) -> Result<(), TaskFault>
+    requires { IfSome encoded (λ e. IsOf e.now (database_left outcome.now)) }
     ensures falls { (s : Option Held) → P.is_honest s storage.new → P.is_honest s storage.old }
     ensures sound { (s : Option Held) → P.is_honest s storage.new → P.is_sound s storage.old
         → P.is_sound s storage.new }
@@ -76,7 +103,7 @@ pub(crate) fn finish<P: Storage, W: Write>(
 {
     match outcome {
         Outcome::Refused { fault, .. } => Err(TaskFault::Command(*fault)),
-        Outcome::Changed(database) => store(alloc, storage, Some(database)),
+        Outcome::Changed(database) => write(alloc, database, encoded, storage),
         Outcome::Printed(_) => match flush(out) {
             Ok(()) => Ok(()),
             Err(_) => Err(TaskFault::Command(Fault::Output)),
@@ -102,7 +129,7 @@ fn run_words<P: Storage, W: Write>(
     let command = read_command(alloc, words, now)?;
     let database = start(alloc, &command, storage)?;
     let outcome = execute(alloc, database, command, out);
-    finish(alloc, &outcome, storage, out)
+    finish(alloc, &outcome, None, storage, out)
 }
 
 /// Runs one command on the database in `storage`, and writes the command's output to `out`.

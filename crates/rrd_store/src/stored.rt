@@ -1,12 +1,13 @@
 //! Reads and writes a stored database.
 ghost use Rattle.std.specs.Prelude.{◌≡◌, IfSome, None, Option, Some, option_map};
 ghost use Rattle.rrd_store.specs.Storages.{Bytes, Decodes, Held, Leaves, Replaces};
+ghost use Rattle.rrd_file.specs.Encoded.{Encodes};
 ghost use Rattle.rrd_file.specs.Layout.{layout};
 
 use crate::{Storage, TaskFault};
 use rrd_base::{Database, database_is_valid};
 use rrd_file::laws::layout_is_file;
-use rrd_file::{decode, encode, encoded_length};
+use rrd_file::{Encoded, decode, encode, encoded_length};
 use std::alloc::Global;
 
 /// Decodes the database whose file the bytes are. A storage calls this with the bytes that it represents.
@@ -36,8 +37,9 @@ fn encoded(alloc: Global, database: &Database) -> Option<Vec<u8>>
     Some(bytes)
 }
 
-// Replaces the bytes of a storage by those of a database.
-fn replace<P: Storage>(alloc: Global, storage: &mut P, database: &Database) -> Result<(), TaskFault>
+// Replaces the bytes of a storage by these, which are those of a database.
+fn put<P: Storage>(storage: &mut P, bytes: &[u8], database: &Database) -> Result<(), TaskFault>
+    requires { bytes.now ≡ layout database.now }
     ensures falls { (s : Option Held) → P.is_honest s storage.new → P.is_honest s storage.old }
     ensures sound { (s : Option Held) → P.is_honest s storage.new → P.is_sound s storage.old
         → P.is_sound s storage.new }
@@ -47,13 +49,42 @@ fn replace<P: Storage>(alloc: Global, storage: &mut P, database: &Database) -> R
 {
     database_is_valid(database);
     layout_is_file();
-    let Some(bytes) = encoded(alloc, database) else {
-        return Err(TaskFault::CannotWrite);
-    };
-    match storage.replace(&bytes) {
+    match storage.replace(bytes) {
         Ok(()) => Ok(()),
         Err(_) => Err(TaskFault::CannotWrite),
     }
+}
+
+/// Replaces the bytes of a storage by those of a database, which are in memory.
+pub(crate) fn store_encoded<P: Storage>(
+    storage: &mut P,
+    encoded: &Encoded,
+    database: &Database,
+) -> Result<(), TaskFault>
+    requires { Encodes encoded.now database.now }
+    ensures falls { (s : Option Held) → P.is_honest s storage.new → P.is_honest s storage.old }
+    ensures sound { (s : Option Held) → P.is_honest s storage.new → P.is_sound s storage.old
+        → P.is_sound s storage.new }
+    ensures unknown { (s : Option Held) → P.contents s storage.old ≡ None → P.contents s storage.new ≡ None }
+    ensures replaced { (s : Option Held) → P.is_honest s storage.new → P.is_sound s storage.old
+        → Replaces (P.contents s storage.old) (P.contents s storage.new) (layout database.now) result }
+{
+    put(storage, encoded.as_slice(), database)
+}
+
+// Replaces the bytes of a storage by those of a database.
+fn replace<P: Storage>(alloc: Global, storage: &mut P, database: &Database) -> Result<(), TaskFault>
+    ensures falls { (s : Option Held) → P.is_honest s storage.new → P.is_honest s storage.old }
+    ensures sound { (s : Option Held) → P.is_honest s storage.new → P.is_sound s storage.old
+        → P.is_sound s storage.new }
+    ensures unknown { (s : Option Held) → P.contents s storage.old ≡ None → P.contents s storage.new ≡ None }
+    ensures replaced { (s : Option Held) → P.is_honest s storage.new → P.is_sound s storage.old
+        → Replaces (P.contents s storage.old) (P.contents s storage.new) (layout database.now) result }
+{
+    let Some(bytes) = encoded(alloc, database) else {
+        return Err(TaskFault::CannotWrite);
+    };
+    put(storage, &bytes, database)
 }
 
 /// Replaces the bytes of a storage by those of a database, if there is a database.

@@ -96,8 +96,8 @@ fn put_cell(into: &mut [u8], cell: Cell)
     into[8..].copy_from_slice(&halves.low.to_be_bytes());
 }
 
-// Writes cells over bytes, sixteen for each.
-fn put_cells(into: &mut [u8], cells: &[Cell])
+/// Writes cells over bytes, sixteen for each.
+pub(crate) fn put_cells(into: &mut [u8], cells: &[Cell])
     requires { length into.old ≡ CELL_SIZE * length cells.now }
     ensures { into.new ≡ flat_map spelling.cell_bytes cells.now }
 {

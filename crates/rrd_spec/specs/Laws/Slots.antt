@@ -1,5 +1,5 @@
 -- Law: which row is in which slot of a file, and the cells of a file after a row is put at its index.
-use Rattle.std.specs.Prelude.{◌≡◌, ◌≢◌, ℕ, ◌+◌, ◌*◌, ◌<◌, List, [], ◌++◌, length, take, drop, slice_index_or, slice_set}
+use Rattle.std.specs.Prelude.{◌≡◌, ◌≢◌, ℕ, ◌+◌, ◌-◌, ◌*◌, ◌/◌, ◌<◌, List, [], ◌++◌, length, take, drop, slice_index_or, slice_set}
 use Rattle.std.specs.List.{AllByRecursion}
 use Rattle.rrd_fixed.specs.declared.cell.Cell.{Cell}
 use Rattle.rrd_spec.specs.Settings.{resolution}
@@ -61,6 +61,17 @@ KeepsRow resolution last rows slot row other =
     0 < resolution → slot < length rows → other < length rows → other ≢ slot
     → row_in resolution last (with_row_in resolution last rows slot row) other ≡ row_in resolution last rows other
 
+-- ---- an update
+
+-- between two last times as many rows ended as were saved, the oldest. Each row that is not among the newest, as many as
+-- these, is in the slot in which it was before
+abbrev pub StaysInSlot : ℕ → ℕ → ℕ → List (List Cell) → List (List Cell) → ℕ → Type 0
+StaysInSlot resolution from to saved rows slot =
+    0 < resolution → to / resolution ≡ from / resolution + length saved → slot < length rows
+    → place_in resolution to (length rows) slot + length saved < length rows
+    → row_in resolution to rows slot
+    ≡ row_in resolution from (saved ++ take (length rows - length saved) rows) slot
+
 -- ---- cells, if each row has one cell for each data source
 
 abbrev pub HasOneEach : ℕ → List Cell → Type 0
@@ -94,3 +105,12 @@ PutsCell resolution last sources rows slot source cell =
     0 < resolution → AllByRecursion (HasOneEach sources) rows → slot < length rows → source < sources
     → by_slot resolution last (with_row_in resolution last rows slot (slice_set row source cell))
     ≡ slice_set (by_slot resolution last rows) (slot * sources + source) cell
+
+-- a cell of such a row is where it was, counted in cells
+abbrev pub CellStaysInSlot : ℕ → ℕ → ℕ → ℕ → List (List Cell) → List (List Cell) → ℕ → ℕ → Cell → Type 0
+CellStaysInSlot resolution from to sources saved rows slot source or =
+    0 < resolution → to / resolution ≡ from / resolution + length saved → slot < length rows → source < sources
+    → AllByRecursion (HasOneEach sources) saved → AllByRecursion (HasOneEach sources) rows
+    → place_in resolution to (length rows) slot + length saved < length rows
+    → slice_index_or (by_slot resolution to rows) (slot * sources + source) or
+    ≡ slice_index_or (by_slot resolution from (saved ++ take (length rows - length saved) rows)) (slot * sources + source) or

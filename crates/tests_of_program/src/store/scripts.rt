@@ -1,5 +1,6 @@
 //! Random scripts from a fixed seed: run as one batch over a storage, and cut at random places into
-//! batches and single commands, they tell the same and leave the same bytes.
+//! batches and single commands, they tell the same and leave the same bytes. In a session, which keeps the bytes in
+//! memory and changes a few of them, each line leaves the bytes that it leaves alone.
 use super::storage::InMemory;
 use rrd_store::{report_command, run_file_batch, run_file_command};
 use std::alloc::{AllocError, Global};
@@ -278,4 +279,73 @@ fn a_script_may_be_cut_anywhere(rt: HostRuntime) -> Result<(), Fail> {
         "{refused} of {lines}"
     );
     Ok(())
+}
+
+// ---- sessions
+
+// Runs each line as a command of its own, and in a session. After each line both storages have the same bytes.
+fn assert_session_leaves_the_same(
+    rt: &impl Abort,
+    alloc: Global,
+    script: &[String],
+) -> Result<(), Fail> {
+    let mut apart = Session::new(alloc)?;
+    let mut together = rrd_store::Session::new(InMemory::missing(alloc));
+    for line in script {
+        apart.single(line.as_str())?;
+        let mut told = Vec::new(alloc);
+        let words = words_of(alloc, line.as_str())?;
+        let _end = together.run(alloc, &words, 0, &mut told);
+        assert_eq!(rt;
+            together.storage().bytes.as_slice(),
+            apart.storage.bytes.as_slice(),
+            "{line}: {script:?}"
+        );
+    }
+    Ok(())
+}
+
+#[test]
+fn a_session_leaves_the_bytes_of_single_commands(rt: HostRuntime) -> Result<(), Fail> {
+    let mut chance = Chance { state: 2 };
+    for _ in 0..SCRIPTS {
+        let script = script_of(rt.alloc(), &mut chance)?;
+        assert_session_leaves_the_same(&rt, rt.alloc(), &script)?;
+    }
+    Ok(())
+}
+
+// Archives of four rows and of three, a journal of two changes, and updates that end no row, a few rows, all rows, and
+// more rows than there are.
+const UPDATES: [&str; 20] = [
+    "create --step 10 --start 0 --journal 2 DS:a:GAUGE:100:U:U DS:b:GAUGE:100:U:U RRA:LAST:0.5:1:4 RRA:AVERAGE:0.5:2:3",
+    "update 10:1:2",
+    "update 15:2:3",
+    "update 20:3:4 30:5:6",
+    "update 40:7:8",
+    "update 60:9:1",
+    "update 70:2:3 80:4:5 90:6:7",
+    "update 130:8:9",
+    "update 140:1:U",
+    "update 300:2:3",
+    "update 305:4:5",
+    "revert",
+    "update 310:6:7",
+    "tune --heartbeat a:50",
+    "update 320:8:9",
+    "resize 0 GROW 1",
+    "update 330:1:2",
+    "fetch LAST -s 0 -e 330",
+    "update 320:3:4",
+    "update 345:5:6",
+];
+
+#[test]
+fn updates_in_a_session_leave_the_bytes_of_single_commands(rt: HostRuntime) -> Result<(), Fail> {
+    let alloc = rt.alloc();
+    let mut script = Vec::new(alloc);
+    for line in UPDATES {
+        script.push(String::from_str(alloc, line)?)?;
+    }
+    assert_session_leaves_the_same(&rt, alloc, &script)
 }

@@ -9,6 +9,7 @@ use Rattle.rrd_tool.specs.Execution.{Executes}
 use Rattle.rrd_store.specs.Sessions.{IsRead, beside, started}
 use Rattle.rrd_store.specs.Single.{Ends}
 use Rattle.rrd_store.specs.Storages.{Stays}
+use Rattle.rrd_store.proofs.Encodings.{before_of}
 use Rattle.rrd_store.proofs.Kept.{executes_kept, keeps_same, stays_same}
 use Rattle.rrd_store.proofs.Sessions.{executes_same, kept_read, ok_same}
 use Rattle.rrd_store.proofs.session.Session.run_words.Goals as goal
@@ -75,3 +76,8 @@ returns-clause-on g c d same s honest sound =
     subst (λ (k : Option Stored). Executes k command out_old out_new outcome × Ends outcome (text_on k (effect command)) old new c.finish-end.result) (ok_same c.in_ok-database.database (started (effect command) d) begun.0) (done, ends) in
     let other : c.take-other.result ≡ beside (effect command) d = c.take-other.ensures.value ∙ begun.1 in
     (Ok command, c.in_ok-command.ensures, (outcome, runs.0, runs.1, rw (sym other) c.database_kept.ensures))
+
+pub encoded_after-encoded-requires : goal.encoded_after-encoded-requires
+encoded_after-encoded-requires g c =
+    before_of c.take_encoded-encoded.result c.reach_of-reach.result c.in_ok-database.database c.in_ok-command.command (g.W.Write.contents c.args.out.now) (g.W.Write.contents c.execute-outcome.new.out) c.execute-outcome.result
+    c.execute-outcome.ensures.kept c.take_encoded-encoded.ensures.encoded c.take_encoded-encoded.ensures.valid c.reach_of-reach.ensures c.updates_keep_newest_rows.ensures

@@ -2,10 +2,10 @@ use Rattle.std.proofs.Common.{◌≡◌, ◌∙◌, ℕ, List, subst, sym}
 use Rattle.rrd_spec.specs.Limits.{newest}
 use Rattle.rrd_file.specs.Faults.{IsFile}
 use Rattle.rrd_file.specs.Layout.{layout}
-use Rattle.rrd_store.proofs.stored.replace.Goals as goal
+use Rattle.rrd_store.proofs.stored.put.Goals as goal
 
 pub replace-requires : goal.replace-requires
 replace-requires g c =
     let d = c.args.database.now in
-    let same : c.deref.result.now ≡ layout d = c.deref.ensures.value ∙ c.in-Some.ensures in
+    let same : c.args.bytes.now ≡ layout d = c.requires in
     (d, subst (λ (bytes : List ℕ). IsFile bytes d) (sym same) (c.layout_is_file.ensures.read newest d c.database_is_valid.ensures))

@@ -1,0 +1,56 @@
+use Rattle.std.proofs.Common.{rules, ◌≡◌, ◌∙◌, ◌++◌, List, Some, ℕ, ap, append_assoc, arith, drop, length, length-append, refl, subst, sym, take}
+use Rattle.std.proofs.lemmas.List.{take_at}
+use Rattle.rrd_fixed.specs.Written.{Writes}
+use Rattle.rrd_file.specs.Encoded.{cell_bytes, front_bytes, journal_bytes}
+use Rattle.rrd_file.proofs.encoded.Encoded.updated.Goals as goal
+
+pub put_before_journal-requires : goal.put_before_journal-requires
+put_before_journal-requires c =
+    let before = c.requires.before in
+    let e = c.requires.encodes in
+    let front = front_bytes before in
+    let cells = cell_bytes before.content in
+    let journal = journal_bytes before in
+    let both : length (front ++ cells) ≡ c.args.self.cells_end = omega (arith, length-append front cells, e.cells_begin, e.cells_end) in
+    let left : c.truncate.new.self.items ≡ front ++ cells =
+    c.truncate.ensures.items ∙ ap (take c.args.self.cells_end) (e.bytes_are ∙ sym (append_assoc front cells journal)) ∙ take_at (front ++ cells) journal c.args.self.cells_end both in
+    record {
+      old_front = front;
+      cells = cells;
+      bytes_are = c.deref_mut.ensures.value ∙ left;
+      as_long = omega (arith, e.cells_begin, c.if-len-cells_at.false, c.len.ensures, c.deref.ensures.len);
+      held = record {
+        before = before.content;
+        bytes_are = refl;
+        valid = c.requires.valid;
+        last_is = e.last_is;
+        later = c.requires.later;
+      };
+    }
+
+pub returns : goal.returns
+returns c =
+    let before = c.requires.before in
+    let now = c.args.database.now in
+    let e = c.requires.encodes in
+    let cells = cell_bytes now.content in
+    let journal = journal_bytes now in
+    let front_is : c.encode_front.new.out.items ≡ front_bytes now = search rules in
+    let put : c.put_before_journal.new.bytes ≡ front_bytes now ++ cells = c.put_before_journal.ensures ∙ ap (λ (l : List ℕ). l ++ cells) (c.deref.ensures.value ∙ front_is) in
+    let bytes = c.put_before_journal.new.bytes in
+    let room : length bytes ≡ c.truncate.new.self.len = omega (arith, c.put_before_journal.auto.bytes, c.deref_mut.ensures.len) in
+    let had : take c.truncate.new.self.len (bytes ++ drop (length bytes) c.truncate.new.self.items) ≡ bytes = take_at bytes (drop (length bytes) c.truncate.new.self.items) c.truncate.new.self.len room in
+    let added : Writes (Some bytes) (Some c.encode_journal.new.out.items) journal c.encode_journal.result = subst (λ (l : List ℕ). Writes (Some l) (Some c.encode_journal.new.out.items) journal c.encode_journal.result) had c.encode_journal.ensures in
+    let all : c.encode_journal.new.out.items ≡ bytes ++ journal = search rules in
+    let front_long : c.args.self.cells_at ≡ length (front_bytes now) = omega (arith, c.if-len-cells_at.false, c.len.ensures, c.deref.ensures.len, ap length (c.deref.ensures.value ∙ front_is)) in
+    let front = front_bytes before in
+    let old = cell_bytes before.content in
+    let was : length (front ++ old) ≡ c.args.self.cells_end = omega (arith, length-append front old, e.cells_begin, e.cells_end) in
+    let left : c.truncate.new.self.items ≡ front ++ old =
+    c.truncate.ensures.items ∙ ap (take c.args.self.cells_end) (e.bytes_are ∙ sym (append_assoc front old (journal_bytes before))) ∙ take_at (front ++ old) (journal_bytes before) c.args.self.cells_end was in
+    record {
+      bytes_are = all ∙ ap (λ (l : List ℕ). l ++ journal) put ∙ append_assoc (front_bytes now) cells journal;
+      cells_begin = front_long;
+      cells_end = omega (arith, was, ap length (c.deref_mut.ensures.value ∙ left), c.put_before_journal.auto.bytes, ap length put, length-append (front_bytes now) cells, front_long);
+      last_is = c.last.ensures;
+    }

@@ -1,0 +1,13 @@
+use Rattle.std.proofs.Common.{rules}
+use Rattle.std.proofs.lemmas.Result.{err_from_is_err_and}
+use Rattle.rrd_file.proofs.Gathering.{all_written, front_written}
+use Rattle.rrd_file.proofs.encoded.encode_front.Goals as goal
+
+pub returns-in_err-write_front : goal.returns-in_err-write_front
+returns-in_err-write_front g c =
+    let p = err_from_is_err_and c.from_residual.result c.from_residual.ensures.1 in
+    rw p.1 (front_written {r = c.write_front.new.out} _ _ c.new-pieces.ensures.same c.new-pieces.ensures.nothing_waits (search rules) c.in_err-write_front.ensures)
+
+pub returns : goal.returns
+returns g c =
+    all_written _ c.write_rest.new.self.out.now _ c.write_rest.result c.new-pieces.ensures.same c.new-pieces.ensures.nothing_waits (search rules) c.in_ok-write_front.ensures c.write_rest.ensures.written

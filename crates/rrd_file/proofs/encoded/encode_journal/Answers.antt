@@ -1,0 +1,13 @@
+use Rattle.std.proofs.Common.{rules}
+use Rattle.std.proofs.lemmas.Result.{err_from_is_err_and}
+use Rattle.rrd_file.proofs.Gathering.{all_written, front_written}
+use Rattle.rrd_file.proofs.encoded.encode_journal.Goals as goal
+
+pub returns-in_err-write_entries : goal.returns-in_err-write_entries
+returns-in_err-write_entries g c =
+    let p = err_from_is_err_and c.from_residual.result c.from_residual.ensures.1 in
+    rw p.1 (front_written {r = c.write_entries.new.out} _ _ c.new-pieces.ensures.same c.new-pieces.ensures.nothing_waits (search rules) c.in_err-write_entries.ensures)
+
+pub returns : goal.returns
+returns g c =
+    all_written _ c.write_rest.new.self.out.now _ c.write_rest.result c.new-pieces.ensures.same c.new-pieces.ensures.nothing_waits (search rules) c.in_ok-write_entries.ensures c.write_rest.ensures.written

@@ -1,0 +1,194 @@
+//! The bytes of a file that stay in memory, and the few of them that an update changes.
+ghost use Rattle.std.specs.Prelude.{◌≡◌, ◌<◌, ◌≤◌, ◌++◌, IfSome, List, Some, length, map, slice_get, slice_range, ℕ};
+ghost use Rattle.std.specs.List.{AllByRecursion};
+ghost use Rattle.rrd_fixed.specs.Written.{Writes};
+ghost use Rattle.rrd_spec.specs.Files.Slots.{cells_by_slot};
+ghost use Rattle.rrd_spec.specs.History.{Rra};
+ghost use Rattle.rrd_spec.specs.Laws.Slots.{HasOneEach};
+ghost use Rattle.rrd_spec.specs.Limits.{present};
+ghost use Rattle.rrd_file.specs.Encoded.{HoldsBeforeJournal, HoldsCells, HoldsRows, HoldsSlots, cell_bytes, front_bytes, journal_bytes, row_bytes};
+ghost use Rattle.rrd_file.specs.Layout.{spelled};
+ghost use Rattle.rrd_file.specs.Layout.Pieces.{OfCell};
+
+use crate::cells::write_cells;
+use crate::journal::write_entries;
+use crate::layout::CELL_SIZE;
+use crate::writer::{PieceWriter, put_cells};
+use crate::{encoded_length, write_front};
+use rrd_base::{Database, database_is_valid};
+use rrd_fixed::WriteFault;
+use rrd_ring::Table;
+use rrd_spec::first_slot_row;
+use rrd_spec::laws::{rows_stand_in_slots, rows_stay_in_slots};
+use std::alloc::Global;
+use std::io::Write;
+
+/// The bytes of a database's file, which stay in memory from one change of the database to the next.
+///
+/// An update changes few of them: in each archive the rows that it finished take the slots of those that were dropped.
+#[derive(Drop)]
+pub struct Encoded {
+    bytes: Vec<u8>,
+    // The offset of the first cell, and the offset after the last.
+    cells_at: usize,
+    cells_end: usize,
+    // The last time of the database, in seconds since 1970.
+    last: u64,
+}
+
+// Writes the bytes before the cells.
+fn encode_front<W: Write>(database: &Database, out: &mut W) -> Result<(), WriteFault>
+    ensures { Writes (W.contents out.old) (W.contents out.new) (front_bytes database.now) result }
+{
+    let mut pieces = PieceWriter::new(out);
+    write_front(&mut pieces, database)?;
+    pieces.write_rest()
+}
+
+// Writes the bytes of all cells.
+fn encode_cells<W: Write>(database: &Database, out: &mut W) -> Result<(), WriteFault>
+    ensures { Writes (W.contents out.old) (W.contents out.new) (cell_bytes database.now.content) result }
+{
+    let mut pieces = PieceWriter::new(out);
+    write_cells(&mut pieces, database)?;
+    pieces.write_rest()
+}
+
+// Writes the bytes of the journal.
+fn encode_journal<W: Write>(database: &Database, out: &mut W) -> Result<(), WriteFault>
+    ensures { Writes (W.contents out.old) (W.contents out.new) (journal_bytes database.now) result }
+{
+    let mut pieces = PieceWriter::new(out);
+    write_entries(&mut pieces, database)?;
+    pieces.write_rest()
+}
+
+// Writes rows, from index `from` to before `to`, over as many rows of an earlier time. Those below index `kept` stay.
+fn put_rows<T: Table>(into: &mut [u8], rows: &T, sources: u64, from: u64, to: u64, kept: u64)
+    requires order { from ≤ to }
+    requires there { to ≤ length (T.table rows.now) }
+    requires few_rows { to ≤ present.max_rows }
+    requires few_sources { sources ≤ present.max_sources }
+    requires wide { AllByRecursion (HasOneEach sources) (T.table rows.now) }
+    requires held { HoldsRows into.old (T.table rows.now) sources from to kept }
+    ensures { into.new ≡ row_bytes (slice_range (T.table rows.now) from to) }
+{
+    let mut index = kept.max(from).min(to);
+    while index < to {
+        let (count, cells) = rows.together(index, to - index);
+        let at = CELL_SIZE * ((index - from) * sources) as usize;
+        put_cells(&mut into[at..at + CELL_SIZE * cells.len()], cells);
+        index += count;
+    }
+}
+
+// Writes the rows of an archive that ended after `last` over those that it dropped since.
+fn put_slots(cells: &mut [u8], database: &Database, archive: u64, last: u64)
+    requires archive_there { archive < length database.now.content.archives }
+    requires held { (a : Rra) → slice_get database.now.content.archives archive ≡ Some a
+        → HoldsSlots cells.old database.now.content last a }
+    ensures { (a : Rra) → slice_get database.now.content.archives archive ≡ Some a
+        → cells.new ≡ spelled (map OfCell (cells_by_slot database.now.content.step database.now.content.last a)) }
+{
+    rows_stand_in_slots();
+    rows_stay_in_slots();
+    // The prover needs that times and numbers of rows are small.
+    database_is_valid(database);
+    let def = database.archive(archive);
+    let resolution = def.resolution(database.step());
+    let first = first_slot_row(resolution, database.last(), def.rows);
+    let ended = (database.last() / resolution).saturating_sub(last / resolution);
+    let kept = def.rows.saturating_sub(ended);
+    let rows = database.rows(archive);
+    let sources = database.sources();
+    let (newer, older) = cells.split_at_mut(CELL_SIZE * ((def.rows - first) * sources) as usize);
+    put_rows(newer, rows, sources, first, def.rows, kept);
+    put_rows(older, rows, sources, 0, first, kept);
+}
+
+// Writes the rows of all archives that ended after `last` over those that the archives dropped since.
+fn put_all_slots(cells: &mut [u8], database: &Database, last: u64)
+    requires { HoldsCells cells.old database.now.content last }
+    ensures { cells.new ≡ cell_bytes database.now.content }
+{
+    rows_stand_in_slots();
+    // The prover needs that numbers of rows are small.
+    database_is_valid(database);
+    let mut at = 0;
+    for archive in 0..database.archives() {
+        let count = database.archive(archive).rows * database.sources();
+        let end = at + CELL_SIZE * count as usize;
+        put_slots(&mut cells[at..end], database, archive, last);
+        at = end;
+    }
+}
+
+// Writes the bytes before the journal over those of an earlier time.
+fn put_before_journal(bytes: &mut [u8], front: &[u8], database: &Database, last: u64)
+    requires { HoldsBeforeJournal bytes.old front.now database.now.content last }
+    ensures { bytes.new ≡ front.now ++ cell_bytes database.now.content }
+{
+    let (old_front, cells) = bytes.split_at_mut(front.len());
+    old_front.copy_from_slice(front);
+    put_all_slots(cells, database, last);
+}
+
+impl Encoded {
+    ghost use Rattle.rrd_file.specs.Encoded.{Encodes, Precedes};
+    ghost use Rattle.rrd_file.specs.Layout.{layout};
+    ghost use Rattle.rrd_spec.specs.Journal.Survivors.{Stored};
+
+    /// Encodes a database. Returns `None` if memory runs out.
+    pub fn new(alloc: Global, database: &Database) -> Option<Encoded>
+        ensures { IfSome result (λ encoded. Encodes encoded database.now) }
+    {
+        let mut bytes = Vec::with_capacity(alloc, encoded_length(database) as usize).ok()?;
+        encode_front(database, &mut bytes).ok()?;
+        let cells_at = bytes.len();
+        encode_cells(database, &mut bytes).ok()?;
+        let cells_end = bytes.len();
+        encode_journal(database, &mut bytes).ok()?;
+        Some(Encoded {
+            bytes,
+            cells_at,
+            cells_end,
+            last: database.last(),
+        })
+    }
+
+    /// Changes the bytes to those of `database`, which is the database after an update. Returns `None` if memory runs out.
+    ///
+    /// Writes the cells of the rows that ended since. The work does not grow with the rows that stay.
+    pub fn updated(self, alloc: Global, database: &Database) -> Option<Encoded>
+        requires { Precedes self database.now }
+        ensures { IfSome result (λ encoded. Encodes encoded database.now) }
+    {
+        let Encoded {
+            mut bytes,
+            cells_at,
+            cells_end,
+            last,
+        } = self;
+        let mut front = Vec::with_capacity(alloc, cells_at).ok()?;
+        encode_front(database, &mut front).ok()?;
+        if front.len() != cells_at {
+            return None;
+        }
+        bytes.truncate(cells_end);
+        put_before_journal(&mut bytes, &front, database, last);
+        encode_journal(database, &mut bytes).ok()?;
+        Some(Encoded {
+            bytes,
+            cells_at,
+            cells_end,
+            last: database.last(),
+        })
+    }
+
+    /// Returns the bytes.
+    pub fn as_slice(&self) -> &[u8]
+        ensures { (d : Stored) → Encodes self.now d → result.now ≡ layout d }
+    {
+        &self.bytes
+    }
+}

@@ -1,0 +1,33 @@
+-- Glue: the bytes of a file that stay in memory beside the database.
+use Rattle.std.specs.Prelude.{◌≡◌, Option, Some, false, true}
+use Rattle.rrd_file.specs.Encoded.{Encodes, Precedes}
+use Rattle.rrd_file.specs.declared.encoded.Encoded.{Encoded}
+use Rattle.rrd_spec.specs.Journal.Survivors.{Stored}
+use Rattle.rrd_spec.specs.Commands.{Updating}
+use Rattle.rrd_spec.specs.declared.requests.update.Update.{Update}
+use Rattle.rrd_tool.specs.Effects.{Effect, Changes}
+use Rattle.rrd_tool.specs.Execution.{database_left, has_changed}
+use Rattle.rrd_tool.specs.declared.execution.Outcome.{Outcome}
+use Rattle.rrd_store.specs.declared.encoding.Reach.{Reach}
+use Rattle.rrd_store.specs.declared.encoding.Reach.TheVariants.{NewestRows}
+
+abbrev pub IsUpdate : Effect → Type 0
+IsUpdate effect = (update : Update) × (effect ≡ Changes (Updating update))
+
+-- the bytes are the file of the database, if there are both
+abbrev pub AreOf : Option Encoded → Option Stored → Type 0
+AreOf encoded database = (e : Encoded) (d : Stored) → encoded ≡ Some e → database ≡ Some d → Encodes e d
+
+-- the bytes are the file of the database that there is
+pub record IsOf (e : Encoded) (database : Option Stored) : Type 0 where
+  pub here : Stored
+  pub is : database ≡ Some here
+  pub encodes : Encodes e here
+
+-- the bytes are the file of the database from before a command: the same after a command that changed nothing, and the one
+-- before after an update
+pub record IsBefore (e : Encoded) (reach : Reach) (outcome : Outcome) : Type 0 where
+  pub same : has_changed outcome ≡ false → IsOf e (database_left outcome)
+  pub updated :
+      reach ≡ NewestRows → has_changed outcome ≡ true → (now : Stored) → database_left outcome ≡ Some now
+      → Precedes e now
