@@ -25,6 +25,13 @@ IsOpened events =
     (w : World) → IsTrue (is_honest_after w events) → IsSound w.start
     → represented (held_after w events) ≡ represented w.start
 
+-- the calls between the two records changed nothing that the file represents
+abbrev pub IsReload : List Event → List Event → Type 0
+IsReload before after =
+    (start : Held) → IsTrue (is_honest_after start after) → IsSound start
+    → IsTrue (is_honest_after start before)
+    × (represented (held_after start after) ≡ represented (held_after start before))
+
 -- the record has these calls before the run, and those after it. From each file for which all answers are honest, the run did
 -- what the definitions say to the file that the calls before it left
 abbrev pub IsOpenRun : List Event → List Event → runs.Run → Type 0

@@ -1,13 +1,14 @@
 //! A database in a file that stays open between runs.
-ghost use Rattle.std.specs.Prelude.{◌≡◌, [], IfOk, IsSome, None, Some};
-ghost use Rattle.rrd_disk.specs.OpenRuns.{IsAnyRun, IsKept, IsOpenRun, IsOpened};
+ghost use Rattle.std.specs.Prelude.{◌≡◌, [], IfErr, IfNone, IfOk, IfSome, IsSome, None, OnOk, Some, is_ok, true};
+ghost use Rattle.rrd_disk.specs.OpenRuns.{IsAnyRun, IsKept, IsOpenRun, IsOpened, IsReload};
 ghost use Rattle.rrd_spec.specs.Journal.Survivors.{Stored};
-ghost use Rattle.rrd_store.specs.Runs.{ByBatch, ByCommand};
-ghost use Rattle.rrd_store.specs.Sessions.{IsFileBatchOn, IsSingleOn};
+ghost use Rattle.rrd_store.specs.Runs.{ByBatch, ByCommand, ByRequest, IsOfPlace};
+ghost use Rattle.rrd_store.specs.Sessions.{IsFileBatchOn, IsSingleOn, RunsOn};
 
 use crate::{Disk, FileStorage, OwnPlace};
+use rrd_base::Database;
 use rrd_store::{FileBatchEnd, Gate, Session, TaskFault};
-use rrd_tool::Words;
+use rrd_tool::{Command, Words};
 use std::alloc::Global;
 use std::io::{Error, Read, Write};
 
@@ -64,6 +65,34 @@ impl<D: Disk + Drop> OpenFile<D> {
         self.session.is_written()
     }
 
+    /// Reads the database, unless it is in memory. Changes nothing.
+    ///
+    /// # Errors
+    ///
+    /// As for [`OpenFile::open`].
+    pub fn load(&mut self, alloc: Global) -> Result<(), TaskFault>
+        ensures kept { IsKept (D.events self.old.session.storage.bytes.disk) self.old.session.database
+            → IsKept (D.events self.new.session.storage.bytes.disk) self.new.session.database }
+        ensures stays { IsKept (D.events self.old.session.storage.bytes.disk) self.old.session.database
+            → IsReload (D.events self.old.session.storage.bytes.disk) (D.events self.new.session.storage.bytes.disk) }
+        ensures some { OnOk result (IsSome self.new.session.database) }
+        ensures fault { IfErr result IsOfPlace }
+        ensures same { (d : Stored) → self.old.session.database ≡ Some d
+            → (is_ok result ≡ true) × (self.new.session.database ≡ Some d) }
+    {
+        self.session.database_is_valid();
+        self.session.storage().forget_error();
+        self.session.load(alloc)
+    }
+
+    /// Returns the database in memory, if there is one.
+    pub fn database(&self) -> Option<&Database>
+        ensures some { IfSome result (λ database. self.now.session.database ≡ Some database.now) }
+        ensures none { IfNone result (self.now.session.database ≡ None) }
+    {
+        self.session.database()
+    }
+
     /// Runs one command, as [`crate::run_command_at`] does on the file at a path.
     ///
     /// Theorem: as for [`crate::run_command_at`]. If a database is in memory, the command runs on it.
@@ -99,6 +128,40 @@ impl<D: Disk + Drop> OpenFile<D> {
         self.session.database_is_valid();
         self.session.storage().forget_error();
         self.session.run(alloc, words, now, out)
+    }
+
+    /// Runs one command that was not read from words, as [`OpenFile::run`] runs one that was.
+    ///
+    /// Theorem: as for [`OpenFile::run`].
+    pub fn run_command<W: Write>(
+        &mut self,
+        alloc: Global,
+        command: Command,
+        out: &mut W,
+    ) -> Result<(), TaskFault>
+        ensures kept { IsKept (D.events self.old.session.storage.bytes.disk) self.old.session.database
+            → IsKept (D.events self.new.session.storage.bytes.disk) self.new.session.database }
+        ensures file { IsKept (D.events self.old.session.storage.bytes.disk) self.old.session.database
+            → IsOpenRun (D.events self.old.session.storage.bytes.disk) (D.events self.new.session.storage.bytes.disk)
+            (ByRequest (record {
+              command = command;
+              out_before = W.contents out.old;
+              out_after = W.contents out.new;
+              end = result;
+            })) }
+        ensures on { (d : Stored) → self.old.session.database ≡ Some d
+            → RunsOn command d self.new.session.database None None (W.contents out.old) (W.contents out.new) result }
+        ensures any { IsAnyRun
+            (ByRequest (record {
+              command = command;
+              out_before = W.contents out.old;
+              out_after = W.contents out.new;
+              end = result;
+            })) }
+    {
+        self.session.database_is_valid();
+        self.session.storage().forget_error();
+        self.session.run_command(alloc, command, out)
     }
 
     /// Runs each line of `reader`, as [`crate::run_batch_at`] does on the file at a path. If `gate` does not allow the write,

@@ -12,7 +12,7 @@ use Rattle.rrd_tool.specs.declared.faults.Fault.TheVariants.{Line, NoDatabase, O
 use Rattle.rrd_tool.specs.declared.faults.LineFault.{LineFault}
 use Rattle.rrd_store.specs.Batch.{IsFileBatch, written}
 use Rattle.rrd_store.specs.Storages.{Held, Leaves}
-use Rattle.rrd_store.specs.Runs.{ByBatch, ByCommand, FaultChangesNothing, Run, fault_of_batch}
+use Rattle.rrd_store.specs.Runs.{ByBatch, ByCommand, ByRequest, FaultChangesNothing, Run, fault_of_batch}
 use Rattle.rrd_store.specs.Single.{EndsBy, RunsAs, RunsFrom}
 use Rattle.rrd_store.specs.declared.batch.FileBatchEnd.{FileBatchEnd}
 use Rattle.rrd_store.specs.declared.faults.TaskFault.{TaskFault}
@@ -73,4 +73,5 @@ module _ (old new : Held) (c0 c1 : Option (List ℕ)) where
 
 pub fault_changes_nothing : (old : Held) (run : Run) (fault : TaskFault) (new : Held) → FaultChangesNothing old run fault new
 fault_changes_nothing old (ByCommand r) fault new h e n = command_ends old new r.out_before r.out_after h.0 r.end fault h.2 e n
+fault_changes_nothing old (ByRequest r) fault new h e n = command_ends old new r.out_before r.out_after (Ok r.command) r.end fault h e n
 fault_changes_nothing old (ByBatch r) fault new h e n = batch_stays old new r.out_before r.out_after fault n r.now r.numbered r.in_before r.in_after r.end h e

@@ -7,8 +7,8 @@ use Rattle.rrd_file.specs.Laws.{IsValidIn}
 use Rattle.rrd_tool.specs.Effects.{StandsFor, stored_of}
 use Rattle.rrd_store.specs.Batch.{IsFileBatch, RunsLines, written}
 use Rattle.rrd_store.specs.Storages.{Bytes, Held, Stays}
-use Rattle.rrd_store.specs.Single.{IsSingle}
-use Rattle.rrd_store.specs.Runs.{AnswersLines, BatchRun, ByBatch, ByCommand, CommandRun, Computes, Filing, Holds, IsFirst, MayStop, Run, fault_of, fault_of_batch, first_of, as_written, begun, database_in, state_in}
+use Rattle.rrd_store.specs.Single.{IsSingle, RunsAs}
+use Rattle.rrd_store.specs.Runs.{AnswersLines, BatchRun, ByBatch, ByCommand, ByRequest, CommandRun, Computes, Filing, Holds, IsFirst, MayStop, RequestRun, Run, fault_of, fault_of_batch, first_of, as_written, begun, database_in, state_in}
 use Rattle.rrd_store.specs.declared.batch.FileBatchEnd.{FileBatchEnd}
 use Rattle.rrd_store.specs.declared.faults.TaskFault.{TaskFault}
 use Rattle.rrd_store.specs.declared.faults.TaskFault.TheVariants as task
@@ -62,6 +62,10 @@ module _ (stays : Staying) (laws : Reading) where
   command_leads old new s r held h =
       let came = command_computed stays laws old s held new h.0 r.out_before r.out_after r.end h.2 in
       (came.0, (h.0, h.1, came.1), came.2)
+
+  pub request_leads : (old : Held) (new : Option Held) (s : Option Filing) (r : RequestRun) → Holds old s
+      → RunsAs (Ok r.command) (Some old) new r.out_before r.out_after r.end → LeadsIn (Some old) new s (ByRequest r)
+  request_leads old new s r held h = command_computed stays laws old s held new (Ok r.command) r.out_before r.out_after r.end h
 
   pub batch_leads : (old : Held) (new : Option Held) (s : Option Filing) (r : BatchRun) → Holds old s
       → IsFileBatch r.now r.numbered (Some old) new r.in_before r.in_after r.out_before r.out_after r.end → LeadsIn (Some old) new s (ByBatch r)

@@ -13,7 +13,7 @@ use Rattle.rrd_tool.specs.declared.faults.Fault.TheVariants.{Line}
 use Rattle.rrd_tool.specs.declared.faults.LineFault.{LineFault}
 use Rattle.rrd_store.specs.Batch.{IsFileBatch}
 use Rattle.rrd_store.specs.Storages.{Bytes, Finds, Held, IsNoFile, Stays}
-use Rattle.rrd_store.specs.Runs.{ByBatch, ByCommand, DidIn, IsCreate, IsOfBytes, OutputStays, Run, fault_of, fault_of_batch}
+use Rattle.rrd_store.specs.Runs.{ByBatch, ByCommand, ByRequest, DidIn, IsCreate, IsOfBytes, OutputStays, Run, fault_of, fault_of_batch}
 use Rattle.rrd_store.specs.Single.{FindsOne, RunsAs, RunsFrom, StartsBy}
 use Rattle.rrd_store.specs.declared.batch.FileBatchEnd.{FileBatchEnd}
 use Rattle.rrd_store.specs.declared.faults.TaskFault.{TaskFault}
@@ -28,6 +28,10 @@ abbrev command_or : Command → Option (Result Command Unread) → Command
 command_or or None = or
 command_or or (Some (Ok command)) = command
 command_or or (Some (Err unread)) = or
+
+abbrev read_or : Command → Result Command LineFault → Command
+read_or or (Ok command) = command
+read_or or (Err fault) = or
 
 -- what was read of the words is what they mean
 read_means : (words : List (List ℕ)) (now : ℕ) (command : Command) → IsReading words now (Ok command) → reading words now ≡ Some (Ok command)
@@ -84,6 +88,8 @@ module _ (bytes : List ℕ) (none : IsNoFile bytes) (new : Option Held) where
       → Stays (Some (Bytes bytes)) new × OutputStays run × (fault : TaskFault) × (fault_of run ≡ Some fault) × IsOfBytes bytes fault
   run_refused (ByCommand r) other h =
       command_refused r.out_before r.out_after h.0 r.end (λ command spec read e. other (command, read_is r.words r.now h.0 command h.1 read, spec, e)) h.2
+  run_refused (ByRequest r) other h =
+      command_refused r.out_before r.out_after (Ok r.command) r.end (λ command spec read e. other (spec, ap effect (ap (read_or r.command) read) ∙ e)) h
   run_refused (ByBatch r) other h = batch_refused r.out_before r.out_after r.now r.numbered r.in_before r.in_after r.end h
 
 -- ---- creates
@@ -110,8 +116,16 @@ words_make words now None is = inr (λ made. let bad = sym made.1 ∙ is in cc)
 words_make words now (Some (Err unread)) is = inr (λ made. let bad = sym made.1 ∙ is in cc)
 words_make words now (Some (Ok command)) is = made_or_not words now command is (effect command) refl
 
+request_makes : (command : Command) (e : Effect) → effect command ≡ e
+    → ((spec : CreateSpec) × (effect command ≡ Makes spec)) ⊎ ((spec : CreateSpec) × (effect command ≡ Makes spec) → ⊥)
+request_makes command (Makes spec) is = inl (spec, is)
+request_makes command (Changes change) is = inr (λ made. let bad : Makes made.0 ≡ Changes change = sym made.1 ∙ is in cc)
+request_makes command Reverts is = inr (λ made. let bad : Makes made.0 ≡ Reverts = sym made.1 ∙ is in cc)
+request_makes command (Shows show) is = inr (λ made. let bad : Makes made.0 ≡ Shows show = sym made.1 ∙ is in cc)
+
 pub is_create : (run : Run) → IsCreate run ⊎ (IsCreate run → ⊥)
 is_create (ByCommand r) = words_make r.words r.now (reading r.words r.now) refl
+is_create (ByRequest r) = request_makes r.command (effect r.command) refl
 is_create (ByBatch r) = inr (λ x. x)
 
 module _ (stays : Staying) (old new : Option Held) (c0 c1 : Option (List ℕ)) (end : Result (Unit {0}) TaskFault) where
@@ -143,4 +157,6 @@ create_reads stays old new words now c0 c1 end made spec is makes (Ok command) r
 pub create_leads : Staying → (old new : Option Held) (run : Run) → IsCreate run → DidIn old run new → LeadsIn old new None run
 create_leads stays old new (ByCommand r) is h =
     create_reads stays old new r.words r.now r.out_before r.out_after r.end is.0 is.2 is.1 is.3 h.0 h.1 h.2
+create_leads stays old new (ByRequest r) is h =
+    create_answers stays old new r.out_before r.out_after r.end r.command is.0 is.1 h.0 h.1 h.2
 create_leads stays old new (ByBatch r) is h = absurd is

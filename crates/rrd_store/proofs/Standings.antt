@@ -3,11 +3,11 @@ use Rattle.std.proofs.Common.{◌≡◌, ◌∷◌, [], ℕ, List, Option, Some,
 use Rattle.rrd_spec.specs.Journal.Survivors.{Stored}
 use Rattle.rrd_tool.specs.Effects.{stored_of}
 use Rattle.rrd_store.specs.Storages.{Bytes, HasNone, Held, IsNoFile, Stays}
-use Rattle.rrd_store.specs.Runs.{ByBatch, ByCommand, Damaged, DidIn, Ended, Event, Filing, HappenedAll, Holds, IsFileIn, IsFileOf, Keeping, KeepsNone, Killed, Leads, LeadsAll, LeadsKilled, Run, RunIsComputed, RunsFollowSpecification, Standing, StandsBy, WasKilled, fault_of, first_of}
+use Rattle.rrd_store.specs.Runs.{ByBatch, ByCommand, ByRequest, Damaged, DidIn, Ended, Event, Filing, HappenedAll, Holds, IsFileIn, IsFileOf, Keeping, KeepsNone, Killed, Leads, LeadsAll, LeadsKilled, Run, RunIsComputed, RunsFollowSpecification, Standing, StandsBy, WasKilled, fault_of, first_of}
 use Rattle.rrd_store.specs.declared.faults.TaskFault.{TaskFault}
 use Rattle.rrd_store.specs.declared.faults.TaskFault.TheVariants as task
 use Rattle.rrd_store.proofs.Damaged.{Layouts}
-use Rattle.rrd_store.proofs.FileRuns.{LeadsIn, batch_leads, command_leads, first_held}
+use Rattle.rrd_store.proofs.FileRuns.{LeadsIn, batch_leads, command_leads, first_held, request_leads}
 use Rattle.rrd_store.proofs.Found.{IsFailed, IsLeft, IsLeftIn, Reading}
 use Rattle.rrd_store.proofs.NoDatabase.{create_leads, is_create, run_refused}
 use Rattle.rrd_store.proofs.ValidStates.{Staying}
@@ -66,6 +66,7 @@ module _ (laws : Laws) where
 
   known_run : (old : Held) (new : Option Held) (s : Option Filing) (run : Run) → Holds old s → DidIn (Some old) run new → LeadsIn (Some old) new s run
   known_run old new s (ByCommand r) held h = command_leads laws.stays laws.reading old new s r held h
+  known_run old new s (ByRequest r) held h = request_leads laws.stays laws.reading old new s r held h
   known_run old new s (ByBatch r) held h = batch_leads laws.stays laws.reading old new s r held h
 
   bytes_stay : (bytes : List ℕ) (none : IsNoFile bytes) (new : Option Held) → Stays (Some (Bytes bytes)) new → IsFileIn new (Damaged bytes)

@@ -26,7 +26,7 @@ use Rattle.rrd_tool.specs.declared.faults.Fault.TheVariants.{Line, NoDatabase, O
 use Rattle.rrd_tool.specs.declared.faults.LineFault.{LineFault}
 use Rattle.rrd_store.specs.Batch.{IsFileBatch}
 use Rattle.rrd_store.specs.Storages.{Bytes, HasNone, Held, IsNoFile, Missing}
-use Rattle.rrd_store.specs.Single.{IsSingle}
+use Rattle.rrd_store.specs.Single.{IsSingle, RunsAs}
 use Rattle.rrd_store.specs.declared.batch.FileBatchEnd.{FileBatchEnd}
 use Rattle.rrd_store.specs.declared.faults.TaskFault.{TaskFault}
 use Rattle.rrd_store.specs.declared.faults.TaskFault.TheVariants as task
@@ -38,6 +38,13 @@ use Rattle.rrd_store.specs.declared.faults.TaskFault.TheVariants as task
 pub record CommandRun : Type 0 where
   pub words : List (List ℕ)
   pub now : ℕ
+  pub out_before : Option (List ℕ)
+  pub out_after : Option (List ℕ)
+  pub end : Result (Unit {0}) TaskFault
+
+-- one command that was not read from words: a program in C gave its numbers
+pub record RequestRun : Type 0 where
+  pub command : Command
   pub out_before : Option (List ℕ)
   pub out_after : Option (List ℕ)
   pub end : Result (Unit {0}) TaskFault
@@ -55,12 +62,14 @@ pub record BatchRun : Type 0 where
 
 pub data Run : Type 0 where
   ByCommand : CommandRun → Run
+  ByRequest : RequestRun → Run
   ByBatch : BatchRun → Run
 
--- the run led from the old contents of the storage to the new contents: exactly as `run_file_command`, or
--- `run_file_batch`, ensures
+-- the run led from the old contents of the storage to the new contents: exactly as `run_file_command`,
+-- `Session::run_command` or `run_file_batch` ensures
 abbrev pub DidIn : Option Held → Run → Option Held → Type 0
 DidIn old (ByCommand r) new = IsSingle r.words r.now old new r.out_before r.out_after r.end
+DidIn old (ByRequest r) new = RunsAs (Ok r.command) old new r.out_before r.out_after r.end
 DidIn old (ByBatch r) new = IsFileBatch r.now r.numbered old new r.in_before r.in_after r.out_before r.out_after r.end
 
 -- the same for a file whose contents are known
@@ -74,6 +83,7 @@ fault_of_batch (Err fault) = Some fault
 
 abbrev pub fault_of : Run → Option TaskFault
 fault_of (ByCommand r) = result_err r.end
+fault_of (ByRequest r) = result_err r.end
 fault_of (ByBatch r) = fault_of_batch r.end
 
 -- ---- the file of a state
@@ -220,11 +230,13 @@ Computes s (ByCommand r) s1 =
     (read : Result Command LineFault)
     × IsReading r.words r.now read
     × AnswersRead s read s1 r.out_before r.out_after r.end
+Computes s (ByRequest r) s1 = Answers s (effect r.command) s1 r.out_before r.out_after r.end
 Computes s (ByBatch r) s1 = AnswersLines r.now r.numbered s s1 r.in_before r.in_after r.out_before r.out_after r.end
 
 -- the output stays the same
 abbrev pub OutputStays : Run → Type 0
 OutputStays (ByCommand r) = Keeps r.out_before r.out_after
+OutputStays (ByRequest r) = Keeps r.out_before r.out_after
 OutputStays (ByBatch r) = Keeps r.out_before r.out_after
 
 -- ---- the state that a file represents after a run
@@ -250,11 +262,12 @@ StandsBy t s1 (Some (task.File fault)) t1 = t1 ≡ t
 StandsBy t s1 (Some (task.Command fault)) t1 = t1 ≡ t
 StandsBy t s1 (Some (task.Stream fault)) t1 = t1 ≡ t
 
--- the words are a command that makes a database
+-- the command, or the words, make a database
 abbrev pub IsCreate : Run → Type 0
 IsCreate (ByCommand r) =
     (command : Command) × (reading r.words r.now ≡ Some (Ok command))
     × (spec : CreateSpec) × (effect command ≡ Makes spec)
+IsCreate (ByRequest r) = (spec : CreateSpec) × (effect r.command ≡ Makes spec)
 IsCreate (ByBatch r) = ⊥
 
 -- the fault of a run on bytes that are not a database: a fault of the file for which `Is` holds, unless the file could

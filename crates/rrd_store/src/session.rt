@@ -1,14 +1,14 @@
 //! Runs on one storage, with the database kept in memory in between.
-ghost use Rattle.std.specs.Prelude.{◌≡◌, IfErr, IfOk, IfSome, IsSome, None, OnOk, Err, Ok, Option, Some};
+ghost use Rattle.std.specs.Prelude.{◌≡◌, IfErr, IfNone, IfOk, IfSome, IsSome, None, OnOk, Err, Ok, Option, Some, is_ok, true};
 ghost use Rattle.rrd_file.specs.Laws.{IsValidStored};
 ghost use Rattle.rrd_spec.specs.Journal.Survivors.{Stored};
 ghost use Rattle.rrd_tool.specs.Commands.{effect};
 ghost use Rattle.rrd_tool.specs.Execution.{database_left};
 ghost use Rattle.rrd_store.specs.Batch.{IsFileBatch};
 ghost use Rattle.rrd_store.specs.Encoding.{AreOf};
-ghost use Rattle.rrd_store.specs.Runs.{ByBatch, ByCommand, IsComputed};
-ghost use Rattle.rrd_store.specs.Sessions.{IsFileBatchOn, IsRead, IsSingleOn, beside, kept_by, started};
-ghost use Rattle.rrd_store.specs.Single.{FindsOne, IsSingle, StartsFrom};
+ghost use Rattle.rrd_store.specs.Runs.{ByBatch, ByCommand, ByRequest, IsComputed};
+ghost use Rattle.rrd_store.specs.Sessions.{IsFileBatchOn, IsRead, IsSingleOn, RunsOn, beside, kept_by, started};
+ghost use Rattle.rrd_store.specs.Single.{FindsOne, IsSingle, RunsAs, StartsFrom};
 ghost use Rattle.rrd_store.specs.Storages.{Finds, Held};
 
 use crate::batch::run_on;
@@ -115,6 +115,14 @@ impl<P: Storage + Drop> Session<P> {
         self.is_written
     }
 
+    /// Returns the database in memory, if there is one.
+    pub fn database(&self) -> Option<&Database>
+        ensures some { IfSome result (λ database. self.now.database ≡ Some database.now) }
+        ensures none { IfNone result (self.now.database ≡ None) }
+    {
+        self.database.as_ref()
+    }
+
     /// Theorem: the database in memory is valid, if there is one.
     ///
     /// A call gives the prover this fact at the call site, and does nothing at run time.
@@ -190,6 +198,7 @@ impl<P: Storage + Drop> Session<P> {
         ensures fault { IfErr result (λ fault. (s : Option Held) → P.is_honest s self.new.storage → P.is_sound s self.old.storage
             → IsRead (P.contents s self.old.storage) self.old.database
             → FindsOne (P.contents s self.old.storage) (Err fault)) }
+        ensures same { (d : Stored) → self.old.database ≡ Some d → (is_ok result ≡ true) × (self.new.database ≡ Some d) }
     {
         self.database = self.take_one(alloc)?;
         Ok(())
@@ -221,6 +230,45 @@ impl<P: Storage + Drop> Session<P> {
         self.take_one(alloc)
     }
 
+    // Runs the command, and writes the database that the command changed.
+    fn perform<W: Write>(
+        &mut self,
+        alloc: Global,
+        command: Command,
+        out: &mut W,
+    ) -> Result<(), TaskFault>
+        ensures falls { (s : Option Held) → P.is_honest s self.new.storage → P.is_honest s self.old.storage }
+        ensures sound { (s : Option Held) → P.is_honest s self.new.storage → P.is_sound s self.old.storage
+            → P.is_sound s self.new.storage }
+        ensures read { (s : Option Held) → P.is_honest s self.new.storage → P.is_sound s self.old.storage
+            → IsRead (P.contents s self.old.storage) self.old.database
+            → IsRead (P.contents s self.new.storage) self.new.database }
+        ensures run { (s : Option Held) → P.is_honest s self.new.storage → P.is_sound s self.old.storage
+            → IsRead (P.contents s self.old.storage) self.old.database
+            → RunsAs (Ok command) (P.contents s self.old.storage) (P.contents s self.new.storage)
+            (W.contents out.old) (W.contents out.new) result }
+        ensures on { (d : Stored) → self.old.database ≡ Some d
+            → (s : Option Held) → P.is_honest s self.new.storage → P.is_sound s self.old.storage
+            → RunsOn command d self.new.database (P.contents s self.old.storage) (P.contents s self.new.storage)
+            (W.contents out.old) (W.contents out.new) result }
+    {
+        layout_is_file();
+        updates_keep_newest_rows();
+        self.is_written = false;
+        let reach = reach_of(&command);
+        let database = self.start(alloc, &command)?;
+        let encoded = take_encoded(&mut self.encoded, &database);
+        let outcome = execute(alloc, database, command, out);
+        outcome_is_valid(&outcome);
+        let encoded = encoded_after(alloc, encoded, reach, &outcome);
+        let other = self.database.take();
+        let end = finish(alloc, &outcome, encoded.as_ref(), &mut self.storage, out);
+        self.is_written = end.is_ok() && matches!(outcome, Outcome::Changed(_));
+        self.database = database_kept(other, outcome, end);
+        self.encoded = encoded;
+        end
+    }
+
     // Parses the arguments, runs the command, and writes the database that the command changed.
     fn run_words<W: Write>(
         &mut self,
@@ -244,22 +292,9 @@ impl<P: Storage + Drop> Session<P> {
             → IsSingleOn words.now now d self.new.database (P.contents s self.old.storage) (P.contents s self.new.storage)
             (W.contents out.old) (W.contents out.new) result }
     {
-        layout_is_file();
-        updates_keep_newest_rows();
         self.is_written = false;
-        let command = read_command(alloc, words, now)?;
-        let reach = reach_of(&command);
-        let database = self.start(alloc, &command)?;
-        let encoded = take_encoded(&mut self.encoded, &database);
-        let outcome = execute(alloc, database, command, out);
-        outcome_is_valid(&outcome);
-        let encoded = encoded_after(alloc, encoded, reach, &outcome);
-        let other = self.database.take();
-        let end = finish(alloc, &outcome, encoded.as_ref(), &mut self.storage, out);
-        self.is_written = end.is_ok() && matches!(outcome, Outcome::Changed(_));
-        self.database = database_kept(other, outcome, end);
-        self.encoded = encoded;
-        end
+        let parsed = read_command(alloc, words, now)?;
+        self.perform(alloc, parsed, out)
     }
 
     /// Runs one command, as [`crate::run_file_command`] does: with the same effect on the storage, the same output and the
@@ -302,6 +337,46 @@ impl<P: Storage + Drop> Session<P> {
     {
         storage_runs_follow_specification();
         self.run_words(alloc, words, now, out)
+    }
+
+    /// Runs one command that was not read from words, as [`Session::run`] runs one that was: with the same effect on the
+    /// storage, the same output and the same end.
+    ///
+    /// # Errors
+    ///
+    /// As [`Session::run`], except for the faults of words.
+    pub fn run_command<W: Write>(
+        &mut self,
+        alloc: Global,
+        command: Command,
+        out: &mut W,
+    ) -> Result<(), TaskFault>
+        ensures falls { (s : Option Held) → P.is_honest s self.new.storage → P.is_honest s self.old.storage }
+        ensures sound { (s : Option Held) → P.is_honest s self.new.storage → P.is_sound s self.old.storage
+            → P.is_sound s self.new.storage }
+        ensures read { (s : Option Held) → P.is_honest s self.new.storage → P.is_sound s self.old.storage
+            → IsRead (P.contents s self.old.storage) self.old.database
+            → IsRead (P.contents s self.new.storage) self.new.database }
+        ensures run { (s : Option Held) → P.is_honest s self.new.storage → P.is_sound s self.old.storage
+            → IsRead (P.contents s self.old.storage) self.old.database
+            → RunsAs (Ok command) (P.contents s self.old.storage) (P.contents s self.new.storage)
+            (W.contents out.old) (W.contents out.new) result }
+        ensures on { (d : Stored) → self.old.database ≡ Some d
+            → (s : Option Held) → P.is_honest s self.new.storage → P.is_sound s self.old.storage
+            → RunsOn command d self.new.database (P.contents s self.old.storage) (P.contents s self.new.storage)
+            (W.contents out.old) (W.contents out.new) result }
+        ensures computed { (s : Option Held) → P.is_honest s self.new.storage → P.is_sound s self.old.storage
+            → IsRead (P.contents s self.old.storage) self.old.database
+            → IsComputed (P.contents s self.old.storage) (P.contents s self.new.storage)
+            (ByRequest (record {
+              command = command;
+              out_before = W.contents out.old;
+              out_after = W.contents out.new;
+              end = result;
+            })) }
+    {
+        storage_runs_follow_specification();
+        self.perform(alloc, command, out)
     }
 
     // Runs the lines, and writes the database that the lines left.

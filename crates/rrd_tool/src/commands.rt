@@ -24,6 +24,7 @@ use crate::arguments::{command_with, parse};
 use crate::execution::Outcome;
 use crate::{Fault, LineFault, Words};
 use clap::ArgMatches;
+pub use fetch::choose_rows;
 use name::CommandName;
 use rrd_base::{Change, CreateSpec, Database, Tuning, Update};
 use rrd_spec::FetchRequest;

@@ -13,7 +13,7 @@ mod refusals;
 mod words;
 
 pub use batch::{BatchEnd, StreamFault, run_batch};
-pub use commands::{Command, read_command};
+pub use commands::{Command, choose_rows, read_command};
 pub use execution::{Outcome, execute};
 pub use faults::{Fault, LineFault, Part, write_error, write_fault};
 pub use words::{Words, begins_with_minus};

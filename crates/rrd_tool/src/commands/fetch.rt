@@ -20,7 +20,7 @@ use crate::fields::{read_optional, read_or, read_required};
 use crate::{Command, LineFault, Part};
 use arrayvec::ArrayString;
 use clap::ArgMatches;
-use rrd_base::{Chosen, Database, database_is_valid};
+use rrd_base::{Chosen, Database, Refusal, database_is_valid};
 use rrd_fixed::{Cell, Name, WriteFault, put_cell, put_time, write_bytes};
 use rrd_spec::FetchRequest;
 use std::alloc::{AllocError, Global};
@@ -171,6 +171,18 @@ fn write_fetch<W: Write>(out: &mut W, database: &Database, chosen: Chosen) -> Re
     database_is_valid(database);
     write_bytes(out, header_string(database).as_str().as_bytes())?;
     write_rows(out, database, chosen)
+}
+
+/// Selects the rows that a fetch reads, as [`Database::choose_for`] does.
+///
+/// Theorem: there are such rows: their archive exists, and their times are numbers that a time has.
+pub fn choose_rows(database: &Database, request: FetchRequest) -> Result<Chosen, Refusal>
+    ensures chosen { result
+        ≡ choice database.now.content request.function request.asked request.start request.end }
+    ensures readable { IfOk result (λ chosen. IsReadable database.now.content chosen) }
+{
+    database_is_valid(database);
+    database.choose_for(request)
 }
 
 /// Prints the rows.

@@ -1,8 +1,11 @@
 //! Sessions on a storage in memory that may fail.
 use super::single::{OVER_NOTHING, Step};
 use super::storage::{Ending, InMemory};
+use rrd_base::{Given, List, Sample, Update};
+use rrd_fixed::Number;
 use rrd_store::{Gate, Session, TaskFault};
-use std::alloc::Global;
+use rrd_tool::Command;
+use std::alloc::{AllocError, Global};
 use std::process::Abort;
 use std::test::Fail;
 use test_data::words_of;
@@ -84,4 +87,90 @@ fn gate_stops_a_batch(rt: HostRuntime) -> Result<(), Fail> {
     assert_eq!(&rt; out.as_slice(), b"20\n".as_slice());
     assert_eq!(&rt; end.unstored, Some(TaskFault::CannotWrite));
     assert_step(&rt, alloc, &mut session, &("last", "", "10\n", 309))
+}
+
+// An update by one sample, whose one value is in millionths, or unknown.
+fn update_by(alloc: Global, time: u64, value: Option<i128>) -> Result<Command, AllocError> {
+    let mut values = List::new(alloc);
+    values.push(match value {
+        Some(millionths) => Given::Number(Number {
+            millionths,
+            point: true,
+        }),
+        None => Given::Unknown,
+    })?;
+    let mut samples = List::new(alloc);
+    samples.push(Sample { time, values })?;
+    Ok(Command::Update(Update {
+        template: None,
+        samples,
+    }))
+}
+
+// Runs an update by one sample, and tells the text of its fault.
+fn run_sample(
+    alloc: Global,
+    session: &mut Session<InMemory>,
+    time: u64,
+    value: Option<i128>,
+) -> Result<String, AllocError> {
+    let mut out = Vec::new(alloc);
+    match session.run_command(alloc, update_by(alloc, time, value)?, &mut out) {
+        Ok(()) => Ok(String::new(alloc)),
+        Err(told) => format!(in alloc; "{told}"),
+    }
+}
+
+// A command that was not read from words leaves the same bytes as its words do, and is refused as they are.
+#[test]
+fn commands_without_words_run_as_their_words_do(rt: HostRuntime) -> Result<(), Fail> {
+    let alloc = rt.alloc();
+    let mut by_words = Session::new(InMemory::with(alloc, &sampled_file(alloc)?)?);
+    let mut by_command = Session::new(InMemory::with(alloc, &sampled_file(alloc)?)?);
+    for (line, time, value, fault) in [
+        ("update 20:1.5", 20, Some(1_500_000), ""),
+        ("update 30:U", 30, None, ""),
+        ("update 30:2.0", 30, Some(2_000_000), "not later than 30"),
+        (
+            "update 40:-1000000000000000000.0",
+            40,
+            Some(-1_000_000_000_000_000_000_000_000),
+            "bad value",
+        ),
+        ("update 50:-0.000001", 50, Some(-1), ""),
+    ] {
+        let mut out = Vec::new(alloc);
+        let end = by_words.run(alloc, &words_of(alloc, line)?, 1_000, &mut out);
+        assert_eq!(&rt; end.is_ok(), fault.is_empty(), "{line}");
+        let told = run_sample(alloc, &mut by_command, time, value)?;
+        assert_eq!(&rt; told.as_str(), fault, "{line}");
+        assert_eq!(&rt; by_command.is_written(), fault.is_empty(), "{line}");
+        assert_eq!(&rt;
+            by_command.storage().bytes.as_slice(),
+            by_words.storage().bytes.as_slice(),
+            "{line}"
+        );
+    }
+    Ok(())
+}
+
+// After a write that failed a command without words reads the storage again.
+#[test]
+fn commands_without_words_read_again(rt: HostRuntime) -> Result<(), Fail> {
+    let alloc = rt.alloc();
+    let mut storage = InMemory::with(alloc, &sampled_file(alloc)?)?;
+    storage.ending = Ending::OldStays;
+    let mut session = Session::new(storage);
+    assert!(&rt; session.database().is_none());
+    assert_eq!(&rt;
+        run_sample(alloc, &mut session, 20, None)?.as_str(),
+        "cannot write"
+    );
+    assert!(&rt; session.database().is_none());
+    assert_step(&rt, alloc, &mut session, &("last", "", "10\n", 309))?;
+    assert_eq!(&rt;
+        session.database().map(|database| database.last()),
+        Some(10)
+    );
+    Ok(())
 }
