@@ -28,9 +28,9 @@ IsOpened events =
 -- the calls between the two records changed nothing that the file represents
 abbrev pub IsReload : List Event → List Event → Type 0
 IsReload before after =
-    (start : Held) → IsTrue (is_honest_after start after) → IsSound start
-    → IsTrue (is_honest_after start before)
-    × (represented (held_after start after) ≡ represented (held_after start before))
+    (w : World) → IsTrue (is_honest_after w after) → IsSound w.start
+    → IsTrue (is_honest_after w before)
+    × (represented (held_after w after) ≡ represented (held_after w before))
 
 -- the record has these calls before the run, and those after it. From each file for which all answers are honest, the run did
 -- what the definitions say to the file that the calls before it left
