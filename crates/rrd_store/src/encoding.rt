@@ -56,8 +56,8 @@ pub(crate) fn take_encoded(
     }
 }
 
-/// Returns the bytes of the file after a command. `before` are those before the command. Returns `None` if memory runs out,
-/// or there is no database.
+/// Returns the bytes of the file after a command, which are `before` if the command changed nothing. Returns `None` if
+/// there are none, or memory runs out.
 pub(crate) fn encoded_after(
     alloc: Global,
     before: Option<Encoded>,

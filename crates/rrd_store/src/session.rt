@@ -29,7 +29,7 @@ use std::io::{Read, Write};
 /// The database is read once, and stays in memory between the runs. Each run writes its changes before it ends, as if the
 /// run were alone. Nobody else may change the storage before the session ends.
 #[derive(Drop)]
-pub struct Session<P: Storage + Drop> {
+pub struct Session<P> {
     storage: P,
     // The database that was read from the storage last, or written to the storage last.
     database: Option<Database>,
@@ -406,6 +406,7 @@ impl<P: Storage + Drop> Session<P> {
     {
         layout_is_file();
         let database = self.take(alloc)?;
+        // The lines may change all rows.
         let _before = self.encoded.take();
         let (end, kept) = run_on(
             alloc,

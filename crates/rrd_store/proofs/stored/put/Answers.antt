@@ -1,4 +1,4 @@
-use Rattle.std.proofs.Common.{◌≡◌, ◌∙◌, ℕ, List, subst, sym}
+use Rattle.std.proofs.Common.{◌≡◌, ℕ, List, subst, sym}
 use Rattle.rrd_spec.specs.Limits.{newest}
 use Rattle.rrd_file.specs.Faults.{IsFile}
 use Rattle.rrd_file.specs.Layout.{layout}
