@@ -83,7 +83,8 @@ class Creator(NamedTuple):
     def race(self, count: int) -> list[str]:
         """Runs so many processes at once: each begins when the pipe is closed."""
         reads, writes = os.pipe()
-        started = [subprocess.Popen([self.path, NEW], cwd=self.place, stdin=reads, stdout=subprocess.PIPE, text=True) for _ in range(count)]
+        started = [subprocess.Popen([self.path, NEW], cwd=self.place, stdin=reads, stdout=subprocess.PIPE, text=True)
+                   for _ in range(count)]
         os.close(reads)
         os.close(writes)
         return [it.communicate()[0] for it in started]

@@ -268,7 +268,8 @@ static void test_descriptors(void) {
 /* Only a create makes a file. */
 static void test_no_file(void) {
     static const struct { const uint8_t *words; size_t length; } calls[] = {
-        {WORDS("last")}, {WORDS("info")}, {WORDS(UPDATE)}, {WORDS("revert")}, {WORDS("tune\0-i\0g:1")}, {WORDS("resize\0000\0GROW\0001")}};
+        {WORDS("last")}, {WORDS("info")}, {WORDS(UPDATE)}, {WORDS("revert")}, {WORDS("tune\0-i\0g:1")},
+        {WORDS("resize\0000\0GROW\0001")}};
     struct rrdi_file opened = {0};
     uint64_t refused[1];
     for (size_t at = 0; at < sizeof calls / sizeof *calls; at++) {
@@ -289,7 +290,8 @@ static void test_permissions(void) {
     for (size_t at = 0; at < sizeof masks / sizeof *masks; at++) {
         umask(masks[at]);
         run_file("made", WORDS(CREATE), 0);
-        want(gave(RRDI_OK, true, "") && !stat("made", &after) && (after.st_mode & 07777) == (0666 & ~masks[at]), "a new file's permissions");
+        bool is_made = gave(RRDI_OK, true, "") && !stat("made", &after);
+        want(is_made && (after.st_mode & 07777) == (0666 & ~masks[at]), "a new file's permissions");
         unlink("made");
     }
     umask(mask);

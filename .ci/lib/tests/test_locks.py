@@ -18,16 +18,19 @@ def events(*lines: str) -> list[Event]:
 
 class Order(unittest.TestCase):
     def test_right(self) -> None:
-        for calls in (RIGHT, (*RIGHT, FREE), (*RIGHT, "fdatasync 4 0 0 0", "ftruncate 4 9 0 0", FREE), (OPENED, SHARED, NAMED, MEASURED, READ),
-                      ("open -1 0 5 2 other", "read 5 9 9 0"), (f"open -1 0 -1 2 {FILE}",), (*RIGHT[:4], "fcntl 4 1030 10 0", NAMED, "pread 10 1 1 0")):
+        for calls in (RIGHT, (*RIGHT, FREE), (*RIGHT, "fdatasync 4 0 0 0", "ftruncate 4 9 0 0", FREE),
+                      (OPENED, SHARED, NAMED, MEASURED, READ), ("open -1 0 5 2 other", "read 5 9 9 0"), (f"open -1 0 -1 2 {FILE}",),
+                      (*RIGHT[:4], "fcntl 4 1030 10 0", NAMED, "pread 10 1 1 0")):
             self.assertEqual(faults_of(events(*calls), FILE), [], calls)
 
     def test_wrong(self) -> None:
-        for calls, what in (((OPENED, READ), "no lock"), ((OPENED, "flock 4 6 -1 0", READ), "no lock"), ((OPENED, MEASURED, NAMED, READ), "no lock"),
+        for calls, what in (((OPENED, READ), "no lock"), ((OPENED, "flock 4 6 -1 0", READ), "no lock"),
+                            ((OPENED, MEASURED, NAMED, READ), "no lock"), ((*RIGHT, OPENED, READ), "no lock"),
                             ((*RIGHT, FREE, WRITTEN), "no lock"), ((*RIGHT, FREE, "fdatasync 4 0 0 0"), "no lock"),
-                            ((OPENED, SHARED, MEASURED, NAMED, WRITTEN), "a shared lock"), ((OPENED, MEASURED, OWN, NAMED, READ), "an old length"),
-                            ((OPENED, NAMED, OWN, MEASURED, READ), "an old name"), ((*RIGHT, FREE, OWN, READ), "an old length"),
-                            ((*RIGHT, OPENED, READ), "no lock"), ((OPENED, OWN, MEASURED, "statx -100 0 -1 0", READ), "an old name")):
+                            ((OPENED, SHARED, MEASURED, NAMED, WRITTEN), "a shared lock"),
+                            ((OPENED, MEASURED, OWN, NAMED, READ), "an old length"), ((*RIGHT, FREE, OWN, READ), "an old length"),
+                            ((OPENED, NAMED, OWN, MEASURED, READ), "an old name"),
+                            ((OPENED, OWN, MEASURED, "statx -100 0 -1 0", READ), "an old name")):
             found = faults_of(events(*calls), FILE)
             self.assertEqual(([fault.rpartition(" under ")[2] for fault in found]), [what], calls)
 
