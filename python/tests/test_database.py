@@ -197,6 +197,7 @@ class Blocks(OfFiles):
     def test_a_block_in_a_block(self: Any) -> None:
         database = rrdi.Database(self.fill(), busy_timeout=0)
         with database:
+            database.last()
             with database:
                 database.update((LAST + 10, 1, 20))
             database.update((LAST + 20, 1, 20))

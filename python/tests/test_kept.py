@@ -5,13 +5,14 @@ from __future__ import annotations
 import errno
 import fcntl
 import os
+import signal
 import threading
 import unittest
 from pathlib import Path
 from typing import Callable, List, Optional, Tuple
 from unittest import mock
 
-from cases import DataCase, run_in_threads, sleeping_child, use_library
+from cases import HANG, DataCase, run_in_threads, sleeping_child, use_library
 from doubles import NothingStaysOpen
 
 import rrdi
@@ -236,6 +237,7 @@ class Forks(KeptCase):
     def test_a_fork_during_a_call(self) -> None:
         """The file stays open, and the child forgets it."""
         is_running, may_end = threading.Event(), threading.Event()
+        self.addCleanup(may_end.set)
 
         def wait() -> None:
             is_running.set()
@@ -246,6 +248,7 @@ class Forks(KeptCase):
         is_running.wait()
         child = os.fork()
         if child == 0:
+            signal.alarm(HANG)
             self.library.at_call = lambda: None
             self.library.at_open = lambda path: BUSY
             try:
