@@ -1,5 +1,5 @@
--- Glue: what `rrd_undo` and `rrd_store` are asked of a file. Their clauses are for each list of numbers, or for each `Held`, and do
--- not look into it.
+-- Glue: what `rrd_undo` and `rrd_store` are asked of a file. Their clauses are for each list of numbers, or for each
+-- `Held`, and do not look into it.
 use Rattle.std.specs.Prelude.{ℕ, zero, suc, Bool, true, not, ◌&&◌, List, [], ◌∷◌, ◌++◌, length, take, drop, IsTrue}
 use Rattle.rrd_disk.specs.Events.{Event}
 use Rattle.rrd_disk.specs.Replayed.{World, bytes_after, held_after, is_honest_after, is_there}
@@ -31,8 +31,8 @@ code_by asked w = asked ∷ length w.parts ∷ w.parts ++ content_of w.start
 abbrev pub code_of : World → List ℕ
 code_of w = code_by (kind_of w.start) w
 
--- some lists also ask whether there is a file after the calls: 2 is answered if there is none, and 3 if there is one. What is so
--- after some calls was so before them
+-- some lists also ask whether there is a file after the calls: 2 is answered if there is none, and 3 if there is one.
+-- What is so after some calls was so before them
 abbrev pub is_answered : ℕ → Bool → Bool
 is_answered zero is_there = true
 is_answered (suc zero) is_there = true

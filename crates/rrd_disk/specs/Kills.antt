@@ -2,8 +2,8 @@
 use Rattle.std.specs.Prelude.{Bool, true, false, ◌&&◌, List, [], ◌∷◌}
 use Rattle.rrd_disk.specs.Events.{Event, PutFailed, SizeFailed, SyncFailed}
 
--- the first of the calls that a killed run did not end, of which the newest comes first: the kill interrupted it, and the run
--- never came to the others
+-- the oldest of the calls that failed because the run was killed: the kill interrupted it, and the run never came to the
+-- others
 abbrev pub interrupted : List Event → List Event
 interrupted [] = []
 interrupted (event ∷ []) = event ∷ []

@@ -6,9 +6,9 @@ use Rattle.rrd_store.specs.Storages.{Held, Missing, Bytes}
 
 -- ---- what is assumed
 
--- what the file was before the first call; and what the calls left that failed. Each write that failed, the first one first, has
--- a number: so many of its bytes were written all the same. The number of a change of the length is 0 if the file stayed as it
--- was, and any other if the file got the length. Calls for which there is no number left nothing
+-- what the file was before the first call; and what those calls left that failed, in their order. Of a write the number
+-- says how many of its first bytes were written all the same. Of a change of the length it is 0 if the file stayed as it
+-- was, and any other number if the file got that length. Calls for which there is no number left nothing
 pub record World : Type 0 where
   pub start : Held
   pub parts : List ℕ
@@ -73,18 +73,19 @@ bytes_after w events = bytes_of (held_after w events)
 
 -- ---- honest answers
 
--- an honest read: the bytes are the file's at this offset. If none came, none were wanted, or the file ends there or before
+-- an honest read: the bytes are the file's at this offset. If none came, none were wanted, or the file ends there or
+-- before
 unfoldable pub is_honest_read : List ℕ → ℕ → ℕ → List ℕ → Bool
 is_honest_read file at wanted [] = (wanted == 0) || nat_le (length file) at
 is_honest_read file at wanted (byte ∷ more) = bytes_eq (take (length (byte ∷ more)) (drop at file)) (byte ∷ more)
 
--- a write that failed, and of which so many bytes were written: within one page all of them, or none. That is a premise about
--- the system
+-- a write that failed, and of which so many bytes were written: within one page all of them, or none. That is a premise
+-- about the system
 unfoldable pub is_honest_failure : ℕ → List ℕ → ℕ → Bool
 is_honest_failure at bytes part = not (nat_le (at % 4096 + length bytes) 4096) || ((part == 0) || nat_le (length bytes) part)
 
--- an honest file with these bytes may have answered so. A write that reports only some of its bytes is not honest: a premise
--- about the system. A pipe is no file
+-- an honest file with these bytes may have answered so. A write that reports only some of its bytes is not honest: a
+-- premise about the system. A pipe is no file
 abbrev pub is_honest_call : List ℕ → ℕ → Event → Bool
 is_honest_call file part NotFound = false
 is_honest_call file part (Measured count) = count == length file

@@ -1,5 +1,5 @@
--- Definition: a run, ended or killed, with the record of its calls on the file. Law: after any list of runs on one honest
--- file, its bytes and all printed text are what the definitions compute.
+-- Definition: a run, ended or killed, with the record of its calls on the file. Law: after any list of runs on one
+-- honest file, its bytes and all printed text are what the definitions compute.
 use Rattle.std.specs.Prelude.{ℕ, IsTrue, List, [], ◌∷◌, map, Option, ⊤}
 use Rattle.rrd_disk.specs.Contents.{IsSound, represented}
 use Rattle.rrd_disk.specs.Events.{Event}
@@ -8,16 +8,16 @@ use Rattle.rrd_spec.specs.Journal.Survivors.{Stored}
 use Rattle.rrd_store.specs.Runs as runs
 use Rattle.rrd_store.specs.Storages.{Held}
 
--- a run made these calls. From each file for which the answers are honest, and whatever the calls left that failed, the run did
--- what the definitions say
+-- a run made these calls. From each file for which the answers are honest, and whatever the calls left that failed, the
+-- run did what the definitions say
 abbrev pub IsRun : List Event → runs.Run → Type 0
 IsRun events run = (w : World) → IsTrue (is_honest_after w events) → IsSound w.start
     → IsSound (held_after w events) × runs.Did (represented w.start) run (represented (held_after w events))
 
--- a run made these calls, and was killed: between two calls, or in the last one, which then is a call that failed. From each
--- file for which the answers are honest, and whatever the calls left that failed, the run left what a kill may leave. The
--- text and the end of `run` are those of the run as if each later call had failed: the definitions say nothing about the text
--- that a killed run printed
+-- a run made these calls, and was killed: after the last one, or in it, and then it is a call that failed. From each file
+-- for which the answers are honest, and whatever the calls left that failed, the run left what a kill may leave. The text
+-- and the end of `run` are those of the run as if each later call had failed: the definitions say nothing about the
+-- text that a killed run printed
 abbrev pub IsKilledRun : List Event → runs.Run → Type 0
 IsKilledRun events run = (w : World) → IsTrue (is_honest_after w events) → IsSound w.start
     → IsSound (held_after w events) × runs.WasKilled (represented w.start) run (represented (held_after w events))

@@ -147,7 +147,7 @@ pub trait Disk {
     ///
     /// # Errors
     ///
-    /// The write failed.
+    /// The write failed. A first part of the bytes may have been written all the same.
     fn write_at(&mut self, file: &Self::File, bytes: &[u8], at: u64) -> io::Result<usize>
         ensures ok { IfOk result (λ n. events self.new ≡ Put at bytes.now n ∷ events self.old) }
         ensures err { OnErr result (events self.new ≡ PutFailed at bytes.now ∷ events self.old) };
@@ -156,7 +156,7 @@ pub trait Disk {
     ///
     /// # Errors
     ///
-    /// The file is as it was.
+    /// The file is as it was, or has that length.
     fn set_length(&mut self, file: &Self::File, length: u64) -> io::Result<()>
         ensures ok { OnOk result (events self.new ≡ Sized length ∷ events self.old) }
         ensures err { OnErr result (events self.new ≡ SizeFailed length ∷ events self.old) };

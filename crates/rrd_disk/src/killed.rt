@@ -1,8 +1,8 @@
 //! Runs that are killed.
 //!
-//! A kill leaves in the file what the calls before it left, and perhaps a part of the call that it interrupted. So does a
-//! system on which that call fails, and each later call too, and leaves nothing. A killed run is the program's own code on
-//! such a system.
+//! A kill leaves in the file what the calls before it left, and perhaps a part of the call that it interrupted. So does
+//! a system on which that call fails, and each later call fails too and leaves nothing. A killed run is the program's
+//! own code on such a system.
 ghost use Rattle.std.specs.Prelude.{◌≡◌, ◌+◌, ◌++◌, ◌<◌, [], IsTrue};
 ghost use Rattle.rrd_disk.specs.Kills.{are_failed, interrupted};
 ghost use Rattle.rrd_disk.specs.Runs.{IsKilledRun};
@@ -137,10 +137,10 @@ impl<D: Disk> Disk for Killed<D> {
 ///
 /// The end and the text are those of a run whose later calls all fail: of a killed run nobody sees them.
 ///
-/// Theorem: if the record is that of an honest file that nobody else wrote, the file represents what it represented before
-/// the run, or what the definitions say of an accepted command. If there was no database, it may also be damaged. So it is
-/// between two calls (`between`), and in a call that wrote a first part of its bytes (`within`), but within one page all of
-/// them or none.
+/// Theorem: if the record is that of an honest file that nobody else wrote, the file represents what it represented
+/// before the run, or what the definitions say of an accepted command; or it is damaged, if there was no database. So it
+/// is if the kill came between two calls (`between`), and if it interrupted a write that wrote a first part of its bytes
+/// (`within`), but within one page all of them or none.
 pub fn run_command_killed<D: Disk, W: Write>(
     alloc: Global,
     disk: D,
@@ -171,8 +171,8 @@ pub fn run_command_killed<D: Disk, W: Write>(
     run_command_at(alloc, killed, place, words, now, out)
 }
 
-/// Runs each line of `reader` as [`run_batch_at`] does, but kills the run after `calls` calls on the file, or in the next
-/// call.
+/// Runs each line of `reader` as [`run_batch_at`] does, but kills the run after `calls` calls on the file, or in the
+/// next call.
 ///
 /// Theorem: as for [`run_command_killed`]. The file has the changes of all lines, or of none.
 pub fn run_batch_killed<D: Disk, R: Read, W: Write>(

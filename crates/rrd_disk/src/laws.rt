@@ -16,10 +16,11 @@ use rrd_undo::laws::files_without_marks_stand_for_themselves;
 /// Theorem: after any list of runs on one file, the bytes that the file represents and all printed text are what the
 /// definitions compute.
 ///
-/// Each run is one by [`crate::run_command_at`] or [`crate::run_batch_at`], with the record of its calls on the file; or it
-/// was killed between two calls, as by [`crate::run_command_killed`] or [`crate::run_batch_killed`], and the record has the
-/// calls before the kill. A killed change was done or not done. The records are those of an honest file that was missing or
-/// had a database before the first run, and that nobody else wrote. Any call of a run may have failed.
+/// Each run is one by [`crate::run_command_at`] or [`crate::run_batch_at`], with the record of its calls on the file; or
+/// it was killed, as by [`crate::run_command_killed`] or [`crate::run_batch_killed`], and the record has the calls
+/// before the kill, and the call that the kill interrupted. A killed change was done or not done. The records are those
+/// of an honest file that was missing or had a database before the first run, and that nobody else wrote. Any call of a
+/// run may have failed, and a write that failed may have written a first part of its bytes.
 pub fn files_follow_specification()
     ensures { (start : Held) (first : Option Stored) (recorded : List Recorded) →
         FilesFollowSpecification start first recorded }
