@@ -16,9 +16,10 @@ ARCHIVE = out/librrdi_c.a
 BUILD = out
 KIT = $(dir $(realpath $(shell command -v rt)))..
 OF_KIT = $(KIT)/c/libos_c.a $(KIT)/c/liblibc_c.a
-EXPORTS = rrdi_run rrdi_batch rrdi_run_file rrdi_batch_file rrdi_open rrdi_run_open rrdi_batch_open rrdi_close
+EXPORTS = rrdi_run rrdi_batch rrdi_run_file rrdi_batch_file rrdi_open rrdi_run_open rrdi_batch_open rrdi_update_open \
+	rrdi_fetch_open rrdi_close
 # The functions of the headers alone, which have a manual page too.
-INLINE = rrdi_create_new rrdi_strerror rrdi_version rrdi_words
+INLINE = rrdi_create_new rrdi_strerror rrdi_version rrdi_words rrdi_whole rrdi_count rrdi_millionths rrdi_double rrdi_to_double
 # Where below PREFIX the library goes; Debian has lib/x86_64-linux-gnu.
 LIBDIR = lib
 LIBRARIES = $(DESTDIR)$(PREFIX)/$(LIBDIR)

@@ -44,13 +44,13 @@ extern "C" {
 enum rrdi_fault {
     RRDI_OK = 0,
     RRDI_NO_ROOM = 1,       /* In memory: new_file is too small for the answer's file_length bytes. A batch on a file: output is
-                               too small for the answer's output_length bytes, and the file is unchanged. Call again with more
-                               room. */
+                               too small for the answer's output_length bytes, and the file is unchanged. rrdi_fetch_open: values
+                               is too small. Call again with more room. */
     RRDI_NO_MEMORY = 2,     /* An allocation failed. The output's text is `out of memory`, or `write failed` if there was no memory
                                for the printed text. */
     RRDI_READ_LINES = 3,    /* The lines could not be read. Does not happen with lines in memory. */
     RRDI_USAGE = 10,        /* The words are not a command. */
-    RRDI_BAD_WORD = 11,     /* A word cannot be read. The output names the word. */
+    RRDI_BAD_WORD = 11,     /* A word, or a value, cannot be read. The output names the word. */
     RRDI_NO_DATABASE = 12,  /* Does not happen: a line of a batch that needs a database is refused, and a command reports 14. */
     RRDI_REFUSED = 13,      /* The database refuses the command. The output gives the reason. */
     RRDI_CANNOT_OPEN = 14,  /* The file does not exist, is no regular file, or cannot be opened or locked; or another process holds
@@ -158,6 +158,55 @@ void rrdi_run_open(struct rrdi_file *file, const uint8_t *words, size_t words_le
 void rrdi_batch_open(struct rrdi_file *file, const uint8_t *lines, size_t lines_length, uint64_t now, uint8_t *output,
                      size_t output_room, uint64_t *refused_lines, size_t refused_room, struct rrdi_answer *answer) RRDI_NONNULL;
 
+/* What a value is: no value, a number without a decimal point, or a number with one. A COUNTER and a DERIVE refuse a number with a
+ * decimal point, as they do in words. */
+enum rrdi_kind { RRDI_UNKNOWN, RRDI_WHOLE, RRDI_DECIMAL };
+
+/* A number to the millionth, for calls that take numbers in place of words. rrdi_double and its like, at the end of this header,
+ * make it of C's numbers. Zeros are no value, which is `U` in words. */
+struct rrdi_value {
+    uint64_t units;         /* The number without its sign and its fraction. */
+    uint32_t millionths;    /* The fraction: 0 to 999,999; RRDI_WHOLE has none. */
+    uint8_t kind;           /* enum rrdi_kind. */
+    bool is_negative;       /* Whether the number is below 0. */
+};
+
+/* Adds one sample to an open file, as rrdi_run_open does with `update TIME:VALUE..`: with the same new file and the same fault. The
+ * fault is RRDI_BAD_WORD if a value is of no kind, or has a fraction that its kind does not have.
+ *
+ * time             in seconds since 1970.
+ * values, count    one value for each data source, in the order of their definitions.
+ * output           room for the text of the fault. */
+void rrdi_update_open(struct rrdi_file *file, uint64_t time, const struct rrdi_value *values, size_t count, uint8_t *output,
+                      size_t output_room, struct rrdi_answer *answer) RRDI_NONNULL;
+
+/* The functions of a fetch. */
+enum rrdi_function { RRDI_AVERAGE, RRDI_MIN, RRDI_MAX, RRDI_LAST };
+
+/* The rows of a fetch. The time of row number `row`, from 0 on, is start + (row + 1) * step: the time at which the row ends. */
+struct rrdi_rows {
+    uint64_t start;         /* The time at which the first row begins, in seconds since 1970. */
+    uint64_t step;          /* The seconds from one row to the next one. */
+    uint64_t count;         /* The number of rows, at most 1,000,000. */
+    uint64_t sources;       /* The number of values in each row: one for each data source, at most 64. */
+};
+
+/* Gives the rows of an open file that rrdi_run_open prints with `fetch FUNCTION --resolution .. --start .. --end ..`, or the same
+ * fault. The fault is RRDI_BAD_WORD if there is no such function.
+ *
+ * function         enum rrdi_function.
+ * resolution       the requested seconds from row to row: 1 for the finest rows, as in the command without this option.
+ * start, end       in seconds since 1970.
+ * rows             gets the times and the number of the rows, without a fault and with RRDI_NO_ROOM.
+ * values           room for the values, row after row: that of data source `source` in row `row` becomes
+ *                  values[row * rows->sources + source]. An unknown one is RRDI_UNKNOWN, any other is RRDI_DECIMAL. If there is no
+ *                  room for rows->count * rows->sources values, the fault is RRDI_NO_ROOM, and the room stays as it was.
+ *                  values_room counts values, not bytes.
+ * output           room for the text of the fault. */
+void rrdi_fetch_open(struct rrdi_file *file, uint32_t function, uint64_t resolution, uint64_t start, uint64_t end,
+                     struct rrdi_rows *rows, struct rrdi_value *values, size_t values_room, uint8_t *output, size_t output_room,
+                     struct rrdi_answer *answer) RRDI_NONNULL;
+
 /* Closes a file, and releases its lock and its memory. Does nothing if the struct has no open file. */
 void rrdi_close(struct rrdi_file *file) RRDI_NONNULL;
 
@@ -207,6 +256,106 @@ static inline size_t rrdi_words(size_t count, const char *const *words, uint8_t 
         length += more;
     }
     return length;
+}
+
+/* ---- values of C's numbers. These functions are here, and not in the library, because a number of C becomes a value and a value
+ * becomes a number in the program that has it. Each is exact, or rounds as it says. */
+
+/* Returns a whole number below 0, 0 or above, for a data source of any type. */
+static inline struct rrdi_value rrdi_whole(int64_t number) {
+    struct rrdi_value value = {(uint64_t)number, 0, RRDI_WHOLE, number < 0};
+    if (value.is_negative)
+        value.units = 0 - value.units;
+    return value;
+}
+
+/* Returns a count, for a data source of any type: a COUNTER wraps at 2^32 or 2^64. */
+static inline struct rrdi_value rrdi_count(uint64_t number) {
+    struct rrdi_value value = {number, 0, RRDI_WHOLE, false};
+    return value;
+}
+
+/* Returns a number of millionths, such as 21500000 for 21.5, for a GAUGE or an ABSOLUTE. */
+static inline struct rrdi_value rrdi_millionths(int64_t number) {
+    struct rrdi_value value = rrdi_whole(number);
+    value.millionths = (uint32_t)(value.units % 1000000);
+    value.units /= 1000000;
+    value.kind = RRDI_DECIMAL;
+    return value;
+}
+
+/* Returns the number rounded to millionths, as printf rounds it by %.6f: to the nearest, and a number in the middle to the even
+ * one. A number that is not a number is no value. A number of 2^64 or more, or an infinite one, becomes one that each data source
+ * refuses, as each refuses numbers from 10^18 on. For a GAUGE or an ABSOLUTE. */
+static inline struct rrdi_value rrdi_double(double number) {
+    struct rrdi_value value = {0, 0, RRDI_UNKNOWN, false};
+    uint64_t bits, part, high, low, rounded;
+    int places, shift;
+    /* The number is part / 2^places. Its bits are read as an integer, so that no setting of the compiler or of the processor
+       rounds anything. */
+    memcpy(&bits, &number, sizeof bits);
+    part = (bits & 0xfffffffffffff) | (uint64_t)1 << 52;
+    places = 1075 - (int)(bits >> 52 & 2047);
+    if (places == -972 && bits << 12)
+        return value;
+    value.kind = RRDI_DECIMAL;
+    value.is_negative = bits >> 63;
+    if (places < -11) {
+        value.units = UINT64_MAX;
+        return value;
+    }
+    if (places <= 0) {
+        value.units = part << -places;
+        return value;
+    }
+    /* A number below a quarter of a millionth is 0. */
+    if (places > 74)
+        return value;
+    if (places < 64) {
+        value.units = part >> places;
+        part &= ((uint64_t)1 << places) - 1;
+    }
+    if (places < 53) {
+        part <<= 53 - places;
+        places = 53;
+    }
+    /* The fraction is part / 2^places. The millionths are part * 5^6 / 2^(places - 6), where the product has up to 67 bits: high
+       has all but 20 of them, and low has those. */
+    low = (part & 0xfffff) * 15625;
+    high = (part >> 20) * 15625 + (low >> 20);
+    low &= 0xfffff;
+    shift = places - 26;
+    rounded = high >> shift;
+    high = (high & (((uint64_t)1 << shift) - 1)) << 1;
+    /* The bits after the millionths, against one half: high, and then low. */
+    if (high >> shift && ((high ^ (uint64_t)1 << shift) || low || (rounded & 1)))
+        rounded++;
+    value.units += rounded / 1000000;
+    value.millionths = (uint32_t)(rounded % 1000000);
+    return value;
+}
+
+/* Returns the double nearest to a value, as strtod reads its text; or one that is not a number, for no value. */
+static inline double rrdi_to_double(struct rrdi_value value) {
+    const uint64_t no_number = (uint64_t)2047 << 52 | (uint64_t)1 << 51;
+    uint64_t units = value.units;
+    double size;
+    if (value.kind == RRDI_UNKNOWN) {
+        memcpy(&size, &no_number, sizeof size);
+        return size;
+    }
+    /* Each sum and each quotient is rounded once: in the first the millionths are less than 2^53, and in the second the fraction
+       is far from the middle of two doubles, or exactly there. */
+    if (units < (uint64_t)1 << 33)
+        size = (double)(units * 1000000 + value.millionths) / 1e6;
+    else if (units < (uint64_t)1 << 53)
+        size = (double)units + value.millionths / 1e6;
+    else if (!value.millionths)
+        size = (double)units;
+    else
+        /* The fraction is too small for the double, but it makes a number in the middle of two doubles greater. */
+        size = (double)(units >> 54 ? units | 1 : units + (units & 1));
+    return value.is_negative ? -size : size;
 }
 
 #ifdef __cplusplus

@@ -4,7 +4,7 @@
 
    RRDI_WAIT and RRDI_SYNC=1 have the same meaning as for rrdi. With IN_MEMORY=1 the program reads FILE itself, lets the
    library run the command on the bytes, and writes the new file. With OPEN=1 the program opens FILE by rrdi_open, runs the command on
-   the open file, and closes it. With ROOM=N the first call has room for N bytes of output,
+   the open file, and closes it. With NUMBERS=1 too, an update by one sample goes by rrdi_update_open. With ROOM=N the first call has room for N bytes of output,
    and the second call for all bytes. With STACK=N the calls run in a thread with a stack of N bytes, and the file
    STACK_USED gets the number of bytes that were used. */
 #define _GNU_SOURCE
@@ -91,6 +91,57 @@ static bool is_create(size_t length) {
     return length >= 6 && !memcmp(words, "create", 6) && (length == 6 || !words[6]);
 }
 
+/* Reads digits. Returns the byte after them, or null if they are none or too many. */
+static const char *read_digits(const char *at, uint64_t *read) {
+    size_t count = strspn(at, "0123456789");
+    errno = 0;
+    *read = strtoull(at, NULL, 10);
+    return count == 0 || errno ? NULL : at + count;
+}
+
+/* Reads a value of a sample. Returns the byte after it, or null if rrdi_value has no such value. */
+static const char *read_value(const char *at, struct rrdi_value *value) {
+    *value = (struct rrdi_value){0};
+    if (*at == 'U')
+        return at + 1;
+    value->kind = RRDI_WHOLE;
+    value->is_negative = *at == '-';
+    at = read_digits(at + value->is_negative, &value->units);
+    if (!at || *at != '.')
+        return at;
+    value->kind = RRDI_DECIMAL;
+    size_t count = strspn(++at, "0123456789");
+    for (size_t place = 0; place < 6; place++)
+        value->millionths = 10 * value->millionths + (place < count ? (uint32_t)(at[place] - '0') : 0);
+    return count == 0 || count > 6 ? NULL : at + count;
+}
+
+static struct rrdi_value sample[1 << 16];
+
+/* Reads an update by one sample. Returns the number of its values; 0 if the words are no such update. */
+static size_t read_sample(size_t length, uint64_t *time) {
+    static char text[sizeof words + 1];
+    size_t count = 0;
+    if (length < 8 || memcmp(words, "update", 7) || memchr(words + 7, 0, length - 7))
+        return 0;
+    memcpy(text, words + 7, length - 7);
+    text[length - 7] = 0;
+    const char *at = read_digits(text, time);
+    while (at && *at == ':' && count < sizeof sample / sizeof *sample)
+        at = read_value(at + 1, &sample[count++]);
+    return at && !*at ? count : 0;
+}
+
+/* Runs a command on the open file, in numbers if that is asked for and if there is such a call. */
+static void run_opened(struct rrdi_file *opened, size_t length, uint64_t now) {
+    uint64_t time;
+    size_t count = number("NUMBERS", 0) == 1 ? read_sample(length, &time) : 0;
+    if (count > 0)
+        rrdi_update_open(opened, time, sample, count, output, output_room, &answer);
+    else
+        rrdi_run_open(opened, words, length, now, output, output_room, &answer);
+}
+
 /* One call on a file that stays open for the call. Returns false if there is no such file, if it is to be made, or if its file
    system has no locks. */
 static bool call_open(const uint8_t *name, size_t name_length, bool is_batch, size_t length, uint64_t now, uint64_t wait, bool syncs) {
@@ -104,7 +155,7 @@ static bool call_open(const uint8_t *name, size_t name_length, bool is_batch, si
         rrdi_batch_open(&opened, input, length, now, output, output_room, refused_lines, sizeof refused_lines / sizeof *refused_lines,
                         &answer);
     else
-        rrdi_run_open(&opened, words, length, now, output, output_room, &answer);
+        run_opened(&opened, length, now);
     rrdi_close(&opened);
     return true;
 }

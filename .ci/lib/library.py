@@ -15,7 +15,7 @@ HERE = Path(__file__).resolve().parent
 ARCHIVE = TOP / "out/librrdi_c.a"
 USAGE = TOP / "crates/rrd_store/src/usage.rt"
 EXPORTS = frozenset({"rrdi_run", "rrdi_batch", "rrdi_run_file", "rrdi_batch_file", "rrdi_open", "rrdi_run_open",
-                     "rrdi_batch_open", "rrdi_close"})
+                     "rrdi_batch_open", "rrdi_update_open", "rrdi_fetch_open", "rrdi_close"})
 # The C functions that a library may call: memory, bytes, files, and errno. None ends the process or handles signals.
 MAY_CALL = frozenset({"malloc", "realloc", "free", "memcpy", "memmove", "memset", "memcmp", "bcmp", "strlen", "__errno_location",
                       "open", "open64", "close", "read", "pread", "pread64", "pwrite", "pwrite64", "lseek", "lseek64",
