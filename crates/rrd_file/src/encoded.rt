@@ -156,9 +156,10 @@ impl Encoded {
         })
     }
 
-    /// Changes the bytes to those of `database`, which is the database after an update. Returns `None` if memory runs out.
+    /// Changes the bytes to those of `database`, which is the database after an update.
     ///
-    /// Writes the cells of the rows that ended since. The work does not grow with the rows that stay.
+    /// Writes the cells of the rows that ended since, so the work does not grow with the rows that stay. Returns `None`
+    /// if memory runs out.
     pub fn updated(self, alloc: Global, database: &Database) -> Option<Encoded>
         requires { Precedes self database.now }
         ensures { IfSome result (λ encoded. Encodes encoded database.now) }

@@ -28,6 +28,7 @@ use std::io::{Read, Write};
 ///
 /// The database is read once, and stays in memory between the runs. Each run writes its changes before it ends, as if the
 /// run were alone. Nobody else may change the storage before the session ends.
+// Without bounds: a struct that has a ghost field and bounds cannot be a field of a generic struct such as an open file.
 #[derive(Drop)]
 pub struct Session<P> {
     storage: P,
