@@ -138,7 +138,8 @@ struct rrdi_file {
  * the file. A file that the struct had open before is closed first. With a fault the struct has no open file.
  *
  * Until rrdi_close no other process can read or change the file by rrdi: it waits for the lock. If a change fails
- * (RRDI_CANNOT_WRITE), the library lets go of the file and of the lock, and the next call on the struct opens the file again.
+ * (RRDI_CANNOT_WRITE), the library lets go of the file and of the lock, and the next call on the struct opens the file again;
+ * only if there was no memory for the new bytes (ENOMEM) it may keep both.
  * After RRDI_NO_ROOM the next call reads the file again, under the same lock; if that fails, the library lets go too.
  *
  * path, wait, syncs    as for rrdi_run_file. There must be a database: create it by rrdi_create_new or rrdi_run_file. The
