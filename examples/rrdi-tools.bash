@@ -29,16 +29,19 @@ _rrdi_tool() {
         rrdi-export) ends='rrdi rrd' ;;
         rrdi-compare) ends='rrd rrdi' ;;
         rrdi-plot)
+            if ((COMP_CWORD > 2)); then
+                options='--resolution --start --end --source --area --stack --fit --unit --title --size'
+                options+=' --dark --no-legend --no-band'
+            fi
+            case ${COMP_WORDS[COMP_CWORD - 1]} in
+                -r | -s | -e | --resolution | --start | --end | --source | --unit | --title | --size) return 0 ;;
+            esac
             case $COMP_CWORD in
                 1) ends='rrdi' ;;
                 2) ends='png svg' ;;
                 3)
-                    mapfile -t COMPREPLY < <(compgen -W 'AVERAGE MIN MAX LAST' -- "$current")
-                    return 0
-                    ;;
-                *)
-                    options='--resolution --start --end --source --area --stack --fit --unit --title --size'
-                    options+=' --dark --no-legend --no-band'
+                    [[ $current == -* ]] || mapfile -t COMPREPLY < <(compgen -W 'AVERAGE MIN MAX LAST' -- "$current")
+                    [[ $current == -* ]] || return 0
                     ;;
             esac
             ;;

@@ -23,7 +23,7 @@ import os
 from typing import Callable, Iterable, List, NamedTuple, Optional, Tuple, Type, TypeVar, Union, overload
 
 from .environment import is_synced, milliseconds
-from .errors import CANNOT_WRITE, OK, USAGE, Busy, Error, Exists, Refused, Unreadable, Usage, error_of, reason_of
+from .errors import CANNOT_WRITE, NOT_OURS, OK, USAGE, Busy, Error, Exists, Refused, Unreadable, Usage, error_of, reason_of
 from .fetching import fetched
 from .library import Answer, the_library
 from .results import AnyNumber, Info, LastUpdate, Table, Value, info_of, last_update
@@ -57,6 +57,11 @@ def failed(answer: Answer, path: FilePath) -> Error:
     if isinstance(error, Busy):
         from .kept import is_open_here  # here, since most commands succeed
         error.detail = "this program has it open by rrdi.Database" if is_open_here(encoded_path(path)) else ""
+    elif answer.fault == NOT_OURS:
+        from .kinds import is_of_rrdtool, is_of_whisper  # here, as above
+        file = os.fsdecode(path)
+        owner = "RRDtool" if is_of_rrdtool(file) else "whisper" if is_of_whisper(file) else ""
+        error.detail = f"a file of {owner}; convert it with rrdi-import" if owner else ""
     return error
 
 

@@ -16,6 +16,10 @@ NUMBER = re.compile(r"-?\d{1,20}(\.\d{1,6})?", re.ASCII)
 AS_NUMBERS = "update also takes (time, value, ..) tuples of numbers, which it rounds"
 # The options of a command that are times.
 TIMES = {"create": [("-b", "--start")], "fetch": [("-s", "--start"), ("-e", "--end")]}
+# The options of a command that are no times.
+OTHERS = {"create": [("-s", "--step"), ("--journal", "--journal")], "fetch": [("-r", "--resolution")]}
+NAME = re.compile("[A-Za-z0-9_]{1,19}")
+DEFINITION = "DS:name:GAUGE|COUNTER|DERIVE|ABSOLUTE:heartbeat:min:max or RRA:AVERAGE|MIN|MAX|LAST:xff:steps:rows"
 WHOLE = "whole numbers without a point"
 
 Ask = Callable[[List[str]], str]
@@ -39,6 +43,8 @@ def explain(error: Error, words: Sequence[str], ask: Optional[Ask] = None) -> No
         _explain_update(error, given_of(words[1:]), ask)
     elif words[0] in TIMES and error.reason in ("bad time", "bad start"):
         error.detail = _why_bad_option(words)
+    elif words[0] in TIMES:
+        error.detail = _why_bad_word(words, error.reason)
 
 
 def _explain_update(error: Error, given: Given, ask: Optional[Ask]) -> None:
@@ -141,6 +147,29 @@ def _why_bad_option(words: Sequence[str]) -> str:
         value, _ = take_option(list(words[1:]), letter, name)
         if value is not None and int(value) > LATEST:
             return why_bad_time(f"{name} is", int(value))
+    return ""
+
+
+def _why_bad_word(words: Sequence[str], reason: str) -> str:
+    """Returns which word of a `create` or a `fetch` was wrong, as the program's second line does."""
+    command, *others = words
+    for letter, name in [*TIMES[command], *OTHERS[command]]:
+        value, others = take_option(others, letter, name)
+        if value is not None and reason == f"unreadable {name[2:]}":
+            wanted = ("whole seconds since 1970" if (letter, name) in TIMES[command] else
+                      "a whole number" if name == "--journal" else "a whole number of seconds")
+            return f"it is {quoted(value)}, not {wanted}"
+    others = [word for word in others if word != "--"]
+    if reason == "unreadable function" and others:
+        return f"it is {quoted(others[0])}, not AVERAGE, MIN, MAX or LAST"
+    if reason.startswith("unreadable definition "):
+        number = int(reason.rpartition(" ")[2])
+        return f"it is {quoted(others[number - 1])}, not {DEFINITION}" if number <= len(others) else ""
+    if reason == "bad name":
+        for number, word in enumerate(others, 1):
+            if word.startswith("DS:") and not NAME.fullmatch(word.split(":")[1]):
+                return (f"definition {number} has the name {quoted(word.split(':')[1])}; "
+                        "a name has 1 to 19 characters of a-z A-Z 0-9 _")
     return ""
 
 

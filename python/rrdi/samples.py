@@ -42,6 +42,8 @@ def value_text(value: object) -> str:
     if value is None:
         return "U"
     if isinstance(value, str):
+        if ":" in value:
+            raise ValueError(f"{value[:40]!r}; a colon would make two values of it")
         return value
     if isinstance(value, bool):
         raise TypeError(f"{value}, which is no number; write 1 or 0")

@@ -214,6 +214,13 @@ class Commands(OfFiles):
                 self.assertEqual((str(raised.exception), raised.exception.at), (f"file: {reason}", at))
         self.refuses_without_reading_folder()
 
+    def test_files_of_others(self: Any) -> None:
+        for name, data, whose in (("old.rrd", b"RRD\x000003", "RRDtool"), ("old.wsp", b"\0\0\0\1", "whisper")):
+            (self.folder / name).write_bytes(data)
+            with self.assertRaises(rrdi.Damaged) as raised:
+                rrdi.last(self.folder / name)
+            self.assertEqual(raised.exception.detail, f"a file of {whose}; convert it with rrdi-import")
+
     def refuses_without_reading_folder(self: Any) -> None:
         with self.assertRaises((rrdi.CannotRead, rrdi.CannotOpen)):
             rrdi.last(self.folder)

@@ -203,7 +203,9 @@ class Module:
         nothing = "none.rrd: cannot open: No such file or directory"
         faults: List[Any] = [
             (lambda: rrdtool.update("f.rrd", "1600000030:1:2"), "f.rrd: not later than 1600000030"),
-            (lambda: rrdtool.update("f.rrd", "x"), "f.rrd: unreadable sample 1"),
+            (lambda: rrdtool.update("f.rrd", "x"), "f.rrd: unreadable sample 1: its time is 'x', not whole seconds since 1970 or N"),
+            (lambda: rrdtool.update("f.rrd", "1600000040:1,5:2"),
+             "f.rrd: unreadable sample 1: its value 1 is '1,5'; write '1.5', with a point"),
             (lambda: rrdtool.resize("f.rrd"), "resize.rrd: usage"),
             (lambda: rrdtool.fetch("f.rrd", "AVERAGE", "-s", "32:00"), "cannot parse time: 32:00"),
             (lambda: rrdtool.fetch("f.rrd"), "f.rrd: fetch needs a FUNCTION"),

@@ -40,7 +40,7 @@ class Many(ToolCase):
         return self.rrdi(FETCH[0], file, *FETCH[1:]).splitlines()[1]
 
     def test_into_a_directory(self) -> None:
-        """A tree keeps its subdirectories, other files are passed over, and links too."""
+        """A tree keeps its subdirectories, other files are passed over, and links too; the last line counts the links."""
         for name in ("tree/a.rrd", "tree/sub/b.rrd", "alone.rrd"):
             self.old(name)
         self.write("tree/notes.txt", "notes")
@@ -49,7 +49,7 @@ class Many(ToolCase):
         has = "(2 data sources, 1 archive)"
         self.assertEqual((status, err), (0, ""))
         self.assertEqual(out, f"tree/a.rrd: new/a.rrdi {has}\ntree/sub/b.rrd: new/sub/b.rrdi {has}\n"
-                              f"alone.rrd: new/alone.rrdi {has}\n3 files: 3 converted\n")
+                              f"alone.rrd: new/alone.rrdi {has}\n3 files: 3 converted; 1 link passed over\n")
         for name in ("a", "sub/b", "alone"):
             self.assertEqual(self.cells(f"new/{name}.rrdi"), "1600000010: 1.000000 2.000000")
         self.assertIn("journal = 9\n", self.rrdi("info", "new/a.rrdi"))

@@ -8,7 +8,7 @@ import time
 import unittest
 from decimal import Decimal
 from fractions import Fraction
-from typing import Any, List, Tuple
+from typing import Any, List, Tuple, cast
 from unittest import mock
 
 from cases import WithLibrary, WithProgram
@@ -161,6 +161,7 @@ class Updates(OfFiles):
         naive = datetime.datetime(2020, 9, 13, 12, 27, 20)
         wanted: List[Tuple[Any, str]] = [
             ((1_600_000_040, math.inf, 1), "bad value: value 1 of sample 2 is inf, which is no number; None is unknown"),
+            ((1_600_000_040, "12:30"), "bad value: value 1 of sample 2 is '12:30'; a colon would make two values of it"),
             ((1_600_000_040, 1, 10**300), "bad value: value 2 of sample 2 is a number of more than 40 digits; "
              "a GAUGE takes numbers below 10^18, a COUNTER whole numbers up to 2^64 - 1, a DERIVE whole numbers from "
              "-2^63 on"),
@@ -255,6 +256,24 @@ class Errors(OfFiles):
         self.says(rrdi.Refused, "not later than 1600000040: sample 3 has the time 1600000039", "1600000031:1:2",
                   "1600000040:1:2", "1600000039:1:2")
         self.says(rrdi.Refused, "no such data source", "1600000040:1", template="x")
+
+    def test_words_of_other_commands(self: Any) -> None:
+        """The texts are those of the program's second line."""
+        file, archive, fetch = self.fill(), "RRA:MAX:0:1:3", cast(Any, rrdi.fetch)
+        definition = "not DS:name:GAUGE|COUNTER|DERIVE|ABSOLUTE:heartbeat:min:max or RRA:AVERAGE|MIN|MAX|LAST:xff:steps:rows"
+        calls: List[Tuple[str, Any]] = [
+            ("unreadable function: it is 'mean', not AVERAGE, MIN, MAX or LAST", lambda: fetch(file, "mean", "-s", "5")),
+            ("unreadable start: it is '-1h', not whole seconds since 1970", lambda: fetch(file, "MAX", start="-1h")),
+            ("unreadable resolution: it is '5m', not a whole number of seconds", lambda: fetch(file, "MAX", resolution="5m")),
+            (f"unreadable definition 2: it is 'RRA:x', {definition}",
+             lambda: rrdi.create(file, "-s", 9, "DS:g:GAUGE:9:U:U", "RRA:x", start=5, overwrite=True)),
+            ("unreadable journal: it is 'x', not a whole number", lambda: rrdi.create(file, "--journal", "x", archive, overwrite=True)),
+            ("bad name: definition 1 has the name 'a-b'; a name has 1 to 19 characters of a-z A-Z 0-9 _",
+             lambda: rrdi.create(file, "DS:a-b:GAUGE:9:U:U", archive, overwrite=True))]
+        for text, call in calls:
+            with self.assertRaises(rrdi.Error) as raised:
+                call()
+            self.assertEqual(str(raised.exception), f"{file}: {text}")
 
     def test_times_of_other_commands(self: Any) -> None:
         file, late = self.fill(), 1_600_000_040_000

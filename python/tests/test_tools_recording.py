@@ -78,6 +78,7 @@ class Numbers(unittest.TestCase):
                 self.assertEqual(numbers.number_text(value), text)
         self.assertEqual((numbers.number_text(1_500, "B/s"), numbers.number_text(20, "%"), numbers.number_text(math.nan, "B")),
                          ("1.50 kB/s", "20.0 %", "-"))
+        self.assertEqual((numbers.number_text(1_234, "%"), numbers.number_text(0.005, "%")), ("1234 %", "0.00500 %"))
 
     def test_axes(self) -> None:
         """All marks of an axis have one prefix, and the axis has both ends."""
@@ -91,6 +92,7 @@ class Numbers(unittest.TestCase):
                 found = numbers.axis(low, high)
                 self.assertEqual([round(value, 9) for value in found.values], values)
                 self.assertEqual(" ".join(text.replace(" ", "_") for text in found.texts), texts)
+        self.assertEqual(numbers.axis(0, 900, "%").texts, ["0", "200 %", "400 %", "600 %", "800 %", "1000 %"])
 
 
 class Rows(unittest.TestCase):

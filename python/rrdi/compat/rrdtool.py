@@ -75,13 +75,13 @@ class _AsRrdtool:
 
     def __exit__(self, kind: object, error: Optional[BaseException], trace: object) -> None:
         if isinstance(error, ProgrammingError):
-            raise OperationalError(error.reason, error.path, error.fault) from None
+            raise OperationalError(error.reason, error.path, error.fault, detail=error.detail) from None
 
 
 def _change(command: str, words: Tuple[object, ...]) -> None:
     with _AsRrdtool():
         for name, file, *others in _translated(command, words):
-            commands.run_on(file, [name, *others])
+            commands.run_explained(file, [name, *others])
 
 
 # ---- Functions that rrdi has

@@ -7,11 +7,11 @@ from typing import Callable, Iterable, Iterator, List, Optional
 from ..importing.batch import batch_of
 from ..importing.dump import read_rrd
 from ..importing.whisper import read_whisper, whisper_batch
+from ..kinds import WHISPER_END
 from ..making import NewFile
 from ..words import in_one_line
 from . import program, rrdtool_program
 from .command_line import Failure
-from .kinds import WHISPER_END
 
 LONGEST_NOTE = 1_000  # characters
 

@@ -6,10 +6,10 @@ import locale
 import re
 from typing import List
 
+from ..kinds import is_of_rrdi
 from .answers import Printed, lines_of
 from .command_line import Failure
 from .exponents import exponent
-from .kinds import is_of_rrdi
 from .librrd import PREFIX, Exported, Info, Librrd
 from .rows import Rows, fetch
 

@@ -7,7 +7,7 @@ import difflib
 import re
 from typing import List, Optional, Sequence
 
-from .kinds import is_of_rrdtool, is_of_whisper
+from ..kinds import is_of_rrdtool, is_of_whisper
 
 OPTION = re.compile(r"(?<![\w-])(--?[a-zA-Z][\w-]*)")
 

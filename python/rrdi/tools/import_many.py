@@ -5,11 +5,11 @@ import os
 from typing import Iterator, List, NamedTuple, Optional
 
 from ..importing.dump import Refusal
+from ..kinds import WHISPER_END, is_of_rrdi
+from ..words import in_one_line
 from . import rrdtool_program
 from .command_line import Failure, Progress, error_text, say
-from ..words import in_one_line
 from .conversion import Conversion, kept_name, make, size_of, swap_in
-from .kinds import WHISPER_END, is_of_rrdi
 
 RRDTOOL_END, NEW_END = ".rrd", ".rrdi"
 
@@ -38,6 +38,13 @@ def found_below(tree: str) -> Iterator[OldFile]:
                 yield OldFile(path, os.path.relpath(path, tree))
 
 
+def links_below(tree: str) -> int:
+    """Counts the links below a directory that `found_below` passes over: those to directories, and those that have the
+    name of an old file."""
+    return sum(os.path.islink(os.path.join(folder, name)) for folder, folders, files in os.walk(tree)
+               for name in [*folders, *(name for name in files if name.endswith((RRDTOOL_END, WHISPER_END)))])
+
+
 def files_of(words: List[str]) -> List[OldFile]:
     """Returns the files that the arguments name.
 
@@ -49,7 +56,8 @@ def files_of(words: List[str]) -> List[OldFile]:
     for word in words:
         below = list(found_below(word)) if os.path.isdir(word) else [OldFile(word, os.path.basename(word))]
         if not below:
-            raise Failure(f"{word}: no file below it has a name that ends in {RRDTOOL_END} or {WHISPER_END}")
+            links = ", except links, which are passed over" if links_below(word) else ""
+            raise Failure(f"{word}: no file below it has a name that ends in {RRDTOOL_END} or {WHISPER_END}{links}")
         files += below
     return files
 
@@ -124,14 +132,16 @@ class Importer:
         swap_in(path, lines, before)
         return f"converted, the old file is {kept}{described(conversion)}"
 
-    def summary(self) -> str:
-        """Returns the last line."""
+    def summary(self, links: int) -> str:
+        """Returns the last line. So many links below directories were passed over."""
         count = self.converted + self.refused + self.passed_over
         parts = [f"{self.converted} converted" + (f", {self.incomplete} of them without all data sources" if self.incomplete else "")]
         if self.passed_over:
             parts.append(f"{self.passed_over} already of rrdi")
         if self.refused:
             parts.append(f"{self.refused} not converted")
+        if links:
+            parts.append(f"{counted(links, 'link')} passed over")
         return f"{count} {'file' if count == 1 else 'files'}: {'; '.join(parts)}"
 
 
@@ -159,5 +169,5 @@ def import_many(words: List[str], into: Optional[str], journal: Optional[str], t
     importer = Importer(into, journal, bar, tool)
     for file in files:
         importer.convert(file)
-    print(importer.summary())
+    print(importer.summary(sum(links_below(word) for word in words if os.path.isdir(word))))
     return 1 if importer.refused or importer.incomplete else 0

@@ -8,11 +8,12 @@ PREFIXES = {-2: "\u00b5", -1: "m", 0: "", 1: "k", 2: "M", 3: "G", 4: "T", 5: "P"
 PLAIN = 0.01  # smaller numbers get a prefix
 MARKS = 6
 ROUND = (1, 2, 2.5, 5, 10)
+BARE = ("%",)  # units that take no prefix
 
 
-def power_of(size: float) -> int:
+def power_of(size: float, unit: str = "") -> int:
     """Returns the power of 1,000 of the prefix that a number of this size gets."""
-    if size == 0 or PLAIN <= size < 1_000:
+    if size == 0 or PLAIN <= size < 1_000 or unit in BARE:
         return 0
     return min(max(math.floor(math.log10(size) / 3 + 1e-9), -2), 6)
 
@@ -26,8 +27,8 @@ def number_text(value: float, unit: str = "") -> str:
     """Returns a number with three digits and a prefix; unknown is a dash."""
     if math.isnan(value):
         return "-"
-    power = power_of(abs(value))
-    if round(abs(value) / 1_000**power) >= 1_000 and power < 6:
+    power = power_of(abs(value), unit)
+    if round(abs(value) / 1_000**power) >= 1_000 and power < 6 and unit not in BARE:
         power += 1
     scaled = value / 1_000**power
     whole = math.floor(math.log10(float(f"{abs(scaled):.2e}"))) if value else 2
@@ -51,7 +52,7 @@ def axis(low: float, high: float, unit: str = "") -> Axis:
     step = next(part * base for part in ROUND if part * base >= rough * (1 - 1e-9))
     first, last = math.floor(low / step + 1e-9), math.ceil(high / step - 1e-9)
     values = [number * step for number in range(first, last + 1)]
-    power = power_of(max(abs(values[0]), abs(values[-1])))
+    power = power_of(max(abs(values[0]), abs(values[-1])), unit)
     scaled = step / 1_000**power
     digits = next((digits for digits in range(7) if abs(round(scaled, digits) - scaled) < scaled / 1_000), 6)
     return Axis(values, [with_unit(f"{value / 1_000**power:.{digits}f}", power if value else 0, unit if value else "")

@@ -11,11 +11,11 @@ from ...compat.at_style import span
 from ...compat.resizing import resize_copy
 from ...compat.syntax import Untranslatable, read_length, read_options
 from ...compat.translate import Command, translate
+from ...kinds import is_of_rrdtool
 from ...limits import FUNCTIONS
 from ...printed import Settings
 from .. import program
 from ..command_line import Failure
-from ..kinds import is_of_rrdtool
 from ..program import CommandFailed
 from ..rows import Rows, fetch, rows_of
 from .texts import NewCell, fetch_text, info_text, last_update_text, update_text
@@ -56,12 +56,28 @@ def explaining(file: str) -> Iterator[None]:
         raise Failure(explain(file, str(failed))) from None
 
 
+def why_of(command: Command, reason: str) -> str:
+    """Returns what was wrong with a sample of a refused update, after a colon; nothing if that is not known."""
+    from ... import explaining  # here, since most commands succeed
+    from ...errors import error_of_line
+    name, file, *others = command
+
+    def ask(question: List[str]) -> str:
+        try:
+            return program.ask([question[0], file, *question[1:]])
+        except CommandFailed:
+            return ""
+    error = error_of_line(reason)
+    explaining.explain(error, [name, *others], ask)
+    return f": {error.detail}" if error.detail else ""
+
+
 def explain_update(command: Command, reason: str, now: int) -> str:
     """Returns the reason why an update was refused. If a sample is too old, programs look for RRDtool's text."""
     file = command[1]
     found = re.fullmatch(r"not later than (\d+)", reason)
     if found is None:
-        return explain(file, reason)
+        return explain(file, reason + why_of(command, reason))
     before = program.last(file)
     for sample in command[2:]:
         text = sample.split(":")[0]
