@@ -93,6 +93,7 @@ class Marked(DataCase):
         # A slot that is broken does not count, nor one after it: the file's own bytes do.
         whole = undone(OLD, OLD, pages(OLD))
         self.check(whole[:-1], OLD)
+        self.check(whole[:-1] + bytes([whole[-1] ^ 1]), OLD)
         tail = marks.tail_of(len(OLD))
         padded = whole.ljust(tail + marks.LONG + len(pages(OLD)) * (marks.SLOT_HEAD + PAGE), b"\0")
         self.check(padded + marks.slot(4 * PAGE, 900, b"not here"), OLD)
