@@ -168,7 +168,7 @@ enum rrdi_kind { RRDI_UNKNOWN, RRDI_WHOLE, RRDI_DECIMAL };
 struct rrdi_value {
     uint64_t units;         /* The number without its sign and its fraction. */
     uint32_t millionths;    /* The fraction: 0 to 999,999; RRDI_WHOLE has none. */
-    uint8_t kind;           /* enum rrdi_kind. */
+    uint8_t kind;           /* enum rrdi_kind; with RRDI_UNKNOWN no other field counts. */
     bool is_negative;       /* Whether the number is below 0. */
 };
 
@@ -176,7 +176,7 @@ struct rrdi_value {
  * fault is RRDI_BAD_WORD if a value is of no kind, or has a fraction that its kind does not have.
  *
  * time             in seconds since 1970.
- * values, count    one value for each data source, in the order of their definitions.
+ * values, count    one value for each data source, in the order of their definitions. No value at all is RRDI_REFUSED.
  * output           room for the text of the fault. */
 void rrdi_update_open(struct rrdi_file *file, uint64_t time, const struct rrdi_value *values, size_t count, uint8_t *output,
                       size_t output_room, struct rrdi_answer *answer) RRDI_NONNULL;
@@ -336,7 +336,8 @@ static inline struct rrdi_value rrdi_double(double number) {
     return value;
 }
 
-/* Returns the double nearest to a value, as strtod reads its text; or one that is not a number, for no value. */
+/* Returns the double nearest to a value, as strtod reads its text; or one that is not a number, for no value. With -ffast-math,
+ * x87 arithmetic or another mode of rounding than the nearest, the last bit may differ. */
 static inline double rrdi_to_double(struct rrdi_value value) {
     const uint64_t no_number = (uint64_t)2047 << 52 | (uint64_t)1 << 51;
     uint64_t units = value.units;
