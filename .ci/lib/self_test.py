@@ -4,11 +4,12 @@ from __future__ import annotations
 import shlex
 import subprocess
 import sys
+from contextlib import contextmanager
 from dataclasses import dataclass, field
 from pathlib import Path
-from typing import Sequence
+from typing import Iterator, Sequence
 
-from lib.tally import number_tried
+from lib.tally import Tally, number_tried
 
 
 def answering(folder: str | Path, name: str, status: int = 0, out: str = "", err: str = "", more: str = "") -> str:
@@ -16,6 +17,12 @@ def answering(folder: str | Path, name: str, status: int = 0, out: str = "", err
     path = Path(folder, name)
     path.write_text(f"#!/bin/sh\n{more}\nprintf %s {shlex.quote(out)}\nprintf %s {shlex.quote(err)} >&2\nexit {status}\n")
     path.chmod(0o755)
+    return str(path)
+
+
+def compiled(path: str | Path, source: str) -> str:
+    """Compiles a program in C, which may do what compilers warn of."""
+    subprocess.run(["cc", "-O0", "-w", "-x", "c", "-", "-o", path], input=source.strip(), text=True, check=True)
     return str(path)
 
 
@@ -31,6 +38,16 @@ class SelfTest:
         if not is_right:
             self.failed.append(what)
             print(f"{self.name}: {what}", flush=True)
+
+    @contextmanager
+    def judging(self, is_right: bool, what: object, tried: str = "", times: int = 0) -> Iterator[Tally]:
+        """Gives a tally to the judgements of the block, and checks that one of them rejects what is wrong, and none what
+        is right. With `tried`, something of this name must have been counted, and with `times` exactly so often."""
+        tally = Tally(is_quiet=True)
+        yield tally
+        count = tally.tried[tried]
+        is_tried = not tried or (count == times if times else count > 0)
+        self.want((tally.wrong == 0) == is_right and is_tried, f"{what}: {tally}")
 
     def fails(self, script: str | Path, *words: object) -> None:
         """Checks that the script, run with these arguments, fails: its status is not 0, and its last line says that

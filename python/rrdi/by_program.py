@@ -4,10 +4,10 @@ from __future__ import annotations
 import os
 from typing import Iterator, List, Tuple
 
-from .errors import OK, fault_of
+from .errors import ERROR, OK, fault_of
 from .protocol import DONE, Answer
+from .words import as_bytes, as_text
 
-ERROR = b"ERROR: "
 ONE_NUMBER = frozenset({b"first", b"last"})  # the commands that print a line with nothing but a number
 
 
@@ -55,13 +55,13 @@ class ByProgram:
         except OSError as error:
             raise NoAnswer(self.program, error.strerror or str(error)) from None
         # The lines after the first one say why FILE cannot be opened or written, or how rrdi is used.
-        reason = ran.stderr.decode(errors="surrogateescape").strip().split("\n")[0].replace("ERROR: ", "", 1)
+        reason = as_text(ran.stderr).strip().split("\n")[0].replace(ERROR, "", 1)
         if not reason:
             if ran.returncode not in ends:
                 raise NoAnswer(self.program, "", ran.returncode)
             return Answer(OK, 0, 0, ran.stdout)
         fault, at = fault_of(reason)
-        return Answer(fault, 0, at, reason.encode(errors="surrogateescape"))
+        return Answer(fault, 0, at, as_bytes(reason))
 
 
 def as_argument(path: bytes) -> bytes:
@@ -77,7 +77,7 @@ def of_lines(given: List[bytes], printed: bytes) -> Tuple[bytes, Tuple[int, ...]
         name = (line.split() or [b""])[0]
         found = output_of(name, lines)
         kept += found
-        if found and found[0].startswith(ERROR):
+        if found and found[0].startswith(ERROR.encode()):
             refused.append(number)
     return b"".join(kept), tuple(refused)
 
@@ -88,8 +88,8 @@ def output_of(name: bytes, lines: Iterator[bytes]) -> List[bytes]:
     if not name:
         next(lines, b"")
         return []
-    first = next(lines, ERROR + b"no result\n")
-    if first.startswith(ERROR) or name in ONE_NUMBER:
+    first = next(lines, b"ERROR: no result\n")
+    if first.startswith(ERROR.encode()) or name in ONE_NUMBER:
         next(lines, b"")
         return [first]
     found = []

@@ -28,16 +28,15 @@ from typing import Any, Callable, Dict, List, NamedTuple, Optional, Protocol, Se
 
 from .amounts import gauge_text
 from .commands import RefusedLine, batch
-from .errors import Damaged, Error, Usage
+from .errors import NO_FILE, Damaged, Error, Usage
 from .library import load_library
 from .making import make
 from .waiting import MOST_OF_A_FILE, newest, why
-from .words import in_one_line, line_of
+from .words import as_bytes, in_one_line, line_of
 
 FUNCTIONS = ("AVERAGE", "MIN", "MAX")
 SUFFIX, LONGEST_NAME = ".rrdi", 255
 LONGEST_SHOWN = 300  # characters of a name in a message
-NO_FILE = "no database"  # the reason of a refused sample if there is no file
 
 
 class Values(Protocol):
@@ -131,7 +130,7 @@ def file_of(folder: str, values: Values) -> Optional[str]:
     plugin = values.plugin + ("-" + values.plugin_instance if values.plugin_instance else "")
     kind = values.type + ("-" + values.type_instance if values.type_instance else "")
     parts = [safe_part(values.host), safe_part(plugin), safe_part(kind) + SUFFIX]
-    is_short = all(len(part.encode(errors="surrogateescape")) <= LONGEST_NAME for part in parts)
+    is_short = all(len(as_bytes(part)) <= LONGEST_NAME for part in parts)
     return os.path.join(folder, *parts) if is_short else None
 
 

@@ -5,7 +5,7 @@ import os
 from typing import List, NamedTuple, Optional, Sequence, Tuple
 
 from .commands import Batch, Lines, RefusedLine, batch, make_at, run_explained
-from .errors import REFUSED, Error, Exists, Refused, error_of_line
+from .errors import REFUSED, Error, Exists, Refused, error_of_line, reasons_in
 from .times import moment
 from .words import line_of
 
@@ -80,8 +80,7 @@ class Collected:
         output = self._run([line_of(words)])
         if len(self.refused) > before and self.refused[-1].number == self._count + 1:
             raise _explained(self.refused.pop().reason, words, self.path)
-        lines = output.splitlines()
-        return "\n".join(lines[sum(1 for line in lines if line.startswith("ERROR: ")):])
+        return "\n".join(output.splitlines()[len(reasons_in(output)):])
 
     def batch(self, lines: Lines) -> Batch:
         if self._waiting:

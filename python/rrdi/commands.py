@@ -23,13 +23,14 @@ import os
 from typing import Callable, Iterable, List, NamedTuple, Optional, Tuple, Type, TypeVar, Union, overload
 
 from .environment import is_synced, milliseconds
-from .errors import CANNOT_WRITE, NOT_OURS, OK, USAGE, Busy, Error, Exists, Refused, Unreadable, Usage, error_of, reason_of
+from .errors import (CANNOT_WRITE, NOT_OURS, OK, USAGE, Busy, Error, Exists, Refused, Unreadable, Usage, error_of, reason_of,
+                     reasons_in)
 from .fetching import fetched
 from .library import Answer, the_library
 from .results import AnyNumber, Info, LastUpdate, Table, Value, info_of, last_update
 from .samples import Sample, sample_words
 from .times import Span, Time, moment, span_word, time_word
-from .words import FilePath, Words, encoded, encoded_path, flat, options
+from .words import FilePath, Words, as_bytes, encoded, encoded_path, flat, options
 
 Filled = TypeVar("Filled")
 Lines = Union[str, Iterable[str]]
@@ -280,7 +281,7 @@ def lines_of(lines: Lines) -> List[str]:
 
 def text_of_lines(lines: List[str]) -> bytes:
     """Returns lines as a batch reads them."""
-    return "\n".join(lines).encode(errors="surrogateescape")
+    return as_bytes("\n".join(lines))
 
 
 def batch_of(lines: List[str], answer: Answer, path: FilePath) -> Batch:
@@ -295,11 +296,10 @@ def batch_of(lines: List[str], answer: Answer, path: FilePath) -> Batch:
 
 
 def refused_lines(lines: List[str], answer: Answer) -> Tuple[RefusedLine, ...]:
-    """Returns the refused lines of a batch. Each refused line printed one line with `ERROR: ` and its reason."""
+    """Returns the refused lines of a batch, each of which printed its reason."""
     if not answer.refused:
         return ()
-    printed = answer.output.decode(errors="replace").split("\n")
-    reasons = [line[len("ERROR: "):] for line in printed if line.startswith("ERROR: ")]
+    reasons = reasons_in(answer.output.decode(errors="replace"))
     return tuple(RefusedLine(number, lines[number - 1], reason) for number, reason in zip(answer.refused, reasons))
 
 

@@ -8,7 +8,7 @@ from typing import Callable, Iterator
 
 from .commands import last
 from .errors import TRUNCATED, VERSION, Damaged
-from .locks import EXCLUSIVE, locked
+from .locks import EXCLUSIVE, locked, state_of
 from .words import FilePath
 
 # An empty file may be one that another program has just made, and has not locked and filled yet.
@@ -49,7 +49,7 @@ def held(path: str, is_damaged: Callable[[str], bool]) -> Iterator[bool]:
     file = open_for_lock(path)
     try:
         with locked(file, EXCLUSIVE, 0):
-            yield state(before) == state(os.fstat(file)) == state(os.stat(path))
+            yield state_of(before) == state_of(os.fstat(file)) == state_of(os.stat(path))
     finally:
         os.close(file)
 
@@ -60,11 +60,6 @@ def open_for_lock(path: str) -> int:
         return os.open(path, os.O_RDWR | os.O_CLOEXEC)
     except PermissionError:
         return os.open(path, os.O_RDONLY | os.O_CLOEXEC)
-
-
-def state(found: os.stat_result) -> "tuple[int, int, int, int]":
-    """Returns which file it is, and what changes with its contents."""
-    return found.st_dev, found.st_ino, found.st_size, found.st_mtime_ns
 
 
 def set_aside(path: str, fault: Damaged) -> str:

@@ -8,12 +8,16 @@ from __future__ import annotations
 
 import errno
 import os
-from typing import Dict, Optional, Tuple, Type
+from typing import Dict, List, Optional, Tuple, Type
 
 # The library's numbers. docs/embedding.md has the table.
 OK, NO_ROOM, NO_MEMORY = 0, 1, 2
 USAGE, BAD_WORD, NO_DATABASE, REFUSED, CANNOT_OPEN, CANNOT_WRITE = 10, 11, 12, 13, 14, 15
 NOT_OURS, VERSION, TRUNCATED, BAD_BLOCK, BAD_ENTRY, TRAILING, READ_FAILED = 20, 21, 22, 23, 24, 25, 26
+# What the system says if another program holds a lock.
+LOCKED = frozenset({errno.EAGAIN, errno.EWOULDBLOCK})
+ERROR = "ERROR: "  # begins the line of a fault, and of a refused line of a batch; the reason follows
+NO_FILE = "no database"  # the reason of a refused line if there is no file
 
 
 class Error(Exception):
@@ -32,7 +36,7 @@ class Error(Exception):
         self.detail = detail
 
     def __str__(self) -> str:
-        if self.system_error in (errno.EAGAIN, errno.EWOULDBLOCK):
+        if self.system_error in LOCKED:
             why = f": {self.detail or 'another program holds its lock'}"
         else:
             why = f": {os.strerror(self.system_error)}" if self.system_error else ""
@@ -117,7 +121,7 @@ _KINDS: Dict[int, Type[Error]] = {
 
 # The library's numbers for the reasons that always have the same text, and for those that end with a number.
 _FAULTS: Dict[str, int] = {
-    "usage": USAGE, "no database": NO_DATABASE, "out of memory": NO_MEMORY, "cannot open": CANNOT_OPEN,
+    "usage": USAGE, NO_FILE: NO_DATABASE, "out of memory": NO_MEMORY, "cannot open": CANNOT_OPEN,
     "cannot write": CANNOT_WRITE, "file: not ours": NOT_OURS, "file: version": VERSION, "file: read failed": READ_FAILED}
 _WITH_NUMBER: Dict[str, int] = {
     "file: truncated at ": TRUNCATED, "file: bad block at ": BAD_BLOCK, "file: bad entry ": BAD_ENTRY,
@@ -131,6 +135,11 @@ def reason_of(fault: int, output: bytes) -> str:
     return _REASONS.get(fault) or output.decode(errors="replace").rstrip("\n")
 
 
+def reasons_in(output: str) -> List[str]:
+    """Returns the reasons of the refused lines from the output of a batch."""
+    return [line[len(ERROR):] for line in output.split("\n") if line.startswith(ERROR)]
+
+
 def fault_of(reason: str) -> Tuple[int, int]:
     """Returns the library's number for a reason that the program printed, and the number at which a file is damaged."""
     for begin, fault in _WITH_NUMBER.items():
@@ -142,7 +151,7 @@ def fault_of(reason: str) -> Tuple[int, int]:
 def error_of(fault: int, reason: str, path: Optional[str] = None, at: int = 0, system_error: int = 0) -> Error:
     """Returns the exception for one of the library's faults."""
     kind = _KINDS.get(fault, OperationalError)
-    if fault in (CANNOT_OPEN, CANNOT_WRITE) and system_error in (errno.EAGAIN, errno.EWOULDBLOCK):
+    if fault in (CANNOT_OPEN, CANNOT_WRITE) and system_error in LOCKED:
         kind = Busy
     elif fault == CANNOT_OPEN and system_error == errno.ENOENT:
         kind = NoDatabase

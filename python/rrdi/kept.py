@@ -6,7 +6,6 @@ rrdi.
 """
 from __future__ import annotations
 
-import errno
 import os
 import threading
 import weakref
@@ -14,26 +13,26 @@ from typing import List, Optional, Tuple
 
 from .commands import Batch, Lines, add_detail, batch_of, failed, lines_of, text_of_lines
 from .environment import is_synced, milliseconds
-from .errors import BAD_WORD, CANNOT_OPEN, OK, REFUSED, USAGE, Refused, Unreadable
+from .errors import BAD_WORD, CANNOT_OPEN, LOCKED, OK, REFUSED, USAGE, Refused, Unreadable
 from .library import the_library
+from .locks import identity_of
 from .protocol import Answer, OpenedFile
 from .times import Time, moment
 from .words import FilePath, encoded, encoded_path
 
 # After any other fault the file is closed, and the next command opens and reads it again.
 _HARMLESS = frozenset({OK, USAGE, BAD_WORD, REFUSED})
-_BUSY = (errno.EAGAIN, errno.EWOULDBLOCK)
 
 Identity = Tuple[int, int]  # the device and the inode
 
 
-def identity_of(path: bytes) -> Optional[Identity]:
+def identity_at(path: bytes) -> Optional[Identity]:
     """Returns which file has a name; None if no file has it."""
     try:
         found = os.stat(path)
     except OSError:
         return None
-    return found.st_dev, found.st_ino
+    return identity_of(found)
 
 
 class KeptFile:
@@ -104,19 +103,19 @@ class KeptFile:
         # Errors
         `Busy` if another program holds the lock.
         """
-        if self._opened is not None and identity_of(self._path) != self._identity:
+        if self._opened is not None and identity_at(self._path) != self._identity:
             self.close()
         if self._opened is None:
             self._open()
         return self._opened
 
     def _open(self) -> None:
-        before = identity_of(self._path)
+        before = identity_at(self._path)
         answer, opened = the_library().open(self._path, self._wait, self._syncs)
         if opened is None:
-            if answer.fault == CANNOT_OPEN and answer.system_error in _BUSY:
+            if answer.fault == CANNOT_OPEN and answer.system_error in LOCKED:
                 raise failed(answer, self.path)
-        elif identity_of(self._path) != before:  # another file has taken the name meanwhile
+        elif identity_at(self._path) != before:  # another file has taken the name meanwhile
             opened.close()
         else:
             self._opened, self._identity = opened, before
@@ -143,7 +142,7 @@ class _Forks:
 
     def has(self, path: bytes) -> bool:
         """Checks whether this program has a file open."""
-        identity = identity_of(path)
+        identity = identity_at(path)
         with self._guard:
             return any(file.has(identity) for file in self._files)
 

@@ -125,7 +125,7 @@ class CLibrary:
 
     def run(self, data: Optional[bytes], words: bytes, now: int) -> Answer:
         rooms, given = self.rooms, data or b""
-        answer, output, file = rooms.answer, rooms.output, rooms.file
+        output, file = rooms.output, rooms.file
         file.grow(len(given) + FIRST_ROOM)
         while True:
             self._run(data is not None, given, len(given), words, len(words), now, file.at, file.length, output.at,
@@ -135,7 +135,7 @@ class CLibrary:
 
     def batch(self, data: Optional[bytes], lines: bytes, now: int) -> Answer:
         rooms, given = self.rooms, data or b""
-        answer, output, file, refused = rooms.answer, rooms.output, rooms.file, rooms.refused
+        output, file, refused = rooms.output, rooms.file, rooms.refused
         file.grow(len(given) + FIRST_ROOM)
         refused.grow(8 * (lines.count(b"\n") + 1))
         while True:
@@ -143,7 +143,6 @@ class CLibrary:
                         output.length, refused.at, refused.length // 8, rooms.answer_at)
             if not _needs_room(rooms):
                 return _finished(rooms, refused, file)
-
 
     def open(self, path: bytes, wait: int, syncs: bool) -> Tuple[Answer, Optional[OpenedFile]]:
         rooms, opened = self.rooms, _OpenedByC(self)
@@ -233,13 +232,11 @@ def library_path() -> Optional[str]:
             path = os.path.join(folder, name)
             if os.path.isfile(path):
                 return path
-    for name in NAMES[:1]:
-        try:
-            ctypes.CDLL(name)
-        except OSError:
-            continue
-        return name
-    return None
+    try:
+        ctypes.CDLL(NAMES[0])
+    except OSError:
+        return None
+    return NAMES[0]
 
 
 def _folders() -> List[str]:

@@ -10,7 +10,7 @@ import fcntl
 import os
 import time
 from contextlib import contextmanager
-from typing import Iterator
+from typing import Iterator, Tuple
 
 SHARED, EXCLUSIVE = fcntl.LOCK_SH, fcntl.LOCK_EX
 FIRST_PAUSE, LONGEST_PAUSE = 0.001, 0.05  # seconds
@@ -18,6 +18,16 @@ OPENINGS = 100  # if another program replaces the file each time, while this one
 # What the system answers if the file system has no locks, as rrdi takes it. Any other error is one: after ENOLCK, for
 # example, another program may hold the lock.
 NO_LOCKS = frozenset({errno.ENOSYS, errno.EOPNOTSUPP, errno.ENOTSUP, errno.EINVAL})
+
+
+def identity_of(found: os.stat_result) -> Tuple[int, int]:
+    """Returns which file it is: its device and its inode."""
+    return found.st_dev, found.st_ino
+
+
+def state_of(found: os.stat_result) -> Tuple[int, ...]:
+    """Returns which file it is, and what changes with its contents."""
+    return (*identity_of(found), found.st_size, found.st_mtime_ns)
 
 
 def lock(file: int, kind: int, seconds: float) -> None:

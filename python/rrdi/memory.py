@@ -4,7 +4,7 @@ from __future__ import annotations
 import errno
 from typing import Iterable, NamedTuple, Optional, Tuple, Union
 
-from .commands import RefusedLine, lines_of, refused_lines
+from .commands import RefusedLine, lines_of, refused_lines, text_of_lines
 from .errors import CANNOT_OPEN, OK, Error, error_of, reason_of
 from .library import Answer, the_library
 from .samples import Sample, sample_words
@@ -65,7 +65,7 @@ def run_batch(data: Optional[bytes], lines: Union[str, Iterable[str]], *, now: O
     A subclass of `Error` in `rrdi.errors` if no line was run. A refused line is in `refused`.
     """
     given = lines_of(lines)
-    answer = the_library().batch(data, "\n".join(given).encode(errors="surrogateescape"), moment(now))
+    answer = the_library().batch(data, text_of_lines(given), moment(now))
     if answer.fault != OK:
         raise _failed(answer)
     changed = data if answer.data is None else answer.data

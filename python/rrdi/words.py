@@ -32,6 +32,15 @@ def encoded_path(path: FilePath) -> bytes:
     return found
 
 
+def as_bytes(text: str) -> bytes:
+    """Returns the bytes of a text. Bytes that were no UTF-8 when `as_text` read them are as they were."""
+    return text.encode(errors="surrogateescape")
+
+
+def as_text(data: bytes) -> str:
+    return data.decode(errors="surrogateescape")
+
+
 def flat(words: Iterable[Words]) -> List[str]:
     """Returns the words as text. Each element of a list or tuple is a word, as in Python's module `rrdtool`.
 

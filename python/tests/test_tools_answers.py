@@ -10,7 +10,7 @@ from typing import Dict, List
 from doubles import PROGRAM, TOP
 from tool_case import Ran, ToolCase
 
-from rrdi.tools.answers import Printed, guarded, plain, with_lengths
+from rrdi.tools.rrdtool_output import Printed, guarded, plain, with_lengths
 
 CC, PERL = shutil.which("cc"), shutil.which("perl")
 # Texts that read as the end of an answer, whole or in one of their lines. PRINT makes a line feed of %n.

@@ -13,7 +13,7 @@ from tool_case import NO_RRDTOOL, RRDTOOL, Ran, ToolCase
 
 from rrdi.tools import program
 from rrdi.tools import rows as rrdtool_rows
-from rrdi.tools.answers import Printed
+from rrdi.tools.rrdtool_output import Printed
 from rrdi.tools.command_line import Failure
 from rrdi.printed import Archive, Settings, Source
 from rrdi.tools.rrdtool.running import Commands, needed

@@ -5,7 +5,6 @@ import errno
 import fcntl
 import os
 import signal
-import subprocess
 import tempfile
 import unittest
 from pathlib import Path
@@ -13,6 +12,7 @@ from pathlib import Path
 from lib import between
 from lib.between import Change, Event
 from lib.program import KILLED, Program
+from lib.self_test import compiled
 
 SMALL = """
 #include <fcntl.h>
@@ -56,8 +56,7 @@ class Small(unittest.TestCase):
         folder = tempfile.TemporaryDirectory()
         self.addCleanup(folder.cleanup)
         self.folder = Path(folder.name)
-        subprocess.run(["cc", "-O0", "-w", "-x", "c", "-", "-o", self.folder / "small"], input=SMALL, text=True, check=True)
-        self.program, self.library = Program(str(self.folder / "small")), between.build(folder.name)
+        self.program, self.library = Program(compiled(self.folder / "small", SMALL)), between.build(folder.name)
         self.file = self.folder / "file"
 
     def told(self, **settings: object) -> str:
@@ -66,9 +65,8 @@ class Small(unittest.TestCase):
 
     def test_pauses(self) -> None:
         """An hour of pauses takes no time, and the log has each one; the numbers of the calls stay the same."""
-        subprocess.run(["cc", "-O0", "-w", "-x", "c", "-", "-o", self.folder / "pauses"], input=PAUSES, text=True, check=True)
         log = self.folder / "log"
-        answer = Program(str(self.folder / "pauses")).run([], env=between.settings(self.library, LOG=log, NO_PAUSES=1))
+        answer = Program(compiled(self.folder / "pauses", PAUSES)).run([], env=between.settings(self.library, LOG=log, NO_PAUSES=1))
         events = between.events_of(log)
         self.assertEqual((answer.status, answer.err), (0, "0 0 0"))
         self.assertEqual(between.pauses_of(events), [1_000_000_005, 3_600 * 10**9, 2_500_000_000])

@@ -9,6 +9,7 @@ from typing import Dict, List, Sequence, Tuple
 
 from ..amounts import WITH_EXPONENT
 from ..compat.syntax import read_number
+from ..errors import NO_FILE
 from ..making import make
 from .feeder import Feeder, FeedOptions
 from .rules import BadLine, Names
@@ -19,7 +20,6 @@ TIME = re.compile(rb"([0-9]+)(\.[0-9]*)?")
 NOW = (b"-1", b"N")
 AHEAD = 86_400  # seconds by which a time may be later than the present: later samples of the file would be refused
 LONGEST_WORD = 1_024  # bytes of a value or a time
-NO_FILE = "no database"  # the reason of a refused sample if there is no file
 
 
 def as_sample(value: bytes, moment: bytes) -> bytes:

@@ -6,7 +6,7 @@ from typing import List, NamedTuple, Protocol, Sequence, Tuple
 from ..by_program import NoAnswer
 from ..damaged import is_being_made
 from ..environment import is_synced, milliseconds
-from ..errors import CANNOT_OPEN, NO_MEMORY, OK, TRUNCATED, reason_of
+from ..errors import CANNOT_OPEN, NO_MEMORY, OK, TRUNCATED, reason_of, reasons_in
 from ..protocol import OnFiles
 from ..words import present
 
@@ -48,7 +48,7 @@ class BatchWriter:
             return Outcome(again=reason_of(answer.fault, answer.output))
         if answer.fault != OK:
             return Outcome(lost=reason_of(answer.fault, answer.output))
-        reasons = [text_of(line[len(b"ERROR: "):]) for line in answer.output.splitlines()]
+        reasons = reasons_in(text_of(answer.output))
         return Outcome(refused=tuple((samples[number - 1], why) for number, why in zip(answer.refused, reasons)))
 
     def create(self, file: bytes, arguments: Sequence[str]) -> str:

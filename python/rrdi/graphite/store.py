@@ -7,6 +7,7 @@ from typing import Callable, Dict, Iterable, List, Mapping, NamedTuple, Optional
 
 from ..commands import batch
 from ..errors import Error
+from ..locks import identity_of
 from ..making import make
 from ..reader.selected import Front, OpenFile
 from ..waiting import MOST_OF_A_FILE, MOST_OF_ALL, newest, why
@@ -140,10 +141,6 @@ class Store:
             tried = give(fresh, 0, lines, slots, {})
             return tried if os.path.exists(fresh) else Tried({}, {"refused": len(slots)}, tried.reason)
         return make(path, fill, makes_folder=True)
-
-
-def identity_of(found: os.stat_result) -> Tuple[int, int]:
-    return found.st_dev, found.st_ino
 
 
 def read_known(path: str) -> Known:

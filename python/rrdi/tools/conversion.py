@@ -8,6 +8,7 @@ from ..importing.batch import batch_of
 from ..importing.dump import read_rrd
 from ..importing.whisper import read_whisper, whisper_batch
 from ..kinds import WHISPER_END
+from ..locks import state_of
 from ..making import NewFile
 from ..words import in_one_line
 from . import program, rrdtool_program
@@ -111,8 +112,7 @@ def swap_in(old: str, lines: Iterable[str], before: os.stat_result) -> None:
         if (new.st_uid, new.st_gid) != (before.st_uid, before.st_gid):
             os.chown(made.unfinished, before.st_uid, before.st_gid)
         os.chmod(made.unfinished, before.st_mode & 0o7777)
-        now = os.stat(old)
-        if (now.st_ino, now.st_size, now.st_mtime_ns) != (before.st_ino, before.st_size, before.st_mtime_ns):
+        if state_of(os.stat(old)) != state_of(before):
             raise Failure("it changed while it was converted; first stop what records into it")
         kept = kept_name(old)
         try:

@@ -27,9 +27,9 @@ from __future__ import annotations
 import sys
 from typing import List
 
-from .answers import plain
 from .command_line import Tool, WrongArguments
 from .graphing import Grapher
+from .rrdtool_output import plain
 
 
 def draw(words: List[str]) -> int:

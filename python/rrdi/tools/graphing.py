@@ -7,11 +7,11 @@ import re
 from typing import List
 
 from ..kinds import is_of_rrdi
-from .answers import Printed, lines_of
 from .command_line import Failure
 from .exponents import exponent
 from .librrd import PREFIX, Exported, Info, Librrd
 from .rows import Rows, fetch
+from .rrdtool_output import Printed, lines_of
 
 
 def rewrite(word: str) -> str:

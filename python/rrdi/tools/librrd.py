@@ -9,6 +9,7 @@ import ctypes
 from typing import Any, Callable, List, NamedTuple, Optional, Tuple
 
 from ..limits import FUNCTIONS
+from ..words import as_bytes, as_text
 from .command_line import Failure
 from .rows import Rows
 
@@ -60,7 +61,7 @@ class Exported(NamedTuple):
 
 
 def text(data: Optional[bytes]) -> str:
-    return (data or b"").decode(errors="surrogateescape")
+    return as_text(data or b"")
 
 
 class Librrd:
@@ -132,7 +133,7 @@ class Librrd:
             return 0
         except BaseException as error:  # no exception may go through the library
             self.failure = error
-            self.library.rrd_set_error(b"%s", str(error).encode(errors="surrogateescape"))
+            self.library.rrd_set_error(b"%s", as_bytes(str(error)))
             return -1
 
     # ---- Calls
@@ -141,7 +142,7 @@ class Librrd:
         """Prepares a call; returns its arguments, which RRDtool may put in another order and write to."""
         self.question, self.failure = question, None
         self.library.rrd_clear_error()
-        given = [name.encode(), *(word.encode(errors="surrogateescape") for word in words)]
+        given = [name.encode(), *map(as_bytes, words)]
         self.copies = [ctypes.create_string_buffer(word) for word in given]
         return (ctypes.c_char_p * (len(given) + 1))(*(ctypes.addressof(copy) for copy in self.copies), None)
 

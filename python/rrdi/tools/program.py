@@ -10,25 +10,21 @@ from typing import TYPE_CHECKING, Callable, Iterable, Iterator, List
 from ..by_program import NoAnswer
 from ..choice import chosen, program_path
 from ..environment import milliseconds, sync_of_environment
-from ..errors import OK, reason_of
+from ..errors import OK, reason_of, reasons_in
 from ..limits import LONGEST_LINE
 from ..printed import Settings, settings_of
+from ..words import as_bytes, as_text
 from .command_line import Failure
 
 if TYPE_CHECKING:
     from ..protocol import Answer
 
-ERROR = "ERROR: "
 # A line of a batch has tabs and printable ASCII.
 OF_A_LINE = re.compile("[\t -~]*")
 
 
 class CommandFailed(Failure):
     """rrdi refused a command, or cannot run it; the text is its reason."""
-
-
-def as_bytes(text: str) -> bytes:
-    return text.encode(errors="surrogateescape")
 
 
 def answered(call: Callable[..., Answer], file: str, given: bytes) -> Answer:
@@ -64,16 +60,12 @@ def naming(file: str) -> Iterator[None]:
         raise CommandFailed(f"{file}: {failed}{why}") from None
 
 
-def text_of(answer: Answer) -> str:
-    return answer.output.decode(errors="surrogateescape")
-
-
 def ask(words: List[str]) -> str:
     """Runs a command of rrdi, with its file after its name, and returns its output. The errors are those of `answered`."""
     if any("\0" in word for word in words):
         raise Failure("an argument has a zero byte")
     name, file, *others = words
-    return text_of(answered(chosen().run_file, file, b"\0".join(map(as_bytes, [name, *others]))))
+    return as_text(answered(chosen().run_file, file, as_bytes("\0".join([name, *others]))).output)
 
 
 def batch(file: str, lines: Iterable[str]) -> List[str]:
@@ -87,12 +79,11 @@ def batch(file: str, lines: Iterable[str]) -> List[str]:
     for line in given:
         if len(line) > LONGEST_LINE or not OF_A_LINE.fullmatch(line):
             raise Failure(f"a line of a batch has a character that it cannot have, or is too long: {line[:60]!r}")
-    answer = answered(chosen().batch_file, file, as_bytes("".join(line + "\n" for line in given)))
-    printed = text_of(answer).splitlines()
-    for line in printed:
-        if line.startswith(ERROR):
-            raise CommandFailed(line[len(ERROR):])
-    return printed
+    printed = as_text(answered(chosen().batch_file, file, as_bytes("".join(line + "\n" for line in given))).output)
+    refused = reasons_in(printed)
+    if refused:
+        raise CommandFailed(refused[0])
+    return printed.splitlines()
 
 
 def last(file: str) -> int:

@@ -45,6 +45,7 @@ from functools import partial
 from typing import Callable, Dict, Iterator, List, NamedTuple
 
 from ..damaged import held, is_being_made
+from ..errors import TRAILING, TRUNCATED, fault_of
 from ..locks import EXCLUSIVE, close, lock
 from ..making import NewFile, make
 from ..reader.undo import MARK
@@ -100,8 +101,6 @@ def fill_for(numbers: List[Number]) -> Fill:
 
 # ---- Damaged files
 
-DAMAGED = ("truncated at ", "bad block at ", "bad entry ", "trailing at ")
-
 
 class Condition(NamedTuple):
     """The last time of a database, or how the database is damaged."""
@@ -120,12 +119,13 @@ def look(file: str) -> Condition:
     try:
         return Condition(program.last(file))
     except program.CommandFailed as failed:
-        _, _, damage = str(failed).partition("file: ")
-        if not damage.startswith(DAMAGED) or not has_mark(file):
-            raise Failure(f"{file}: {failed}") from None
-        if damage == "truncated at 0" and is_being_made(file):
-            raise Failure(f"{file}: {failed}; another program may be making the file") from None
-        return Condition(0, damage)
+        reason = str(failed)
+        fault, at = fault_of(reason)
+        if not TRUNCATED <= fault <= TRAILING or not has_mark(file):
+            raise Failure(f"{file}: {reason}") from None
+        if fault == TRUNCATED and at == 0 and is_being_made(file):
+            raise Failure(f"{file}: {reason}; another program may be making the file") from None
+        return Condition(0, reason.partition(": ")[2])
 
 
 def has_mark(file: str) -> bool:

@@ -43,9 +43,9 @@ from functools import lru_cache
 from typing import TYPE_CHECKING, List
 
 from .. import program
-from ..answers import Printed, lines_of, plain
 from ..command_line import Failure, Tool, WrongArguments, error_text, give_up_output
 from ..exponents import be_exact
+from ..rrdtool_output import Printed, lines_of, plain
 from .running import Commands, commands_for
 from .texts import VERSION
 

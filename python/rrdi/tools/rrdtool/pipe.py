@@ -5,8 +5,9 @@ import os
 import time
 from typing import BinaryIO, Callable, Dict, List
 
-from ..answers import Printed, guarded, lines_of, one_line, with_lengths
+from ...words import as_bytes, as_text
 from ..command_line import Failure, error_text
+from ..rrdtool_output import Printed, guarded, lines_of, one_line, with_lengths
 
 
 class Quit(Exception):
@@ -48,7 +49,7 @@ class Pipe:
     """Answers lines. `run` takes the name and the arguments of a command, and returns what the command prints.
 
     An answer has RRDtool's form: the output and a line with OK, or a line with ERROR. With `has_lengths` it has the form
-    that `answers.with_lengths` describes.
+    that `rrdtool_output.with_lengths` describes.
     """
 
     def __init__(self, run: Callable[[str, List[str]], Printed], usage: str, output: BinaryIO, has_lengths: bool = False):
@@ -62,7 +63,7 @@ class Pipe:
         """Answers lines up to `quit` or the end of the input."""
         for line in iter(lines.readline, b""):
             try:
-                self.answer(line.decode(errors="surrogateescape"))
+                self.answer(as_text(line))
             except Quit:
                 return
 
@@ -87,7 +88,7 @@ class Pipe:
     def refused(self, reason: str) -> bytes:
         if self.has_lengths:
             return with_lengths("ERROR", [reason])
-        return f"ERROR: {one_line(reason)}\n".encode(errors="surrogateescape")
+        return as_bytes(f"ERROR: {one_line(reason)}\n")
 
     def times(self) -> bytes:
         """Returns the line after a successful command: seconds in the program, in the system, and since the start."""
@@ -135,4 +136,4 @@ class Pipe:
 
     @staticmethod
     def print_directory(_words: List[str]) -> Printed:
-        return [os.fsencode(os.getcwd()).decode(errors="surrogateescape")]
+        return [as_text(os.getcwdb())]

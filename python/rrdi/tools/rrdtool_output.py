@@ -8,15 +8,13 @@ from __future__ import annotations
 
 from typing import List, Union
 
+from ..words import as_bytes
+
 # Texts, which are printed as lines, and bytes, which are a picture.
 Printed = List[Union[str, bytes]]
 
 # RRDp and others take a line that begins so for the end of an answer.
 ENDS = ("OK", "ERROR")
-
-
-def as_bytes(text: str) -> bytes:
-    return text.encode(errors="surrogateescape")
 
 
 def lines_of(text: str) -> Printed:
