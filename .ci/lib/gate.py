@@ -45,6 +45,8 @@ HANG = 300
 # The last line of `rt ci`: the numbers of passes and failures. And the last line of the tests of a crate.
 PASSED = re.compile(r"^(\d+) passed, 0 failed\b")
 TESTS = re.compile(r"^test result: ok\. (\d+) passed; 0 failed\b")
+# Tests that are proved and not run, in the same line.
+IGNORED = re.compile(r"^test result: .*; ([1-9]\d*) ignored\b")
 # How a line begins that says what a step left out.
 LEFT_OUT = "left out: "
 # What a word of a step stands for: the copy without planted bugs, and the workspace of the planted bugs.
@@ -97,10 +99,12 @@ def counted(step: Step, lines: list[str]) -> int:
 
 
 def left_out_in(lines: list[str]) -> list[str]:
-    """Returns what a step left out: the lines right before its last one say so."""
+    """Returns what a step left out: the lines right before its last one say so, and `rt ci` says how many tests of a crate
+    it ignored."""
     whole = lines[:-1]
     count = next((count for count, line in enumerate(reversed(whole)) if not line.startswith(LEFT_OUT)), len(whole))
-    return [line[len(LEFT_OUT):] for line in whole[len(whole) - count:]]
+    ignored = [f"{found[1]} tests are marked to be ignored" for found in map(IGNORED.search, lines) if found]
+    return ignored + [line[len(LEFT_OUT):] for line in whole[len(whole) - count:]]
 
 
 def passed_in(step: Step, lines: list[str]) -> int:
@@ -358,6 +362,8 @@ def self_test() -> int:
     _, lines, _ = gate(".ci/run-cases", out="left out: not this\nother\nleft out: one\nleft out: two\n91 batches: 0 wrong\n")
     told = ["left out: .ci/run-cases: one", "left out: .ci/run-cases: two", "212 passed, 0 failed"]
     test.want(lines[-3:] == told and "left out: .ci/run-cases: not this" not in lines, f"what was left out: {lines[-5:]}")
+    _, lines, _ = gate("rt", out=TEXTS["rt"].replace("0 ignored", "2 ignored"), more=BUILDS)
+    test.want(lines[-2:] == ["left out: rt ci: 2 tests are marked to be ignored", "212 passed, 0 failed"], f"ignored tests: {lines[-3:]}")
     for name in TEXTS:
         ended, lines, _ = gate(name, 1)
         test.want(ended == 1 and lines[-1].endswith(" 1 failed"), f"{name} fails: {lines[-3:]}")

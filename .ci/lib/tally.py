@@ -46,8 +46,10 @@ class Tally:
         self.left_out += other.left_out
 
     def line(self, first: str) -> str:
-        """Returns the last line: the number of `first`, then the others, then the number of wrong results."""
+        """Returns the last line: the number of `first`, then the others, how many lines before it say what was left out (if
+        any do), and the number of wrong results."""
         others = [f", {self.tried[name]} {name}" for name in self.tried if name != first]
+        others += [f", {len(self.left_out)} left out"] * bool(self.left_out)
         return f"{self.tried[first]} {first}{''.join(others)}: {self.wrong} wrong"
 
     def end(self, first: str) -> int:

@@ -10,8 +10,10 @@ import threading
 import time
 import traceback
 import unittest
+from contextlib import contextmanager
 from pathlib import Path
-from typing import Any, Callable, List, Optional
+from typing import Any, Callable, Iterator, List, Optional
+from unittest import mock
 
 from doubles import PROGRAM, Program, has_library
 from rrdi import library
@@ -68,6 +70,25 @@ def assert_ends(case: unittest.TestCase, work: Callable[[], object]) -> None:
             os._exit(1)
     _, status = os.waitpid(child, 0)
     case.assertEqual(status, 0, "the work did not end, or took too much memory")
+
+
+class ReadBytes:
+    """How many bytes were read of open files from positions on."""
+
+    count = 0
+
+
+@contextmanager
+def counted_reads() -> Iterator[ReadBytes]:
+    """Counts what is read by `os.pread`, by whatever function."""
+    pread, found = os.pread, ReadBytes()
+
+    def read_at(file: int, count: int, at: int) -> bytes:
+        data = pread(file, count, at)
+        found.count += len(data)
+        return data
+    with mock.patch("os.pread", read_at):
+        yield found
 
 
 def run_in_threads(count: int, work: Callable[[int], object]) -> None:

@@ -8,11 +8,11 @@ import re
 import struct
 import unittest
 from pathlib import Path
-from typing import List, Optional
+from typing import Callable, List, Optional
 from unittest import mock
 
 import graphite_doubles as graphite
-from cases import DataCase, assert_ends
+from cases import DataCase, assert_ends, counted_reads
 from rrdi import errors, reader
 from rrdi.compat import syntax
 from rrdi.compat.syntax import LONGEST_NUMBER, read_number
@@ -20,7 +20,6 @@ from rrdi.feeding import metrics
 from rrdi.feeding.rules import Names, read_rules, texts_of_stars
 from rrdi.graphite import finding
 from rrdi.importing.whisper import read_whisper, whisper_batch
-from rrdi.reader import undo
 from rrdi.reader.selected import OpenFile
 
 MANY = 1_000_000
@@ -154,52 +153,57 @@ class Whisper(DataCase):
 
 
 class Files(DataCase):
-    """Files with few bytes on the disk and a great length. What is counted is the bytes that are read."""
+    """Files with few bytes on the disk and a great length. What is counted is the bytes that are read; a child with little
+    memory reads them, since a reader may take a file whole in another way."""
 
     def setUp(self) -> None:
         super().setUp()
-        self.path, self.count = str(self.folder / "f.rrdi"), 0
+        self.path = str(self.folder / "f.rrdi")
 
     def write(self, data: bytes, length: int = GIGABYTES) -> None:
         Path(self.path).write_bytes(data)
         os.truncate(self.path, max(length, len(data)))
-        self.count = 0
 
-    def counting(self) -> "mock._patch[object]":
-        def read_at(file: int, at: int, count: int) -> bytes:
-            data = os.pread(file, count, at)
-            self.count += len(data)
-            return data
-        return mock.patch.object(undo, "read_at", read_at)
+    def reads_at_most(self, most: int, work: Callable[[], object]) -> None:
+        def read() -> None:
+            with counted_reads() as counted:
+                work()
+            self.assertTrue(0 < counted.count < most, f"{counted.count} bytes were read")
+        assert_ends(self, read)
 
     def test_a_journal(self) -> None:
-        entry = graphite.update_entry(120, 1)
-        self.write(graphite.file_bytes(130, entries=entry, count=16))
-        with self.counting(), OpenFile(self.path) as file:
-            self.assertEqual(list(file.times_before()), [120])
-        self.assertLess(self.count, 20_000)
-        # Only as many entries are read as are asked for, and none of their rows.
+        def times() -> None:
+            with OpenFile(self.path) as file:
+                self.assertEqual(list(file.times_before()), [120])
+        self.write(graphite.file_bytes(130, entries=graphite.update_entry(120, 1), count=16))
+        self.reads_at_most(20_000, times)
+
+    def test_only_the_entries_that_are_asked_for(self) -> None:
+        """Of many entries as many are read, and none of their rows."""
+        def newest() -> None:
+            with OpenFile(self.path) as file:
+                self.assertEqual(next(iter(file.times_before())), 10_000)
         entries = b"".join(graphite.update_entry(before, 1) for before in range(10_000, 0, -1))
         self.write(graphite.file_bytes(10_010, entries=entries, count=10_000, depth=10_000), 0)
-        with self.counting(), OpenFile(self.path) as file:
-            self.assertEqual(next(iter(file.times_before())), 10_000)
-        self.assertLess(self.count, 20_000)
+        self.reads_at_most(20_000, newest)
 
     def test_what_is_no_database(self) -> None:
+        def refused() -> None:
+            with self.assertRaises(errors.Damaged):
+                reader.read_file(self.path)
+            with self.assertRaises(errors.Damaged):
+                OpenFile(self.path).outline()
         for mark in (b"RRDX", b"RRDC", b"RRDc", b"RRDUndo\0" + bytes(8), b"RRDUndo\0" + b"\xff" * 8, b"RRDI\0\2", b""):
             self.write(mark)
-            with self.counting():
-                with self.assertRaises(errors.Damaged):
-                    reader.read_file(self.path)
-                with self.assertRaises(errors.Damaged):
-                    OpenFile(self.path).outline()
-            self.assertLess(self.count, 50_000, mark)
+            self.reads_at_most(50_000, refused)
 
     def test_a_database_with_a_tail(self) -> None:
+        def refused() -> None:
+            with self.assertRaises(errors.Damaged) as raised:
+                reader.read_file(self.path)
+            self.assertEqual(str(raised.exception), "file: trailing at 256")
         self.write(graphite.file_bytes(130))
-        with self.counting(), self.assertRaises(errors.Damaged) as raised:
-            reader.read_file(self.path)
-        self.assertEqual((str(raised.exception), self.count < 50_000), ("file: trailing at 256", True))
+        self.reads_at_most(50_000, refused)
 
 
 if __name__ == "__main__":

@@ -10,10 +10,11 @@ from typing import List, Tuple
 from unittest import mock
 
 import graphite_doubles as graphite
-from cases import DataCase, child_status, sleeping_child
+from cases import DataCase, child_status, counted_reads, sleeping_child
 from lib import marks
 from lib.marks import PAGE, pages, record
 from rrdi import errors, reader
+from rrdi.locks import SHARED, locked
 from rrdi.reader.files import opened
 from rrdi.reader.selected import OpenFile
 
@@ -138,16 +139,10 @@ class Marked(DataCase):
 
     def test_only_parts_are_read(self) -> None:
         """Of a marked file each slot is read once to be checked, and then what is asked for."""
-        data, count = undone(OLD, OLD, pages(OLD)) + bytes(300 * PAGE), [0]
-        self.path.write_bytes(data)
-
-        def read_at(file: int, at: int, size: int) -> bytes:
-            found = os.pread(file, size, at)
-            count[0] += len(found)
-            return found
-        with mock.patch("rrdi.reader.undo.read_at", read_at), OpenFile(str(self.path)) as file:
+        self.path.write_bytes(undone(OLD, OLD, pages(OLD)) + bytes(300 * PAGE))
+        with counted_reads() as read, OpenFile(str(self.path)) as file:
             file.rows(file.outline().archives[0], 130, 130)
-        self.assertLess(count[0], 10 * PAGE)
+        self.assertTrue(0 < read.count < 10 * PAGE, read.count)
 
 
 class Locks(DataCase):
@@ -160,6 +155,8 @@ class Locks(DataCase):
         """A child that was forked while a file was read does not keep others from changing it."""
         with OpenFile(self.path):
             children = [sleeping_child(self)]
+        with open(self.path, "rb") as file, locked(file.fileno(), SHARED, 0):
+            children.append(sleeping_child(self))
         with opened(self.path):
             children.append(sleeping_child(self))
 
@@ -170,7 +167,7 @@ class Locks(DataCase):
             reader.read_file(self.path)
         with open(self.path, "rb") as other:
             fcntl.flock(other, fcntl.LOCK_EX | fcntl.LOCK_NB)
-        self.assertEqual([child_status(child) for child in children], [None] * 3)
+        self.assertEqual([child_status(child) for child in children], [None] * 4)
 
     def test_a_file_that_is_replaced_meanwhile(self) -> None:
         """The lock of a file that has lost its name is worth nothing: the new file is read."""

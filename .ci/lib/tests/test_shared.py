@@ -30,7 +30,7 @@ class Tallies(unittest.TestCase):
         self.assertEqual(printed(tally.end, "runs"), (0, "3 runs, 1 lines: 0 wrong\n"))
         tally.leave_out("all that needs a disk")
         self.assertEqual(printed(tally.want, False, "a fault"), (False, "a fault\n"))
-        self.assertEqual(printed(tally.end, "runs"), (1, "left out: all that needs a disk\n3 runs, 1 lines: 1 wrong\n"))
+        self.assertEqual(printed(tally.end, "runs"), (1, "left out: all that needs a disk\n3 runs, 1 lines, 1 left out: 1 wrong\n"))
 
     def test_number_tried(self) -> None:
         self.assertEqual([number_tried(line) for line in ("12 runs: 0 wrong", "1,234 runs", "try-it: 7 checks, 0 failed", "no runs", "",
