@@ -74,7 +74,7 @@ LAST = Step((".ci/run-built", "--lacking"), 8)
 # What `rt ci` builds, and .ci/run-built tries.
 BUILT = re.compile(r"crates/(rrdi/out/rrdi|(tests_\w+)/out/\2_tests)")
 # Debian's packages of the tools that the scripts need, by the names of the tools.
-PACKAGES = {"strace": "strace", "cc": "gcc", "make": "make", "objcopy": "binutils"}
+PACKAGES = {"strace": "strace", "cc": "gcc", "make": "make", "objcopy": "binutils", "mypy": "mypy"}
 
 
 def install_tools() -> None:
