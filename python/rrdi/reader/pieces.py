@@ -38,6 +38,10 @@ def not_ours() -> Damaged:
     return Damaged("file: not ours", None, NOT_OURS)
 
 
+def truncated(at: int) -> Damaged:
+    return Damaged(f"file: truncated at {at}", None, TRUNCATED, at)
+
+
 class Reader:
     """Takes the pieces in their order, and checks each piece against the preceding pieces."""
 
@@ -47,7 +51,7 @@ class Reader:
     def take(self, spelling: str) -> Tuple[Any, ...]:
         size = struct.calcsize(spelling)
         if self.at + size > len(self.data):
-            raise Damaged(f"file: truncated at {len(self.data)}", None, TRUNCATED, len(self.data))
+            raise truncated(len(self.data))
         self.piece_at, self.at = self.at, self.at + size
         return struct.unpack(spelling, self.data[self.piece_at:self.at])
 
