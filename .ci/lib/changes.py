@@ -19,6 +19,7 @@ READERS = frozenset({"fetch", "last", "info"})
 # The numbers of rows of files of one page, of a few pages, and of many pages.
 PAGE, PAGES, MANY = 4, 1_000, 4_000
 LOCK_SH, LOCK_EX, LOCK_UN = 1, 2, 8
+SYNCS = ("fsync", "fdatasync")
 LAST_STREAM = 2
 # A change of many pages and of the length, which is interrupted before one of its last calls that change the file; and the
 # number of that call, counted from the end.

@@ -8,7 +8,7 @@ from typing import Iterable, NamedTuple, Sequence
 
 from lib import between
 from lib.between import Change
-from lib.changes import FILE, Place, Task, is_refused
+from lib.changes import FILE, SYNCS, Place, Task, is_refused
 from lib.power import WHOLE, Disk, Left
 from lib.program import KILLED, Answer, put
 from lib.tally import Tally
@@ -16,7 +16,6 @@ from lib.tally import Tally
 CUTS, SECOND = "files after a power cut", "files after a second power cut"
 AFTER_KILL, AFTER_SYNC = "files after a kill and a power cut", "files after a failed sync and a power cut"
 NEXT = Task("last", ("last", FILE))
-SYNCS = ("fsync", "fdatasync")
 # The number of failing calls of the same kind that follow a failed sync, if each later sync fails too.
 FOR_GOOD = 16
 

@@ -36,10 +36,11 @@ from pathlib import Path
 from typing import NamedTuple
 
 from lib import command_line, results
+from lib.library import LINKING
+from lib.program import TOP
 from lib.self_test import SelfTest, answering
-from lib.tally import number_tried
+from lib.tally import LEFT_OUT, number_tried
 
-TOP = Path(__file__).resolve().parent.parent.parent
 # The seconds after which a test of a step that ends hangs, also on a busy machine.
 HANG = 300
 # The last line of `rt ci`: the numbers of passes and failures. And the last line of the tests of a crate.
@@ -47,8 +48,6 @@ PASSED = re.compile(r"^(\d+) passed, 0 failed\b")
 TESTS = re.compile(r"^test result: ok\. (\d+) passed; 0 failed\b")
 # Tests that are proved and not run, in the same line.
 IGNORED = re.compile(r"^test result: .*; ([1-9]\d*) ignored\b")
-# How a line begins that says what a step left out.
-LEFT_OUT = "left out: "
 # What a word of a step stands for: the copy without planted bugs, and the workspace of the planted bugs.
 COPY, WORKSPACE = "COPY", "WORKSPACE"
 
@@ -67,7 +66,6 @@ class Step(NamedTuple):
 
 RT = Step(("rt", "ci"), 1, folder=COPY)
 BUGS = Step((".ci/try-planted-bugs", "--in", WORKSPACE), 150)
-LINKING = ("make", "cc", "ld", "objcopy")
 ROWS = ((RT,), (BUGS, Step(("library/build", WORKSPACE)), Step(("make", "record"), tools=LINKING)),
         (Step((".ci/self-tests",), 200), Step((".ci/run-cases",), 80)))
 LAST = Step((".ci/run-built", "--lacking"), 8)

@@ -13,6 +13,8 @@ from lib.program import TOP
 HERE = Path(__file__).resolve().parent
 # The archive that `library/build` leaves.
 ARCHIVE = TOP / "out/librrdi_c.a"
+# The tools that link the library of an archive, besides `rt`.
+LINKING = ("cc", "make", "ld", "objcopy")
 USAGE = TOP / "crates/rrd_store/src/usage.rt"
 EXPORTS = frozenset({"rrdi_run", "rrdi_batch", "rrdi_run_file", "rrdi_batch_file", "rrdi_open", "rrdi_run_open",
                      "rrdi_batch_open", "rrdi_update_open", "rrdi_fetch_open", "rrdi_close"})

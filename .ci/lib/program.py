@@ -12,6 +12,8 @@ from typing import Callable, Mapping, NamedTuple, Sequence
 TOP = Path(__file__).resolve().parent.parent.parent
 BUILT = TOP / "crates/rrdi/out/rrdi"
 TESTS = tuple(TOP / f"crates/{name}/out/{name}_tests" for name in ("tests_of_parts", "tests_of_database", "tests_of_program"))
+# The batches whose output is worked by hand.
+WORKED = TOP / "crates/rrdi/cases"
 # The maximum duration of a run in seconds.
 PATIENCE = 60
 # The status of a run that was killed.
@@ -28,6 +30,11 @@ class Answer(NamedTuple):
 def error(text: str) -> str:
     """Returns the line that reports a fault."""
     return f"ERROR: {text}\n"
+
+
+def status_of(printed: str) -> int:
+    """Returns the status of a batch that ran to its end, from what it printed: 1 if a line was refused."""
+    return int(any(line.startswith("ERROR: ") for line in printed.splitlines()))
 
 
 # The faults after which one more line gives the reason.

@@ -11,6 +11,8 @@ from lib import judgements
 
 # The maximum number of characters that are printed of one wrong result.
 MOST = 4_000
+# How a line begins that says what was left out.
+LEFT_OUT = "left out: "
 LOCK = Lock()
 
 
@@ -56,7 +58,7 @@ class Tally:
         """Prints what was left out and how much was tried. Returns 0 if something was tried and nothing went wrong, 1
         otherwise."""
         for what in self.left_out:
-            print(f"left out: {what}")
+            print(LEFT_OUT + what)
         print(self.line(first), flush=True)
         return 1 if self.wrong or not self.tried[first] else 0
 

@@ -59,9 +59,8 @@ def failed(answer: Answer, path: FilePath) -> Error:
         from .kept import is_open_here  # here, since most commands succeed
         error.detail = "this program has it open by rrdi.Database" if is_open_here(encoded_path(path)) else ""
     elif answer.fault == NOT_OURS:
-        from .kinds import is_of_rrdtool, is_of_whisper  # here, as above
-        file = os.fsdecode(path)
-        owner = "RRDtool" if is_of_rrdtool(file) else "whisper" if is_of_whisper(file) else ""
+        from .kinds import owner_of  # here, as above
+        owner = owner_of(os.fsdecode(path))
         error.detail = f"a file of {owner}; convert it with rrdi-import" if owner else ""
     return error
 

@@ -7,7 +7,7 @@ from typing import Callable, Dict, List, NamedTuple, Optional, Sequence
 from .amounts import LARGEST, gauge_text, shortened
 from .errors import Error, Refused, Unreadable, error_of_line
 from .fetching import take_option
-from .limits import LATEST
+from .limits import LATEST, NAME_OF_SOURCE, OF_A_NAME
 from .printed import Source, settings_of
 from .samples import LEAST, MOST, why_bad_time
 
@@ -18,7 +18,6 @@ AS_NUMBERS = "update also takes (time, value, ..) tuples of numbers, which it ro
 TIMES = {"create": [("-b", "--start")], "fetch": [("-s", "--start"), ("-e", "--end")]}
 # The options of a command that are no times.
 OTHERS = {"create": [("-s", "--step"), ("--journal", "--journal")], "fetch": [("-r", "--resolution")]}
-NAME = re.compile("[A-Za-z0-9_]{1,19}")
 DEFINITION = "DS:name:GAUGE|COUNTER|DERIVE|ABSOLUTE:heartbeat:min:max or RRA:AVERAGE|MIN|MAX|LAST:xff:steps:rows"
 WHOLE = "whole numbers without a point"
 
@@ -167,9 +166,8 @@ def _why_bad_word(words: Sequence[str], reason: str) -> str:
         return f"it is {quoted(others[number - 1])}, not {DEFINITION}" if number <= len(others) else ""
     if reason == "bad name":
         for number, word in enumerate(others, 1):
-            if word.startswith("DS:") and not NAME.fullmatch(word.split(":")[1]):
-                return (f"definition {number} has the name {quoted(word.split(':')[1])}; "
-                        "a name has 1 to 19 characters of a-z A-Z 0-9 _")
+            if word.startswith("DS:") and not re.fullmatch(NAME_OF_SOURCE, word.split(":")[1]):
+                return f"definition {number} has the name {quoted(word.split(':')[1])}; a name has {OF_A_NAME}"
     return ""
 
 

@@ -21,12 +21,10 @@ def is_of_rrdi(file: str) -> bool:
     return first_bytes(file) in RRDI_MARKS
 
 
-def is_of_rrdtool(file: str) -> bool:
-    """Checks whether a file is one of RRDtool's."""
-    return first_bytes(file) == RRDTOOL_MARK
-
-
-def is_of_whisper(file: str) -> bool:
-    """Checks whether a file is one of whisper's: by its name too, because a small number says little."""
+def owner_of(file: str) -> str:
+    """Returns the other program whose file it is: RRDtool, whisper, or nothing."""
     begin = first_bytes(file)
-    return file.endswith(WHISPER_END) and begin[:3] == b"\0\0\0" and 1 <= (begin[3:] or b"\0")[0] <= 8
+    if begin == RRDTOOL_MARK:
+        return "RRDtool"
+    is_method = begin[:3] == b"\0\0\0" and 1 <= (begin[3:] or b"\0")[0] <= 8
+    return "whisper" if is_method and file.endswith(WHISPER_END) else ""

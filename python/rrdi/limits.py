@@ -7,3 +7,5 @@ MOST_CHANGES = 100_000  # of a journal
 LONGEST_STEP = 1_000_000  # seconds
 LATEST = 9_999_999_999  # the latest time, and the longest heartbeat, in seconds
 LONGEST_LINE = 65_536  # bytes of a line of a batch
+OF_A_NAME = "1 to 19 characters of a-z A-Z 0-9 _"  # what the name of a data source has
+NAME_OF_SOURCE = "[a-zA-Z0-9_]{1,19}"  # the same as a regular expression

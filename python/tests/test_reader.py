@@ -57,6 +57,18 @@ class Reading(unittest.TestCase):
             self.assertEqual((str(raised.exception), raised.exception.fault, raised.exception.at), (text, fault, at))
             self.assertIs(rrdi.Fault, rrdi.Damaged)
 
+    def test_names_of_sources(self) -> None:
+        data = file_bytes()
+        at = data.index(b"\1g\0")
+        for field, is_right in ((b"\x13" + 19 * b"z", True), (b"\x14" + 19 * b"z", False), (b"\xff" + 19 * b"z", False),
+                                (bytes(20), False), (b"\1-".ljust(20, b"\0"), False), (b"\1g".ljust(20, b"h"), False)):
+            changed = data[:at] + field + data[at + 20:]
+            if is_right:
+                self.assertEqual(reader.read(changed)["sources"][0]["name"], 19 * "z")
+            else:
+                with self.assertRaisesRegex(rrdi.Damaged, f"bad block at {at}"):
+                    reader.read(changed)
+
     def test_the_deepest_journal(self) -> None:
         """Each version has its greatest depth, as docs/file-format.md says."""
         data = file_bytes()

@@ -181,9 +181,9 @@ class Layout(unittest.TestCase):
         new = layout.heads(2, ["g"], [4]) + 4 * layout.UNKNOWN
         self.assertEqual(len(new), 224)
         self.assertEqual(new[:6], b"RRDI\0\2")
-        first = layout.as_version_1(new)
+        first = layout.as_version(1, new)
         self.assertEqual((len(first), first[:6]), (220, b"RRDI\0\1"))
-        self.assertEqual(layout.as_version_2(first), new)
+        self.assertEqual(layout.as_version(2, first), new)
         self.assertEqual(first, layout.heads(1, ["g"], [4]) + 4 * layout.UNKNOWN)
         self.assertEqual([layout.size_of_header(version) for version in (1, 2)], [26, 30])
 

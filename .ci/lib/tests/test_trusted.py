@@ -6,7 +6,8 @@ import unittest
 from collections.abc import Iterator
 from pathlib import Path
 
-TOP = Path(__file__).resolve().parents[3]
+from lib.program import TOP
+
 PAGE = TOP / "docs" / "trust.md"
 # The traits whose implementations say what a file has, and of which a false one would prove anything.
 IMPLEMENTATION = re.compile(r"^impl\b.*\b(Bytes|Disk|Storage) for (\w+)", re.MULTILINE)

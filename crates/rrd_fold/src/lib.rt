@@ -4,14 +4,12 @@
 //! RRDtool names them `pdp_prep` and `cdp_prep`.
 #![tactic(auto)]
 
-mod consolidate;
 mod function;
 pub mod laws;
 mod row;
 mod step;
 mod summary;
 
-pub use consolidate::{Average, Consolidate, Greatest, Latest, Least};
 pub use function::Function;
 pub use row::RowPrep;
 pub use step::StepPrep;

@@ -1,4 +1,4 @@
-//! Worked values of steps and rows: through the bound of the trait, and by the preparations.
+//! Worked values of steps and rows.
 ghost use Rattle.std.specs.Prelude.{◌≡◌, ◌+◌, ◌*◌, ◌^◌, ◌<◌, ◌≤◌, ◌==◌, if◌then◌else◌, ◌+ℤ◌, pos, unsigned_abs};
 ghost use Rattle.rrd_fixed.specs.Rate.{top};
 ghost use Rattle.rrd_fold.specs.Additions as spec;
@@ -6,35 +6,40 @@ ghost use Rattle.rrd_fold.specs.Bounds.{IsBounded};
 ghost use Rattle.rrd_fold.specs.declared.function.Function.TheVariants as of;
 
 use rrd_fixed::{Cell, Meter};
-use rrd_fold::{Average, Consolidate, Function, Greatest, Latest, Least, RowPrep, StepPrep, laws};
+use rrd_fold::{Function, RowPrep, StepPrep, laws};
 
-// What four cells come to, the last one by `add_many`.
-fn of_four<C: Consolidate + Copy>(first: Cell, second: Cell, third: Cell, last: Cell) -> Cell
+// The row of four steps, of which all but one may be unknown. The last step is added by `add_many`.
+fn of_four(function: Function, first: Cell, second: Cell, third: Cell, last: Cell) -> Cell
     requires first { IsBounded first }
     requires second { IsBounded second }
     requires third { IsBounded third }
     requires last { IsBounded last }
 {
-    let mut cells = C::empty();
-    cells.add(first);
-    cells.add(second);
-    cells.add(third);
-    cells.add_many(last, 1);
-    cells.finish()
+    let mut meter = Meter::new();
+    let mut row = RowPrep::new(function);
+    row.add(first, &mut meter);
+    row.add(second, &mut meter);
+    row.add(third, &mut meter);
+    row.add_many(last, 1, &mut meter);
+    row.close(4, 750_000, &mut meter)
 }
 
-// What a cell comes to that is added three times, at once and one by one.
-fn three_times<C: Consolidate + Copy>(cell: Cell) -> (Cell, Cell)
+// The rows of three equal steps, which are added at once and one by one.
+fn three_times(function: Function, cell: Cell) -> (Cell, Cell)
     requires { IsBounded cell }
     ensures { result.0 ≡ result.1 }
 {
-    let mut at_once = C::empty();
-    at_once.add_many(cell, 3);
-    let mut one_by_one = C::empty();
-    one_by_one.add(cell);
-    one_by_one.add(cell);
-    one_by_one.add(cell);
-    (at_once.finish(), one_by_one.finish())
+    let mut meter = Meter::new();
+    let mut at_once = RowPrep::new(function);
+    at_once.add_many(cell, 3, &mut meter);
+    let mut one_by_one = RowPrep::new(function);
+    one_by_one.add(cell, &mut meter);
+    one_by_one.add(cell, &mut meter);
+    one_by_one.add(cell, &mut meter);
+    (
+        at_once.close(3, 0, &mut meter),
+        one_by_one.close(3, 0, &mut meter),
+    )
 }
 
 #[test]
@@ -45,19 +50,19 @@ fn four_functions(rt: HostRuntime) {
         Cell::Known(3_000_000),
     );
     let none = Cell::Unknown;
-    assert_eq!(rt; of_four::<Average>(three, none, one, two), two);
-    assert_eq!(rt; of_four::<Least>(three, none, one, two), one);
-    assert_eq!(rt; of_four::<Greatest>(one, none, three, two), three);
-    assert_eq!(rt; of_four::<Latest>(three, none, one, two), two);
-    assert_eq!(rt; of_four::<Latest>(three, one, two, none), two);
-    assert_eq!(rt; of_four::<Average>(none, none, none, none), none);
-    assert_eq!(rt; of_four::<Least>(none, none, none, none), none);
-    assert_eq!(rt; of_four::<Greatest>(none, none, none, none), none);
-    assert_eq!(rt; of_four::<Latest>(none, none, none, none), none);
-    assert_eq!(rt; three_times::<Average>(two), (two, two));
-    assert_eq!(rt; three_times::<Least>(two), (two, two));
-    assert_eq!(rt; three_times::<Greatest>(two), (two, two));
-    assert_eq!(rt; three_times::<Latest>(two), (two, two));
+    assert_eq!(rt; of_four(Function::Average, three, none, one, two), two);
+    assert_eq!(rt; of_four(Function::Min, three, none, one, two), one);
+    assert_eq!(rt; of_four(Function::Max, one, none, three, two), three);
+    assert_eq!(rt; of_four(Function::Last, three, none, one, two), two);
+    assert_eq!(rt; of_four(Function::Last, three, one, two, none), two);
+    assert_eq!(rt; of_four(Function::Average, none, none, none, none), none);
+    assert_eq!(rt; of_four(Function::Min, none, none, none, none), none);
+    assert_eq!(rt; of_four(Function::Max, none, none, none, none), none);
+    assert_eq!(rt; of_four(Function::Last, none, none, none, none), none);
+    assert_eq!(rt; three_times(Function::Average, two), (two, two));
+    assert_eq!(rt; three_times(Function::Min, two), (two, two));
+    assert_eq!(rt; three_times(Function::Max, two), (two, two));
+    assert_eq!(rt; three_times(Function::Last, two), (two, two));
 }
 
 #[test]
@@ -70,11 +75,23 @@ fn ties_go_upwards(rt: HostRuntime) {
     assert_eq!(rt; step.close(2, &mut meter), Cell::Known(-1));
     let none = Cell::Unknown;
     assert_eq!(rt;
-        of_four::<Average>(Cell::Known(-1), none, Cell::Known(-2), none),
+        of_four(
+            Function::Average,
+            Cell::Known(-1),
+            none,
+            Cell::Known(-2),
+            none
+        ),
         Cell::Known(-1)
     );
     assert_eq!(rt;
-        of_four::<Average>(Cell::Known(1), none, Cell::Known(2), none),
+        of_four(
+            Function::Average,
+            Cell::Known(1),
+            none,
+            Cell::Known(2),
+            none
+        ),
         Cell::Known(2)
     );
 }

@@ -5,7 +5,8 @@ import re
 from typing import Callable, Iterable, Iterator, Optional, Tuple
 
 from ..amounts import MILLION
-from ..limits import FUNCTIONS, LATEST, LONGEST_STEP, MOST_ARCHIVES, MOST_CELLS, MOST_ROWS, MOST_SOURCES, MOST_STEPS, TYPES
+from ..limits import (FUNCTIONS, LATEST, LONGEST_STEP, MOST_ARCHIVES, MOST_CELLS, MOST_ROWS, MOST_SOURCES, MOST_STEPS,
+                      NAME_OF_SOURCE, OF_A_NAME, TYPES)
 from .dump import RrdArchive, RrdFile, Refusal, RrdSource
 from .rounding import BOUND_LIMIT, Converter, as_text, raw_value
 from .plan import note_made_up_rows, plan
@@ -25,8 +26,8 @@ def choose_sources(old: RrdFile, note: Callable[[str], None]) -> list[RrdSource]
     for source in old.sources:
         if source.kind not in TYPES:
             note(f"skipped data source {source.name}: type {source.kind} is not supported")
-        elif not re.fullmatch(r"[a-zA-Z0-9_]{1,19}", source.name):
-            note(f"skipped data source {source.name}: a name in rrdi has 1 to 19 characters of a-z A-Z 0-9 _")
+        elif not re.fullmatch(NAME_OF_SOURCE, source.name):
+            note(f"skipped data source {source.name}: a name in rrdi has {OF_A_NAME}")
         else:
             chosen.append(source)
     if not chosen:

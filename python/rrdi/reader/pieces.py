@@ -1,18 +1,19 @@
 """The pieces of a file, in their order, as docs/file-format.md describes the bytes."""
 from __future__ import annotations
 
+import re
 import struct
 from typing import Any, Dict, List, Optional, Tuple, Union
 
 from ..amounts import MILLION, Millionths
 from ..errors import BAD_BLOCK, BAD_ENTRY, NOT_OURS, TRAILING, TRUNCATED, VERSION, Damaged
 from ..limits import (FUNCTIONS, LATEST, LONGEST_STEP, MOST_ARCHIVES, MOST_CELLS, MOST_CHANGES, MOST_ROWS, MOST_SOURCES,
-                      MOST_STEPS, TYPES)
+                      MOST_STEPS, NAME_OF_SOURCE, TYPES)
 from .undo import Stored
 
 Parts = Dict[str, Any]
 
-NAME = frozenset(b"abcdefghijklmnopqrstuvwxyzABCDEFGHIJKLMNOPQRSTUVWXYZ0123456789_")
+NAME = re.compile(NAME_OF_SOURCE.encode())
 TOP = (2**64 - 1) * MILLION  # the largest absolute value of a rate, a cell and a bound, in millionths
 UNKNOWN = -(2**127)  # the number that represents an unknown cell or raw value, and no bound
 
@@ -22,8 +23,8 @@ SETTINGS = "20sBQ16s16s16s"
 
 
 def is_name(field: bytes) -> bool:
-    length = field[0]
-    return 1 <= length <= 19 and set(field[1:1 + length]) <= NAME and not any(field[1 + length:])
+    end = 1 + field[0]
+    return end <= len(field) and NAME.fullmatch(field, 1, end) is not None and not any(field[end:])
 
 
 def amount(field: bytes) -> Millionths:
@@ -38,6 +39,10 @@ def not_ours() -> Damaged:
     return Damaged("file: not ours", None, NOT_OURS)
 
 
+def truncated(at: int) -> Damaged:
+    return Damaged(f"file: truncated at {at}", None, TRUNCATED, at)
+
+
 class Reader:
     """Takes the pieces in their order, and checks each piece against the preceding pieces."""
 
@@ -47,7 +52,7 @@ class Reader:
     def take(self, spelling: str) -> Tuple[Any, ...]:
         size = struct.calcsize(spelling)
         if self.at + size > len(self.data):
-            raise Damaged(f"file: truncated at {len(self.data)}", None, TRUNCATED, len(self.data))
+            raise truncated(len(self.data))
         self.piece_at, self.at = self.at, self.at + size
         return struct.unpack(spelling, self.data[self.piece_at:self.at])
 

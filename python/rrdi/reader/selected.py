@@ -10,10 +10,10 @@ from types import TracebackType
 from typing import Dict, Iterator, List, NamedTuple, Optional, Tuple, Type
 
 from ..amounts import Millionths
-from ..errors import TRUNCATED, Damaged
+from ..errors import Damaged
 from ..locks import SHARED, close, open_locked
 from .files import patience
-from .pieces import UNKNOWN, VERSIONS, Parts, Reader, not_ours
+from .pieces import UNKNOWN, VERSIONS, Parts, Reader, not_ours, truncated
 from .undo import MARK, Stored
 
 VERSION_END = 6  # the bytes before the header
@@ -145,12 +145,12 @@ class OpenFile:
 
     def _check_end(self, at: int) -> None:
         if at > len(self._stored):
-            raise _truncated(len(self._stored))
+            raise truncated(len(self._stored))
 
     def _part(self, at: int, length: int) -> bytes:
         data = self._stored[at:at + length]
         if len(data) < length:
-            raise _truncated(len(self._stored))
+            raise truncated(len(self._stored))
         return data
 
     def _taken_outline(self, reader: Reader) -> Parts:
@@ -169,7 +169,7 @@ class OpenFile:
             reader.at = VERSION_END
             return Front(*reader.take(VERSIONS[begin[5]][0]))
         self._taken_outline(Reader(self._stored))
-        raise _truncated(len(self._stored))
+        raise truncated(len(self._stored))
 
     def _read_outline(self) -> Outline:
         reader, front = Reader(self._stored), self.front
@@ -182,10 +182,6 @@ class OpenFile:
             at += CELL * front.sources * rows
         return Outline(front.step, front.last, tuple(source["name"] for source in found["sources"]),
                        tuple((source["known_seconds"], source["sum"]) for source in found["sources"]), tuple(archives), at)
-
-
-def _truncated(at: int) -> Damaged:
-    return Damaged(f"file: truncated at {at}", None, TRUNCATED, at)
 
 
 def _cells(data: bytes) -> Iterator[Optional[Millionths]]:

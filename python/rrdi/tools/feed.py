@@ -132,19 +132,16 @@ class Explaining:
 
 
 def feeder_of(arguments: FeedArguments) -> Feeder:
-    feeder = made_feeder(arguments)
-    feeder.explain = Explaining().why
-    return feeder
-
-
-def made_feeder(arguments: FeedArguments) -> Feeder:
     writer, name = BatchWriter(chosen()), called_name(TOOL)
     if arguments.directory is None:
-        return Feeder(arguments.options, writer, name)
-    if not os.path.isdir(arguments.directory):
+        feeder = Feeder(arguments.options, writer, name)
+    elif os.path.isdir(arguments.directory):
+        names = Names(os.fsencode(os.path.abspath(arguments.directory)), rules_of(arguments.rules, writer))
+        feeder = MetricFeeder(arguments.options, writer, names, name)
+    else:
         raise Failure(f"{arguments.directory} is not a directory")
-    names = Names(os.fsencode(os.path.abspath(arguments.directory)), rules_of(arguments.rules, writer))
-    return MetricFeeder(arguments.options, writer, names, name)
+    feeder.explain = Explaining().why
+    return feeder
 
 
 def feed(words: List[str]) -> int:

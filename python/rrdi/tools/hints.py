@@ -7,7 +7,7 @@ import difflib
 import re
 from typing import List, Optional, Sequence
 
-from ..kinds import is_of_rrdtool, is_of_whisper
+from ..kinds import owner_of
 
 OPTION = re.compile(r"(?<![\w-])(--?[a-zA-Z][\w-]*)")
 
@@ -33,7 +33,7 @@ def option_hint(words: List[str], help_text: str) -> str:
 def file_hint(words: List[str]) -> str:
     """Returns which of a tool's files rrdi-import can convert; nothing if it can convert none."""
     for word in words:
-        for program, is_of in (("RRDtool", is_of_rrdtool), ("whisper", is_of_whisper)):
-            if is_of(word):
-                return f"{word} is a file of {program}; convert it: rrdi-import {word} NEW.rrdi"
+        owner = owner_of(word)
+        if owner:
+            return f"{word} is a file of {owner}; convert it: rrdi-import {word} NEW.rrdi"
     return ""

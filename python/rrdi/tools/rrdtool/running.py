@@ -11,7 +11,7 @@ from ...compat.at_style import span
 from ...compat.resizing import resize_copy
 from ...compat.syntax import Untranslatable, read_length, read_options
 from ...compat.translate import Command, translate
-from ...kinds import is_of_rrdtool
+from ...kinds import owner_of
 from ...limits import FUNCTIONS
 from ...printed import Settings
 from .. import program
@@ -42,7 +42,7 @@ def explain(file: str, reason: str) -> str:
     """Returns an error of rrdi in RRDtool's form, if programs look for RRDtool's text."""
     if not os.path.exists(file):
         return f"opening '{file}': No such file or directory"
-    if reason == "file: not ours" and is_of_rrdtool(file):
+    if reason == "file: not ours" and owner_of(file) == "RRDtool":
         return f"'{file}' is a file of RRDtool; move it with rrdi-import"
     return f"{file}: {reason}"
 
