@@ -195,10 +195,11 @@ class Limits(unittest.TestCase):
         def tune(changed: Sequence[Tuple[int, bytes]]) -> bytes:
             return TUNE + struct.pack(">H", len(changed)) + b"".join(struct.pack(">H", number) + one for number, one in changed)
         same = [(number, settings(name)) for number, name in enumerate(names)]
-        for changed, is_right in ((same[:5], True), (same, False), ([], False), (same[5:], True), ([(6, settings(b"x"))], False),
-                                  ([same[1], same[0]], False), ([same[1], same[1]], False), ([(5, settings(names[0]))], False),
-                                  ([(0, settings(names[1])), (1, settings(names[0]))], True), ([(0, settings(heartbeat=0))], False),
-                                  ([(0, settings(kind=COUNTER, raw=-1))], False)):
+        tried: List[Tuple[Sequence[Tuple[int, bytes]], bool]] = [
+            (same[:5], True), (same, False), ([], False), (same[5:], True), ([(6, settings(b"x"))], False), ([same[1], same[0]], False),
+            ([same[1], same[1]], False), ([(5, settings(names[0]))], False), ([(0, settings(names[1])), (1, settings(names[0]))], True),
+            ([(0, settings(heartbeat=0))], False), ([(0, settings(kind=COUNTER, raw=-1))], False)]
+        for changed, is_right in tried:
             self.check_entry(is_right, tune(changed), six)
 
     def test_resizes(self) -> None:
