@@ -259,6 +259,8 @@ class Batches(unittest.TestCase):
         # 0.29 of 100 is less than 29 in floating point.
         self.assertEqual(share_of(archive(0, "AVERAGE", 100, [], 0.29)), "0.289999")
         self.assertEqual(share_of(archive(0, "AVERAGE", 100, [], 0.5)), "0.5")
+        # A third of 3 is 1 there, and 0.333333 of 3 would be 0.
+        self.assertEqual(share_of(archive(0, "AVERAGE", 3, [], 1 / 3)), "0.333334")
 
     def test_equal_rates_are_one_sample(self) -> None:
         self.assertEqual(list(merge([[(10, 1), (30, 2)], [(10, 5), (20, 6), (30, 6)]])), [(10, (1, 5)), (30, (2, 6))])
