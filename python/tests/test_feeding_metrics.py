@@ -79,6 +79,9 @@ class Rules(unittest.TestCase):
             self.assertEqual(self.refusal(EACH_NAME, name), "the file of this name has too long a name")
         self.assertEqual(self.refusal("** x/**/y", "a" * 256), "the file of this name has too long a name")
         self.assertEqual(self.refusal(EACH_NAME, "a" * 1_025), "the name has over 1024 bytes")
+        longest, rule = ".".join(["x" * 204] * 5), "*.*.*.*.* */*/*/*/*.rrdi"
+        self.assertEqual(self.file(rule, longest), f"/d/{longest.replace('.', '/')}.rrdi")
+        self.assertEqual(self.refusal(rule, longest + "x"), "the name has over 1024 bytes")
         self.assertEqual(self.refusal("** " + "x/" * 1_950 + "**", "a" * 240), "the file of this name has too long a name")
 
     def test_bad_rules(self) -> None:

@@ -14,6 +14,7 @@ from rrdi.graphite.layout import archives_of, check_retentions, method_of, templ
 from rrdi.graphite.losses import KINDS, LINES, Losses
 from rrdi.graphite.names import metric_of, path_of
 from rrdi.graphite.slots import lines_of, sort_points
+from rrdi.limits import LATEST
 from rrdi.reader.selected import OpenFile
 
 WRONG_NAMES = ["", ".", "..", "a..b", ".a", "a.", "../../up", "a/b", "/etc/passwd", "a.b/../../c", "a\0b", "x" * 300,
@@ -98,6 +99,11 @@ class Slots(unittest.TestCase):
         slots, left_out = sort_points(points, 10, 1_000)
         self.assertEqual(slots, {10: "7.000000"})
         self.assertEqual(dict(left_out), {"value": 5, "time": 4, "future": 3})
+
+    def test_the_latest_time(self) -> None:
+        """No slot ends after the latest time of a database, whatever the clock says."""
+        slots, left_out = sort_points([(LATEST - 10, 1), (LATEST - 9, 2), (LATEST, 3)], 10, 1e12)
+        self.assertEqual((slots, left_out), ({LATEST - 9: "1.000000"}, {"future": 2}))
 
     def test_values(self) -> None:
         for value, text in ((1.5e3, "1500.000000"), (4.9e-7, "0.000000"), (-1e-9, "0"), (-12.3456789, "-12.345679"),

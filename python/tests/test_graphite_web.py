@@ -136,7 +136,8 @@ class Reading(FolderCase):
 
     def test_spans(self) -> None:
         for start, end, expected in ((NOW + 1, NOW + 100, None), (NOW - 10, NOW - 20, None),
-                                     (NOW - 10_000, NOW - 5_000, None), (NOW - 10_000, NOW, (NOW - 540, NOW + 60, 60)),
+                                     (NOW - 10_000, NOW - 5_000, None), (NOW - 10_000, NOW - 601, None),
+                                     (NOW - 10_000, NOW - 600, (NOW - 540, NOW - 480, 60)), (NOW - 10_000, NOW, (NOW - 540, NOW + 60, 60)),
                                      (NOW - 10, NOW + 10_000, (NOW, NOW + 10, 10)), (NOW - 5, NOW - 5, (NOW, NOW + 10, 10))):
             found = self.series(self.file(), start, end)
             self.assertEqual(found[:3] if found else None, expected, (start - NOW, end - NOW))

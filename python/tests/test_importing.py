@@ -250,6 +250,28 @@ class Batches(unittest.TestCase):
         self.assertEqual(lines[-1], "tune --heartbeat s0:9999999999 --data-source-type s0:COUNTER")
         self.assertEqual(update_words(lines), ["980:0", "990:U", "1000:1"])
 
+    def test_as_much_as_rrdi_takes(self) -> None:
+        """As many sources, archives and cells as there may be, the longest step and the latest time, and the largest bounds."""
+        many = [source(column=at) for at in range(64)]
+        rows = [RrdArchive(at, "MAX", 1, 0.5, [NAN] * 64, [0] * 64, array("d", [1.0] * 64), 64) for at in range(128)]
+        batch = RrdBatch(RrdFile(1_000_000, 9_999_999_999, many, rows), None, print)
+        self.assertEqual((len(batch.sources), len(batch.archives)), (64, 128))
+        eight = RrdArchive(0, "MAX", 1, 0.5, [NAN] * 8, [0] * 8, array("d", bytes(8 * 8 * 1_000_000)), 8)
+        self.assertEqual(RrdBatch(RrdFile(10, 10_000_000, many[:8], [eight]), None, print).archives, [eight])
+        bounded = source(minimum=-1.5e19, maximum=float(2**64 - 2**11))
+        lines, notes = self.lines(RrdFile(10, 1000, [bounded], [archive(0, "AVERAGE", 1, [1.0])]))
+        self.assertEqual((lines[-1], notes), ("tune --heartbeat s0:99 --minimum s0:-15000000000000000000 "
+                                              "--maximum s0:18446744073709549568", []))
+        bounded = source(minimum=-2.0**64, maximum=2.0**64)
+        lines, notes = self.lines(RrdFile(10, 1000, [bounded], [archive(0, "AVERAGE", 1, [1.0])]))
+        self.assertEqual((lines[-1], notes), ("tune --heartbeat s0:99", ["numbers that are too large for rrdi became unknown, or no bound"]))
+
+    def test_an_unfinished_step_of_which_one_source_knows_nothing(self) -> None:
+        sources = [source(unknown_seconds=5), source(column=1, unknown_seconds=2, partial_sum=6.0), source(column=2, partial_sum=5.0)]
+        rows = [RrdArchive(0, "AVERAGE", 1, 0.5, [NAN] * 3, [0] * 3, array("d", [1.0] * 3), 3)]
+        lines, _ = self.lines(RrdFile(10, 1005, sources, rows))
+        self.assertEqual(update_words(lines), ["1000:1:1:1", "1002:U:U:1", "1005:U:2:1"])
+
     def test_rows_of_other_functions_are_noted(self) -> None:
         archives = [archive(0, "AVERAGE", 3, [2.0] * 9), archive(1, "MAX", 6, [3.0] * 4)]
         _, notes = self.lines(RrdFile(10, 1200, [source()], archives))
@@ -259,6 +281,8 @@ class Batches(unittest.TestCase):
         # 0.29 of 100 is less than 29 in floating point.
         self.assertEqual(share_of(archive(0, "AVERAGE", 100, [], 0.29)), "0.289999")
         self.assertEqual(share_of(archive(0, "AVERAGE", 100, [], 0.5)), "0.5")
+        # A third of 3 is 1 there, and 0.333333 of 3 would be 0.
+        self.assertEqual(share_of(archive(0, "AVERAGE", 3, [], 1 / 3)), "0.333334")
 
     def test_equal_rates_are_one_sample(self) -> None:
         self.assertEqual(list(merge([[(10, 1), (30, 2)], [(10, 5), (20, 6), (30, 6)]])), [(10, (1, 5)), (30, (2, 6))])

@@ -91,7 +91,10 @@ class Marked(DataCase):
         # The later slot of two counts, and slots need not be pages.
         self.check(undone(OLD, OLD, [(16, b"x" * 100), (16, OLD[16:300])]), OLD)
         self.check(undone(OLD, OLD[:20] + b"x" * 300 + OLD[320:], [(19, OLD[19:200]), (150, OLD[150:400])]), OLD)
-        # A slot that is broken does not count, nor one after it: the file's own bytes do.
+        # A slot that is broken does not count, nor one after it: the file's own bytes do. One with bytes of the mark is broken.
+        other = graphite.file_bytes(140)
+        for place, wanted in ((15, SMALL), (16, other)):
+            self.check(undone(SMALL, SMALL, [(place, other[place:])]), wanted)
         whole = undone(OLD, OLD, pages(OLD))
         self.check(whole[:-1], OLD)
         self.check(whole[:-1] + bytes([whole[-1] ^ 1]), OLD)

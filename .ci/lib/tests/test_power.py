@@ -5,7 +5,9 @@ import random
 import unittest
 
 from lib.between import Change
+from lib.cuts import Found, Wanted
 from lib.power import MOST_LENGTHS, MOST_SUBSETS, PAGE, Disk, Part, subsets
+from lib.program import KILLED, Answer, error
 
 SYNC, UNSYNCED = Change("fsync"), Change("unsynced")
 
@@ -75,3 +77,16 @@ class Disks(unittest.TestCase):
         self.assertEqual(Part(4, bytes(8)).tears(random.Random(1), 16), [])
         self.assertTrue(Part(0, bytes(64)).tears(random.Random(1), 16))
         self.assertEqual(Part(0, bytes(64)).tears(random.Random(1), 64), [])
+
+
+class Judging(unittest.TestCase):
+    """What the next command may find: a refusal is one only if the program reports it."""
+
+    def test_found(self) -> None:
+        refusals = Answer(1, "", error("file: not ours")), Answer(1, "", error("cannot open"))
+        others = Answer(2, "", error("usage")), Answer(KILLED), Answer(-11), Answer(1), Answer(1, "7\n", error("file: not ours")), Answer("no end")
+        for may_be_refused in (True, False):
+            wanted = Wanted((b"new",), may_be_refused)
+            self.assertEqual([wanted.has(Found(Answer(0), held)) for held in (b"new", b"old", None)], [True, False, False])
+            for answer in (*refusals, *others):
+                self.assertEqual(wanted.has(Found(answer, b"new")), may_be_refused and answer in refusals, answer)
