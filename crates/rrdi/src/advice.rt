@@ -1,5 +1,6 @@
 //! What a report adds to a refusal: which of the arguments is wrong, and what to write instead.
 use crate::arguments::OptionName;
+use crate::objection::Objection;
 use crate::samples::SampleFault;
 use crate::shown::{Quoted, Shown};
 use rrd_spec::limits::MAX_TIME;
@@ -92,6 +93,8 @@ pub(crate) enum Advice<'a> {
         file: &'a str,
         program: &'static str,
     },
+    /// The command can be read, and is not allowed.
+    Refused(Objection<'a>),
 }
 
 // Writes the option or the command that was meant, if there is one.
@@ -170,6 +173,7 @@ impl<'a> Display for Advice<'a> {
             }
             Advice::Count(count) => write!(f, "{count}"),
             Advice::OtherProgram { file, program } => write_program(file, program, f),
+            Advice::Refused(objection) => write!(f, "{objection}"),
         }
     }
 }
