@@ -1,5 +1,6 @@
 //! What a report adds to a refusal: which of the arguments is wrong, and what to write instead.
 use crate::arguments::OptionName;
+use crate::front::{Front, Names};
 use crate::objection::Objection;
 use crate::samples::SampleFault;
 use crate::shown::{Quoted, Shown};
@@ -26,6 +27,8 @@ pub(crate) struct Count<'a> {
     pub(crate) wanted: usize,
     /// The names of the template, with colons between them.
     pub(crate) template: Option<&'a str>,
+    /// The first bytes of the file, which name its data sources.
+    pub(crate) front: &'a Front,
 }
 
 impl<'a> Display for Count<'a> {
@@ -38,7 +41,7 @@ impl<'a> Display for Count<'a> {
             self.sample, self.count, self.wanted
         )?;
         let Some(template) = self.template else {
-            return Ok(());
+            return write!(f, ": {}", Names(self.front));
         };
         for (index, name) in template.split(':').enumerate() {
             let mark = if index == 0 { ": " } else { ", " };

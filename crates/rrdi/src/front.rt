@@ -149,7 +149,9 @@ impl Front {
         if number >= self.sources()? {
             return None;
         }
-        let start = number.saturating_mul(SOURCE).saturating_add(self.header()?.length);
+        let start = number
+            .saturating_mul(SOURCE)
+            .saturating_add(self.header()?.length);
         let bytes = self.read().get(start..start.saturating_add(SOURCE))?;
         Some(KnownSource {
             name: name_in(bytes)?,
@@ -164,7 +166,9 @@ impl Front {
         }
         let sources = self.sources()?;
         let each = sources.saturating_mul(PARTIAL).saturating_add(SETTINGS);
-        let first = sources.saturating_mul(SOURCE).saturating_add(self.header()?.length);
+        let first = sources
+            .saturating_mul(SOURCE)
+            .saturating_add(self.header()?.length);
         Some((number as usize).saturating_mul(each).saturating_add(first))
     }
 
@@ -180,19 +184,27 @@ impl Front {
     }
 }
 
-/// The names of the data sources of a file, with commas between them.
+/// How many names are shown of the data sources of a file.
+const SHOWN: usize = 8;
+
+/// The names of the first data sources of a file, with commas between them.
 #[derive(Clone, Copy)]
 pub(crate) struct Names<'a>(pub(crate) &'a Front);
 
 impl<'a> Display for Names<'a> {
     fn fmt<W: fmt::Write>(&self, f: &mut Formatter<W>) -> fmt::Result {
-        for number in 0..self.0.sources().unwrap_or(0) {
+        let count = self.0.sources().unwrap_or(0);
+        for number in 0..count.min(SHOWN) {
             if let Some(source) = self.0.source(number) {
                 let mark = if number == 0 { "" } else { ", " };
                 write!(f, "{mark}{}", source.name)?;
             }
         }
-        Ok(())
+        if count > SHOWN {
+            f.write_str(", ..")
+        } else {
+            Ok(())
+        }
     }
 }
 

@@ -86,7 +86,9 @@ pub(crate) fn double_in_template<'a>(
 
 /// Says which archives the file has.
 pub(crate) fn no_archive<'a>(front: &'a Front) -> Option<Objection<'a>> {
-    Some(Objection::Archives { count: front.archives()? as u64 })
+    Some(Objection::Archives {
+        count: front.archives()? as u64,
+    })
 }
 
 /// Says which consolidation functions the archives of the file have, if the run has read the settings of all of them.
@@ -104,7 +106,11 @@ pub(crate) fn no_row<'a>(given: &Given<'a>, front: &Front) -> Option<Objection<'
 }
 
 // Returns the data source for the value with this number, counted from 0.
-fn source_of<'a>(front: &'a Front, template: Option<&str>, number: usize) -> Option<KnownSource<'a>> {
+fn source_of<'a>(
+    front: &'a Front,
+    template: Option<&str>,
+    number: usize,
+) -> Option<KnownSource<'a>> {
     let Some(template) = template else {
         return front.source(number);
     };

@@ -81,8 +81,14 @@ pub(crate) struct Unaccepted<'a> {
 fn kind_texts(kind: Kind) -> (&'static str, &'static str) {
     match kind {
         Kind::Gauge => ("GAUGE", "numbers below 10^18"),
-        Kind::Counter => ("COUNTER", "whole numbers without a point from 0 to 2^64 - 1"),
-        Kind::Derive => ("DERIVE", "whole numbers without a point from -2^63 to 2^63 - 1"),
+        Kind::Counter => (
+            "COUNTER",
+            "whole numbers without a point from 0 to 2^64 - 1",
+        ),
+        Kind::Derive => (
+            "DERIVE",
+            "whole numbers without a point from -2^63 to 2^63 - 1",
+        ),
         Kind::Absolute => ("ABSOLUTE", "numbers below 10^18"),
     }
 }
@@ -95,7 +101,7 @@ impl<'a> Display for Unaccepted<'a> {
             "value {} of sample {} is {}; {} is of type {kind}, which takes {values}",
             self.number,
             self.sample,
-            Quoted(self.value),
+            Shown(self.value),
             self.source.name
         )
     }
@@ -111,6 +117,11 @@ pub(crate) enum Objection<'a> {
         place: Place<'a>,
         text: &'a str,
         range: &'static str,
+    },
+    /// No data source may have this name, which is that of the definition with this number, or a new one.
+    Name {
+        definition: Option<u64>,
+        name: &'a str,
     },
     /// A minimum is above its maximum.
     Bounds(Bounds<'a>),
@@ -154,8 +165,9 @@ pub(crate) enum Objection<'a> {
         sample: u64,
         seconds: u64,
     },
-    /// The newest sample of the file is so many seconds ahead of the clock.
+    /// The last time of the file is so many seconds ahead of the clock.
     Ahead {
+        last: u64,
         seconds: u64,
     },
     /// The start of a span is after its end. Without an end, this is now.
@@ -179,6 +191,19 @@ fn write_sources<W: fmt::Write>(
     }
 }
 
+// Writes which name no data source may have.
+fn write_name<W: fmt::Write>(
+    definition: Option<u64>,
+    name: &str,
+    f: &mut Formatter<W>,
+) -> fmt::Result {
+    match definition {
+        Some(number) => write!(f, "definition {number} has the name {}", Quoted(name))?,
+        None => write!(f, "the new name is {}", Quoted(name))?,
+    }
+    f.write_str("; a name has 1 to 19 characters of a-z A-Z 0-9 _")
+}
+
 // Writes which numbers archives have.
 fn write_archives<W: fmt::Write>(count: u64, f: &mut Formatter<W>) -> fmt::Result {
     if count == 1 {
@@ -200,20 +225,14 @@ fn write_left<W: fmt::Write>(archive: u64, rows: u64, f: &mut Formatter<W>) -> f
     )
 }
 
-// Writes by how many seconds the newest sample is ahead of the clock.
-fn write_ahead<W: fmt::Write>(seconds: u64, f: &mut Formatter<W>) -> fmt::Result {
-    write!(
-        f,
-        "the newest sample is {seconds} seconds ahead of the clock; rrdi revert takes it back"
-    )
+// Writes by how many seconds the last time of a file is ahead of the clock.
+fn write_ahead<W: fmt::Write>(last: u64, seconds: u64, f: &mut Formatter<W>) -> fmt::Result {
+    write!(f, "{last} is {seconds} seconds ahead of the clock; ")?;
+    f.write_str("if a sample has this wrong time, rrdi revert takes it back")
 }
 
 // Writes which start is after which end.
-fn write_span<W: fmt::Write>(
-    start: &str,
-    end: Option<&str>,
-    f: &mut Formatter<W>,
-) -> fmt::Result {
+fn write_span<W: fmt::Write>(start: &str, end: Option<&str>, f: &mut Formatter<W>) -> fmt::Result {
     write!(f, "--start is {}, after ", Shown(start))?;
     match end {
         Some(end) => write!(f, "--end, which is {}", Shown(end)),
@@ -228,13 +247,17 @@ impl<'a> Display for Objection<'a> {
             Objection::Range { place, text, range } => {
                 write!(f, "{place} is {}, not {range}", Quoted(text))
             }
+            Objection::Name { definition, name } => write_name(*definition, name, f),
             Objection::Bounds(bounds) => write!(f, "{bounds}"),
             Objection::TwoSources { name } => {
                 write!(f, "two data sources would have the name {}", Shown(name))
             }
             Objection::InTemplate { name } => write!(f, "--template has {} twice", Shown(name)),
             Objection::Most { what, count, most } => {
-                write!(f, "there are {count} {what}, and at most {most} are allowed")
+                write!(
+                    f,
+                    "there are {count} {what}, and at most {most} are allowed"
+                )
             }
             Objection::Cells(cells) => write!(f, "{cells}"),
             Objection::NoSource { name, meant, front } => write_sources(name, *meant, front, f),
@@ -245,7 +268,7 @@ impl<'a> Display for Objection<'a> {
             Objection::Early { sample, seconds } => {
                 write!(f, "sample {sample} has the time {seconds}")
             }
-            Objection::Ahead { seconds } => write_ahead(*seconds, f),
+            Objection::Ahead { last, seconds } => write_ahead(*last, *seconds, f),
             Objection::Span { start, end } => write_span(start, *end, f),
         }
     }

@@ -1,9 +1,7 @@
 //! Why a command is refused that can be read: which of its words are not allowed, or not for its file.
 use crate::front::Front;
 use crate::given::Given;
-use crate::lookups::{
-    double_in_template, no_archive, no_function, no_row, no_source, unaccepted,
-};
+use crate::lookups::{double_in_template, no_archive, no_function, no_row, no_source, unaccepted};
 use crate::objection::Objection;
 use crate::ranges::{
     Setting, double_definition, option_out_of_range, too_large, wrong_definition, wrong_rows,
@@ -45,7 +43,7 @@ impl<'a> Given<'a> {
         if seconds <= CLOCKS {
             return None;
         }
-        Some(Objection::Ahead { seconds })
+        Some(Objection::Ahead { last, seconds })
     }
 
     // Says which times make no span.
@@ -57,7 +55,7 @@ impl<'a> Given<'a> {
     }
 }
 
-// Returns what says what is missing, or what else to do, whatever the arguments are.
+// Returns what is missing, or what else to do, whatever the arguments are.
 fn plain(refusal: Refusal, is_tune: bool) -> Option<&'static str> {
     match refusal {
         Refusal::NoSource => Some("a data source is missing, such as DS:temp:GAUGE:600:U:U"),
@@ -66,10 +64,12 @@ fn plain(refusal: Refusal, is_tune: bool) -> Option<&'static str> {
         Refusal::NoSample => Some("a sample is missing, such as N:21.5"),
         Refusal::NothingToTune => Some("an option, or RRA: or DELRRA:, is missing"),
         Refusal::MixedTune => Some("run it twice: with the options, and with the archive"),
-        Refusal::SpanTooLong =>
-            Some("it would be over 1000000 rows; raise --start or --resolution"),
-        Refusal::TooLarge =>
-            Some("it would be over 128 archives, or over 8000000 cells: data sources times rows"),
+        Refusal::SpanTooLong => Some(
+            "it would be over 1000000 rows; raise --start or --resolution",
+        ),
+        Refusal::TooLarge => Some(
+            "it would be over 128 archives, or over 8000000 cells: data sources times rows",
+        ),
         _ => None,
     }
 }
@@ -122,6 +122,12 @@ fn of_update<'a>(
     })
 }
 
+// Says which name another data source has.
+fn double_tuned<'a>(given: &Given<'a>) -> Option<Objection<'a>> {
+    let (_, name) = given.value("--data-source-rename")?.split_once(':')?;
+    Some(Objection::TwoSources { name })
+}
+
 // Says what of a tune is not allowed.
 fn of_tune<'a>(
     alloc: Global,
@@ -132,10 +138,7 @@ fn of_tune<'a>(
     Ok(match refusal {
         Refusal::NoSuchSource => no_source(alloc, given, front)?,
         Refusal::NoSuchArchive => no_archive(front),
-        Refusal::DoubleName => {
-            let (_, name) = given.value("--data-source-rename").unwrap_or(":").split_once(':').unwrap_or(("", ""));
-            Some(Objection::TwoSources { name })
-        }
+        Refusal::DoubleName => double_tuned(given),
         _ => match setting_of(refusal) {
             Some(setting) => wrong_tuned(given, setting),
             None => None,

@@ -14,9 +14,6 @@ const HEARTBEAT: &str = "1 to 9999999999 seconds";
 /// The range of a bound.
 const BOUND: &str = "at most 2^64 - 1 in size";
 
-/// What a name has.
-const NAME: &str = "1 to 19 characters of a-z A-Z 0-9 _";
-
 // Checks whether a whole number is 1 to a maximum.
 fn is_up_to(most: u64, text: &str) -> bool {
     match read_whole(text.as_bytes()) {
@@ -51,7 +48,10 @@ fn is_good_bound(text: &str) -> bool {
 
 // Checks whether a minimum is above a maximum.
 fn is_above(minimum: &str, maximum: &str) -> bool {
-    match (read_number(minimum.as_bytes()), read_number(maximum.as_bytes())) {
+    match (
+        read_number(minimum.as_bytes()),
+        read_number(maximum.as_bytes()),
+    ) {
         (Some(minimum), Some(maximum)) => minimum.millionths > maximum.millionths,
         _ => false,
     }
@@ -71,7 +71,10 @@ fn unless<'a>(
 }
 
 /// Says which option is not a whole number in its range.
-pub(crate) fn option_out_of_range<'a>(given: &Given<'a>, name: &'static str) -> Option<Objection<'a>> {
+pub(crate) fn option_out_of_range<'a>(
+    given: &Given<'a>,
+    name: &'static str,
+) -> Option<Objection<'a>> {
     let text = given.value(name)?;
     let (most, range) = if name == "--step" {
         (MAX_STEP_SECONDS, "1 to 1000000 seconds")
@@ -92,11 +95,12 @@ pub(crate) enum Setting {
     Rows,
 }
 
-// Says that the name of a definition is none.
-fn wrong_name(number: u64, definition: &str) -> Option<Objection<'_>> {
-    let text = field(definition, 1)?;
-    let place = Place::Definition("name", number);
-    unless(is_good_name(text), place, text, NAME)
+// Says that no data source may have this name, which the definition with this number has, or a tune gives.
+fn wrong_name(definition: Option<u64>, name: &str) -> Option<Objection<'_>> {
+    if is_good_name(name) {
+        return None;
+    }
+    Some(Objection::Name { definition, name })
 }
 
 // Says that the heartbeat of a data source is not in its range.
@@ -111,11 +115,7 @@ fn wrong_bound<'a>(what: &'static str, name: &'a str, text: &'a str) -> Option<O
 }
 
 // Says what is wrong with the bounds of a data source.
-fn wrong_bounds<'a>(
-    name: &'a str,
-    minimum: &'a str,
-    maximum: &'a str,
-) -> Option<Objection<'a>> {
+fn wrong_bounds<'a>(name: &'a str, minimum: &'a str, maximum: &'a str) -> Option<Objection<'a>> {
     if let Some(objection) = wrong_bound("minimum", name, minimum) {
         return Some(objection);
     }
@@ -125,13 +125,17 @@ fn wrong_bounds<'a>(
     if !is_above(minimum, maximum) {
         return None;
     }
-    Some(Objection::Bounds(Bounds { name, minimum, maximum }))
+    Some(Objection::Bounds(Bounds {
+        name,
+        minimum,
+        maximum,
+    }))
 }
 
 // Says what is wrong with a setting of a data source.
 fn wrong_in_source(setting: Setting, number: u64, definition: &str) -> Option<Objection<'_>> {
     match setting {
-        Setting::Name => wrong_name(number, definition),
+        Setting::Name => wrong_name(Some(number), field(definition, 1)?),
         Setting::Heartbeat => wrong_heartbeat(field(definition, 1)?, field(definition, 3)?),
         Setting::Bounds => wrong_bounds(
             field(definition, 1)?,
@@ -153,7 +157,12 @@ fn wrong_in_archive(setting: Setting, number: u64, definition: &str) -> Option<O
         Setting::Steps => {
             let text = field(definition, 3)?;
             let place = Place::Definition("number of steps", number);
-            unless(is_up_to(MAX_STEPS_PER_ROW, text), place, text, "1 to 1000000")
+            unless(
+                is_up_to(MAX_STEPS_PER_ROW, text),
+                place,
+                text,
+                "1 to 1000000",
+            )
         }
         Setting::Rows => {
             let text = field(definition, 4)?;
@@ -204,7 +213,11 @@ pub(crate) fn double_definition<'a>(
 
 // Returns how many data sources, archives and rows the definitions of a create have.
 fn cells_of(definitions: &[&str]) -> Cells {
-    let mut cells = Cells { sources: 0, archives: 0, rows: 0 };
+    let mut cells = Cells {
+        sources: 0,
+        archives: 0,
+        rows: 0,
+    };
     for definition in definitions {
         if definition.starts_with("DS:") {
             cells.sources = cells.sources.saturating_add(1);
@@ -221,9 +234,17 @@ fn cells_of(definitions: &[&str]) -> Cells {
 pub(crate) fn too_large<'a>(given: &Given<'a>) -> Option<Objection<'a>> {
     let cells = cells_of(&given.words);
     let objection = if cells.sources > MAX_SOURCES as u64 {
-        Objection::Most { what: "data sources", count: cells.sources, most: MAX_SOURCES as u64 }
+        Objection::Most {
+            what: "data sources",
+            count: cells.sources,
+            most: MAX_SOURCES as u64,
+        }
     } else if cells.archives > MAX_ARCHIVES as u64 {
-        Objection::Most { what: "archives", count: cells.archives, most: MAX_ARCHIVES as u64 }
+        Objection::Most {
+            what: "archives",
+            count: cells.archives,
+            most: MAX_ARCHIVES as u64,
+        }
     } else if cells.sources.saturating_mul(cells.rows) > MAX_CELLS {
         Objection::Cells(cells)
     } else {
@@ -236,8 +257,8 @@ pub(crate) fn too_large<'a>(given: &Given<'a>) -> Option<Objection<'a>> {
 pub(crate) fn wrong_tuned<'a>(given: &Given<'a>, setting: Setting) -> Option<Objection<'a>> {
     match setting {
         Setting::Name => {
-            let (_, text) = given.value("--data-source-rename")?.split_once(':')?;
-            unless(is_good_name(text), Place::Option("the new name"), text, NAME)
+            let (_, name) = given.value("--data-source-rename")?.split_once(':')?;
+            wrong_name(None, name)
         }
         Setting::Heartbeat => {
             let (name, text) = given.value("--heartbeat")?.split_once(':')?;
@@ -266,5 +287,10 @@ pub(crate) fn wrong_rows<'a>(given: &Given<'a>) -> Option<Objection<'a>> {
     if is_up_to(MAX_ROWS, text) {
         return Some(Objection::Plain("the archive would have over 1000000 rows"));
     }
-    unless(false, Place::Option("the number of rows"), text, "1 to 1000000")
+    unless(
+        false,
+        Place::Option("the number of rows"),
+        text,
+        "1 to 1000000",
+    )
 }

@@ -121,13 +121,13 @@ impl<'a> Given<'a> {
         None
     }
 
-    // Says which sample has another number of values than the template has names or, without a template, than the database
-    // has data sources.
-    fn wrong_count(&self, sources: Option<usize>) -> Option<Advice<'a>> {
+    // Says which sample has another number of values than the template has names or, without a template, than the file that
+    // begins with `front` has data sources.
+    fn wrong_count(&self, front: &'a Front) -> Option<Advice<'a>> {
         let template = self.value("--template");
         let wanted = match template {
             Some(names) => names.split(':').count(),
-            None => sources?,
+            None => front.sources()?,
         };
         let mut number: u64 = 0;
         for sample in &self.words {
@@ -140,6 +140,7 @@ impl<'a> Given<'a> {
                     count,
                     wanted,
                     template,
+                    front,
                 }));
             }
         }
@@ -193,10 +194,10 @@ pub(crate) fn advice_on<'a>(
         Fault::Refused(Refusal::BadStart) => given.late_option(),
         Fault::Refused(Refusal::BadTime) if given.command == "update" => given.late_sample(),
         Fault::Refused(Refusal::BadTime) => given.late_option(),
-        Fault::Refused(Refusal::WrongCount) => given.wrong_count(front.sources()),
-        Fault::Refused(refusal) => Some(Advice::Refused(
-            objection_to(alloc, &given, front, refusal, now).ok()??,
-        )),
+        Fault::Refused(Refusal::WrongCount) => given.wrong_count(front),
+        Fault::Refused(refusal) => Some(Advice::Refused(objection_to(
+            alloc, &given, front, refusal, now,
+        ).ok()??)),
         _ => None,
     }
 }
