@@ -1,6 +1,7 @@
 """Tests of the parts of a picture of rrdi-plot that depend on its size."""
 from __future__ import annotations
 
+import math
 import os
 import time
 import unittest
@@ -9,7 +10,7 @@ from unittest import mock
 
 import cases  # noqa: F401  (finds the package)
 
-from rrdi.tools.plotting.columns import Columns, Curve, series_of
+from rrdi.tools.plotting.columns import Columns, Curve, group_size, grouped, series_of
 from rrdi.tools.plotting.labels import Label, labels
 from rrdi.tools.plotting.legend import legend_of
 from rrdi.tools.plotting.look import LEAST_PLOT_HEIGHT, plot_height, size_of
@@ -46,6 +47,26 @@ class Legends(unittest.TestCase):
                 self.assertEqual([place.line for place in places], [at % lines + 1 for at in range(16)])
                 self.assertLessEqual(places[-1].left + legend.table_width, width)
         self.assertEqual((legend_of(900, curves(names[:8]), "").tables, legend_of(900, curves(names[:9]), "").lines), (1, 5))
+
+
+class Groups(unittest.TestCase):
+    def test_sizes(self) -> None:
+        """A row covers a part of a day, or whole days."""
+        for seconds, count, most, size in ((60, 1_440, 514, 3), (10_800, 2_920, 514, 8), (10_800, 2_920, 343, 16), (60, 10, 20, 1),
+                                           (7, 1_000, 500, 2)):
+            with self.subTest(seconds=seconds, count=count, most=most):
+                rows = Columns(["g"], seconds, [seconds * at for at in range(1, count + 1)], [[1.0] * count])
+                self.assertEqual(group_size(rows, most), size)
+
+    def test_groups(self) -> None:
+        """The rows end at multiples of their seconds, and unknown cells count in none."""
+        unknown = math.nan
+        rows = Columns(["g"], 10, [20, 30, 40, 50, 60, 70], [[1.0, 2.0, unknown, 6.0, unknown, unknown]])
+        for function, cells in (("AVERAGE", [1.5, 6.0]), ("MIN", [1.0, 6.0]), ("MAX", [2.0, 6.0]), ("LAST", [2.0, 6.0])):
+            with self.subTest(function=function):
+                found = grouped(rows, 3, function)
+                self.assertEqual((found.seconds, found.times, found.columns[0][:2]), (30, [30, 60, 90], cells))
+                self.assertTrue(math.isnan(found.columns[0][2]))
 
 
 class Marks(unittest.TestCase):

@@ -9,8 +9,9 @@ examples:
 
 PICTURE ends in .png or .svg, and is written at the end, if all went well. A
 row's line covers its seconds. The legend has the last, least, mean and
-greatest value of each source. If the file has archives of MIN and MAX beside
-that of AVERAGE, with rows of the same length, a band shows their span.
+greatest value of each source. If the file has archives of MIN or MAX beside
+that of AVERAGE, with rows of the same length, a band shows their span. Rows
+that are too narrow to be seen become one row with a band.
 
 options:
   -s, --start START    begin there (default: a day before END, or the first
@@ -62,7 +63,7 @@ from .plotting.gnuplot import TERMINALS, Picture, draw
 from .plotting.legend import legend_of
 from .plotting.look import DARK, EDGE, LEAST_PLOT_HEIGHT, LIGHT, WIDTH, plot_height, size_of
 from .plotting.numbers import axis
-from .plotting.columns import Columns, chosen, columns_of, limits, series_of, since_known
+from .plotting.columns import Columns, chosen, columns_of, group_size, grouped, limits, series_of, since_known
 from .spans import DAY, length_text, span_of, time_text, zone_of
 
 VALUES = {"-s": "start", "-e": "end", "-r": "resolution", **{f"--{name}": name for name in (
@@ -71,6 +72,7 @@ FLAGS = {f"--{name}" for name in ("area", "stack", "fit", "no-band", "no-legend"
 MOST_BANDS = 4  # more of them hide each other
 LEAST_SIZE, MOST_SIZE = 200, 10_000  # points
 ROW_WIDTH = 1.75  # points of a row that is chosen for the picture
+NARROWEST = 0.5  # points of a row that is drawn by itself
 SMALL_LETTER, LARGE_LETTER = 6.4, 9.4  # points: the width of a letter below the title, and of the title
 
 
@@ -142,15 +144,33 @@ def fetch_for(options: PlotOptions, function: str, width: int, begin: int, until
     return since_known(with_resolution(first)) if first > begin else rows
 
 
-def band(options: PlotOptions, settings: Settings, rows: Columns) -> "tuple[Columns, Columns] | None":
-    """Returns the rows of MIN and of MAX that go with rows of AVERAGE, if the file has them."""
-    if rows.seconds == settings.step or "--no-band" in options.flags:
+class Drawn(NamedTuple):
+    """The rows of a picture, and those with the least and the greatest values of the same times, if there are any."""
+
+    rows: Columns
+    low: Optional[Columns]
+    high: Optional[Columns]
+
+
+def drawn(options: PlotOptions, settings: Settings, function: str, rows: Columns, width: int) -> Drawn:
+    """Returns what is drawn of rows. Rows of AVERAGE have a band up to those of MAX and down to those of MIN, if the file has
+    such rows. If the rows are narrower than half a point, each is one of several, and its band has them."""
+    low, high = (extremes(options, settings, one, rows) if function == "AVERAGE" else None for one in ("MIN", "MAX"))
+    if "resolution" not in options.values and len(rows.times) * NARROWEST > width:
+        size = group_size(rows, int(width / ROW_WIDTH))
+        return Drawn(grouped(rows, size, function), grouped(low or rows, size, "MIN"), grouped(high or rows, size, "MAX"))
+    return Drawn(rows, (low or rows) if high else low, (high or rows) if low else high)
+
+
+def extremes(options: PlotOptions, settings: Settings, function: str, rows: Columns) -> Optional[Columns]:
+    """Returns the rows of MIN or of MAX that go with rows of AVERAGE, if the file has them."""
+    if rows.seconds == settings.step:
         return None
     try:
-        low, high = (fetch(options, function, rows.seconds, rows.begin, rows.end) for function in ("MIN", "MAX"))
+        found = fetch(options, function, rows.seconds, rows.begin, rows.end)
     except Failure:  # there are none, or they have no known value
         return None
-    return (low, high) if low.times == high.times == rows.times else None
+    return found if found.times == rows.times else None
 
 
 # ---- The picture
@@ -184,11 +204,9 @@ def picture_of(options: PlotOptions) -> Picture:
     begin, until = span(settings, options)
     rows = fetch_for(options, function, width, begin, until)
     names = options.values["source"].split(",") if "source" in options.values else rows.names
-    found = band(options, settings, rows) if function == "AVERAGE" and options.style != "stack" else None
-    rows = chosen(rows, names)
-    has_band = found is not None and len(names) <= MOST_BANDS
-    low, high = (chosen(one, names) for one in found) if found else (None, None)
-    series = series_of(rows, low, high, options.style == "stack")
+    rows, low, high = drawn(options, settings, function, chosen(rows, names), width)
+    has_band = low is not None and len(names) <= MOST_BANDS and options.style != "stack" and "--no-band" not in options.flags
+    series = series_of(rows, *(one and chosen(one, names) for one in (low, high)), options.style == "stack")
     least, greatest = limits(series, has_band)
     if least >= 0 and "--fit" not in options.flags or options.style != "lines":
         least, greatest = min(least, 0), max(greatest, 0)
