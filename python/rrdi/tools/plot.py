@@ -206,7 +206,8 @@ def picture_of(options: PlotOptions) -> Picture:
     names = options.values["source"].split(",") if "source" in options.values else rows.names
     rows, low, high = drawn(options, settings, function, chosen(rows, names), width)
     has_band = low is not None and len(names) <= MOST_BANDS and options.style != "stack" and "--no-band" not in options.flags
-    series = series_of(rows, *(one and chosen(one, names) for one in (low, high)), options.style == "stack")
+    low, high = (chosen(one, names) if one else None for one in (low, high))
+    series = series_of(rows, low, high, options.style == "stack")
     least, greatest = limits(series, has_band)
     if least >= 0 and "--fit" not in options.flags or options.style != "lines":
         least, greatest = min(least, 0), max(greatest, 0)
