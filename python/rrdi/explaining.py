@@ -9,6 +9,7 @@ from .errors import Error, Refused, Unreadable, error_of_line
 from .fetching import take_option
 from .limits import LATEST, NAME_OF_SOURCE, OF_A_NAME
 from .printed import Source, settings_of
+from .ranges import why_bad_option, why_bad_setting
 from .samples import LEAST, MOST, why_bad_time
 
 # A number in a sample, as the program reads it.
@@ -20,6 +21,7 @@ TIMES = {"create": [("-b", "--start")], "fetch": [("-s", "--start"), ("-e", "--e
 OTHERS = {"create": [("-s", "--step"), ("--journal", "--journal")], "fetch": [("-r", "--resolution")]}
 DEFINITION = "DS:name:GAUGE|COUNTER|DERIVE|ABSOLUTE:heartbeat:min:max or RRA:AVERAGE|MIN|MAX|LAST:xff:steps:rows"
 WHOLE = "whole numbers without a point"
+MOST_NAMES = 8  # of a file's sources that a text names
 
 Ask = Callable[[List[str]], str]
 
@@ -58,6 +60,8 @@ def _explain_update(error: Error, given: Given, ask: Optional[Ask]) -> None:
         error.detail = _why_wrong_number(given, ask)
     elif error.reason == "bad value":
         error.detail = _why_bad_value(given, ask)
+    elif error.reason == "no such data source":
+        error.detail = _why_no_source(given, ask)
 
 
 def why_refused(sample: str, reason: str, ask: Optional[Ask] = None) -> str:
@@ -158,6 +162,8 @@ def _why_bad_word(words: Sequence[str], reason: str) -> str:
             wanted = ("whole seconds since 1970" if (letter, name) in TIMES[command] else
                       "a whole number" if name == "--journal" else "a whole number of seconds")
             return f"it is {quoted(value)}, not {wanted}"
+        if value is not None and why_bad_option(name, value, reason):
+            return why_bad_option(name, value, reason)
     others = [word for word in others if word != "--"]
     if reason == "unreadable function" and others:
         return f"it is {quoted(others[0])}, not AVERAGE, MIN, MAX or LAST"
@@ -168,7 +174,7 @@ def _why_bad_word(words: Sequence[str], reason: str) -> str:
         for number, word in enumerate(others, 1):
             if word.startswith("DS:") and not re.fullmatch(NAME_OF_SOURCE, word.split(":")[1]):
                 return f"definition {number} has the name {quoted(word.split(':')[1])}; a name has {OF_A_NAME}"
-    return ""
+    return why_bad_setting(others, reason) if command == "create" else ""
 
 
 def _why_not_later(given: Given, before: int, ask: Optional[Ask]) -> str:
@@ -205,6 +211,12 @@ def _why_wrong_number(given: Given, ask: Optional[Ask]) -> str:
         if names and count != len(names):
             return f"sample {number} has {count} value{'s' * (count != 1)}, {wanted}"
     return ""
+
+
+def _why_no_source(given: Given, ask: Optional[Ask]) -> str:
+    names = [source.name for source in _sources(ask)]
+    shown = ", ".join(names[:MOST_NAMES]) + (", .." if len(names) > MOST_NAMES else "")
+    return next((f"there is no data source {name}; the file has {shown}" for name in given.template or () if names and name not in names), "")
 
 
 def _why_bad_value(given: Given, ask: Optional[Ask]) -> str:

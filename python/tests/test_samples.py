@@ -3,6 +3,7 @@ library, and by the program in its place."""
 from __future__ import annotations
 
 import datetime
+import functools
 import math
 import time
 import unittest
@@ -255,11 +256,12 @@ class Errors(OfFiles):
         self.says(rrdi.Refused, "not later than 1600000030", "1600000030:1:2")
         self.says(rrdi.Refused, "not later than 1600000040: sample 3 has the time 1600000039", "1600000031:1:2",
                   "1600000040:1:2", "1600000039:1:2")
-        self.says(rrdi.Refused, "no such data source", "1600000040:1", template="x")
+        self.says(rrdi.Refused, "no such data source: there is no data source x; the file has g, c", "1600000040:1", template="x")
 
     def test_words_of_other_commands(self: Any) -> None:
         """The texts are those of the program's second line."""
         file, archive, fetch = self.fill(), "RRA:MAX:0:1:3", cast(Any, rrdi.fetch)
+        source = "DS:g:GAUGE:9:U:U"
         definition = "not DS:name:GAUGE|COUNTER|DERIVE|ABSOLUTE:heartbeat:min:max or RRA:AVERAGE|MIN|MAX|LAST:xff:steps:rows"
         calls: List[Tuple[str, Any]] = [
             ("unreadable function: it is 'mean', not AVERAGE, MIN, MAX or LAST", lambda: fetch(file, "mean", "-s", "5")),
@@ -270,6 +272,21 @@ class Errors(OfFiles):
             ("unreadable journal: it is 'x', not a whole number", lambda: rrdi.create(file, "--journal", "x", archive, overwrite=True)),
             ("bad name: definition 1 has the name 'a-b'; a name has 1 to 19 characters of a-z A-Z 0-9 _",
              lambda: rrdi.create(file, "DS:a-b:GAUGE:9:U:U", archive, overwrite=True))]
+        for words, text in (
+                (["-s0", source, archive], "bad step: --step is '0', not 1 to 1000000 seconds"),
+                (["--journal", "0", source, archive], "bad journal depth: --journal is '0', not 1 to 100000 changes"),
+                ([source, "DS:h:GAUGE:0:U:U", archive], "bad heartbeat: the heartbeat of h is '0', not 1 to 9999999999 seconds"),
+                (["DS:g:GAUGE:9:5:4.5", archive], "bad bounds: the minimum of g is '5', above its maximum, '4.5'"),
+                (["DS:g:GAUGE:9:U:18446744073709551616", archive],
+                 "bad bounds: the maximum of g is '18446744073709551616', not at most 2^64 - 1 in size"),
+                ([source, "RRA:MAX:1:1:3"], "bad xff: the xff of definition 2 is '1', not 0 to 0.999999"),
+                ([source, "RRA:MAX:0:0:3"], "bad steps: the number of steps of definition 2 is '0', not 1 to 1000000"),
+                ([archive, source, "RRA:MAX:0:1:1000001"], "bad rows: the number of rows of definition 3 is '1000001', not 1 to 1000000"),
+                ([source, source, archive], "double name: two data sources would have the name g"),
+                ([source, *[archive] * 129], "too large: there are 129 archives, and at most 128 are allowed"),
+                ([*(f"DS:s{at}:GAUGE:9:U:U" for at in range(9)), "RRA:MAX:0:1:900000"],
+                 "too large: data sources times rows are 9 times 900000, and at most 8000000")):
+            calls.append((text, functools.partial(rrdi.create, file, *words, overwrite=True)))
         for text, call in calls:
             with self.assertRaises(rrdi.Error) as raised:
                 call()

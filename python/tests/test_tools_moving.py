@@ -32,7 +32,7 @@ BATCH = """create --step 10 --start 1600000000 DS:g:GAUGE:9999999999:U:U RRA:AVE
 update 1600000010:1 1600000020:U 1600000030:3.5
 tune --heartbeat g:60 --minimum g:-5
 """
-NOTE = "rrdi-import: skipped data source double: type COMPUTE is not supported\n"
+NOTE = "rrdi-import: old.rrd: skipped data source double: type COMPUTE is not supported\n"
 
 
 class Import(ToolCase):

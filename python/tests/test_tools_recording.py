@@ -190,7 +190,7 @@ class Plot(ToolCase):
     def test_the_whole_picture(self) -> None:
         """The title and the legend, the last day before the last update, the colors, and an axis that begins at 0."""
         commands = self.commands()
-        for line in ("set label 'f' at screen", "'AVERAGE of 10 s, 2023-11-14 22:20:00 to 2023-11-14 22:30:00 UTC'",
+        for line in ("set label 'f' at screen", "'AVERAGE of 10 s, 2023-11-14 22:20 to 2023-11-14 22:30 UTC'",
                      "set label 'g' at", "set label '60.0' at", "set label '-60.0' at", "set label '-30.5' at"):
             self.assertIn(line, commands)
         commands = self.commands("AVERAGE", "--source", "g", "-s", "2023-11-14 22:20:00", "-e", "start+1min")
@@ -204,8 +204,8 @@ class Plot(ToolCase):
         """Without a start, the rows are as fine as the known ones allow."""
         self.create("f.rrdi", "DS:g:GAUGE:10:U:U", "RRA:AVERAGE:0.5:1:90", "RRA:AVERAGE:0.5:9:1000", start=self.START)
         self.rrdi("update", "f.rrdi", *[f"{self.START + 10 * at}:{at % 3}" for at in range(1, 61)])
-        self.assertIn("AVERAGE of 10 s, 2023-11-14 22:20:00 to", self.commands())
-        self.assertIn("AVERAGE of 90 s, 2023-11-13 22:30:00 to", self.commands("-s", "end-1d"))
+        self.assertIn("AVERAGE of 10 s, 2023-11-14 22:20 to", self.commands())
+        self.assertIn("AVERAGE of 90 s, 2023-11-13 22:30 to", self.commands("-s", "end-1d"))
 
     def test_styles(self) -> None:
         self.assertNotIn("filledcurves", self.commands())
@@ -213,6 +213,12 @@ class Plot(ToolCase):
         self.assertIn("#181b1f", self.commands("--dark"))
         self.assertNotIn("object rectangle", self.commands("--no-legend"))
         self.assertIn("set terminal pngcairo size 700,300 ", self.commands("--size", "700x300"))
+        narrow = self.commands("--size", "300")
+        for line in ("set label 'AVERAGE of 10 s' at", "set label '2023-11-14 22:20 to 2023-11-14 22:30 UTC' at"):
+            self.assertIn(line, narrow)
+        self.assertNotIn("object rectangle", self.commands("--size", "300x200"))
+        self.assertIn("set label 'A title that goes on and on\u2026' at", self.commands(
+            "--size", "300", "--title", "A title that goes on and on and on"))
         commands = self.commands("--title", "it's 5 %", "--unit", "%")
         self.assertIn("set label 'it''s 5 %' at", commands)
         self.assertIn("'-40 %%' -40.0", commands)
@@ -226,6 +232,11 @@ class Plot(ToolCase):
         self.assertEqual([float(part) for part in point.split()[1:]], [0, 1, 0, 2])
         for words in (["AVERAGE", "--no-band"], ["MAX"], ["AVERAGE", "--stack"]):
             self.assertNotIn("using 1:4:5", self.commands(*words))
+        self.create("f.rrdi", "DS:g:GAUGE:10:U:U", "RRA:AVERAGE:0.5:3:90", "RRA:MAX:0.5:3:90", start=self.START)
+        self.rrdi("update", "f.rrdi", *[f"{self.START + 10 * at}:{at % 3}" for at in range(1, 61)])
+        self.assertIn("using 1:4:5 with filledcurves", self.commands("AVERAGE"))
+        point = [line for line in self.read("points").decode().splitlines() if line.startswith(str(self.START))][0]
+        self.assertEqual([float(part) for part in point.split()[1:]], [0, 1, 1, 2])
         self.create("f.rrdi", "DS:g:GAUGE:10:U:U", "RRA:AVERAGE:0.5:3:90", "RRA:MIN:0.5:6:90", "RRA:MAX:0.5:6:90", start=self.START)
         self.rrdi("update", "f.rrdi", *[f"{self.START + 10 * at}:{at % 3}" for at in range(1, 61)])
         self.assertNotIn("using 1:4:5", self.commands("AVERAGE"))
@@ -233,6 +244,19 @@ class Plot(ToolCase):
         self.create("f.rrdi", "DS:g:GAUGE:10:U:U", "RRA:AVERAGE:0.5:1:90", "RRA:MIN:0.5:1:90", "RRA:MAX:0.5:1:90", start=self.START)
         self.rrdi("update", "f.rrdi", *[f"{self.START + 10 * at}:{at % 3}" for at in range(1, 61)])
         self.assertNotIn("using 1:4:5", self.commands("AVERAGE"))
+
+    def test_more_rows_than_points(self) -> None:
+        """Rows of ten seconds that are narrower than half a point become rows of a minute, with a band; not with --resolution."""
+        self.create("f.rrdi", "DS:g:GAUGE:10:U:U", "RRA:AVERAGE:0.5:1:1000", start=self.START)
+        self.rrdi("update", "f.rrdi", *[f"{self.START + 10 * at}:{at % 6}" for at in range(1, 601)])
+        commands = self.commands("--size", "200")
+        self.assertIn("'AVERAGE of 1 min' at", commands)
+        self.assertIn("using 1:4:5 with filledcurves", commands)
+        points = [line.split()[1:] for line in self.read("points").decode().splitlines() if line[:1].isdigit()]
+        self.assertEqual(([float(part) for part in points[2]], len(points)), ([0, 2.5, 0, 5], 200))
+        self.assertNotIn("using 1:4:5", self.commands("--size", "200", "--no-band"))
+        self.assertIn("'AVERAGE of 10 s' at", self.commands("--size", "200", "-r", "10"))
+        self.assertIn("AVERAGE of 10 s,", self.commands())
 
     def test_nothing_to_draw(self) -> None:
         self.rrdi("update", "f.rrdi", f"{self.START + 700}:U:U")

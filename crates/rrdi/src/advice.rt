@@ -1,5 +1,7 @@
 //! What a report adds to a refusal: which of the arguments is wrong, and what to write instead.
 use crate::arguments::OptionName;
+use crate::front::{Front, Names};
+use crate::objection::Objection;
 use crate::samples::SampleFault;
 use crate::shown::{Quoted, Shown};
 use rrd_spec::limits::MAX_TIME;
@@ -25,6 +27,8 @@ pub(crate) struct Count<'a> {
     pub(crate) wanted: usize,
     /// The names of the template, with colons between them.
     pub(crate) template: Option<&'a str>,
+    /// The first bytes of the file, which name its data sources.
+    pub(crate) front: &'a Front,
 }
 
 impl<'a> Display for Count<'a> {
@@ -37,7 +41,7 @@ impl<'a> Display for Count<'a> {
             self.sample, self.count, self.wanted
         )?;
         let Some(template) = self.template else {
-            return Ok(());
+            return write!(f, ": {}", Names(self.front));
         };
         for (index, name) in template.split(':').enumerate() {
             let mark = if index == 0 { ": " } else { ", " };
@@ -92,6 +96,8 @@ pub(crate) enum Advice<'a> {
         file: &'a str,
         program: &'static str,
     },
+    /// The command can be read, and is not allowed.
+    Refused(Objection<'a>),
 }
 
 // Writes the option or the command that was meant, if there is one.
@@ -170,6 +176,7 @@ impl<'a> Display for Advice<'a> {
             }
             Advice::Count(count) => write!(f, "{count}"),
             Advice::OtherProgram { file, program } => write_program(file, program, f),
+            Advice::Refused(objection) => write!(f, "{objection}"),
         }
     }
 }

@@ -4,10 +4,10 @@ ghost use Rattle.rrd_fixed.specs.Reading.{whole_of};
 ghost use Rattle.rrdi.specs.Advice.{late_time};
 
 use crate::advice::{Advice, Count, TimeOf};
-use crate::arguments::{Argument, arguments_in};
 use crate::front::Front;
+use crate::given::Given;
+use crate::objections::objection_to;
 use crate::samples::sample_fault;
-use crate::usage::{lines_of, options_in};
 use rrd_file::FileFault;
 use rrd_fixed::read_whole;
 use rrd_spec::Refusal;
@@ -63,58 +63,15 @@ fn option_of(part: Part, is_first: bool) -> Option<&'static str> {
 }
 
 // Returns the number of a word of a command that is a part of it, counted from 0.
-fn index_of(part: Part, number: u64) -> u64 {
+fn index_of(part: Part, number: u64) -> usize {
     match part {
         Part::Change => 1,
         Part::Rows => 2,
-        _ => number.saturating_sub(1),
+        _ => number.saturating_sub(1) as usize,
     }
-}
-
-/// The arguments of a command with the options that the command has.
-#[derive(Drop)]
-struct Given<'a> {
-    command: &'a str,
-    options: Vec<&'static str>,
-    arguments: Vec<Argument<'a>>,
 }
 
 impl<'a> Given<'a> {
-    fn new(alloc: Global, command: &'a str, words: &'a [String]) -> Result<Given<'a>, AllocError> {
-        let lines = lines_of(alloc, command)?;
-        Ok(Given {
-            command,
-            options: options_in(alloc, &lines)?,
-            arguments: arguments_in(alloc, words)?,
-        })
-    }
-
-    // Returns word `index` of the words that are no options, counted from 0.
-    fn word(&self, index: u64) -> Option<&'a str> {
-        let mut left = index;
-        for argument in &self.arguments {
-            if let Some(word) = argument.word() {
-                if left == 0 {
-                    return Some(word);
-                }
-                left -= 1;
-            }
-        }
-        None
-    }
-
-    // Returns the value of the option with this long name.
-    fn value(&self, long: &str) -> Option<&'a str> {
-        for argument in &self.arguments {
-            if let Argument::Option(given) = argument {
-                if given.name.long_in(&self.options) == Some(long) {
-                    return given.value;
-                }
-            }
-        }
-        None
-    }
-
     // Returns the text of a part that cannot be read.
     fn text_of(&self, part: Part, number: u64) -> Option<&'a str> {
         match option_of(part, self.command == "first") {
@@ -151,43 +108,40 @@ impl<'a> Given<'a> {
     // Says which sample has a time that is too late.
     fn late_sample(&self) -> Option<Advice<'a>> {
         let mut number: u64 = 0;
-        for argument in &self.arguments {
-            if let Some(sample) = argument.word() {
-                number = number.saturating_add(1);
-                let (time, _) = sample.split_once(':')?;
-                if let Some(seconds) = late(time) {
-                    return Some(Advice::Late {
-                        of: TimeOf::Sample(number),
-                        seconds,
-                    });
-                }
+        for sample in &self.words {
+            number = number.saturating_add(1);
+            let (time, _) = sample.split_once(':')?;
+            if let Some(seconds) = late(time) {
+                return Some(Advice::Late {
+                    of: TimeOf::Sample(number),
+                    seconds,
+                });
             }
         }
         None
     }
 
-    // Says which sample has another number of values than the template has names or, without a template, than the database
-    // has data sources.
-    fn wrong_count(&self, sources: Option<usize>) -> Option<Advice<'a>> {
+    // Says which sample has another number of values than the template has names or, without a template, than the file that
+    // begins with `front` has data sources.
+    fn wrong_count(&self, front: &'a Front) -> Option<Advice<'a>> {
         let template = self.value("--template");
         let wanted = match template {
             Some(names) => names.split(':').count(),
-            None => sources?,
+            None => front.sources()?,
         };
         let mut number: u64 = 0;
-        for argument in &self.arguments {
-            if let Some(sample) = argument.word() {
-                number = number.saturating_add(1);
-                let (_, values) = sample.split_once(':')?;
-                let count = values.split(':').count();
-                if count != wanted {
-                    return Some(Advice::Count(Count {
-                        sample: number,
-                        count,
-                        wanted,
-                        template,
-                    }));
-                }
+        for sample in &self.words {
+            number = number.saturating_add(1);
+            let (_, values) = sample.split_once(':')?;
+            let count = values.split(':').count();
+            if count != wanted {
+                return Some(Advice::Count(Count {
+                    sample: number,
+                    count,
+                    wanted,
+                    template,
+                    front,
+                }));
             }
         }
         None
@@ -216,13 +170,14 @@ fn of_other_program<'a>(file: &'a str, front: &Front) -> Option<Advice<'a>> {
     Some(Advice::OtherProgram { file, program })
 }
 
-/// Returns what was wrong with the arguments of a run that were a command, or with its file, whose first bytes are `front`.
-/// Returns `None` if these do not show it, or memory runs out.
+/// Returns what was wrong with the arguments of a run at the time `now` that were a command, or with its file, whose first
+/// bytes are `front`. Returns `None` if these do not show it, or memory runs out.
 pub(crate) fn advice_on<'a>(
     alloc: Global,
     words: &'a [String],
-    front: &Front,
+    front: &'a Front,
     fault: TaskFault,
+    now: u64,
 ) -> Option<Advice<'a>> {
     let [_, command, file, rest @ ..] = words else {
         return None;
@@ -239,7 +194,10 @@ pub(crate) fn advice_on<'a>(
         Fault::Refused(Refusal::BadStart) => given.late_option(),
         Fault::Refused(Refusal::BadTime) if given.command == "update" => given.late_sample(),
         Fault::Refused(Refusal::BadTime) => given.late_option(),
-        Fault::Refused(Refusal::WrongCount) => given.wrong_count(front.sources()),
+        Fault::Refused(Refusal::WrongCount) => given.wrong_count(front),
+        Fault::Refused(refusal) => Some(Advice::Refused(objection_to(
+            alloc, &given, front, refusal, now,
+        ).ok()??)),
         _ => None,
     }
 }

@@ -123,7 +123,8 @@ where
     if let Some(error) = reason_of(&cause, ended.fault) {
         report_cause(rt, path, error, settings);
     } else if let Some(fault) = ended.fault {
-        if let Some(advice) = advice_on(rt.alloc(), words, &ended.front, fault) {
+        let now = seconds_now(rt);
+        if let Some(advice) = advice_on(rt.alloc(), words, &ended.front, fault, now) {
             report_advice(rt, &advice);
         }
     }

@@ -43,6 +43,7 @@ import re
 from typing import Iterator, List, NamedTuple, Optional
 
 from ..importing.dump import Refusal
+from ..words import in_one_line
 from .command_line import Failure, Progress, Tool, WrongArguments, called_name, say
 from .conversion import Conversion, make
 from .import_many import import_many
@@ -95,7 +96,7 @@ def counted(lines: Iterator[str]) -> Iterator[str]:
 
 def import_one(old: str, new: Optional[str], journal: Optional[str]) -> int:
     """Converts one file, and returns the status."""
-    conversion = Conversion(old, journal, lambda text: say(called_name(TOOL), text))
+    conversion = Conversion(old, journal, lambda text: say(called_name(TOOL), f"{in_one_line(old)}: {text}"))
     progress = Progress(f"reading {old}")
 
     def reading(done: int, size: int) -> None:

@@ -9,8 +9,9 @@ examples:
 
 PICTURE ends in .png or .svg, and is written at the end, if all went well. A
 row's line covers its seconds. The legend has the last, least, mean and
-greatest value of each source. If the file has archives of MIN and MAX beside
-that of AVERAGE, with rows of the same length, a band shows their span.
+greatest value of each source. If the file has archives of MIN or MAX beside
+that of AVERAGE, with rows of the same length, a band shows their span. Rows
+that are too narrow to be seen become one row with a band.
 
 options:
   -s, --start START    begin there (default: a day before END, or the first
@@ -58,10 +59,11 @@ from ..words import in_one_line
 from . import program
 from .command_line import Failure, Tool, WrongArguments
 from .options import function_at, given_words, number_of
-from .plotting.gnuplot import TERMINALS, Picture, draw, legend_rows
-from .plotting.look import DARK, LIGHT, WIDTH, size_of
+from .plotting.gnuplot import TERMINALS, Picture, draw
+from .plotting.legend import legend_of
+from .plotting.look import DARK, EDGE, LEAST_PLOT_HEIGHT, LIGHT, WIDTH, plot_height, size_of
 from .plotting.numbers import axis
-from .plotting.columns import Columns, chosen, columns_of, limits, series_of, since_known
+from .plotting.columns import Columns, chosen, columns_of, group_size, grouped, limits, series_of, since_known
 from .spans import DAY, length_text, span_of, time_text, zone_of
 
 VALUES = {"-s": "start", "-e": "end", "-r": "resolution", **{f"--{name}": name for name in (
@@ -69,6 +71,9 @@ VALUES = {"-s": "start", "-e": "end", "-r": "resolution", **{f"--{name}": name f
 FLAGS = {f"--{name}" for name in ("area", "stack", "fit", "no-band", "no-legend", "dark")}
 MOST_BANDS = 4  # more of them hide each other
 LEAST_SIZE, MOST_SIZE = 200, 10_000  # points
+ROW_WIDTH = 1.75  # points of a row that is chosen for the picture
+NARROWEST = 0.5  # points of a row that is drawn by itself
+SMALL_LETTER, LARGE_LETTER = 6.4, 9.4  # points: the width of a letter below the title, and of the title
 
 
 class PlotOptions(NamedTuple):
@@ -130,7 +135,7 @@ def fetch(options: PlotOptions, function: str, resolution: int, begin: int, unti
 def fetch_for(options: PlotOptions, function: str, width: int, begin: int, until: int) -> Columns:
     """Returns the rows of a picture with this width: without a start, those from the first known row on."""
     def with_resolution(begin: int) -> Columns:
-        resolution = int(options.values.get("resolution") or max((until - begin) // width, 1))
+        resolution = int(options.values.get("resolution") or max((until - begin) * ROW_WIDTH // width, 1))
         return fetch(options, function, resolution, begin, until)
     rows = with_resolution(begin)
     if "start" in options.values:
@@ -139,22 +144,56 @@ def fetch_for(options: PlotOptions, function: str, width: int, begin: int, until
     return since_known(with_resolution(first)) if first > begin else rows
 
 
-def band(options: PlotOptions, settings: Settings, rows: Columns) -> "tuple[Columns, Columns] | None":
-    """Returns the rows of MIN and of MAX that go with rows of AVERAGE, if the file has them."""
-    if rows.seconds == settings.step or "--no-band" in options.flags:
+class Drawn(NamedTuple):
+    """The rows of a picture, and those with the least and the greatest values of the same times, if there are any."""
+
+    rows: Columns
+    low: Optional[Columns]
+    high: Optional[Columns]
+
+
+def drawn(options: PlotOptions, settings: Settings, function: str, rows: Columns, width: int) -> Drawn:
+    """Returns what is drawn of rows. Rows of AVERAGE have a band up to those of MAX and down to those of MIN, if the file has
+    such rows. If the rows are narrower than half a point, each is one of several, and its band has them."""
+    low, high = (extremes(options, settings, one, rows) if function == "AVERAGE" else None for one in ("MIN", "MAX"))
+    if "resolution" not in options.values and len(rows.times) * NARROWEST > width:
+        size = group_size(rows, int(width / ROW_WIDTH))
+        return Drawn(grouped(rows, size, function), grouped(low or rows, size, "MIN"), grouped(high or rows, size, "MAX"))
+    return Drawn(rows, (low or rows) if high else low, (high or rows) if low else high)
+
+
+def extremes(options: PlotOptions, settings: Settings, function: str, rows: Columns) -> Optional[Columns]:
+    """Returns the rows of MIN or of MAX that go with rows of AVERAGE, if the file has them."""
+    if rows.seconds == settings.step:
         return None
     try:
-        low, high = (fetch(options, function, rows.seconds, rows.begin, rows.end) for function in ("MIN", "MAX"))
+        found = fetch(options, function, rows.seconds, rows.begin, rows.end)
     except Failure:  # there are none, or they have no known value
         return None
-    return (low, high) if low.times == high.times == rows.times else None
+    return found if found.times == rows.times else None
 
 
 # ---- The picture
 
-def subtitle_of(function: str, rows: Columns) -> str:
-    return (f"{function} of {length_text(rows.seconds)}, {time_text(rows.begin)} to {time_text(rows.end)} "
-            f"{zone_of(rows.begin, rows.end)}")
+def subtitle_of(function: str, rows: Columns, width: int) -> List[str]:
+    """Returns which rows are drawn, in one line, or in two if the picture is narrow."""
+    first, what = f"{function} of {length_text(rows.seconds)}", f"{short_time(rows.begin)} to {short_time(rows.end)}"
+    second = f"{what} {zone_of(rows.begin, rows.end)}"
+    line = f"{first}, {second}"
+    return [line] if len(line) * SMALL_LETTER <= width - 2 * EDGE else [first, second]
+
+
+def short_time(at: int) -> str:
+    """Returns a time, without seconds if there are none."""
+    text = time_text(at)
+    return text[:-3] if text.endswith(":00") else text
+
+
+def title_of(options: PlotOptions, width: int) -> str:
+    """Returns the title as far as it fits."""
+    text = in_one_line(options.values.get("title", os.path.splitext(os.path.basename(options.file))[0]))
+    most = int((width - 2 * EDGE) / LARGE_LETTER)
+    return text if len(text) <= most else f"{text[:most - 1]}\u2026"
 
 
 def picture_of(options: PlotOptions) -> Picture:
@@ -165,21 +204,22 @@ def picture_of(options: PlotOptions) -> Picture:
     begin, until = span(settings, options)
     rows = fetch_for(options, function, width, begin, until)
     names = options.values["source"].split(",") if "source" in options.values else rows.names
-    found = band(options, settings, rows) if function == "AVERAGE" and options.style != "stack" else None
-    rows = chosen(rows, names)
-    has_band = found is not None and len(names) <= MOST_BANDS
-    low, high = (chosen(one, names) for one in found) if found else (None, None)
+    rows, low, high = drawn(options, settings, function, chosen(rows, names), width)
+    has_band = low is not None and len(names) <= MOST_BANDS and options.style != "stack" and "--no-band" not in options.flags
+    low, high = (chosen(one, names) if one else None for one in (low, high))
     series = series_of(rows, low, high, options.style == "stack")
     least, greatest = limits(series, has_band)
     if least >= 0 and "--fit" not in options.flags or options.style != "lines":
         least, greatest = min(least, 0), max(greatest, 0)
-    unit = options.values.get("unit", "")
-    marks = axis(least, greatest, unit)
-    has_legend = "--no-legend" not in options.flags
-    size = size_of(width, height, max(map(len, marks.texts)), legend_rows(width, names) if has_legend else 0)
-    title = options.values.get("title", os.path.splitext(os.path.basename(options.file))[0])
-    return Picture(rows, series, marks, in_one_line(title), subtitle_of(function, rows), in_one_line(unit), options.style,
-                   has_band, has_legend, DARK if "--dark" in options.flags else LIGHT, size)
+    unit, subtitle = in_one_line(options.values.get("unit", "")), subtitle_of(function, rows, width)
+    legend = legend_of(width, series, unit) if "--no-legend" not in options.flags else None
+    if legend and plot_height(height, len(subtitle), legend.height) < LEAST_PLOT_HEIGHT:
+        legend = None
+    below = legend.height if legend else 0
+    marks = axis(least, greatest, unit, plot_height(height, len(subtitle), below))
+    size = size_of(width, height, max(map(len, marks.texts)), len(subtitle), below)
+    return Picture(rows, series, marks, title_of(options, width), subtitle, options.style, has_band, legend,
+                   DARK if "--dark" in options.flags else LIGHT, size)
 
 
 def plot(words: List[str]) -> int:

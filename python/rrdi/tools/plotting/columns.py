@@ -2,12 +2,13 @@
 from __future__ import annotations
 
 import math
-from typing import Dict, Iterator, List, NamedTuple, Optional, Tuple
+from typing import Callable, Dict, Iterator, List, NamedTuple, Optional, Tuple
 
 from ..command_line import Failure
 
 NOTHING = "nothing to draw: no known value, or fewer than two rows"
 Column = List[float]
+DAY = 86_400  # seconds
 
 
 class Columns(NamedTuple):
@@ -46,6 +47,33 @@ def since_known(rows: Columns) -> Columns:
     first = min(next(at for at, cell in enumerate([*column, 0.0]) if not math.isnan(cell)) for column in rows.columns)
     first = min(first, len(rows.times) - 2)
     return rows._replace(times=rows.times[first:], columns=[column[first:] for column in rows.columns])
+
+
+SUMMARIES: Dict[str, Callable[[Column], float]] = {
+    "AVERAGE": lambda cells: math.fsum(cells) / len(cells), "MIN": min, "MAX": max, "LAST": lambda cells: cells[-1]}
+
+
+def group_size(rows: Columns, most: int) -> int:
+    """Returns how many rows become one, so that at most so many are left. If a number up to four times the least one does it, a
+    row covers a part of a day, or days."""
+    least = -(-len(rows.times) // most)
+    return next((size for size in range(least, 4 * least + 1)
+                 if DAY % (rows.seconds * size) == 0 or rows.seconds * size % DAY == 0), least)
+
+
+def grouped(rows: Columns, size: int, function: str) -> Columns:
+    """Returns rows that cover so many of these: the known cells of each, summarized by a function. The new rows end at multiples
+    of their seconds."""
+    seconds = rows.seconds * size
+    places: Dict[int, List[int]] = {}
+    for at, time in enumerate(rows.times):
+        places.setdefault(-(-time // seconds) * seconds, []).append(at)
+
+    def summary(column: Column, group: List[int]) -> float:
+        cells = known([column[at] for at in group])
+        return SUMMARIES[function](cells) if cells else math.nan
+    return rows._replace(seconds=seconds, times=list(places),
+                         columns=[[summary(column, group) for group in places.values()] for column in rows.columns])
 
 
 def chosen(rows: Columns, names: List[str]) -> Columns:

@@ -6,21 +6,19 @@ import shutil
 import subprocess
 import sys
 import tempfile
-from typing import Iterator, List, NamedTuple
+from typing import Iterator, List, NamedTuple, Optional
 
 from ..command_line import Failure
 from .labels import labels
-from .look import Look, Size
-from .numbers import Axis, number_text
+from .legend import AFTER_SWATCH, SWATCH, Legend
+from .look import EDGE, LINE_HEIGHT, ROW_HEIGHT, Look, Size
+from .numbers import Axis
 from .columns import Columns, Curve, segments
 
 TERMINALS = {".png": "pngcairo size {size} font 'sans,10' background rgb '{background}'",
              ".svg": "svg size {size} font 'sans-serif,12' background rgb '{background}'"}
 # The sizes of the title and of the line below it.
 FONTS = {".png": (13, 9), ".svg": (17, 12)}
-HEADS = ("last", "min", "mean", "max")
-COLUMN, SWATCH = 84, 10  # points of a column of numbers in the legend, and of the square before a name
-LINES_OF_ONE_COLUMN = 8  # a longer legend has two columns, if the picture is wide enough
 
 
 class Picture(NamedTuple):
@@ -30,11 +28,10 @@ class Picture(NamedTuple):
     series: List[Curve]
     axis: Axis
     title: str
-    subtitle: str
-    unit: str
+    subtitle: List[str]  # its lines
     style: str  # lines, area or stack
     has_band: bool
-    has_legend: bool
+    legend: Optional[Legend]
     look: Look
     size: Size
 
@@ -46,62 +43,42 @@ def quoted(text: str) -> str:
     return "'" + text.replace("'", "''") + "'"
 
 
-def legend_columns(width: int, names: List[str]) -> int:
-    """Returns how many columns of sources a legend has."""
-    return 2 if len(names) > LINES_OF_ONE_COLUMN and width >= 2 * legend_width(names) + 60 else 1
-
-
-def legend_rows(width: int, names: List[str]) -> int:
-    """Returns the lines of a legend, with its head."""
-    columns = legend_columns(width, names)
-    return 1 + (len(names) + columns - 1) // columns
-
-
-def legend_width(names: List[str]) -> int:
-    return 30 + 8 * max(len("source"), *map(len, names)) + len(HEADS) * COLUMN
-
-
 # ---- The commands
 
 def texts(picture: Picture, end: str) -> Iterator[str]:
-    """Yields the title, the subtitle and the legend."""
-    look, size = picture.look, picture.size
-    for text, down, color, font in zip((picture.title, picture.subtitle), (22, 42), (look.text, look.faint), FONTS[end]):
+    """Yields the title, the lines below it and the legend."""
+    look, size, (large, small) = picture.look, picture.size, FONTS[end]
+    lines = [(picture.title, 22, look.text, large), *((line, 42 + LINE_HEIGHT * at, look.faint, small)
+                                                      for at, line in enumerate(picture.subtitle))]
+    for text, down, color, font in lines:
         if text:
-            yield (f"set label {quoted(text)} at screen {size.across(16)}, screen {size.up(size.height - down)} left front "
+            yield (f"set label {quoted(text)} at screen {size.across(EDGE)}, screen {size.up(size.height - down)} left front "
                    f"font ',{font}' textcolor rgb '{color}'")
-    if picture.has_legend:
-        yield from legend(picture)
+    if picture.legend is not None:
+        yield from table(picture, picture.legend)
 
 
-def legend(picture: Picture) -> Iterator[str]:
-    """Yields a table: the color and the name of each source, and its last, least, mean and greatest value."""
-    size, names = picture.size, [one.name for one in picture.series]
-    columns = legend_columns(size.width, names)
-    rows, width = legend_rows(size.width, names) - 1, legend_width(names)
-    at = 16
-    for begin in range(0, len(names), rows):
-        yield from cells(picture, at, size.legend - 12, "", HEADS)
-        for line, one in enumerate(picture.series[begin:begin + rows], 1):
-            up = size.legend - 12 - 21 * line
-            yield (f"set object rectangle from screen {size.across(at)}, screen {size.up(up - SWATCH / 2)} to screen "
-                   f"{size.across(at + SWATCH)}, screen {size.up(up + SWATCH / 2)} front fillcolor rgb "
-                   f"'{picture.color(begin + line - 1)}' fillstyle solid 1 noborder")
-            yield from cells(picture, at, up, one.name, [number_text(value, picture.unit) for value in (
-                one.last, one.least, one.mean, one.greatest)])
-        at += width + 40 if columns > 1 else 0
+def table(picture: Picture, legend: Legend) -> Iterator[str]:
+    """Yields the legend: the color, the name and the numbers of each source, and the heads of the columns."""
+    size, heads = picture.size, picture.size.legend - 12
+    for at, (place, name, numbers) in enumerate(zip(legend.places(), legend.names, legend.numbers)):
+        if place.line == 1:
+            yield from columns(picture, legend, place.left, heads, legend.heads, picture.look.faint)
+        up = heads - ROW_HEIGHT * place.line
+        yield (f"set object rectangle from screen {size.across(place.left)}, screen {size.up(up - SWATCH / 2)} to screen "
+               f"{size.across(place.left + SWATCH)}, screen {size.up(up + SWATCH / 2)} front fillcolor rgb "
+               f"'{picture.color(at)}' fillstyle solid 1 noborder")
+        yield (f"set label {quoted(name)} at screen {size.across(place.left + SWATCH + AFTER_SWATCH)}, screen {size.up(up)} left "
+               f"front textcolor rgb '{picture.look.text}'")
+        yield from columns(picture, legend, place.left, up, numbers, picture.look.text)
 
 
-def cells(picture: Picture, at: int, up: float, name: str, numbers: "tuple[str, ...] | list[str]") -> Iterator[str]:
-    """Yields a line of the legend, from `at` on."""
-    size, look = picture.size, picture.look
-    color = look.text if name else look.faint
-    if name:
-        yield (f"set label {quoted(name)} at screen {size.across(at + SWATCH + 8)}, screen {size.up(up)} left front "
-               f"textcolor rgb '{look.text}'")
-    begin = at + legend_width([one.name for one in picture.series]) - len(HEADS) * COLUMN
-    for number, text in enumerate(numbers, 1):
-        yield (f"set label {quoted(text)} at screen {size.across(begin + number * COLUMN)}, screen {size.up(up)} right front "
+def columns(picture: Picture, legend: Legend, left: int, up: float, given: List[str], color: str) -> Iterator[str]:
+    """Yields the columns of numbers, or their heads, of a line whose table begins at `left`."""
+    size = picture.size
+    for number, text in enumerate(given, 1):
+        right = left + legend.name_width + number * legend.column
+        yield (f"set label {quoted(text)} at screen {size.across(right)}, screen {size.up(up)} right front "
                f"textcolor rgb '{color}'")
 
 
@@ -125,11 +102,11 @@ def commands(folder: str, end: str, picture: Picture) -> str:
     """Returns the commands of gnuplot for a picture whose name has an end."""
     size, look, rows = picture.size, picture.look, picture.rows
     terminal = TERMINALS[end].format(size=f"{size.width},{size.height}", background=look.background)
-    times = ", ".join(f'"{text}" {at}' for text, at in labels(rows.begin, rows.end))
+    times = ", ".join(f'"{text}" {at}' for text, at in labels(rows.begin, rows.end, size.width - size.left - size.right))
     # The text of a mark is a format.
     marks = ", ".join(f"{quoted(text.replace('%', '%%'))} {value!r}" for text, value in zip(picture.axis.texts, picture.axis.values))
     setup = os.environ.get("RRDI_PLOT_SETUP") or os.environ.get("LOOK") or ""
-    titled = picture._replace(title="", subtitle="") if "set title" in setup else picture
+    titled = picture._replace(title="", subtitle=[]) if "set title" in setup else picture
     return "\n".join([
         "set encoding utf8", f"set terminal {terminal} noenhanced", f"set output '{folder}/picture'", "set xdata time",
         "set timefmt '%s'", "# The format says that a label has two lines.", 'set format x "\\n"', f"set xtics ({times})",

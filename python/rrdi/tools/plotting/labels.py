@@ -8,20 +8,20 @@ from typing import Callable, Iterator, List, Tuple
 DAY, MONTH = 86_400, 2_678_400  # seconds
 DISTANCES = (1, 2, 5, 10, 20, 30, 60, 120, 300, 600, 1_200, 1_800, 3_600, 7_200, 10_800, 21_600, 43_200, DAY, 2 * DAY,
              4 * DAY, 7 * DAY, 14 * DAY, MONTH, 2 * MONTH, 3 * MONTH, 6 * MONTH, 12 * MONTH)
-MOST_LABELS = 7
+MOST_LABELS, LABEL = 7, 56  # and the points that a label takes at least
 QUARTER = 900  # time zones differ by quarters of an hour
 MONTHS = ("Jan", "Feb", "Mar", "Apr", "May", "Jun", "Jul", "Aug", "Sep", "Oct", "Nov", "Dec")
 
 Label = Tuple[str, int]
 
 
-def distance_of(seconds: int) -> int:
-    """Returns a distance between labels with which at most seven labels fit into this number of seconds."""
+def distance_of(seconds: int, most: int = MOST_LABELS) -> int:
+    """Returns a distance between labels with which at most so many fit into this number of seconds."""
     for distance in DISTANCES:
-        if seconds / distance <= MOST_LABELS:
+        if seconds / distance <= most:
             return distance
     distance = DISTANCES[-1]
-    while seconds / distance > MOST_LABELS:
+    while seconds / distance > most:
         distance *= 2
     return distance
 
@@ -67,9 +67,10 @@ def label_months(begin: int, end: int, distance: int) -> Iterator[Label]:
             yield f"{MONTHS[now.tm_mon - 1]}\\n{now.tm_year}", at
 
 
-def labels(begin: int, end: int) -> List[Label]:
-    """Returns at most about seven labels at round times of the time zone, so that the labels do not overlap."""
-    distance = distance_of(end - begin)
+def labels(begin: int, end: int, width: int = 900) -> List[Label]:
+    """Returns at most about seven labels at round times of the time zone, and fewer for a plot that is not so many points wide,
+    so that the labels do not overlap."""
+    distance = distance_of(end - begin, min(max(width // LABEL, 1), MOST_LABELS))
     way: Callable[[int, int, int], Iterator[Label]]
     way = label_times if distance < DAY else label_days if distance < MONTH else label_months
     return list(way(begin, end, distance))

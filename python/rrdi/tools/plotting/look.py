@@ -43,14 +43,29 @@ class Size(NamedTuple):
         return f"{points / self.height:.5f}"
 
 
-WIDTH, PLOT_HEIGHT, TOP, RIGHT = 900, 250, 66, 28
+WIDTH, PLOT_HEIGHT, LEAST_PLOT_HEIGHT, RIGHT, EDGE = 900, 250, 80, 28, 16
+TITLE_HEIGHT, LINE_HEIGHT = 50, 16  # above the plot: the title, and each line below it
 TIMES_HEIGHT, ROW_HEIGHT, MARGIN = 44, 21, 14
 LETTER = 7.4  # the width of a letter
 
 
-def size_of(width: int, height: int, mark: int, legend_rows: int) -> Size:
-    """Returns the sizes for marks of the axis with at most `mark` letters. Without a height the legend has the room that it
-    needs, below a plot of the usual height."""
-    legend = legend_rows * ROW_HEIGHT + MARGIN if legend_rows else 0
-    bottom = legend + TIMES_HEIGHT
-    return Size(width, height or TOP + PLOT_HEIGHT + bottom, TOP, int(mark * LETTER) + 22, RIGHT, bottom, legend)
+def plot_height(height: int, lines: int, legend: int) -> int:
+    """Returns the height of the plot in a picture of a height, with so many lines below the title and a legend of a height.
+    A picture without a height gets one for a plot of the usual height."""
+    return height - TITLE_HEIGHT - lines * LINE_HEIGHT - TIMES_HEIGHT - legend_room(legend) if height else PLOT_HEIGHT
+
+
+def legend_room(legend: int) -> int:
+    return legend + MARGIN if legend else 0
+
+
+def plot_left(mark: int) -> int:
+    """Returns how far from the left the plot begins, for marks of the axis with at most `mark` letters."""
+    return int(mark * LETTER) + 22
+
+
+def size_of(width: int, height: int, mark: int, lines: int, legend: int) -> Size:
+    """Returns the sizes for marks of the axis with at most `mark` letters, and what `plot_height` takes."""
+    top, room = TITLE_HEIGHT + lines * LINE_HEIGHT, legend_room(legend)
+    bottom = room + TIMES_HEIGHT
+    return Size(width, height or top + PLOT_HEIGHT + bottom, top, plot_left(mark), RIGHT, bottom, room)

@@ -6,7 +6,7 @@ from typing import List, NamedTuple
 
 PREFIXES = {-2: "\u00b5", -1: "m", 0: "", 1: "k", 2: "M", 3: "G", 4: "T", 5: "P", 6: "E"}
 PLAIN = 0.01  # smaller numbers get a prefix
-MARKS = 6
+MARKS, MARK = 6, 30  # and the points that a mark takes at least
 ROUND = (1, 2, 2.5, 5, 10)
 BARE = ("%",)  # units that take no prefix
 
@@ -43,11 +43,11 @@ class Axis(NamedTuple):
     texts: List[str]
 
 
-def axis(low: float, high: float, unit: str = "") -> Axis:
-    """Returns an axis that has all values from `low` to `high`."""
+def axis(low: float, high: float, unit: str = "", height: int = MARKS * MARK) -> Axis:
+    """Returns an axis that has all values from `low` to `high`, for a plot that is so many points high."""
     if low == high:
         high = low + (abs(low) / 10 or 1)
-    rough = (high - low) / MARKS
+    rough = (high - low) / min(max(height // MARK, 1), MARKS)
     base = 10.0 ** math.floor(math.log10(rough))
     step = next(part * base for part in ROUND if part * base >= rough * (1 - 1e-9))
     first, last = math.floor(low / step + 1e-9), math.ceil(high / step - 1e-9)
