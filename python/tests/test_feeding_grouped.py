@@ -5,10 +5,11 @@ import errno
 import os
 import random
 import unittest
+from pathlib import Path
 from typing import Any, List, Optional, Tuple
 
 import doubles
-from cases import new_folder, use_library
+from cases import needs_library, needs_program, new_folder, use_library
 
 import rrdi
 from rrdi.errors import BAD_WORD, CANNOT_OPEN, CANNOT_WRITE, NO_MEMORY, OK
@@ -106,14 +107,37 @@ class Groups(unittest.TestCase):
         self.assertEqual((GroupWriter(library).write(b"a", SAMPLES[1:]), library.batches), (Outcome(), 1))
 
 
-@unittest.skipUnless(doubles.has_library(), "there is no library")
-class SameFiles(unittest.TestCase):
+class OnProgram:
+    """A file that the program opens anew for each call. A library that opens such files."""
+
+    def __init__(self, path: bytes = b""):
+        self.path, self.program = path, doubles.Program()
+
+    def open(self, path: bytes, wait: int, syncs: bool) -> Tuple[Answer, OnProgram]:
+        return DONE, OnProgram(path)
+
+    def run(self, words: bytes, now: int) -> Answer:
+        return self.program.run_file(self.path, words, now, 0, False)
+
+    def batch(self, lines: bytes, now: int) -> Answer:
+        return self.program.batch_file(self.path, lines, now, 0, False)
+
+    def close(self) -> None:
+        pass
+
+
+class SameFiles:
     """The files and the outcomes are those of an update for each sample."""
 
-    def test_random_samples(self) -> None:
-        use_library(self, None)
+    files = 60
+
+    def writers(self) -> Tuple[BatchWriter, BatchWriter]:
+        raise NotImplementedError
+
+    def test_random_samples(self: Any) -> None:
+        writers = self.writers()
         folder, random_ = new_folder(self), random.Random(59)
-        for number in range(60):
+        for number in range(self.files):
             depth, count, bad = random_.choice((1, 3, 16, 60)), random_.randrange(MANY, 300), random_.choice((0, 0, 0.01, 0.3))
             files = [os.fsencode(folder / f"{number}.{way}") for way in ("one", "group")]
             before = [f"update {time}:1:1" for time in range(1, random_.choice((1, 30)))]
@@ -122,21 +146,38 @@ class SameFiles(unittest.TestCase):
                             step=10, start=0, journal=depth)
                 rrdi.batch(file, before)
             samples = self.samples(random_, count, bad)
-            writers = (BatchWriter(the_library()), GroupWriter(the_library()))
             outcomes = [writer.write(file, samples) for file, writer in zip(files, writers)]
-            one, group = (open(file, "rb").read() for file in files)
+            one, group = (Path(os.fsdecode(file)).read_bytes() for file in files)
             self.assertEqual(outcomes[0], outcomes[1])
             self.assertEqual(one, group, f"{number}: {count} samples, a journal of {depth}")
 
     def samples(self, random_: random.Random, count: int, bad: float) -> List[bytes]:
-        time = 40
+        time, first_bad = 40, random_.choice((0, count - 30))
         found: List[bytes] = []
         for _ in range(count):
             time += random_.choice((1, 10, 10, 10, 35, 200))
-            is_bad = random_.random() < bad
+            is_bad = random_.random() < bad and len(found) >= first_bad
             found.append(random_.choice((b"x", b"5:1:1", b"%d:1" % time)) if is_bad else
                          b"%d:%d.5:%s" % (time, random_.randrange(99), random_.choice((b"7", b"U", b"%d" % time))))
         return found
+
+
+@needs_library
+class SameByLibrary(SameFiles, unittest.TestCase):
+    def writers(self) -> Tuple[BatchWriter, BatchWriter]:
+        use_library(self, None)
+        return BatchWriter(the_library()), GroupWriter(the_library())
+
+
+@needs_program
+class SameByProgram(SameFiles, unittest.TestCase):
+    files = 20
+
+    def writers(self) -> Tuple[BatchWriter, BatchWriter]:
+        program = doubles.Program()
+        use_library(self, program)
+        on_program: Any = OnProgram()
+        return BatchWriter(program), GroupWriter(on_program)
 
 
 if __name__ == "__main__":
