@@ -68,3 +68,4 @@ class Kind(NamedTuple):
 SMALL = Kind("3 KB", ("DS:a:GAUGE:60:U:U", "RRA:AVERAGE:0.5:1:100"))
 LARGE = Kind("62 KB", ("DS:a:GAUGE:60:U:U", "DS:b:GAUGE:60:U:U", "RRA:AVERAGE:0.5:1:360", "RRA:AVERAGE:0.5:6:720",
                        "RRA:MAX:0.5:6:720"))
+HUGE = Kind("4 MB", ("DS:a:GAUGE:60:U:U", "DS:b:GAUGE:60:U:U", "RRA:AVERAGE:0.5:1:125000"))

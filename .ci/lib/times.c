@@ -1,5 +1,4 @@
-/* Passes samples to many files, by the ways of rrdi and by rrd_update_r of librrd, by turns: `path` is rrdi_run_file, `open`
-   rrdi_run_open, and `numbers` rrdi_update_open, once for each sample.
+/* Passes samples to many files, by the ways of rrdi and by rrd_update_r of librrd, by turns. In numbers a call has one sample.
 
        times FILES ROUNDS FIRST SOURCES SAMPLES
 
@@ -10,37 +9,17 @@
        times --one WAY FILES ROUNDS FIRST SOURCES SAMPLES
 
    makes only the calls of one way of rrdi, for a profiler. */
-#include <stdio.h>
-#include <stdlib.h>
 #include <string.h>
-#include <sys/resource.h>
-#include <time.h>
 
 #include <rrd.h>
 
-#include "rrdi.h"
+#include "ways.h"
 
 #define MOST_SAMPLES 64
 #define MOST_LETTERS 64
 #define MOST_SOURCES 8
 
-enum way { BY_PATH, OPEN, IN_NUMBERS, LIBRRD, WAYS };
-static const char *const names[] = {"path", "open", "numbers", "rrd"};
-
-static uint8_t output[1 << 16];
-static struct rrdi_answer answer;
 static char samples[MOST_SAMPLES][MOST_LETTERS], words[8 + MOST_SAMPLES * MOST_LETTERS];
-
-static double now(void) {
-    struct timespec time;
-    clock_gettime(CLOCK_MONOTONIC, &time);
-    return 1e6 * time.tv_sec + time.tv_nsec / 1e3;
-}
-
-static int order(const void *first, const void *second) {
-    double a = *(const double *)first, b = *(const double *)second;
-    return (a > b) - (a < b);
-}
 
 /* The number of a sample, without its half. */
 static int number_of(int file, int at, int source) {
@@ -58,13 +37,6 @@ static size_t spell(long first, int sources, int count, int file) {
         length += size + 1;
     }
     return length - 1;
-}
-
-static void check(enum way way, int file) {
-    if (answer.fault) {
-        fprintf(stderr, "%05d.%s: fault %u: %.*s\n", file, names[way], answer.fault, (int)answer.output_length, output);
-        exit(1);
-    }
 }
 
 static void by_path(int file, size_t length) {
@@ -112,17 +84,6 @@ static double pass(enum way way, struct rrdi_file *open, int file, long first, i
     return now() - begin;
 }
 
-static struct rrdi_file *open_all(enum way way, int files) {
-    struct rrdi_file *open = calloc(files, sizeof *open);
-    for (int file = 0; open && file < files; file++) {
-        char path[32];
-        int size = snprintf(path, sizeof path, "%05d.%s", file, names[way]);
-        rrdi_open((const uint8_t *)path, size, 5000, false, &open[file], output, sizeof output, &answer);
-        check(way, file);
-    }
-    return open;
-}
-
 /* Passes all samples by one way, or by all by turns, and prints the medians. */
 static int pass_all(int way, int files, int rounds, long first, int sources, int count) {
     struct rrdi_file *open[WAYS] = {0};
@@ -140,27 +101,23 @@ static int pass_all(int way, int files, int rounds, long first, int sources, int
             for (int at = 0; at < WAYS; at++)
                 if (way == WAYS || way == at)
                     took[at][done] = pass(at, open[at] ? &open[at][file] : NULL, file, first + 10L * count * round, sources, count);
-    for (int at = 0; at < WAYS; at++) {
-        qsort(took[at], done, sizeof(double), order);
-        printf("%.2f%c", took[at][done / 2], at + 1 < WAYS ? ' ' : '\n');
-    }
+    for (int at = 0; at < WAYS; at++)
+        printf("%.2f%c", median(took[at], done), at + 1 < WAYS ? ' ' : '\n');
     return 0;
 }
 
 int main(int arguments, char **given) {
     int way = WAYS;
-    struct rlimit most;
     if (arguments > 2 && !strcmp(given[1], "--one")) {
         for (way = 0; way < WAYS && strcmp(given[2], names[way]); way++)
             ;
         given += 2;
         arguments -= 2;
     }
-    if (arguments != 6 || getrlimit(RLIMIT_NOFILE, &most))
+    if (arguments != 6)
         return 2;
-    most.rlim_cur = most.rlim_max;
     int files = atoi(given[1]), rounds = atoi(given[2]), sources = atoi(given[4]), count = atoi(given[5]);
-    if (setrlimit(RLIMIT_NOFILE, &most) || count > MOST_SAMPLES || sources > MOST_SOURCES || files < 1 || rounds < 1)
+    if (!allow_many_files() || count > MOST_SAMPLES || sources > MOST_SOURCES || files < 1 || rounds < 1)
         return 2;
     return pass_all(way, files, rounds, atol(given[3]), sources, count);
 }

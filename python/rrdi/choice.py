@@ -25,9 +25,14 @@ def loaded_library() -> Optional[Library]:
         return None
 
 
+def chosen_library() -> Optional[Library]:
+    """Returns the C library; None if a program is to take its place."""
+    return None if os.environ.get("RRDI") else loaded_library()
+
+
 def chosen() -> OnFiles:
     """Returns the C library, or the program in its place."""
-    library = None if os.environ.get("RRDI") else loaded_library()
+    library = chosen_library()
     if library is not None:
         return library
     from .by_program import ByProgram

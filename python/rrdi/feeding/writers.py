@@ -7,7 +7,7 @@ from ..by_program import NoAnswer
 from ..damaged import is_being_made
 from ..environment import is_synced, milliseconds
 from ..errors import CANNOT_OPEN, NO_MEMORY, OK, TRUNCATED, reason_of, reasons_in
-from ..protocol import OnFiles
+from ..protocol import Answer, OnFiles
 from ..words import present
 
 
@@ -31,6 +31,22 @@ def text_of(data: bytes) -> str:
     return data.decode(errors="replace")
 
 
+def lines_of(samples: List[bytes]) -> bytes:
+    """Returns the lines of a batch: an update for each sample."""
+    return b"update " + b"\nupdate ".join(samples)
+
+
+def outcome_of(file: bytes, samples: List[bytes], answer: Answer, before: int = 0) -> Outcome:
+    """Returns the outcome of a batch that had a line for each of these samples, and `before` other lines before them."""
+    is_empty = answer.fault == TRUNCATED and answer.at == 0
+    if answer.fault in (CANNOT_OPEN, NO_MEMORY) or is_empty and is_being_made(file):
+        return Outcome(again=reason_of(answer.fault, answer.output))
+    if answer.fault != OK:
+        return Outcome(lost=reason_of(answer.fault, answer.output))
+    reasons = reasons_in(text_of(answer.output))
+    return Outcome(refused=tuple((samples[number - 1 - before], why) for number, why in zip(answer.refused, reasons)))
+
+
 class BatchWriter:
     """Writes by the library, or by the program in its place."""
 
@@ -38,18 +54,11 @@ class BatchWriter:
         self.rrdi = rrdi
 
     def write(self, file: bytes, samples: List[bytes]) -> Outcome:
-        lines = b"update " + b"\nupdate ".join(samples)
         try:
-            answer = self.rrdi.batch_file(file, lines, present(None), milliseconds(None), is_synced(None))
+            answer = self.rrdi.batch_file(file, lines_of(samples), present(None), milliseconds(None), is_synced(None))
         except NoAnswer as none:
             return Outcome(lost=str(none)) if none.status else Outcome(again=str(none))
-        is_empty = answer.fault == TRUNCATED and answer.at == 0
-        if answer.fault in (CANNOT_OPEN, NO_MEMORY) or is_empty and is_being_made(file):
-            return Outcome(again=reason_of(answer.fault, answer.output))
-        if answer.fault != OK:
-            return Outcome(lost=reason_of(answer.fault, answer.output))
-        reasons = reasons_in(text_of(answer.output))
-        return Outcome(refused=tuple((samples[number - 1], why) for number, why in zip(answer.refused, reasons)))
+        return outcome_of(file, samples, answer)
 
     def create(self, file: bytes, arguments: Sequence[str]) -> str:
         words = "\0".join(["create", *arguments]).encode()

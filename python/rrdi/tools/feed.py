@@ -51,9 +51,10 @@ import signal
 import tempfile
 from typing import Dict, List, NamedTuple, Optional
 
-from ..choice import chosen
+from ..choice import chosen, chosen_library
 from ..explaining import why_refused
 from ..feeding.feeder import Feeder, FeedOptions
+from ..feeding.grouped import GroupWriter
 from ..feeding.metrics import Creating, MetricFeeder
 from ..feeding.rules import EACH_NAME, BadRule, Names, Rule, read_rules
 from ..feeding.writers import BatchWriter, Writer
@@ -131,8 +132,13 @@ class Explaining:
         return self.settings.get(file, "")
 
 
+def chosen_writer() -> BatchWriter:
+    library = chosen_library()
+    return GroupWriter(library) if library is not None else BatchWriter(chosen())
+
+
 def feeder_of(arguments: FeedArguments) -> Feeder:
-    writer, name = BatchWriter(chosen()), called_name(TOOL)
+    writer, name = chosen_writer(), called_name(TOOL)
     if arguments.directory is None:
         feeder = Feeder(arguments.options, writer, name)
     elif os.path.isdir(arguments.directory):

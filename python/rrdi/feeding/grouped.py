@@ -1,0 +1,81 @@
+"""Passes many samples of one file to the C library by two changes: the older ones in one update, and the newest ones in an
+update each.
+
+To read a line costs more than to take its sample, so an update of hundreds of samples saves most of the time. The file
+becomes the same, byte for byte, as by an update for each sample: of those its journal would keep only the newest.
+"""
+from __future__ import annotations
+
+import errno
+import re
+from typing import List, Optional
+
+from ..environment import is_synced, milliseconds
+from ..errors import BAD_WORD, OK, REFUSED, USAGE
+from ..limits import MOST_CHANGES
+from ..protocol import Library, OpenedFile
+from ..words import present
+from .writers import BatchWriter, Outcome, lines_of, outcome_of
+
+MANY = 100  # samples; with fewer, the second change of the file costs more than the lines
+NOTHING_TAKEN = (BAD_WORD, REFUSED, USAGE)
+BUSY = (errno.EAGAIN, errno.EWOULDBLOCK)
+
+
+class GroupWriter(BatchWriter):
+    """Writes by the library."""
+
+    def __init__(self, library: Library):
+        super().__init__(library)
+        self.library = library
+
+    def write(self, file: bytes, samples: List[bytes]) -> Outcome:
+        if len(samples) < MANY:
+            return super().write(file, samples)
+        answer, opened = self.library.open(file, milliseconds(None), is_synced(None))
+        if opened is None and answer.system_error in BUSY:  # the batch would only wait once more
+            return outcome_of(file, samples, answer)
+        if opened is None:  # the batch finds out why, or does not need an open file
+            return super().write(file, samples)
+        try:
+            return write_open(file, opened, samples)
+        finally:
+            opened.close()
+
+
+def write_open(file: bytes, opened: OpenedFile, samples: List[bytes]) -> Outcome:
+    """Passes samples to a file that stays open and locked meanwhile."""
+    now, depth = present(None), journal_of(opened)
+    older, newer = samples[:-depth], samples[-depth:]
+    words = b" ".join(older)
+    is_many = len(older) >= depth and b"\0" not in words
+    answer = opened.run(b"update\0" + words.replace(b" ", b"\0"), now) if is_many else None
+    if answer is None or answer.fault in NOTHING_TAKEN:
+        # Of a refused update no sample is taken, and those that rrdi would take alone are to be taken.
+        return outcome_of(file, samples, opened.batch(lines_of(samples), now))
+    if answer.fault != OK:
+        return outcome_of(file, samples, answer)
+    answer = opened.batch(lines_of(newer), now)
+    if answer.fault == OK and answer.refused:
+        return again_one_by_one(file, opened, samples, len(newer) - len(answer.refused), now)
+    return after_the_first(outcome_of(file, newer, answer))
+
+
+def again_one_by_one(file: bytes, opened: OpenedFile, samples: List[bytes], taken: int, now: int) -> Outcome:
+    """Takes back the update of the older samples and the `taken` ones after it, and passes each sample as an update: the
+    journal has room for more than were taken."""
+    reverts = taken + 1
+    answer = opened.batch(b"revert\n" * reverts + lines_of(samples), now)
+    return after_the_first(outcome_of(file, samples, answer, reverts))
+
+
+def after_the_first(outcome: Outcome) -> Outcome:
+    """Returns the outcome of a later change. If it fails, the samples cannot be tried again: the file has some of them."""
+    return Outcome(lost=outcome.again) if outcome.again else outcome
+
+
+def journal_of(opened: OpenedFile) -> int:
+    """Returns how many changes the journal of a file keeps: the most that one can have, if the library does not tell."""
+    answer = opened.run(b"info", 0)
+    found = re.search(rb"^journal = ([0-9]+)$", answer.output, re.MULTILINE)
+    return int(found[1]) if found and answer.fault == OK else MOST_CHANGES
