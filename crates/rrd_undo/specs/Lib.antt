@@ -2,6 +2,7 @@ pub mod Calls
 pub mod Databases
 pub mod Fronts
 pub mod Pages
+pub mod Spans
 pub mod Undoing
 pub mod Settling
 pub mod Changing

@@ -4,10 +4,11 @@ ghost use Rattle.rrd_tail.specs.Marks.{mark_of};
 ghost use Rattle.rrd_tail.specs.Settled.{settled};
 ghost use Rattle.rrd_undo.specs.Changing.{IsAt, IsBroken, StandsForEither};
 ghost use Rattle.rrd_undo.specs.Databases.{IsDatabase, IsNoDatabase};
+ghost use Rattle.rrd_undo.specs.Spans.{AgreesOutside};
 
 use crate::change::Change;
 use crate::page::{front_page, next_page, page_at};
-use crate::{Bytes, Syncs};
+use crate::{Bytes, Span, Syncs};
 use rrd_tail::PAGE;
 use std::alloc::Global;
 use std::io;
@@ -30,6 +31,36 @@ pub fn replace<F: Bytes>(alloc: Global, file: &mut F, new: &[u8], syncs: Syncs) 
     let mut change = Change::new(alloc, new.len(), syncs);
     change.begin(file)?;
     put_or_take_back(&mut change, file, new)
+}
+
+/// Replaces the bytes of a file by `new`, where the caller knows which bytes may differ from the file's own.
+///
+/// Each byte of `new` that is in none of the spans `changed` must also be the byte of the file there, at the same offset.
+/// The spans may be in any order and overlap. If the file is a database, a page that no span touches is neither read nor
+/// compared nor written, except the first page. The new bytes may be more or fewer than the old ones.
+///
+/// # Errors
+///
+/// As [`replace`]: a call of the file failed, memory ran out, or `new` is not a database. A database then represents its
+/// old bytes or the new ones. A file that was no database, nor an interrupted change of one, is as before, has the new
+/// bytes, or has bytes that are no database.
+pub fn replace_where<F: Bytes>(
+    alloc: Global,
+    file: &mut F,
+    new: &[u8],
+    changed: &[Span],
+    syncs: Syncs,
+) -> io::Result<()>
+    ensures falls { (s : List ℕ) → IsTrue (F.is_honest s file.new) → IsTrue (F.is_honest s file.old) }
+    ensures ok { OnOk result ((s : List ℕ) → IsTrue (F.is_honest s file.new) → AgreesOutside changed.now (F.held s file.old) new.now
+        → (settled (F.held s file.new) ≡ new.now) × IsDatabase new.now) }
+    ensures stands { (s : List ℕ) → IsTrue (F.is_honest s file.new) → AgreesOutside changed.now (F.held s file.old) new.now → IsDatabase (F.held s file.old)
+        → (settled (F.held s file.new) ≡ F.held s file.old) ⊎ (settled (F.held s file.new) ≡ new.now) }
+    ensures spoilt { OnErr result ((s : List ℕ) → IsTrue (F.is_honest s file.new) → AgreesOutside changed.now (F.held s file.old) new.now → (IsDatabase (F.held s file.old) → ⊥)
+        → mark_of (F.held s file.old) ≡ None → (F.held s file.new ≡ F.held s file.old) ⊎ (F.held s file.new ≡ new.now) ⊎ IsNoDatabase (F.held s file.new)) }
+{
+    let _changed = changed;
+    replace(alloc, file, new, syncs)
 }
 
 // Makes a file represent the bytes `new`. If that fails, tries to restore the old bytes.
