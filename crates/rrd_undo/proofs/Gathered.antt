@@ -10,7 +10,7 @@ use Rattle.rrd_tail.specs.Settled.{settled}
 use Rattle.rrd_tail.specs.Slots.{Slot, all_laid, slot_offset, slots_in}
 use Rattle.rrd_undo.specs.Calls.{AreAt, ArePut, IsFrontPut}
 use Rattle.rrd_undo.specs.Databases.{IsDatabase}
-use Rattle.rrd_undo.specs.Gathering.{AreRecorded, IsAppended, IsCovered, IsGathered, IsOldSlot, IsSaved, group_bytes, padded, slots_for}
+use Rattle.rrd_undo.specs.Gathering.{AddsSpan, AreRecorded, IsAppended, IsCovered, IsGathered, IsOldSlot, IsSaved, group_bytes, padded, slots_for}
 use Rattle.rrd_undo.specs.Spans.{IsBeside}
 use Rattle.rrd_undo.specs.Undoing.{EndsBelow, IsOldPage, IsTail, Undoing, record_of, slot_of}
 use Rattle.rrd_undo.specs.declared.span.Span.{Span}
@@ -50,9 +50,35 @@ slots_for_cover old at count bytes k x page counts from below inside =
     let there : at + (k - at) ≡ k = omega arith in
     rw (one_slot_for at bytes some) (laid_in (slot_of at bytes) k x from (omega (arith, counts)) ∙ page.are.each (k - at) (omega (arith, counts)) ∙ ap (slice_index old) there)
 
+pub push_split : {A : Type 0} (P : A → Type 0) (xs : List A) (x : A) → All P (xs ++ x ∷ []) → All P xs × P x
+push_split P [] x all = (All-nil P, All-head P x [] all)
+push_split P (y ∷ ys) x all =
+    let rest = push_split P ys x (All-tail P y (ys ++ x ∷ []) all) in
+    (All-cons P y ys (All-head P y (ys ++ x ∷ []) all) rest.0, rest.1)
+
+-- the spans are covered if one is added that is
+adds_covered : (old : List ℕ) (tail low : ℕ) (slots : List Slot) (spans : List Span) (span : Span) (more : List Span) → All (IsCovered old tail low slots) spans
+    → IsCovered old tail low slots span → AddsSpan spans span more → All (IsCovered old tail low slots) more
+adds_covered old tail low slots spans span more all one adds = elim adds as (λ _. All (IsCovered old tail low slots) more) [
+  | inl pushed ↦ All-same (IsCovered old tail low slots) more (spans ++ span ∷ []) pushed (All-push (IsCovered old tail low slots) spans span all one)
+  | inr joined ↦
+      let both = push_split (IsCovered old tail low slots) joined.0 joined.1
+      (All-same (IsCovered old tail low slots) (joined.0 ++ joined.1 ∷ []) spans (sym joined.2) all) in
+      let longer : IsCovered old tail low slots (record { start = joined.1.start; end = span.end }) = record {
+        from = both.1.from;
+        within = one.within;
+        covers = λ k x from below inside. elim (cases_lt k joined.1.end) as (λ _. all_laid slots k x ≡ slice_index old k) [
+          | inl before ↦ both.1.covers k x from before inside
+          | inr behind ↦ one.covers k x (omega (arith, behind, joined.3)) below inside
+        ];
+      } in
+      All-same (IsCovered old tail low slots) more (joined.0 ++ record { start = joined.1.start; end = span.end } ∷ []) joined.5
+      (All-push (IsCovered old tail low slots) joined.0 (record { start = joined.1.start; end = span.end }) both.0 longer)
+]
+
 pub gathered_more : (old : List ℕ) (tail low done at count : ℕ) (bytes buffer buffer_more : List ℕ) (spans spans_more : List Span) (span : Span) → low ≤ at
     → IsOldPage old at bytes → length bytes ≡ min (length old - at) count → at + count ≤ tail → at + count ≤ done → span.start ≡ at → span.end ≡ at + count
-    → buffer_more ≡ buffer ++ group_bytes tail (slots_for at bytes) → spans_more ≡ spans ++ span ∷ [] → IsGathered old tail low done buffer spans
+    → buffer_more ≡ buffer ++ group_bytes tail (slots_for at bytes) → AddsSpan spans span spans_more → IsGathered old tail low done buffer spans
     → IsGathered old tail low done buffer_more spans_more
 gathered_more old tail low done at count bytes buffer buffer_more spans spans_more span high page counts within ends starts stops buffer_is spans_are before =
     let news : List Slot = slots_for at bytes in
@@ -75,8 +101,7 @@ gathered_more old tail low done at count bytes buffer buffer_more spans spans_mo
       encoded = buffer_is ∙ ap (λ (b : List ℕ). b ++ group_bytes tail news) before.encoded ∙ sym (group_both tail before.slots news);
       olds = All-append (IsOldSlot old) before.slots news before.olds olds;
       below = All-append (EndsBelow done) before.slots news before.below (slots_for_below done at bytes (omega (arith, counts)));
-      covered = All-same (IsCovered old tail low (before.slots ++ news)) spans_more (spans ++ span ∷ []) spans_are
-          (All-push (IsCovered old tail low (before.slots ++ news)) spans span kept added);
+      covered = adds_covered old tail low (before.slots ++ news) spans span spans_more kept added spans_are;
     }
 
 pub gathered_nothing : (old : List ℕ) (tail low done : ℕ) (bytes : List ℕ) (spans : List Span) → bytes ≡ [] → spans ≡ [] → IsGathered old tail low done bytes spans
@@ -112,23 +137,32 @@ gathered_lower old tail low lower done bytes spans le g = record {
   }) spans g.covered;
 }
 
-pub push_split : {A : Type 0} (P : A → Type 0) (xs : List A) (x : A) → All P (xs ++ x ∷ []) → All P xs × P x
-push_split P [] x all = (All-nil P, All-head P x [] all)
-push_split P (y ∷ ys) x all =
-    let rest = push_split P ys x (All-tail P y (ys ++ x ∷ []) all) in
-    (All-cons P y ys (All-head P y (ys ++ x ∷ []) all) rest.0, rest.1)
-
 -- what is beside more spans
-pub beside_more : (k at count : ℕ) (spans spans_more : List Span) (span : Span) → span.start ≡ at → span.end ≡ at + count → spans_more ≡ spans ++ span ∷ []
+pub beside_more : (k at count : ℕ) (spans spans_more : List Span) (span : Span) → span.start ≡ at → span.end ≡ at + count → AddsSpan spans span spans_more
     → All (IsBeside k) spans_more → All (IsBeside k) spans × ((k < at) ⊎ (at + count ≤ k))
-beside_more k at count spans spans_more span starts stops are all =
-    let both = push_split (IsBeside k) spans span (All-same (IsBeside k) (spans ++ span ∷ []) spans_more (sym are) all) in (
-      both.0,
-      elim both.1 as (λ _. (k < at) ⊎ (at + count ≤ k)) [
-        | inl below ↦ inl (omega (arith, below, starts))
-        | inr above ↦ inr (omega (arith, above, stops))
-      ],
-    )
+beside_more k at count spans spans_more span starts stops adds all = elim adds as (λ _. All (IsBeside k) spans × ((k < at) ⊎ (at + count ≤ k))) [
+  | inl pushed ↦
+      let both = push_split (IsBeside k) spans span (All-same (IsBeside k) (spans ++ span ∷ []) spans_more (sym pushed) all) in (
+        both.0,
+        elim both.1 as (λ _. (k < at) ⊎ (at + count ≤ k)) [
+          | inl below ↦ inl (omega (arith, below, starts))
+          | inr above ↦ inr (omega (arith, above, stops))
+        ],
+      )
+  | inr joined ↦
+      let longer : Span = record { start = joined.1.start; end = span.end } in
+      let both = push_split (IsBeside k) joined.0 longer (All-same (IsBeside k) (joined.0 ++ longer ∷ []) spans_more (sym joined.5) all) in
+      let last : IsBeside k joined.1 = elim both.1 as (λ _. IsBeside k joined.1) [
+        | inl below ↦ inl below
+        | inr above ↦ inr (omega (arith, above, joined.3, starts, stops))
+      ] in (
+        All-same (IsBeside k) spans (joined.0 ++ joined.1 ∷ []) joined.2 (All-push (IsBeside k) joined.0 joined.1 both.0 last),
+        elim both.1 as (λ _. (k < at) ⊎ (at + count ≤ k)) [
+          | inl below ↦ inl (omega (arith, below, joined.4, starts))
+          | inr above ↦ inr (omega (arith, above, stops))
+        ],
+      )
+]
 
 -- ---- groups that are appended
 

@@ -1,5 +1,5 @@
 -- Glue: the slots of a change that wait to be appended, and the spans of the file that wait for their new bytes (own).
-use Rattle.std.specs.Prelude.{◌≡◌, ℕ, ◌+◌, ◌-◌, ◌^◌, ◌<◌, ◌≤◌, List, [], ◌∷◌, ◌++◌, length, drop, replicate, slice_index}
+use Rattle.std.specs.Prelude.{◌≡◌, ◌⊎◌, ℕ, ◌+◌, ◌-◌, ◌^◌, ◌<◌, ◌≤◌, List, [], ◌∷◌, ◌++◌, length, drop, replicate, slice_index}
 use Rattle.std.specs.List.{All}
 use Rattle.rrd_tail.specs.Bytes.{StandsAt}
 use Rattle.rrd_tail.specs.Marks.{undo_mark}
@@ -33,6 +33,12 @@ pub record IsCovered (old : List ℕ) (tail low : ℕ) (slots : List Slot) (span
   pub from : low ≤ span.start
   pub within : span.end ≤ tail
   pub covers : (k x : ℕ) → span.start ≤ k → k < span.end → k < length old → all_laid slots k x ≡ slice_index old k
+
+-- a span was added to spans: as one more, or to the last one, which it follows
+abbrev pub AddsSpan : List Span → Span → List Span → Type 0
+AddsSpan spans span more = (more ≡ spans ++ span ∷ [])
+    ⊎ ((before : List Span) × (last : Span) × (spans ≡ before ++ last ∷ []) × (last.end ≡ span.start) × (last.start ≤ span.start)
+    × (more ≡ before ++ record { start = last.start; end = span.end } ∷ []))
 
 -- these bytes are slots of old bytes below `done`, which have the old bytes of the spans
 pub record IsGathered (old : List ℕ) (tail low done : ℕ) (bytes : List ℕ) (spans : List Span) : Type 0 where

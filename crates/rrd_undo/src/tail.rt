@@ -7,7 +7,7 @@ ghost use Rattle.rrd_tail.specs.Records.{shaped_bytes};
 ghost use Rattle.rrd_tail.specs.Settled.{settled};
 ghost use Rattle.rrd_tail.specs.Slots.{slot_offset};
 ghost use Rattle.rrd_undo.specs.Calls.{AreAt, ArePut, AreWholeOrNot, IsSized};
-ghost use Rattle.rrd_undo.specs.Gathering.{AreRecorded, ArePutIn, IsAppended, IsGathered, IsSaved, Paged, Turning, group_bytes, padded, slots_for};
+ghost use Rattle.rrd_undo.specs.Gathering.{AddsSpan, AreRecorded, ArePutIn, IsAppended, IsGathered, IsSaved, Paged, Turning, group_bytes, padded, slots_for};
 ghost use Rattle.rrd_undo.specs.Spans.{IsBeside};
 ghost use Rattle.rrd_undo.specs.Undoing.{IsOldPage, IsOldRecorded, IsReady, IsTail, IsToCut, Undoing, record_of, slot_of};
 ghost use Rattle.rrd_undo.specs.Databases.{IsDatabase};
@@ -212,6 +212,27 @@ fn push_slot(buffer: &mut Vec<u8>, tail: usize, at: usize, bytes: &[u8]) -> io::
     push_padded(buffer, tail, at, bytes)
 }
 
+// Adds a span to spans that are written in their order: makes the last one longer, if the span follows it directly, so that
+// one call writes both.
+fn push_span(spans: &mut Vec<Span>, span: Span) -> io::Result<()>
+    ensures { OnOk result (AddsSpan spans.old.items span spans.new.items) }
+{
+    let Some(last) = spans.pop() else {
+        spans.push(span)?;
+        return Ok(());
+    };
+    if last.end == span.start && last.start <= span.start {
+        spans.push(Span {
+            start: last.start,
+            end: span.end,
+        })?;
+        return Ok(());
+    }
+    spans.push(last)?;
+    spans.push(span)?;
+    Ok(())
+}
+
 // Appends a record to a buffer.
 fn push_record(buffer: &mut Vec<u8>, shape: Shape, entry: &Record) -> io::Result<()>
     ensures { OnOk result (buffer.new.items ≡ buffer.old.items ++ shaped_bytes shape entry.now) }
@@ -314,8 +335,7 @@ impl Tail {
             return Err(Error::from(ErrorKind::FileTooLarge));
         };
         push_slot(&mut self.buffer, self.offset, at, bytes)?;
-        self.spans.push(Span { start: at, end })?;
-        Ok(())
+        push_span(&mut self.spans, Span { start: at, end })
     }
 
     /// Checks whether as many slots are gathered as one call appends.

@@ -39,10 +39,35 @@ fn calls_of(rt: &impl Abort, alloc: Global, changed: usize, syncs: Syncs) -> Res
 fn a_change_makes_one_append(rt: HostRuntime) -> Result<(), Fail> {
     for changed in [1, 3, 30] {
         let never = calls_of(&rt, rt.alloc(), changed, Syncs::Never)?;
-        assert_eq!(&rt; (never.writes, never.syncs), (changed as u64 + 7, 0), "{changed}");
+        assert_eq!(&rt;
+            (never.writes, never.syncs),
+            (changed as u64 + 7, 0),
+            "{changed}"
+        );
         let ordered = calls_of(&rt, rt.alloc(), changed, Syncs::Ordered)?;
-        assert_eq!(&rt; (ordered.writes, ordered.syncs), (changed as u64 + 7, 8), "{changed}");
+        assert_eq!(&rt;
+            (ordered.writes, ordered.syncs),
+            (changed as u64 + 7, 8),
+            "{changed}"
+        );
     }
+    Ok(())
+}
+
+// The last byte of a page and the first one of the next page differ: they are one write.
+#[test]
+fn bytes_over_the_end_of_a_page_are_one_write(rt: HostRuntime) -> Result<(), Fail> {
+    let alloc = rt.alloc();
+    let old = database(alloc, 20_000)?;
+    let mut new = old.clone()?;
+    for byte in new.iter_mut().skip(8_191).take(2) {
+        *byte = 255;
+    }
+    let mut file = Counted::new(old);
+    replace(alloc, &mut file, &new, Syncs::Never)?;
+    let calls = file.calls;
+    assert!(&rt; file.into_bytes().as_slice() == new.as_slice());
+    assert_eq!(&rt; calls.writes, 8);
     Ok(())
 }
 
@@ -66,8 +91,8 @@ fn a_kill_between_groups_loses_nothing(rt: HostRuntime) -> Result<(), Fail> {
     let old = changed_pages(alloc, MANY.saturating_add(2), 0)?;
     let new = changed_pages(alloc, MANY.saturating_add(2), MANY)?;
     let (mut olds, mut news) = (0_u64, 0_u64);
-    for kill in 0..27_u64 {
-        let left = killed(alloc, &old, &new, kill.saturating_mul(25))?;
+    for kill in 0..13_u64 {
+        let left = killed(alloc, &old, &new, kill.saturating_mul(52))?;
         if left.as_slice() == old.as_slice() {
             olds = olds.saturating_add(1);
         } else {
@@ -75,7 +100,7 @@ fn a_kill_between_groups_loses_nothing(rt: HostRuntime) -> Result<(), Fail> {
             news = news.saturating_add(1);
         }
     }
-    assert!(&rt; olds > 20 && news > 0, "{olds}, {news}");
+    assert!(&rt; olds > 10 && news > 0, "{olds}, {news}");
     Ok(())
 }
 
