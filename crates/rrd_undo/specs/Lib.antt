@@ -2,7 +2,9 @@ pub mod Calls
 pub mod Databases
 pub mod Fronts
 pub mod Pages
+pub mod Spans
 pub mod Undoing
+pub mod Gathering
 pub mod Settling
 pub mod Changing
 pub mod Memory

@@ -9,12 +9,14 @@ mod memory;
 mod page;
 mod recovery;
 mod replacing;
+mod span;
 mod tail;
 
 pub use calls::Bytes;
 pub use front::{SettledFront, settled_front};
 pub use memory::Memory;
 pub use recovery::{Settled, has_mark, is_marked, settle};
-pub use replacing::replace;
+pub use replacing::{replace, replace_where};
 pub use rrd_tail::PAGE;
+pub use span::Span;
 pub use tail::Syncs;

@@ -52,6 +52,13 @@ pub(super) const CHANGES: &[Change<'_>] = &[
         marks: true,
     },
     Change {
+        name: "over the end of a page",
+        old: 13_000,
+        new: 13_000,
+        places: &[8_191, 8_192],
+        marks: true,
+    },
+    Change {
         name: "longer in the first page",
         old: 64,
         new: 4_096,
