@@ -15,23 +15,33 @@ use Rattle.rrd_store.proofs.Sessions.{executes_same, kept_read, ok_same}
 use Rattle.rrd_store.proofs.session.Session.perform.Goals as goal
 
 pub returns-in_err-database-clause-run : goal.returns-in_err-database-clause-run
-returns-in_err-database-clause-run g c s honest sound read =
+returns-in_err-database-clause-run g c s honest sound memory =
     let p = err_from_is_err_and c.from_residual.result c.from_residual.ensures.1 in
     let old = g.P.Storage.contents s c.args.self.now.storage in
     let storage : Stays old (g.P.Storage.contents s c.start.new.self.storage) = rw (c.start.ensures.stays s honest sound) (stays_same old) in
     let out = keeps_same (g.W.Write.contents c.args.out.now) in
-    rw (p.1, p.2) (Err c.in_err-database.field-0.0, c.in_err-database.ensures.start s honest sound read, (refl, storage, out))
+    rw (p.1, p.2) (Err c.in_err-database.field-0.0, c.in_err-database.ensures.start s honest sound memory.read, (refl, storage, out))
 
 -- the database in memory is found
 pub returns-in_err-database-clause-on : goal.returns-in_err-database-clause-on
-returns-in_err-database-clause-on g c d same s honest sound = absurd (let found = (c.in_err-database.ensures.same d same).0 in cc)
+returns-in_err-database-clause-on g c d same s honest sound memory = absurd (let found = (c.in_err-database.ensures.same d same).0 in cc)
 
-pub returns-clause-read : goal.returns-clause-read
-returns-clause-read g c s honest sound read =
+pub returns-clause-sound : goal.returns-clause-sound
+returns-clause-sound g c s honest sound memory =
+    let before = c.finish-end.ensures.falls s honest in
+    let mid = g.P.Storage.contents s c.start.new.self.storage in
+    let may = c.encoded_after-encoding.ensures.may mid (c.take_encoded-encoded.ensures.bytes mid (c.start.ensures.bytes s before sound memory.bytes)) c.take_encoded-encoded.ensures.file in
+    c.finish-end.ensures.sound s honest (c.start.ensures.sound s before sound) (may_by mid c.encoded_after-encoding.result c.as_ref.result c.as_ref.ensures may)
+
+pub returns-clause-memory : goal.returns-clause-memory
+returns-clause-memory g c s honest sound memory =
+    let read = memory.read in
     let before = c.finish-end.ensures.falls s honest in
     let mid_sound = c.start.ensures.sound s before sound in
     let stays = c.start.ensures.stays s before sound in
     let mid = g.P.Storage.contents s c.start.new.self.storage in
+    let had = c.take_encoded-encoded.ensures.bytes mid (c.start.ensures.bytes s before sound memory.bytes) in
+    let may = c.encoded_after-encoding.ensures.may mid (c.take_encoded-encoded.ensures.bytes mid (c.start.ensures.bytes s before sound memory.bytes)) c.take_encoded-encoded.ensures.file in
     let new = g.P.Storage.contents s c.finish-end.new.storage in
     let outcome = c.execute-outcome.result in
     let text = text_on c.in_ok-database.database (effect c.args.command) in
