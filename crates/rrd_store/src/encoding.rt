@@ -83,6 +83,7 @@ pub(crate) fn take_encoded(
 }
 
 // Encodes a database after an update, whose bytes before it are `before`.
+#[tactic(auto, using(crate::proofs::Encodings::may_differ))]
 fn encode_update(alloc: Global, before: Encoded, database: &Database) -> Option<Encoding>
     requires { Precedes before database.now }
     ensures of { IfSome result (λ e. Encodes e.encoded database.now) }
@@ -167,9 +168,11 @@ pub(crate) fn encoded_kept(
 ) -> Option<Encoded>
     ensures { result ≡ encoded_by encoding end }
 {
-    match (encoding, end) {
-        (_, Err(TaskFault::CannotWrite)) => None,
-        (Some(encoding), _) => Some(encoding.encoded),
-        (None, _) => None,
+    if let Err(TaskFault::CannotWrite) = end {
+        return None;
+    }
+    match encoding {
+        Some(encoding) => Some(encoding.encoded),
+        None => None,
     }
 }

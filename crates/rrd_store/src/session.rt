@@ -18,7 +18,7 @@ use crate::single::finish;
 use crate::{Access, FileBatchEnd, Gate, Storage, TaskFault};
 use rrd_base::{Database, database_is_valid};
 use rrd_file::Encoded;
-use rrd_file::laws::layout_is_file;
+use rrd_file::laws::{encoded_is_layout, layout_is_file};
 use rrd_spec::laws::updates_keep_newest_rows;
 use rrd_tool::{Command, Outcome, Words, execute, read_command};
 use std::alloc::Global;
@@ -266,6 +266,7 @@ impl<P: Storage + Drop> Session<P> {
             (W.contents out.old) (W.contents out.new) result }
     {
         layout_is_file();
+        encoded_is_layout();
         updates_keep_newest_rows();
         self.is_written = false;
         let reach = reach_of(&command);
