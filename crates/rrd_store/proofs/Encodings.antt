@@ -11,7 +11,7 @@ use Rattle.rrd_spec.specs.History.{Content}
 use Rattle.rrd_spec.specs.declared.refusal.Refusal.{Refusal}
 use Rattle.rrd_spec.specs.declared.requests.update.Update.{Update}
 use Rattle.rrd_file.specs.Encoded.{Encodes, Precedes, bytes_in}
-use Rattle.rrd_file.specs.Faults.{IsValidStored}
+use Rattle.rrd_file.specs.Faults.{IsFile, IsValidStored}
 use Rattle.rrd_file.specs.Laws.{EncodedIsLayout}
 use Rattle.rrd_file.specs.Layout.{layout}
 use Rattle.rrd_file.specs.Spans.{AgreesOutside, IsBeside}
@@ -108,6 +108,14 @@ taken_is None taken database d same is of = subst (λ (o : Option Encoded). IfSo
 taken_is (Some x) taken database d same is of =
     subst (λ (o : Option Encoded). IfSome o (λ e. IsOf e database)) (sym same) (record { here = d; is = is; encodes = of x d refl is })
 
+-- the same are the file of a database
+pub taken_file : (encoded taken : Option Encoded) (database : Option Stored) (d : Stored) → taken ≡ encoded → database ≡ Some d → AreOf encoded database
+    → IsFile (layout d) d → ((e : Encoded) (k : Stored) → EncodedIsLayout e k) → IfSome taken (λ e. IsAnyFile (bytes_in e))
+taken_file None taken database d same is of file law = subst (λ (o : Option Encoded). IfSome o (λ e. IsAnyFile (bytes_in e))) (sym same) tt
+taken_file (Some x) taken database d same is of file law =
+    subst (λ (o : Option Encoded). IfSome o (λ e. IsAnyFile (bytes_in e))) (sym same)
+    (d, subst (λ (bytes : List ℕ). IsFile bytes d) (sym (law x d (of x d refl is))) file)
+
 -- ---- the bytes that the storage represents
 
 pub has_none : (held : Option Held) → HasBytes held None
@@ -185,3 +193,23 @@ module _ (mid new : Option Held) (unknown : mid ≡ None → new ≡ None) where
   kept_bytes encoding before (Printed d) text end ends has same of law = stayed encoding before end (printed d text end ends) has (same refl)
   kept_bytes encoding before (Changed d) text end ends has same of law = changed_bytes encoding d end ends of law
   kept_bytes encoding before (WasRefused database fault) text end ends has same of law = stayed encoding before end ends.1 has (same refl)
+
+-- ---- the bytes that stay in memory are those of the database that stays
+
+of_in : (encoding : Option Encoding) (P : Encoded → Type 0) → IfSome encoding (λ e. P e.encoded) → IfSome (encoded_in encoding) P
+of_in None P of = tt
+of_in (Some e) P of = of
+
+of_by : (encoding : Option Encoding) (end : Result (Unit {0}) TaskFault) (P : Encoded → Type 0) → IfSome encoding (λ e. P e.encoded) → IfSome (encoded_by encoding end) P
+of_by encoding (Ok x) P of = of_in encoding P of
+of_by encoding (Err task.CannotWrite) P of = tt
+of_by encoding (Err task.CannotOpen) P of = of_in encoding P of
+of_by encoding (Err (task.Command fault)) P of = of_in encoding P of
+of_by encoding (Err (task.Stream fault)) P of = of_in encoding P of
+of_by encoding (Err (task.File fault)) P of = of_in encoding P of
+
+pub both_kept : (other : Option Stored) (outcome : Outcome) (end : Result (Unit {0}) TaskFault) (encoding : Option Encoding) (encoded : Option Encoded) (kept : Option Stored)
+    → IfSome encoding (λ e. IsOf e.encoded (database_left outcome)) → encoded ≡ encoded_by encoding end → kept ≡ kept_by other outcome end → AreOf encoded kept
+both_kept other outcome end encoding encoded kept of encoded_is kept_is =
+    kept_are other outcome end encoded kept
+    (subst (λ (o : Option Encoded). IfSome o (λ e. IsOf e (database_left outcome))) (sym encoded_is) (of_by encoding end (λ e. IsOf e (database_left outcome)) of)) kept_is

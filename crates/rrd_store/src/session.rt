@@ -413,7 +413,7 @@ impl<P: Storage + Drop> Session<P> {
         ensures sound { (s : Option Held) → P.is_honest s self.new.storage → P.is_sound s self.old.storage
             → P.is_sound s self.new.storage }
         ensures memory { (s : Option Held) → P.is_honest s self.new.storage → P.is_sound s self.old.storage
-            → IsRead (P.contents s self.old.storage) self.old.database
+            → IsInMemory (P.contents s self.old.storage) self.old.database self.old.encoded
             → IsInMemory (P.contents s self.new.storage) self.new.database self.new.encoded }
         ensures run { (s : Option Held) → P.is_honest s self.new.storage → P.is_sound s self.old.storage
             → IsRead (P.contents s self.old.storage) self.old.database
@@ -463,7 +463,7 @@ impl<P: Storage + Drop> Session<P> {
         ensures sound { (s : Option Held) → P.is_honest s self.new.storage → P.is_sound s self.old.storage
             → P.is_sound s self.new.storage }
         ensures memory { (s : Option Held) → P.is_honest s self.new.storage → P.is_sound s self.old.storage
-            → IsRead (P.contents s self.old.storage) self.old.database
+            → IsInMemory (P.contents s self.old.storage) self.old.database self.old.encoded
             → IsInMemory (P.contents s self.new.storage) self.new.database self.new.encoded }
         ensures run { (s : Option Held) → P.is_honest s self.new.storage → P.is_sound s self.old.storage
             → IsRead (P.contents s self.old.storage) self.old.database

@@ -71,10 +71,10 @@ fn write<P: Storage>(
     requires { IfSome encoding (λ e. Encodes e.now.encoded database.now) }
     ensures falls { (s : Option Held) → P.is_honest s storage.new → P.is_honest s storage.old }
     ensures sound { (s : Option Held) → P.is_honest s storage.new → P.is_sound s storage.old
-        → IfSome encoding (λ e. MayReplace (P.contents s storage.old) e.now) → P.is_sound s storage.new }
+        → IfSome encoding.entry (λ e. MayReplace (P.contents s storage.old) e.now) → P.is_sound s storage.new }
     ensures unknown { (s : Option Held) → P.contents s storage.old ≡ None → P.contents s storage.new ≡ None }
     ensures left { (s : Option Held) → P.is_honest s storage.new → P.is_sound s storage.old
-        → IfSome encoding (λ e. MayReplace (P.contents s storage.old) e.now)
+        → IfSome encoding.entry (λ e. MayReplace (P.contents s storage.old) e.now)
         → Leaves (Some database.now) (P.contents s storage.old) (P.contents s storage.new) result }
 {
     match encoding {
@@ -95,10 +95,10 @@ pub(crate) fn finish<P: Storage, W: Write>(
     requires { IfSome encoding (λ e. IsOf e.now.encoded (database_left outcome.now)) }
     ensures falls { (s : Option Held) → P.is_honest s storage.new → P.is_honest s storage.old }
     ensures sound { (s : Option Held) → P.is_honest s storage.new → P.is_sound s storage.old
-        → IfSome encoding (λ e. MayReplace (P.contents s storage.old) e.now) → P.is_sound s storage.new }
+        → IfSome encoding.entry (λ e. MayReplace (P.contents s storage.old) e.now) → P.is_sound s storage.new }
     ensures unknown { (s : Option Held) → P.contents s storage.old ≡ None → P.contents s storage.new ≡ None }
     ensures storage { (s : Option Held) → P.is_honest s storage.new → P.is_sound s storage.old
-        → IfSome encoding (λ e. MayReplace (P.contents s storage.old) e.now)
+        → IfSome encoding.entry (λ e. MayReplace (P.contents s storage.old) e.now)
         → (text : List ℕ) → (fault_left outcome.now ≡ None → has_changed outcome.now ≡ false → is_empty text ≡ false)
         → Ends outcome.now text (P.contents s storage.old) (P.contents s storage.new) result }
     ensures out { Keeps (W.contents out.old) (W.contents out.new) }

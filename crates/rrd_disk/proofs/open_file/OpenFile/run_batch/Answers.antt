@@ -14,7 +14,7 @@ returns-clause-kept g c = λ kept w honest sound.
     let now : IsTrue (is_honest_after (world_in (held_of w)) new) = subst (λ (v : World). IsTrue (is_honest_after v new)) (sym same) honest in
     let was = kept (world_in (held_of w)) (c.run_batch.ensures.falls (Some (held_of w)) now) (subst (λ (v : World). IsSound v.start) (sym same) sound) in
     subst (λ (v : World). IsKeptOf (held_after v new) c.run_batch.new.self.database c.run_batch.new.self.encoded) same
-    (record { sound = c.run_batch.ensures.sound (Some (held_of w)) now was.sound; memory = c.run_batch.ensures.memory (Some (held_of w)) now was.sound was.memory.read })
+    (record { sound = c.run_batch.ensures.sound (Some (held_of w)) now was.sound; memory = c.run_batch.ensures.memory (Some (held_of w)) now was.sound was.memory })
 
 pub returns-clause-file : goal.returns-clause-file
 returns-clause-file g c = λ kept w honest sound.

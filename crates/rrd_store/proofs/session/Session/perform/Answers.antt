@@ -10,7 +10,7 @@ use Rattle.rrd_store.specs.Sessions.{IsRead, beside, started}
 use Rattle.rrd_store.specs.Single.{Ends}
 use Rattle.rrd_store.specs.Storages.{Stays}
 use Rattle.rrd_store.specs.Encoding.{MayReplace}
-use Rattle.rrd_store.proofs.Encodings.{before_of, kept_bytes, may_lent}
+use Rattle.rrd_store.proofs.Encodings.{before_of, both_kept, kept_bytes, may_lent}
 use Rattle.rrd_store.proofs.Kept.{executes_kept, keeps_same, stays_same}
 use Rattle.rrd_store.proofs.Sessions.{executes_same, kept_read, ok_same}
 use Rattle.rrd_store.proofs.session.Session.perform.Goals as goal
@@ -98,7 +98,13 @@ returns-clause-on g c d same s honest sound memory =
     let other : c.take-other.result ≡ beside (effect command) d = c.take-other.ensures.value ∙ begun.1 in
     (outcome, runs.0, runs.1, rw (sym other) c.database_kept.ensures)
 
-pub encoded_after-encoded-requires : goal.encoded_after-encoded-requires
-encoded_after-encoded-requires g c =
+pub encoded_after-encoding-requires : goal.encoded_after-encoding-requires
+encoded_after-encoding-requires g c =
     before_of c.take_encoded-encoded.result c.reach_of-reach.result c.in_ok-database.database c.args.command (g.W.Write.contents c.args.out.now) (g.W.Write.contents c.execute-outcome.new.out) c.execute-outcome.result
     c.execute-outcome.ensures.kept c.take_encoded-encoded.ensures.encoded c.take_encoded-encoded.ensures.valid c.reach_of-reach.ensures c.updates_keep_newest_rows.ensures
+
+pub invariant_of-self-2 : goal.invariant_of-self-2
+invariant_of-self-2 g c = record {
+  encoded_is = both_kept c.take-other.result c.execute-outcome.result c.finish-end.result c.encoded_after-encoding.result c.encoded_kept.result c.database_kept.result
+      c.encoded_after-encoding.ensures.of c.encoded_kept.ensures c.database_kept.ensures;
+}
