@@ -212,15 +212,13 @@ counts_same tail s t right_s right_t h =
     ∙ count_in tail t (slot_bytes tail t ++ []) [] refl (omega (arith, right_t.most))
 
 pub appended : (tail : ℕ) (s : Slot) (file new : List ℕ) → tail < 2 ^ 64 → IsRightSlot tail s → length file ≤ next_offset tail file → Continues file new →
-    StandsAt new (next_offset tail file) (slot_bytes tail s) → length new ≡ next_offset tail file + length (slot_bytes tail s) →
+    StandsAt new (next_offset tail file) (slot_bytes tail s) → length new ≤ next_offset tail file + 4128 →
     slots_in tail new ≡ slots_in tail file ++ s ∷ []
 appended tail s file new fits right low same stands len =
     let olds = slots_in tail file in
     let n = length olds in
-    let size = length-slot tail s in
-    let most = right.most in
     let news = length_push olds s in
-    let longer : length file ≤ length new = omega (arith, low, len) in
+    let longer : length file ≤ length new = omega (arith, low, stands.within) in
     let each : (i : ℕ) (d : Slot) → i < length (olds ++ s ∷ []) → slot_at tail new i ≡ Some (get_or (olds ++ s ∷ []) i d) =
     λ i d h. elim (cases_lt i n) [
       | inl old ↦ continued tail file new longer same i d old ∙ ap Some (sym (get_or_append_left olds (s ∷ []) d i old))
@@ -231,7 +229,7 @@ appended tail s file new fits right low same stands len =
     only_slots tail new (slots_in tail new) (olds ++ s ∷ []) (in_order tail new) (record {
       each = each;
       right = λ i d h. (slot_stands tail i (get_or (olds ++ s ∷ []) i d) new (each i d h)).1;
-      end = slot_past tail (length (olds ++ s ∷ [])) new (omega (arith, len, size, most, news));
+      end = slot_past tail (length (olds ++ s ∷ [])) new (omega (arith, len, news));
     })
 
 -- a file that continues another one, and has no slot behind the other's, has the same slots

@@ -96,11 +96,11 @@ next_offset tail file = slot_offset tail (length (slots_in tail file))
 abbrev pub Continues : List ℕ → List ℕ → Type 0
 Continues file new = (k : ℕ) → k < length file → slice_index new k ≡ slice_index file k
 
--- a slot that is written at the next offset is one more slot, whatever the bytes there were
+-- a slot that is written at the next offset is one more slot, whatever the bytes there were and up to the next slot are
 abbrev pub SlotIsAppended : ℕ → Slot → List ℕ → List ℕ → Type 0
 SlotIsAppended tail s file new =
     tail < 2 ^ 64 → IsRightSlot tail s → length file ≤ next_offset tail file → Continues file new
-    → StandsAt new (next_offset tail file) (slot_bytes tail s) → length new ≡ next_offset tail file + length (slot_bytes tail s)
+    → StandsAt new (next_offset tail file) (slot_bytes tail s) → length new ≤ next_offset tail file + 4128
     → slots_in tail new ≡ slots_in tail file ++ s ∷ []
 
 -- an incomplete slot is not a slot

@@ -2,7 +2,9 @@ pub mod Laid
 pub mod Cutting
 pub mod NoDatabases
 pub mod Undone
+pub mod Appended
 pub mod Turned
+pub mod Gathered
 pub mod Stages
 pub mod Recovering
 pub mod Fronted

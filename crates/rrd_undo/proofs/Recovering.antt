@@ -278,6 +278,7 @@ released old tail n f g is back n_is sized =
       };
       recorded = (record_of tail old, last_record_is_read s tail (record_of tail old) g (sized.len ∙ n_is) right there refl, refl);
       fits = is.is_tail.fits;
+      behind = omega arith;
       longer = omega (arith, sized.len, n_is, is.is_tail.below);
       put = put;
     }

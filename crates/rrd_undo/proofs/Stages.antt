@@ -1,24 +1,30 @@
 -- The stages of a change.
-use Rattle.std.proofs.Common.{◌≡◌, ◌≢◌, ◌⊎◌, Bool, true, false, IsTrue, ℕ, ◌+◌, ◌-◌, ◌<◌, ◌≤◌, min, List, [], ◌∷◌, length, slice_index, None, refl, sym, ◌∙◌, ap, inl, inr, arith, take, drop, length-take, length-drop, get_or-take, get_or-drop}
+use Rattle.std.proofs.Common.{◌≡◌, ◌≢◌, ◌⊎◌, Bool, true, false, IsTrue, ℕ, ◌+◌, ◌-◌, ◌<◌, ◌≤◌, min, List, [], ◌∷◌, ◌++◌, length, slice_index, None, refl, sym, ◌∙◌, ap, inl, inr, arith, take, drop, length-take, length-drop, get_or-take, get_or-drop}
 use Rattle.std.proofs.lemmas.Bool.{cases_lt}
 use Rattle.std.proofs.lemmas.List.{ext_get_or}
-use Rattle.std.proofs.lemmas.List.Elements.{All-nil, All-same, All-weaker}
+use Rattle.std.proofs.lemmas.List.Elements.{All-append, All-head, All-nil, All-same, All-weaker}
 use Rattle.std.specs.List.{All}
 use Rattle.rrd_tail.specs.Marks.{mark_of}
 use Rattle.rrd_tail.specs.Settled.{settled}
 use Rattle.rrd_tail.specs.Slots.{Slot, slots_in}
 use Rattle.rrd_tail.proofs.Lemmas.{plain_stands}
 use Rattle.rrd_undo.specs.Calls.{AreAt, ArePut, IsSized}
-use Rattle.rrd_undo.specs.Changing.{Agreeing, ArePutBelow, Holds, IsAt, IsBroken, IsFirstPut, IsInvalid, IsKept, Knows, StandsForEither, StandsForOld, IsLeft, IsPage, IsStarted, StaysBehind}
+use Rattle.rrd_undo.specs.Gathering.{ArePutIn, IsAppended, IsGathered, IsSaved, Paged, Turning}
+use Rattle.rrd_undo.specs.Spans.{AgreesOutside, IsBeside}
+use Rattle.rrd_undo.specs.Changing.{Agreeing, ArePutBelow, Holds, IsAt, IsBroken, IsFirstPut, IsInvalid, IsKept, Knows, StandsForEither, StandsForOld, IsLeft, IsPage, IsStarted, StaysBehind, StaysFrom}
 use Rattle.rrd_undo.specs.Databases.{IsDatabase, IsNoDatabase}
-use Rattle.rrd_undo.specs.Pages.{AreSame, IsDifference, IsSame}
-use Rattle.rrd_undo.specs.Undoing.{EndsBelow, IsOldPage, IsTail, Paged, Turning, Turns, Undoing}
+use Rattle.rrd_undo.specs.Pages.{IsDifference, IsSame}
+use Rattle.rrd_undo.specs.Undoing.{EndsBelow, IsOldPage, IsTail, Undoing}
 use Rattle.rrd_undo.specs.declared.change.Change.{Change}
 use Rattle.rrd_undo.specs.declared.change.Stage.{Stage}
+use Rattle.rrd_undo.specs.declared.span.Span.{Span}
+use Rattle.rrd_undo.specs.declared.tail.Tail.{Tail}
 use Rattle.rrd_undo.specs.declared.change.Stage.TheVariants.{Untouched, Marked, Committing, Committed, Unkept, Invalid}
 use Rattle.rrd_undo.proofs.Cutting.{settled_plain}
+use Rattle.rrd_undo.proofs.Gathered.{covered_more, gathered_later, gathered_nothing}
 use Rattle.rrd_undo.proofs.Laid.{all_laid_above}
 use Rattle.rrd_undo.proofs.NoDatabases.{invalid_none, kept_none}
+use Rattle.rrd_undo.proofs.Turned.{beside_front, put_in_slots}
 use Rattle.rrd_undo.proofs.Undone.{undone_settled}
 
 no_length : (slots : List Slot) → length slots ≡ 0 → slots ≡ []
@@ -34,16 +40,17 @@ begun old new file same = record {
   put = λ k high low _. absurd (omega arith);
 }
 
-pub marked_turning : (old new file : List ℕ) (tail : ℕ) (changed : List ℕ) (done : ℕ) → Undoing old tail 0 changed → Agreeing old new file done
-    → Turning old new tail 0 changed done
-marked_turning old new file tail changed done undoing agree =
-    let none : slots_in tail changed ≡ [] = no_length (slots_in tail changed) undoing.counted in
+pub marked_turning : (old new file : List ℕ) (t : Tail) (changed : List ℕ) (done : ℕ) → Undoing old t.offset 0 changed → t.slots ≡ 0 → t.buffer.items ≡ []
+    → t.spans.items ≡ [] → Agreeing old new file done → Turning old new t changed done
+marked_turning old new file t changed done undoing no_slots no_bytes no_spans agree =
+    let none : slots_in t.offset changed ≡ [] = no_length (slots_in t.offset changed) undoing.counted in
     let each : (k : ℕ) → 16 ≤ k → k < length old → slice_index changed k ≡ slice_index old k = λ k high low. (rw none at (undoing.restores.each k high low)) in
     record {
-      undoing = undoing;
-      below = All-same (EndsBelow done) (slots_in tail changed) [] none (All-nil (EndsBelow done));
+      undoing = rw no_slots undoing;
+      below = All-same (EndsBelow done) (slots_in t.offset changed) [] none (All-nil (EndsBelow done));
       first = λ k high page low. each k high low;
-      put = λ k high low within. each k (omega arith) (agree.within k high low within) ∙ agree.put k high low within;
+      gathered = gathered_nothing old t.offset 4096 done t.buffer.items t.spans.items no_bytes no_spans;
+      put = λ k high low within beside. each k (omega arith) (agree.within k high low within) ∙ agree.put k high low within;
     }
 
 -- the invalid mark is put
@@ -52,6 +59,9 @@ pub invalid_holds : (old new file mid last mark : List ℕ) (done : ℕ) → len
 invalid_holds old new file mid last mark done four agree kept put = λ k high low within.
     let inside : k < length old = agree.within k high low within in
     put.outside k (inr (omega (arith, four))) ∙ kept.same k inside ∙ agree.put k high low within
+
+pub invalid_stays : (old mid last mark : List ℕ) (done : ℕ) → length mark ≡ 4 → IsKept old mid → ArePut 0 mark mid last → StaysFrom done old last
+invalid_stays old mid last mark done four kept put = λ k high from low. put.outside k (inr (omega (arith, four))) ∙ kept.same k low
 
 pub invalid_behind : (old mid last mark : List ℕ) → length mark ≡ 4 → IsKept old mid → ArePut 0 mark mid last → StaysBehind old last
 invalid_behind old mid last mark four kept put = λ k high low. put.outside k (inr (omega (arith, four))) ∙ kept.same k low
@@ -80,23 +90,40 @@ put_page new file changed at page is holds put same = λ k high low within.
 ends_more : (done more : ℕ) → done ≤ more → (slots : List Slot) → All (EndsBelow done) slots → All (EndsBelow more) slots
 ends_more done more le slots all = All-weaker (EndsBelow done) (EndsBelow more) (λ s below. omega (arith, below)) slots all
 
-pub turned_turning : (old new : List ℕ) (tail slots after at : ℕ) (page file changed : List ℕ) → 4096 ≤ at → IsPage new at page → at + length page ≤ tail
-    → Turning old new tail slots file at → Turns old tail after at page file changed → Turning old new tail after changed (at + 4096)
-turned_turning old new tail slots after at page file changed high is within t turns = record {
-  undoing = turns.undoing;
-  below = turns.below (at + 4096) (omega (arith, is.len)) (ends_more at (at + 4096) (omega arith) (slots_in tail file) t.below);
-  first = λ k from page_k low. turns.same k (omega arith) (inl (omega arith)) ∙ t.first k from page_k low;
-  put = put_page new file changed at page is t.put turns.put (λ k low. turns.same k (omega arith) (inl low));
-}
-
 pub put_below : (new file changed : List ℕ) (at : ℕ) (page : List ℕ) → IsPage new at page → ArePut at page file changed → ArePutBelow at new file
     → ArePutBelow (at + 4096) new changed
 put_below new file changed at page is put holds = put_page new file changed at page is holds put.inside (λ k low. put.outside k (inl low))
 
+-- a page that is put leaves the pages behind it
+pub put_stays : (old file changed : List ℕ) (at : ℕ) (page : List ℕ) → length page ≤ 4096 → ArePut at page file changed → StaysFrom at old file
+    → StaysFrom (at + 4096) old changed
+put_stays old file changed at page few put stays = λ k high from low. put.outside k (inr (omega arith)) ∙ stays k high (omega arith) low
+
+-- bytes at or after `done` are old bytes
+pub turning_old : (old new : List ℕ) (t : Tail) (file : List ℕ) (done : ℕ) → Turning old new t file done → (k : ℕ) → 16 ≤ k → done ≤ k → k < length old
+    → slice_index file k ≡ slice_index old k
+turning_old old new t file done turning k high from low =
+    sym (all_laid_above (slots_in t.offset file) done k (slice_index file k) turning.below from) ∙ turning.undoing.restores.each k high low
+
+-- more pages, whose bytes outside the spans that wait are in the file
+pub turning_more : (old new : List ℕ) (t : Tail) (file : List ℕ) (done more : ℕ) → done ≤ more → Turning old new t file done
+    → ((k : ℕ) → 4096 ≤ k → done ≤ k → k < more → k < length new → All (IsBeside k) t.spans.items → slice_index file k ≡ slice_index new k)
+    → Turning old new t file more
+turning_more old new t file done more le turning put = record {
+  undoing = turning.undoing;
+  below = ends_more done more le (slots_in t.offset file) turning.below;
+  first = turning.first;
+  gathered = gathered_later old t.offset 4096 done more t.buffer.items t.spans.items le turning.gathered;
+  put = λ k high low within beside. elim (cases_lt k done) as (λ _. slice_index file k ≡ slice_index new k) [
+    | inl before ↦ turning.put k high before within beside
+    | inr from ↦ put k high from low within beside
+  ];
+}
+
 -- a page that is as it was
-pub same_holds : (s : Stage) (old new : List ℕ) (tail slots : ℕ) (file : List ℕ) (at : ℕ) (page : List ℕ) → 4096 ≤ at → IsPage new at page
-    → AreAt file at (min (length old - at) (length page)) page → Holds s old new tail slots file at → Holds s old new tail slots file (at + 4096)
-same_holds Untouched old new tail slots file at page high is are holds = record {
+pub same_holds : (s : Stage) (old new : List ℕ) (t : Tail) (file : List ℕ) (at : ℕ) (page : List ℕ) → 4096 ≤ at → IsPage new at page
+    → AreAt file at (min (length old - at) (length page)) page → Holds s old new t file at → Holds s old new t file (at + 4096)
+same_holds Untouched old new t file at page high is are holds = record {
   same = holds.same;
   within = λ k from low within. elim (cases_lt k at) as (λ _. k < length old) [
     | inl below ↦ holds.within k from below within
@@ -111,53 +138,177 @@ same_holds Untouched old new tail slots file at page high is are holds = record 
         ∙ is.each (k - at) inside ∙ ap (slice_index new) there
   ];
 }
-same_holds Marked old new tail slots file at page high is are holds = (
+same_holds Marked old new t file at page high is are holds = (
   holds.0,
-  record {
-    undoing = holds.1.undoing;
-    below = ends_more at (at + 4096) (omega arith) (slots_in tail file) holds.1.below;
-    first = holds.1.first;
-    put = put_page new file file at page is holds.1.put (λ i low. sym (are.each i (omega (arith, are.len)))) (λ k low. refl);
-  },
+  turning_more old new t file at (at + 4096) (omega arith) holds.1 (λ k _ from below within _.
+      let there : at + (k - at) ≡ k = omega arith in
+      let inside : k - at < length page = omega (arith, is.len) in
+      ap (slice_index file) (sym there) ∙ sym (are.each (k - at) (omega (arith, are.len))) ∙ is.each (k - at) inside ∙ ap (slice_index new) there),
 )
-same_holds Committing old new tail slots file at page high is are holds = holds
-same_holds Committed old new tail slots file at page high is are holds = holds
-same_holds Unkept old new tail slots file at page high is are holds = holds
-same_holds Invalid old new tail slots file at page high is are holds =
-    (holds.0, put_page new file file at page is holds.1 (λ i low. sym (are.each i (omega (arith, are.len)))) (λ k low. refl), holds.2)
+same_holds Committing old new t file at page high is are holds = holds
+same_holds Committed old new t file at page high is are holds = holds
+same_holds Unkept old new t file at page high is are holds = holds
+same_holds Invalid old new t file at page high is are holds = (
+  holds.0,
+  put_page new file file at page is holds.1 (λ i low. sym (are.each i (omega (arith, are.len)))) (λ k low. refl),
+  λ k far from low. holds.2 k far (omega arith) low,
+  holds.3,
+)
+
+-- pages that are as they were, and that the new bytes have too
+pub skipped_holds : (s : Stage) (old new : List ℕ) (t : Tail) (file : List ℕ) (done more : ℕ) → 4096 ≤ done → done ≤ more
+    → ((k : ℕ) → done ≤ k → k < more → k < length new → IsSame old new k) → Holds s old new t file done → Holds s old new t file more
+skipped_holds Untouched old new t file done more high le same holds = record {
+  same = holds.same;
+  within = λ k far below inside. elim (cases_lt k done) as (λ _. k < length old) [
+    | inl before ↦ holds.within k far before inside
+    | inr from ↦ (same k from below inside).0
+  ];
+  put = λ k far below inside. elim (cases_lt k done) as (λ _. slice_index old k ≡ slice_index new k) [
+    | inl before ↦ holds.put k far before inside
+    | inr from ↦ (same k from below inside).1
+  ];
+}
+skipped_holds Marked old new t file done more high le same holds = (
+  holds.0,
+  turning_more old new t file done more le holds.1 (λ k far from below inside _.
+      turning_old old new t file done holds.1 k (omega arith) from (same k from below inside).0 ∙ (same k from below inside).1),
+)
+skipped_holds Committing old new t file done more high le same holds = holds
+skipped_holds Committed old new t file done more high le same holds = holds
+skipped_holds Unkept old new t file done more high le same holds = holds
+skipped_holds Invalid old new t file done more high le same holds = (
+  holds.0,
+  λ k far below inside. elim (cases_lt k done) as (λ _. slice_index file k ≡ slice_index new k) [
+    | inl before ↦ holds.1 k far before inside
+    | inr from ↦ holds.2 k far from (same k from below inside).0 ∙ (same k from below inside).1
+  ],
+  λ k far from low. holds.2 k far (omega arith) low,
+  holds.3,
+)
+
+pub at_skipped : (spans : List Span) (old new : List ℕ) (done more : ℕ) (c : Change) (f : List ℕ) → AgreesOutside spans old new → 4096 ≤ done → done ≤ more
+    → ((k : ℕ) → done ≤ k → k < more → k < length new → All (IsBeside k) spans) → IsAt old new done c f → IsAt old new more c f
+at_skipped spans old new done more c f agrees high le beside is_at = record {
+  knows = is_at.knows;
+  holds = skipped_holds c.stage old new c.tail f done more high le (λ k from below inside. agrees.each k inside (beside k from below inside)) is_at.holds;
+}
 
 -- what is read of a page that was not changed is the old page
-pub old_page : (s : Stage) (old new : List ℕ) (tail slots : ℕ) (file : List ℕ) (at count : ℕ) (bytes : List ℕ) → 4096 ≤ at → count ≤ length old - at
-    → AreAt file at count bytes → Holds s old new tail slots file at → IsDatabase old → AreAt old at count bytes
-old_page Untouched old new tail slots file at count bytes high few are holds is = rw holds.same at are
-old_page Marked old new tail slots file at count bytes high few are holds is = record {
+pub old_page : (s : Stage) (old new : List ℕ) (t : Tail) (file : List ℕ) (at count : ℕ) (bytes : List ℕ) → 4096 ≤ at → count ≤ length old - at
+    → AreAt file at count bytes → Holds s old new t file at → IsDatabase old → AreAt old at count bytes
+old_page Untouched old new t file at count bytes high few are holds is = rw holds.same at are
+old_page Marked old new t file at count bytes high few are holds is = record {
   len = are.len;
-  each = λ i low. are.each i low
-      ∙ sym (all_laid_above (slots_in tail file) at (at + i) (slice_index file (at + i)) holds.1.below (omega arith))
-      ∙ holds.1.undoing.restores.each (at + i) (omega arith) (omega arith);
+  each = λ i low. are.each i low ∙ turning_old old new t file at holds.1 (at + i) (omega arith) (omega arith) (omega arith);
 }
-old_page Committing old new tail slots file at count bytes high few are holds is = absurd holds
-old_page Committed old new tail slots file at count bytes high few are holds is = absurd holds
-old_page Unkept old new tail slots file at count bytes high few are holds is = absurd holds
-old_page Invalid old new tail slots file at count bytes high few are holds is = absurd (holds.0 is)
+old_page Committing old new t file at count bytes high few are holds is = absurd holds
+old_page Committed old new t file at count bytes high few are holds is = absurd holds
+old_page Unkept old new t file at count bytes high few are holds is = absurd holds
+old_page Invalid old new t file at count bytes high few are holds is = absurd (holds.0 is)
 
-pub is_old_page : (old : List ℕ) (at : ℕ) (page bytes : List ℕ) → 16 ≤ at → length page ≤ 4096 → AreAt old at (min (length old - at) (length page)) bytes → IsOldPage old at bytes
-is_old_page old at page bytes high few are = record {
-  behind = high;
-  few = omega (arith, are.len);
-  within = λ some. omega (arith, are.len);
-  are = record { len = refl; each = λ i low. are.each i (omega (arith, are.len)) };
+-- ---- a page that differs
+
+-- a new page, and the old bytes that were read for it
+module _ (old new : List ℕ) (at from : ℕ) (page was : List ℕ) (n : ℕ) (is_page : IsPage new at page) (are : AreAt old at n was) (most : n ≤ length old - at)
+    (enough : min (length old - at) (length page) ≤ n) (few : n ≤ 4096) (high : 16 ≤ at + from) where
+  was_at : (k : ℕ) → at ≤ k → k - at < n → slice_index was (k - at) ≡ slice_index old k
+  was_at k above low =
+      let there : at + (k - at) ≡ k = omega (arith, above) in
+      are.each (k - at) low ∙ ap (slice_index old) there
+
+  pub differing_old : (d : ℕ) (bytes rest : List ℕ) → IsDifference from was page d bytes rest → IsOldPage old (at + d) bytes
+  differing_old d bytes rest is = record {
+    behind = omega (arith, is.behind);
+    few = omega (arith, is.old_are.len, are.len);
+    within = λ some. omega (arith, is.old_are.len, are.len);
+    are = record {
+      len = refl;
+      each = λ i low.
+          let there : at + (d + i) ≡ at + d + i = omega arith in
+          is.old_are.each i (omega (arith, is.old_are.len)) ∙ are.each (d + i) (omega (arith, is.old_are.len, are.len)) ∙ ap (slice_index old) there;
+    };
+  }
+
+  pub differing_count : (d : ℕ) (bytes rest : List ℕ) → IsDifference from was page d bytes rest → length bytes ≡ min (length old - (at + d)) (length rest)
+  differing_count d bytes rest is = omega (arith, is.old_are.len, are.len, is.within)
+
+  -- a byte that both pages have
+  pub both_have : (k : ℕ) → at ≤ k → k < at + length page → IsSame was page (k - at) → IsSame old new k
+  both_have k above low same =
+      let there : at + (k - at) ≡ k = omega (arith, above) in (
+        omega (arith, same.0, are.len, above),
+        sym (was_at k above (omega (arith, same.0, are.len))) ∙ same.1 ∙ is_page.each (k - at) (omega (arith, above, low)) ∙ ap (slice_index new) there,
+      )
+
+-- a byte outside the difference of two pages at an offset
+pub outside_difference : (from : ℕ) (was page : List ℕ) (at k d : ℕ) (bytes rest : List ℕ) → at + from ≤ k → k - at < length page → IsDifference from was page d bytes rest
+    → (k < at + d) ⊎ (at + d + length rest ≤ k) → IsSame was page (k - at)
+outside_difference from was page at k d bytes rest above low is away = is.outside (k - at) (omega arith) low (elim away as (λ _. (k - at < d) ⊎ (d + length rest ≤ k - at)) [
+  | inl below ↦ inl (omega (arith, below, is.within))
+  | inr behind ↦ inr (omega (arith, behind))
+])
+
+-- a page whose differing bytes wait now, or that does not differ
+pub page_waits : (old new : List ℕ) (t u : Tail) (file : List ℕ) (at : ℕ) → 4096 ≤ at → u.offset ≡ t.offset → u.slots ≡ t.slots → Turning old new t file at
+    → IsGathered old u.offset 4096 (at + 4096) u.buffer.items u.spans.items
+    → ((k : ℕ) → All (IsBeside k) u.spans.items → All (IsBeside k) t.spans.items × (at ≤ k → k < at + 4096 → k < length new → IsSame old new k))
+    → Turning old new u file (at + 4096)
+page_waits old new t u file at high offset slots turning gathered beside = record {
+  undoing = rw (offset, slots) turning.undoing;
+  below = rw offset (ends_more at (at + 4096) (omega arith) (slots_in t.offset file) turning.below);
+  first = turning.first;
+  gathered = gathered;
+  put = λ k far below within away. elim (cases_lt k at) as (λ _. slice_index file k ≡ slice_index new k) [
+    | inl before ↦ turning.put k far before within (beside k away).0
+    | inr from ↦
+        let same : IsSame old new k = (beside k away).1 from below within in
+        turning_old old new t file at turning k (omega arith) from same.0 ∙ same.1
+  ];
+}
+
+-- a group was appended, and its spans were put
+pub group_turned : (old new : List ℕ) (t u : Tail) (slots : ℕ) (f g h : List ℕ) (done : ℕ) → IsTail old t.offset → length new ≤ t.offset → (turning : Turning old new t f done)
+    → IsAppended old t.offset slots turning.gathered.slots f g → IsSaved old t.offset 4096 t.spans.items h × ArePutIn t.spans.items new g h
+    → u.offset ≡ t.offset → u.slots ≡ slots → u.buffer.items ≡ [] → u.spans.items ≡ [] → Turning old new u h done
+group_turned old new t u slots f g h done is_tail below_tail turning appended both offset counts no_bytes no_spans =
+    let covered = turning.gathered.covered in
+    let same_slots : slots_in t.offset h ≡ slots_in t.offset g =
+    put_in_slots old t.offset 4096 turning.gathered.slots t.spans.items new g h covered both.1 in
+    let undoing : Undoing old t.offset slots h = record {
+      restores = both.0.restores;
+      marked = both.0.marked;
+      counted = ap length same_slots ∙ appended.undoing.counted;
+      room = omega (arith, both.1.len, appended.undoing.room);
+    } in
+    let below : All (EndsBelow done) (slots_in t.offset h) = All-same (EndsBelow done) (slots_in t.offset h) (slots_in t.offset f ++ turning.gathered.slots)
+    (same_slots ∙ appended.slots_are) (All-append (EndsBelow done) (slots_in t.offset f) turning.gathered.slots turning.below turning.gathered.below) in
+    record {
+      undoing = rw (offset, counts) undoing;
+      below = rw offset below;
+      first = λ k high page low. both.1.same k (beside_front old t.offset 4096 turning.gathered.slots t.spans.items k page covered)
+          ∙ appended.same k (omega (arith, is_tail.below)) ∙ turning.first k high page low;
+      gathered = gathered_nothing old u.offset 4096 done u.buffer.items u.spans.items no_bytes no_spans;
+      put = λ k high low within _. both.1.put k (λ beside. appended.same k (omega (arith, below_tail)) ∙ turning.put k high low within beside);
+    }
+
+pub appended_saved : (old new : List ℕ) (t : Tail) (slots : ℕ) (f g : List ℕ) (done : ℕ) → (turning : Turning old new t f done)
+    → IsAppended old t.offset slots turning.gathered.slots f g → IsSaved old t.offset 4096 t.spans.items g
+appended_saved old new t slots f g done turning appended = record {
+  restores = appended.undoing.restores;
+  marked = appended.undoing.marked;
+  covered = covered_more old t.offset 4096 (slots_in t.offset f) turning.gathered.slots (slots_in t.offset g) t.spans.items appended.slots_are turning.gathered.covered;
 }
 
 -- ---- a call fails
 
-pub holds_left : (s : Stage) (old new : List ℕ) (tail slots count : ℕ) (file : List ℕ) (at : ℕ) → IsTail old tail → Holds s old new tail slots file at → IsLeft s old tail count file
-holds_left Untouched old new tail slots count file at is_tail holds = inl holds.same
-holds_left Marked old new tail slots count file at is_tail holds = (holds.0, undone_settled old tail file is_tail holds.1.undoing.marked holds.1.undoing.restores)
-holds_left Committing old new tail slots count file at is_tail holds = absurd holds
-holds_left Committed old new tail slots count file at is_tail holds = absurd holds
-holds_left Unkept old new tail slots count file at is_tail holds = absurd holds
-holds_left Invalid old new tail slots count file at is_tail holds = (holds.0, inl holds.2)
+pub holds_left : (s : Stage) (old new : List ℕ) (t : Tail) (count : ℕ) (file : List ℕ) (at : ℕ) → IsTail old t.offset → Holds s old new t file at → IsLeft s old t.offset count file
+holds_left Untouched old new t count file at is_tail holds = inl holds.same
+holds_left Marked old new t count file at is_tail holds = (holds.0, undone_settled old t.offset file is_tail holds.1.undoing.marked holds.1.undoing.restores)
+holds_left Committing old new t count file at is_tail holds = absurd holds
+holds_left Committed old new t count file at is_tail holds = absurd holds
+holds_left Unkept old new t count file at is_tail holds = absurd holds
+holds_left Invalid old new t count file at is_tail holds = (holds.0, inl holds.3)
 
 -- what is not a database, and is marked invalid
 pub invalid_stands : (old file : List ℕ) → (IsDatabase old → ⊥) → IsInvalid file → StandsForOld old file
@@ -180,33 +331,33 @@ old_is_either old new file h = record { database = λ is. inl (h.database is); n
 pub same_stands : (old file : List ℕ) → file ≡ old → StandsForOld old file
 same_stands old file same = record { database = λ is. ap settled same ∙ settled_plain old is; none = λ none. rw same none }
 
-pub holds_stands : (s : Stage) (old new : List ℕ) (tail slots : ℕ) (file : List ℕ) (at : ℕ) → IsTail old tail → Holds s old new tail slots file at → StandsForOld old file
-holds_stands Untouched old new tail slots file at is_tail holds = same_stands old file holds.same
-holds_stands Marked old new tail slots file at is_tail holds =
-    database_stands_for old file holds.0 (undone_settled old tail file is_tail holds.1.undoing.marked holds.1.undoing.restores)
-holds_stands Committing old new tail slots file at is_tail holds = absurd holds
-holds_stands Committed old new tail slots file at is_tail holds = absurd holds
-holds_stands Unkept old new tail slots file at is_tail holds = absurd holds
-holds_stands Invalid old new tail slots file at is_tail holds = invalid_stands old file holds.0 holds.2
+pub holds_stands : (s : Stage) (old new : List ℕ) (t : Tail) (file : List ℕ) (at : ℕ) → IsTail old t.offset → Holds s old new t file at → StandsForOld old file
+holds_stands Untouched old new t file at is_tail holds = same_stands old file holds.same
+holds_stands Marked old new t file at is_tail holds =
+    database_stands_for old file holds.0 (undone_settled old t.offset file is_tail holds.1.undoing.marked holds.1.undoing.restores)
+holds_stands Committing old new t file at is_tail holds = absurd holds
+holds_stands Committed old new t file at is_tail holds = absurd holds
+holds_stands Unkept old new t file at is_tail holds = absurd holds
+holds_stands Invalid old new t file at is_tail holds = invalid_stands old file holds.0 holds.3
 
 -- a started change that isn't of a database
-pub other_invalid : (s : Stage) (old new : List ℕ) (tail slots : ℕ) (file : List ℕ) (at : ℕ) → (s ≢ Marked) → IsStarted s → Holds s old new tail slots file at
-    → (IsDatabase old → ⊥) × ArePutBelow at new file × IsInvalid file
-other_invalid Untouched old new tail slots file at other started holds = absurd started
-other_invalid Marked old new tail slots file at other started holds = absurd (other refl)
-other_invalid Committing old new tail slots file at other started holds = absurd started
-other_invalid Committed old new tail slots file at other started holds = absurd started
-other_invalid Unkept old new tail slots file at other started holds = absurd started
-other_invalid Invalid old new tail slots file at other started holds = holds
+pub other_invalid : (s : Stage) (old new : List ℕ) (t : Tail) (file : List ℕ) (at : ℕ) → (s ≢ Marked) → IsStarted s → Holds s old new t file at
+    → (IsDatabase old → ⊥) × ArePutBelow at new file × StaysFrom at old file × IsInvalid file
+other_invalid Untouched old new t file at other started holds = absurd started
+other_invalid Marked old new t file at other started holds = absurd (other refl)
+other_invalid Committing old new t file at other started holds = absurd started
+other_invalid Committed old new t file at other started holds = absurd started
+other_invalid Unkept old new t file at other started holds = absurd started
+other_invalid Invalid old new t file at other started holds = holds
 
-pub other_holds : (s : Stage) (old new : List ℕ) (tail slots : ℕ) (file : List ℕ) (at : ℕ) → (s ≢ Marked) → IsStarted s
-    → (IsDatabase old → ⊥) → ArePutBelow at new file → IsInvalid file → Holds s old new tail slots file at
-other_holds Untouched old new tail slots file at other started none put invalid = absurd started
-other_holds Marked old new tail slots file at other started none put invalid = absurd (other refl)
-other_holds Committing old new tail slots file at other started none put invalid = absurd started
-other_holds Committed old new tail slots file at other started none put invalid = absurd started
-other_holds Unkept old new tail slots file at other started none put invalid = absurd started
-other_holds Invalid old new tail slots file at other started none put invalid = (none, put, invalid)
+pub other_holds : (s : Stage) (old new : List ℕ) (t : Tail) (file : List ℕ) (at : ℕ) → (s ≢ Marked) → IsStarted s
+    → (IsDatabase old → ⊥) → ArePutBelow at new file → StaysFrom at old file → IsInvalid file → Holds s old new t file at
+other_holds Untouched old new t file at other started none put stays invalid = absurd started
+other_holds Marked old new t file at other started none put stays invalid = absurd (other refl)
+other_holds Committing old new t file at other started none put stays invalid = absurd started
+other_holds Committed old new t file at other started none put stays invalid = absurd started
+other_holds Unkept old new t file at other started none put stays invalid = absurd started
+other_holds Invalid old new t file at other started none put stays invalid = (none, put, stays, invalid)
 
 pub other_left : (s : Stage) (old : List ℕ) (tail count : ℕ) (file : List ℕ) → (s ≢ Marked) → IsStarted s → (IsDatabase old → ⊥) → IsInvalid file ⊎ IsDatabase file
     → IsLeft s old tail count file
@@ -341,58 +492,25 @@ first_database old first are is = record {
 
 -- ---- the first page of a marked file
 
-module _ (old new : List ℕ) (tail slots done : ℕ) (file first old_first : List ℕ) (t : Turning old new tail slots file done) (all : length new ≤ done)
-    (are : AreAt new 0 (min 4096 (length new)) first) (old_are : AreAt old 0 (min 4096 (length old)) old_first) where
-  new_at : (k : ℕ) → k < length first → slice_index first k ≡ slice_index new k
-  new_at k low =
-      let there : 0 + k ≡ k = omega arith in
-      are.each k (omega (arith, are.len)) ∙ ap (slice_index new) there
+pub first_is_page : (new first : List ℕ) → AreAt new 0 (min 4096 (length new)) first → IsPage new 0 first
+first_is_page new first are = record { len = omega (arith, are.len); each = λ i low. are.each i (omega (arith, are.len)) }
 
-  old_at : (k : ℕ) → k < length old_first → slice_index old_first k ≡ slice_index old k
-  old_at k low =
-      let there : 0 + k ≡ k = omega arith in
-      old_are.each k (omega (arith, old_are.len)) ∙ ap (slice_index old) there
-
-  -- a byte that is the same in both pages, or is behind the first page
-  stays : (k : ℕ) → 16 ≤ k → k < length new → (k < length first → IsSame old_first first k) → slice_index file k ≡ slice_index new k
-  stays k high low same = elim (cases_lt k (length first)) as (λ _. slice_index file k ≡ slice_index new k) [
-    | inl page ↦
-        let both : IsSame old_first first k = same page in
-        t.first k high (omega (arith, are.len, page)) (omega (arith, both.0, old_are.len)) ∙ sym (old_at k both.0) ∙ both.1 ∙ new_at k page
-    | inr far ↦ t.put k (omega (arith, are.len)) (omega arith) low
-  ]
-
-  pub first_same : AreSame old_first first → Paged old new tail slots file
-  first_same same = record { undoing = t.undoing; put = λ k high low. stays k high low (same k high) }
-
-  -- the differing bytes fit into a slot, and the file has all new bytes when they are written
-  pub first_turned : (at : ℕ) (bytes rest : List ℕ) → length new ≤ tail → IsDifference old_first first at bytes rest
-      → IsOldPage old at bytes × (length bytes ≡ min (length old - at) (length rest)) × (at + length rest ≤ tail)
-      × ((after : ℕ) (changed : List ℕ) → Turns old tail after at rest file changed → Paged old new tail after changed)
-  first_turned at bytes rest below d = (
-    record {
-      behind = d.behind;
-      few = omega (arith, d.old_are.len, old_are.len);
-      within = λ some. omega (arith, d.old_are.len, old_are.len);
-      are = record { len = refl; each = λ i low. d.old_are.each i (omega (arith, d.old_are.len)) ∙ old_at (at + i) (omega (arith, d.old_are.len)) };
-    },
-    omega (arith, d.old_are.len, old_are.len, are.len, d.within),
-    omega (arith, d.within, are.len, below),
-    λ after changed turns. record {
-      undoing = turns.undoing;
-      put = λ k high low. elim (cases_lt k at) as (λ _. slice_index changed k ≡ slice_index new k) [
-        | inl under ↦ turns.same k (omega (arith, below)) (inl under) ∙ stays k high low (λ page. d.outside k high page (inl under))
-        | inr over ↦ elim (cases_lt k (at + length rest)) as (λ _. slice_index changed k ≡ slice_index new k) [
-          | inl inside ↦
-              let there : at + (k - at) ≡ k = omega (arith, over) in
-              let few : k - at < length rest = omega (arith, over, inside) in
-              ap (slice_index changed) (sym there) ∙ turns.put (k - at) few ∙ d.new_are.each (k - at) few ∙ ap (slice_index first) there
-              ∙ new_at k (omega (arith, d.within, inside))
-          | inr above ↦ turns.same k (omega (arith, below)) (inr above) ∙ stays k high low (λ page. d.outside k high page (inr above))
-        ]
-      ];
-    },
-  )
+-- the first page waits, or does not differ
+pub first_waits : (old new : List ℕ) (t u : Tail) (file : List ℕ) (done : ℕ) → length new ≤ done → 4096 ≤ done → u.offset ≡ t.offset → u.slots ≡ t.slots → Turning old new t file done
+    → IsGathered old u.offset 16 done u.buffer.items u.spans.items
+    → ((k : ℕ) → All (IsBeside k) u.spans.items → All (IsBeside k) t.spans.items × (16 ≤ k → k < 4096 → k < length new → IsSame old new k))
+    → Paged old new u file
+first_waits old new t u file done all page offset slots turning gathered beside = record {
+  undoing = rw (offset, slots) turning.undoing;
+  done = done;
+  gathered = gathered;
+  put = λ k high within away. elim (cases_lt k 4096) as (λ _. slice_index file k ≡ slice_index new k) [
+    | inl first ↦
+        let same : IsSame old new k = (beside k away).1 high first within in
+        turning.first k high first same.0 ∙ same.1
+    | inr behind ↦ turning.put k behind (omega arith) within (beside k away).0
+  ];
+}
 
 -- ---- taking back
 
@@ -462,8 +580,8 @@ not_true false e t = cc
 
 pub at_left : (old new : List ℕ) (done : ℕ) (c : Change) (f : List ℕ) → IsAt old new done c f → IsBroken old c f × StandsForOld old f
 at_left old new done c f is_at = (
-  record { knows = is_at.knows; left = holds_left c.stage old new c.tail.offset c.tail.slots c.length f done is_at.knows.tail is_at.holds },
-  holds_stands c.stage old new c.tail.offset c.tail.slots f done is_at.knows.tail is_at.holds,
+  record { knows = is_at.knows; left = holds_left c.stage old new c.tail c.length f done is_at.knows.tail is_at.holds },
+  holds_stands c.stage old new c.tail f done is_at.knows.tail is_at.holds,
 )
 
 pub at_either : (old new more : List ℕ) (done : ℕ) (c : Change) (f : List ℕ) → IsAt old new done c f → IsBroken old c f × StandsForEither old more f
@@ -477,7 +595,7 @@ knows_page old c d frame knows = rw frame knows
 pub at_same : (old new : List ℕ) (done : ℕ) (c d : Change) (f g : List ℕ) → d ≡ record c { old_page = d.old_page } → g ≡ f → IsAt old new done c f → IsAt old new done d g
 at_same old new done c d f g frame same is_at =
     let knows : Knows old d = knows_page old c d frame is_at.knows in
-    let holds : Holds d.stage old new d.tail.offset d.tail.slots g done = rw (frame, same) is_at.holds in
+    let holds : Holds d.stage old new d.tail g done = rw (frame, same) is_at.holds in
     record { knows = knows; holds = holds }
 
 pub at_page_same : (old new : List ℕ) (at : ℕ) (page : List ℕ) (c d : Change) (f g : List ℕ) → 4096 ≤ at → d ≡ record c { old_page = d.old_page } → g ≡ f → IsPage new at page
@@ -488,8 +606,8 @@ at_page_same old new at page c d f g high frame same is page_is are is_at =
       each = λ i low. ap (λ (b : List ℕ). slice_index b i) page_is ∙ are.each i low;
     }) in
     let knows : Knows old d = knows_page old c d frame is_at.knows in
-    let more : Holds c.stage old new c.tail.offset c.tail.slots f (at + 4096) = same_holds c.stage old new c.tail.offset c.tail.slots f at page high is are_page is_at.holds in
-    let holds : Holds d.stage old new d.tail.offset d.tail.slots g (at + 4096) = rw (frame, same) more in
+    let more : Holds c.stage old new c.tail f (at + 4096) = same_holds c.stage old new c.tail f at page high is are_page is_at.holds in
+    let holds : Holds d.stage old new d.tail g (at + 4096) = rw (frame, same) more in
     record { knows = knows; holds = holds }
 
 -- the old page at hand
@@ -497,11 +615,18 @@ pub at_old_page : (old new : List ℕ) (at : ℕ) (page bytes kept : List ℕ) (
     → kept ≡ bytes → IsDatabase old → AreAt old at (min (length old - at) (length page)) kept
 at_old_page old new at page bytes kept c f high are is_at same is =
     let are_old : AreAt f at (min (length old - at) (length page)) bytes = rw (← is_at.knows.old_length) are in
-    rw same (old_page c.stage old new c.tail.offset c.tail.slots f at (min (length old - at) (length page)) bytes high (omega arith) are_old is_at.holds is)
-
-pub page_of : (old : List ℕ) (at : ℕ) (page bytes taken : List ℕ) → 16 ≤ at → length page ≤ 4096 → AreAt old at (min (length old - at) (length page)) bytes → taken ≡ bytes
-    → IsOldPage old at taken × (length taken ≡ min (length old - at) (length page))
-page_of old at page bytes taken high few are same = rw same (is_old_page old at page bytes high few are, are.len)
+    rw same (old_page c.stage old new c.tail f at (min (length old - at) (length page)) bytes high (omega arith) are_old is_at.holds is)
 
 pub same_length : (c d : Change) → d ≡ record c { old_page = d.old_page } → d.length ≡ c.length
 same_length c d frame = ap (λ (x : Change). x.length) frame
+
+-- ---- spans
+
+-- no byte is outside a span of all bytes
+pub all_agree : (old new : List ℕ) → AgreesOutside (record { start = 0; end = length new } ∷ []) old new
+all_agree old new = record {
+  each = λ k inside beside. elim (All-head (IsBeside k) (record { start = 0; end = length new }) [] beside) as (λ _. IsSame old new k) [
+    | inl below ↦ absurd (omega (arith, below))
+    | inr above ↦ absurd (omega (arith, above))
+  ];
+}

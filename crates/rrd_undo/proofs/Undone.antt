@@ -7,16 +7,15 @@ use Rattle.rrd_tail.specs.Laws.{IsUndone}
 use Rattle.rrd_tail.specs.Marks.{cut_mark, shape_for, size_of, undo_mark}
 use Rattle.rrd_tail.specs.Records.{IsRightAt, record_at, record_bytes, shaped_bytes}
 use Rattle.rrd_tail.specs.Settled.{old_byte, settled}
-use Rattle.rrd_tail.specs.Slots.{IsRightSlot, Slot, all_laid, laid, slot_bytes, slot_offset, slots_in}
+use Rattle.rrd_tail.specs.Slots.{Slot, all_laid, slots_in}
 use Rattle.rrd_tail.specs.declared.mark.Shape.{Shape}
 use Rattle.rrd_tail.specs.declared.mark.Shape.TheVariants.{Short, Long}
 use Rattle.rrd_tail.specs.declared.record.Record.{Record}
-use Rattle.rrd_undo.specs.Calls.{AreAt, ArePut, AreWholeOrNot, IsFrontPut}
+use Rattle.rrd_undo.specs.Calls.{AreAt, ArePut, AreWholeOrNot}
 use Rattle.rrd_undo.specs.Databases.{IsDatabase}
-use Rattle.rrd_undo.specs.Undoing.{IsCut, IsOldPage, IsOldRecorded, IsTail, Keeps, Restores, Undoing, record_of, slot_of}
+use Rattle.rrd_undo.specs.Undoing.{IsCut, IsOldRecorded, IsTail, Restores, Undoing, record_of}
 use Rattle.rrd_undo.proofs.Cutting.{cut_settled, put_stands, settled_plain, stands_same, to_cut_settled}
-use Rattle.rrd_undo.proofs.Laid.{all_laid-append, laid_above, laid_below, laid_in}
-use Rattle.rrd_tail.proofs.Lemmas.{cut_mark_length, cut_slot_is_not_counted, last_record_is_read, no_slots_below, record_bytes_length, record_is_read, record_stands, slot_bytes_length, slot_is_appended, slots_stay, undo_mark_is_read, undo_mark_length, undone_stands}
+use Rattle.rrd_tail.proofs.Lemmas.{cut_mark_length, last_record_is_read, no_slots_below, record_bytes_length, record_is_read, record_stands, slots_stay, undo_mark_is_read, undo_mark_length, undone_stands}
 
 -- a record that is in a file is in another one with the same bytes there
 pub record_same : (tail at : ℕ) (r : Record) (f g : List ℕ) → tail ≡ at → at < 2 ^ 64 → length f ≤ length g
@@ -197,114 +196,3 @@ module _ (old : List ℕ) (tail : ℕ) (is : IsDatabase old) (is_tail : IsTail o
     | inl none ↦ ap settled none ∙ to_cut_settled old f recorded.to_cut
     | inr put ↦ undone_settled old tail g is_tail (put_stands 0 (undo_mark tail) f g put) (undo_marked f g recorded put).restores
   ]
-
--- ---- keeping old bytes
-
-module _ (old : List ℕ) (tail slots at : ℕ) (bytes f : List ℕ) (is : IsDatabase old) (is_tail : IsTail old tail) (page : IsOldPage old at bytes)
-    (undoing : Undoing old tail slots f) (some : 1 ≤ length bytes) where
-  slot : Slot
-  slot = slot_of at bytes
-
-  right_slot : IsRightSlot tail (slot_of at bytes)
-  right_slot = record { behind = page.behind; some = some; most = page.few; below = omega (arith, page.within some, is_tail.below) }
-
-  slot_length : length (slot_bytes tail (slot_of at bytes)) ≡ 32 + length bytes
-  slot_length = slot_bytes_length tail (slot_of at bytes)
-
-  next_is : slot_offset tail (length (slots_in tail f)) ≡ slot_offset tail slots
-  next_is = ap (slot_offset tail) undoing.counted
-
-  -- old bytes don't change by a slot of old bytes
-  laid_old : (k : ℕ) → 16 ≤ k → k < length old → laid (slot_of at bytes) k (slice_index old k) ≡ slice_index old k
-  laid_old k high low = elim (cases_lt k at) as (λ _. laid (slot_of at bytes) k (slice_index old k) ≡ slice_index old k) [
-    | inl below ↦ laid_below (slot_of at bytes) k (slice_index old k) below
-    | inr from ↦ elim (cases_lt k (at + length bytes)) as (λ _. laid (slot_of at bytes) k (slice_index old k) ≡ slice_index old k) [
-      | inl inside ↦
-          let there : at + (k - at) ≡ k = omega arith in
-          laid_in (slot_of at bytes) k (slice_index old k) from inside ∙ page.are.each (k - at) (omega arith) ∙ ap (slice_index old) there
-      | inr above ↦ laid_above (slot_of at bytes) k (slice_index old k) above
-    ]
-  ]
-
-  -- a file that has the tail's bytes, and these slots
-  restores_more : (g : List ℕ) → length f ≤ length g → ((k : ℕ) → k < length f → slice_index g k ≡ slice_index f k)
-      → (slots_in tail g ≡ slots_in tail f) ⊎ (slots_in tail g ≡ slots_in tail f ++ slot_of at bytes ∷ []) → Restores old tail g
-  restores_more g longer same either = record {
-    reaches = omega (arith, undoing.restores.reaches);
-    recorded = record_same tail tail (record_of tail old) f g refl is_tail.fits longer
-        (λ k high low. same k (omega (arith, undoing.restores.reaches))) undoing.restores.recorded;
-    each = λ k high low.
-        let here : slice_index g k ≡ slice_index f k = same k (omega (arith, is_tail.below, undoing.restores.reaches)) in
-        elim either as (λ _. all_laid (slots_in tail g) k (slice_index g k) ≡ slice_index old k) [
-          | inl none ↦ rw (none, here) (undoing.restores.each k high low)
-          | inr more ↦ rw (more, here) (all_laid-append (slots_in tail f) (slot_of at bytes) k (slice_index f k)
-              ∙ ap (laid (slot_of at bytes) k) (undoing.restores.each k high low) ∙ laid_old k high low)
-        ];
-  }
-
-  marked_more : (g : List ℕ) → length f ≤ length g → ((k : ℕ) → k < length f → slice_index g k ≡ slice_index f k) → StandsAt g 0 (undo_mark tail)
-  marked_more g longer same =
-      stands_same 0 (undo_mark tail) f g longer (λ k high low. same k (omega (arith, undo_mark_length tail, undoing.restores.reaches, is.enough, is_tail.below))) undoing.marked
-
-  pub kept_put : (g taken : List ℕ) (offset : ℕ) → offset ≡ slot_offset tail slots → taken ≡ slot_bytes tail (slot_of at bytes) → ArePut offset taken f g
-      → Keeps old tail (slots + 1) at bytes f g
-  kept_put g taken offset offsets takes put_taken =
-      let put : ArePut (slot_offset tail slots) (slot_bytes tail (slot_of at bytes)) f g = rw (← offsets, ← takes) put_taken in
-      let longer : length f ≤ length g = omega (arith, put.len) in
-      let len : length g ≡ slot_offset tail slots + (32 + length bytes) = omega (arith, put.len, slot_length, undoing.room) in
-      let same : (k : ℕ) → k < length f → slice_index g k ≡ slice_index f k = λ k low. put.outside k (inl (omega (arith, undoing.room))) in
-      let stands : StandsAt g (slot_offset tail (length (slots_in tail f))) (slot_bytes tail (slot_of at bytes)) = rw next_is (put_stands _ _ f g put) in
-      let more : slots_in tail g ≡ slots_in tail f ++ slot_of at bytes ∷ [] =
-      slot_is_appended tail (slot_of at bytes) f g is_tail.fits right_slot (omega (arith, next_is, undoing.room)) same stands (omega (arith, len, next_is, slot_length)) in
-      record {
-        undoing = record {
-          restores = restores_more g longer same (inr more);
-          marked = marked_more g longer same;
-          counted = ap length more ∙ length-append (slots_in tail f) (slot_of at bytes ∷ []) ∙ ap (λ (n : ℕ). n + 1) undoing.counted;
-          room = omega (arith, len, page.few);
-        };
-        same = λ k low. same k (omega (arith, undoing.restores.reaches));
-        kept = inr (some, more);
-      }
-
-  whole_settled : (g : List ℕ) → Keeps old tail (slots + 1) at bytes f g → settled g ≡ old
-  whole_settled g keeps = undone_settled old tail g is_tail keeps.undoing.marked keeps.undoing.restores
-
-  cut_front_settled : (g : List ℕ) (n : ℕ) → n < 32 + length bytes → ArePut (slot_offset tail slots) (take n (slot_bytes tail (slot_of at bytes))) f g → settled g ≡ old
-  cut_front_settled g n short put =
-      let taken_len : length (take n (slot_bytes tail (slot_of at bytes))) ≡ n = omega (arith, length-take n (slot_bytes tail (slot_of at bytes)), slot_length) in
-      let longer : length f ≤ length g = omega (arith, put.len) in
-      let len : length g ≡ slot_offset tail slots + n = omega (arith, put.len, taken_len, undoing.room) in
-      let same : (k : ℕ) → k < length f → slice_index g k ≡ slice_index f k = λ k low. put.outside k (inl (omega (arith, undoing.room))) in
-      let none : slots_in tail g ≡ slots_in tail f =
-      cut_slot_is_not_counted tail (slot_of at bytes) f g is_tail.fits right_slot longer same (omega (arith, len, next_is, slot_length))
-      (λ i low.
-      let inside : i < n = omega (arith, len, next_is) in
-      ap (λ (p : ℕ). slice_index g (p + i)) next_is ∙ put.inside i (omega (arith, taken_len))
-      ∙ get_or-take n (slot_bytes tail (slot_of at bytes)) i 0 inside) in
-      undone_settled old tail g is_tail (marked_more g longer same) (restores_more g longer same (inl none))
-
-  front_settled : (g taken : List ℕ) (offset : ℕ) → offset ≡ slot_offset tail slots → taken ≡ slot_bytes tail (slot_of at bytes) → (n : ℕ) → n ≤ length taken
-      → ArePut offset (take n taken) f g → settled g ≡ old
-  front_settled g taken offset offsets takes n most put_taken =
-      let put : ArePut (slot_offset tail slots) (take n (slot_bytes tail (slot_of at bytes))) f g = rw (← offsets, ← takes) put_taken in
-      let most_is : n ≤ 32 + length bytes = omega (arith, most, ap length takes, slot_length) in
-      elim (cases_lt n (32 + length bytes)) as (λ _. settled g ≡ old) [
-        | inl short ↦ cut_front_settled g n short put
-        | inr whole ↦
-            let all : take n (slot_bytes tail (slot_of at bytes)) ≡ slot_bytes tail (slot_of at bytes) = take_all n (slot_bytes tail (slot_of at bytes)) (omega (arith, slot_length)) in
-            let put_all : ArePut (slot_offset tail slots) (slot_bytes tail (slot_of at bytes)) f g = rw (← all) put in
-            whole_settled g (kept_put g (slot_bytes tail (slot_of at bytes)) (slot_offset tail slots) refl refl put_all)
-      ]
-
-  pub kept_front : (g taken : List ℕ) (offset : ℕ) → offset ≡ slot_offset tail slots → taken ≡ slot_bytes tail (slot_of at bytes) → IsFrontPut offset taken f g
-      → settled g ≡ old
-  kept_front g taken offset offsets takes either = elim either as (λ _. settled g ≡ old) [
-    | inl none ↦ ap settled none ∙ undone_settled old tail f is_tail undoing.marked undoing.restores
-    | inr front ↦ front_settled g taken offset offsets takes front.0 front.1 front.2
-  ]
-
--- ---- as the calls say it
-
-pub kept_synced : (old : List ℕ) (tail slots at : ℕ) (bytes f g h : List ℕ) → Keeps old tail slots at bytes f g → h ≡ g → Keeps old tail slots at bytes f h
-kept_synced old tail slots at bytes f g h keeps synced = rw synced keeps

@@ -4,10 +4,12 @@ use Rattle.rrd_tail.specs.Marks.{undo_mark}
 use Rattle.rrd_tail.specs.Settled.{settled}
 use Rattle.rrd_undo.specs.Calls.{AreAt, ArePut}
 use Rattle.rrd_undo.specs.Databases.{IsDatabase, IsNoDatabase}
-use Rattle.rrd_undo.specs.Undoing.{IsTail, Turning}
+use Rattle.rrd_undo.specs.Gathering.{Turning}
+use Rattle.rrd_undo.specs.Undoing.{IsTail}
 use Rattle.rrd_undo.specs.declared.change.Change.{Change}
 use Rattle.rrd_undo.specs.declared.change.Stage.{Stage}
 use Rattle.rrd_undo.specs.declared.change.Stage.TheVariants.{Untouched, Marked, Committing, Committed, Unkept, Invalid}
+use Rattle.rrd_undo.specs.declared.tail.Tail.{Tail}
 
 -- the bytes of a new page
 pub record IsPage (new : List ℕ) (at : ℕ) (page : List ℕ) : Type 0 where
@@ -38,14 +40,18 @@ pub record IsKept (old file : List ℕ) : Type 0 where
   pub same : (k : ℕ) → k < length old → slice_index file k ≡ slice_index old k
   pub short : length old < 16 → file ≡ old
 
--- the new pages below `done`, but for the first, are in the file
-abbrev pub Holds : Stage → List ℕ → List ℕ → ℕ → ℕ → List ℕ → ℕ → Type 0
-Holds Untouched old new tail slots file done = Agreeing old new file done
-Holds Marked old new tail slots file done = IsDatabase old × Turning old new tail slots file done
-Holds Committing old new tail slots file done = ⊥
-Holds Committed old new tail slots file done = ⊥
-Holds Unkept old new tail slots file done = ⊥
-Holds Invalid old new tail slots file done = (IsDatabase old → ⊥) × ArePutBelow done new file × IsInvalid file
+-- the pages from `done` on, except the first, are the old pages
+abbrev pub StaysFrom : ℕ → List ℕ → List ℕ → Type 0
+StaysFrom done old file = (k : ℕ) → 4096 ≤ k → done ≤ k → k < length old → slice_index file k ≡ slice_index old k
+
+-- the new pages below `done`, but for the first, are in the file, or wait for their turn
+abbrev pub Holds : Stage → List ℕ → List ℕ → Tail → List ℕ → ℕ → Type 0
+Holds Untouched old new t file done = Agreeing old new file done
+Holds Marked old new t file done = IsDatabase old × Turning old new t file done
+Holds Committing old new t file done = ⊥
+Holds Committed old new t file done = ⊥
+Holds Unkept old new t file done = ⊥
+Holds Invalid old new t file done = (IsDatabase old → ⊥) × ArePutBelow done new file × StaysFrom done old file × IsInvalid file
 
 -- the file is unchanged, or has this length and the old bytes after the first page
 abbrev pub IsFirstPut : List ℕ → ℕ → List ℕ → Type 0
@@ -81,10 +87,10 @@ pub record AreKnown (old : List ℕ) (count : ℕ) (page : List ℕ) (offset new
 abbrev pub Knows : List ℕ → Change → Type 0
 Knows old c = AreKnown old c.old_length c.old_first.items c.tail.offset c.length
 
--- the new pages below `done`, but for the first, are in the file
+-- the new pages below `done`, but for the first, are in the file, or wait for their turn
 pub record IsAt (old new : List ℕ) (done : ℕ) (c : Change) (file : List ℕ) : Type 0 where
   pub knows : Knows old c
-  pub holds : Holds c.stage old new c.tail.offset c.tail.slots file done
+  pub holds : Holds c.stage old new c.tail file done
 
 -- a call has failed
 pub record IsBroken (old : List ℕ) (c : Change) (file : List ℕ) : Type 0 where

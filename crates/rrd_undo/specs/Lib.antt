@@ -4,6 +4,7 @@ pub mod Fronts
 pub mod Pages
 pub mod Spans
 pub mod Undoing
+pub mod Gathering
 pub mod Settling
 pub mod Changing
 pub mod Memory

@@ -45,32 +45,6 @@ pub record IsOldPage (old : List ℕ) (at : ℕ) (bytes : List ℕ) : Type 0 whe
 abbrev pub slot_of : ℕ → List ℕ → Slot
 slot_of offset bytes = record { offset = offset; bytes = bytes }
 
--- the old bytes were saved in a slot, if there are any, and no byte below the tail was changed
-pub record Keeps (old : List ℕ) (tail slots at : ℕ) (bytes file changed : List ℕ) : Type 0 where
-  pub undoing : Undoing old tail slots changed
-  pub same : (k : ℕ) → k < tail → slice_index changed k ≡ slice_index file k
-  pub kept : ((length bytes ≡ 0) × (slots_in tail changed ≡ slots_in tail file))
-      ⊎ ((1 ≤ length bytes) × (slots_in tail changed ≡ slots_in tail file ++ slot_of at bytes ∷ []))
-
--- the old bytes were saved, and new bytes written over them
-pub record Turns (old : List ℕ) (tail slots at : ℕ) (page file changed : List ℕ) : Type 0 where
-  pub undoing : Undoing old tail slots changed
-  pub put : (i : ℕ) → i < length page → slice_index changed (at + i) ≡ slice_index page i
-  pub same : (k : ℕ) → k < tail → (k < at) ⊎ (at + length page ≤ k) → slice_index changed k ≡ slice_index file k
-  pub below : (done : ℕ) → at + length page ≤ done → All (EndsBelow done) (slots_in tail file) → All (EndsBelow done) (slots_in tail changed)
-
--- the new bytes below `done`, except the first page, are in the file, and no slot has a byte at or after `done`
-pub record Turning (old new : List ℕ) (tail slots : ℕ) (file : List ℕ) (done : ℕ) : Type 0 where
-  pub undoing : Undoing old tail slots file
-  pub below : All (EndsBelow done) (slots_in tail file)
-  pub first : (k : ℕ) → 16 ≤ k → k < 4096 → k < length old → slice_index file k ≡ slice_index old k
-  pub put : (k : ℕ) → 4096 ≤ k → k < done → k < length new → slice_index file k ≡ slice_index new k
-
--- all new bytes except the first sixteen are in the file
-pub record Paged (old new : List ℕ) (tail slots : ℕ) (file : List ℕ) : Type 0 where
-  pub undoing : Undoing old tail slots file
-  pub put : (k : ℕ) → 16 ≤ k → k < length new → slice_index file k ≡ slice_index new k
-
 -- the file's last record has the length of these bytes
 abbrev pub IsRecorded : List ℕ → List ℕ → Type 0
 IsRecorded bytes file = (r : Record) × (last_record (shape_for (length bytes)) file ≡ Some r) × (r.length ≡ length bytes)
@@ -82,6 +56,7 @@ pub record IsReady (old new : List ℕ) (tail : ℕ) (file : List ℕ) : Type 0 
   pub marked : StandsAt file 0 (undo_mark tail)
   pub recorded : IsRecorded new file
   pub fits : recorded.0.offset < 2 ^ 64
+  pub behind : tail ≤ recorded.0.offset
   pub longer : length new ≤ length file
   pub put : (k : ℕ) → 16 ≤ k → k < length new → slice_index file k ≡ slice_index new k
 

@@ -1,8 +1,8 @@
 //! A change of a file, page by page.
 //!
-//! A database is marked before its first page is replaced. Each old page is copied to the file's tail before the new
-//! page is written, and one call makes the file represent the new bytes. If only the first page differs, one call
-//! writes that page. A file that is not a database is marked invalid until its new first page is written: a kill may
+//! A database is marked before its first page is replaced. The old bytes of the pages that differ are copied to the
+//! file's tail, many at once, before the new bytes are written over them, and one call makes the file represent the new
+//! bytes. If only the first page differs, one call writes that page. A file that is not a database is marked invalid until its new first page is written: a kill may
 //! lose such a file, but leaves nothing that reads as a database.
 ghost use Rattle.std.specs.Prelude.{◌≡◌, ◌⊎◌, ℕ, ◌+◌, ◌-◌, ◌%◌, ◌<◌, ◌≤◌, List, length, min, slice_index, IsTrue, IfOk, OnErr, OnOk};
 ghost use Rattle.rrd_tail.specs.Marks.{undo_mark};
@@ -12,7 +12,8 @@ ghost use Rattle.rrd_undo.specs.Databases.{IsDatabase, IsNoDatabase};
 
 use crate::Bytes;
 use crate::page::{
-    MIN_DATABASE_SIZE, find_difference, front_page, is_database, next_page, page_from, read_page,
+    MIN_DATABASE_SIZE, find_difference, front_page, is_database, next_page, page_at, page_from,
+    read_page,
 };
 use crate::recovery::settle;
 use crate::tail::{Syncs, Tail, finish, put_and_sync, put_front, set_len_and_sync};
@@ -86,7 +87,7 @@ fn reported(finished: io::Result<()>, syncs: Syncs) -> io::Result<()> {
 
 impl Change {
     ghost use Rattle.rrd_undo.specs.Changing.{Agreeing, ArePutBelow, CanRestore, IsAt, IsBroken, IsFirstPut, IsInvalid, IsKept, IsPage, IsStarted, Knows, StandsForEither, StandsForOld, StaysBehind};
-    ghost use Rattle.rrd_undo.specs.Undoing.{Paged, Turning};
+    ghost use Rattle.rrd_undo.specs.Gathering.{Paged, Turning};
 
     /// Creates a change of a file to a length of `count` bytes. `begin` starts the change.
     pub(crate) fn new(alloc: Global, count: usize, syncs: Syncs) -> Change {
@@ -96,6 +97,7 @@ impl Change {
                 offset: 0,
                 slots: 0,
                 buffer: Vec::new(alloc),
+                spans: Vec::new(alloc),
                 syncs,
             },
             old_length: 0,
@@ -167,7 +169,7 @@ impl Change {
         requires page { self.old.tail.offset % 4096 ≡ 0 }
         requires enough { 16 ≤ length self.old.old_first.items }
         ensures falls { (s : List ℕ) → IsTrue (F.is_honest s file.new) → IsTrue (F.is_honest s file.old) }
-        ensures frame { self.new ≡ record self.old { stage = self.new.stage; tail = record self.old.tail { slots = 0 } } }
+        ensures frame { self.new ≡ record self.old { stage = self.new.stage; tail = record self.old.tail { slots = 0; buffer = self.new.tail.buffer; spans = self.new.tail.spans } } }
         ensures started { IsStarted self.new.stage }
         ensures ok { OnOk result ((s : List ℕ) → IsTrue (F.is_honest s file.new) → (old new : List ℕ) (done : ℕ) → IsDatabase old → Knows old self.old
             → Agreeing old new (F.held s file.old) done → IsAt old new done self.new (F.held s file.new)) }
@@ -207,43 +209,69 @@ impl Change {
         }
     }
 
-    // Writes a page that differs from the old page in `old_page`.
-    fn put_differing<F: Bytes>(&mut self, file: &mut F, page: &[u8], at: usize) -> io::Result<()>
-        requires { 4096 ≤ at }
+    // Gathers the bytes from byte `at` on in which the new page differs from the old page in `old_page`. If enough are
+    // gathered, writes the new bytes.
+    fn gather<F: Bytes>(&mut self, file: &mut F, new: &[u8], at: usize) -> io::Result<()>
+        requires first { 4096 ≤ at }
+        requires within { at ≤ length new.now }
         ensures falls { (s : List ℕ) → IsTrue (F.is_honest s file.new) → IsTrue (F.is_honest s file.old) }
-        ensures ok { OnOk result ((s : List ℕ) → IsTrue (F.is_honest s file.new) → (old new : List ℕ) → IsPage new at page.now → at + length page.now ≤ self.old.length → IsStarted self.old.stage
-            → (IsDatabase old → AreAt old at (min (length old - at) (length page.now)) self.old.old_page.items)
-            → IsAt old new at self.old (F.held s file.old) → IsAt old new (at + 4096) self.new (F.held s file.new)) }
-        ensures err { OnErr result ((s : List ℕ) → IsTrue (F.is_honest s file.new) → (old new : List ℕ) → IsPage new at page.now → at + length page.now ≤ self.old.length → IsStarted self.old.stage
-            → (IsDatabase old → AreAt old at (min (length old - at) (length page.now)) self.old.old_page.items)
-            → IsAt old new at self.old (F.held s file.old) → IsBroken old self.new (F.held s file.new) × StandsForOld old (F.held s file.new)) }
+        ensures frame { self.new ≡ record self.old { tail = record self.old.tail { slots = self.new.tail.slots; buffer = self.new.tail.buffer; spans = self.new.tail.spans } } }
+        ensures ok { OnOk result ((s : List ℕ) → IsTrue (F.is_honest s file.new) → (old : List ℕ) → IsDatabase old → Knows old self.old → length new.now ≤ self.old.length
+            → AreAt old at (min (length old - at) (min 4096 (length new.now - at))) self.old.old_page.items
+            → Turning old new.now self.old.tail (F.held s file.old) at → Turning old new.now self.new.tail (F.held s file.new) (at + 4096)) }
+        ensures err { OnErr result ((s : List ℕ) → IsTrue (F.is_honest s file.new) → (old : List ℕ) → IsDatabase old → Knows old self.old → length new.now ≤ self.old.length
+            → AreAt old at (min (length old - at) (min 4096 (length new.now - at))) self.old.old_page.items
+            → Turning old new.now self.old.tail (F.held s file.old) at → settled (F.held s file.new) ≡ old) }
+    {
+        let page = page_at(new, at);
+        let Some(changed) = find_difference(&self.old_page, page, 0) else {
+            return Ok(());
+        };
+        self.tail
+            .gather(at + changed.at, changed.old, changed.new.len())?;
+        if self.tail.is_full() {
+            return self.tail.turn(file, new);
+        }
+        Ok(())
+    }
+
+    // Writes the page from byte `at` on, which differs from the old page in `old_page`; or has it wait for its turn.
+    fn put_differing<F: Bytes>(&mut self, file: &mut F, new: &[u8], at: usize) -> io::Result<()>
+        requires first { 4096 ≤ at }
+        requires within { at ≤ length new.now }
+        ensures falls { (s : List ℕ) → IsTrue (F.is_honest s file.new) → IsTrue (F.is_honest s file.old) }
+        ensures ok { OnOk result ((s : List ℕ) → IsTrue (F.is_honest s file.new) → (old : List ℕ) → length new.now ≤ self.old.length → IsStarted self.old.stage
+            → (IsDatabase old → AreAt old at (min (length old - at) (min 4096 (length new.now - at))) self.old.old_page.items)
+            → IsAt old new.now at self.old (F.held s file.old) → IsAt old new.now (at + 4096) self.new (F.held s file.new)) }
+        ensures err { OnErr result ((s : List ℕ) → IsTrue (F.is_honest s file.new) → (old : List ℕ) → length new.now ≤ self.old.length → IsStarted self.old.stage
+            → (IsDatabase old → AreAt old at (min (length old - at) (min 4096 (length new.now - at))) self.old.old_page.items)
+            → IsAt old new.now at self.old (F.held s file.old) → IsBroken old self.new (F.held s file.new) × StandsForOld old (F.held s file.new)) }
     {
         match self.stage {
-            Stage::Marked => self.tail.turn(file, at, &self.old_page, page),
-            _ => file.put(at, page),
+            Stage::Marked => self.gather(file, new, at),
+            _ => file.put(at, page_at(new, at)),
         }
     }
 
-    /// Writes the next page from byte `at` on, if the page differs from the old page.
-    pub(crate) fn put<F: Bytes>(&mut self, file: &mut F, page: &[u8], at: usize) -> io::Result<()>
-        requires { 4096 ≤ at }
+    /// Writes the page of `new` from byte `at` on, if the page differs from the old page; or has it wait for its turn. The
+    /// pages before it were written, wait, or are the old pages.
+    pub(crate) fn put<F: Bytes>(&mut self, file: &mut F, new: &[u8], at: usize) -> io::Result<()>
+        requires first { 4096 ≤ at }
+        requires within { at ≤ length new.now }
         ensures falls { (s : List ℕ) → IsTrue (F.is_honest s file.new) → IsTrue (F.is_honest s file.old) }
-        ensures ok { OnOk result ((s : List ℕ) → IsTrue (F.is_honest s file.new) → (old new : List ℕ) → IsPage new at page.now
-            → IsAt old new at self.old (F.held s file.old) → IsAt old new (at + 4096) self.new (F.held s file.new)) }
-        ensures err { OnErr result ((s : List ℕ) → IsTrue (F.is_honest s file.new) → (old new : List ℕ) → IsPage new at page.now
-            → IsAt old new at self.old (F.held s file.old) → IsBroken old self.new (F.held s file.new) × StandsForOld old (F.held s file.new)) }
+        ensures ok { OnOk result ((s : List ℕ) → IsTrue (F.is_honest s file.new) → (old : List ℕ)
+            → IsAt old new.now at self.old (F.held s file.old) → IsAt old new.now (at + 4096) self.new (F.held s file.new)) }
+        ensures err { OnErr result ((s : List ℕ) → IsTrue (F.is_honest s file.new) → (old : List ℕ)
+            → IsAt old new.now at self.old (F.held s file.old) → IsBroken old self.new (F.held s file.new) × StandsForOld old (F.held s file.new)) }
     {
-        if self.length < at {
+        if self.length < new.len() {
             return Err(Error::from(ErrorKind::InvalidInput));
         }
-        if page.len() > self.length - at {
-            return Err(Error::from(ErrorKind::InvalidInput));
-        }
-        if self.is_same(file, page, at)? {
+        if self.is_same(file, page_at(new, at), at)? {
             return Ok(());
         }
         self.start(file)?;
-        self.put_differing(file, page, at)
+        self.put_differing(file, new, at)
     }
 
     // Checks whether one call may write the first page, if no other page differs.
@@ -272,42 +300,36 @@ impl Change {
         file.put_whole(0, first)
     }
 
-    // Writes the differing bytes of the new first page that follow the mark.
-    fn put_first<F: Bytes>(&mut self, file: &mut F, first: &[u8]) -> io::Result<()>
-        ensures falls { (s : List ℕ) → IsTrue (F.is_honest s file.new) → IsTrue (F.is_honest s file.old) }
-        ensures frame { self.new ≡ record self.old { tail = record self.old.tail { slots = self.new.tail.slots; buffer = self.new.tail.buffer } } }
-        ensures ok { OnOk result ((s : List ℕ) → IsTrue (F.is_honest s file.new) → (old new : List ℕ) (done : ℕ) → IsDatabase old → Knows old self.old → self.old.length ≡ length new → length new ≤ done
-            → AreAt new 0 (min 4096 (length new)) first.now → Turning old new self.old.tail.offset self.old.tail.slots (F.held s file.old) done
-            → Paged old new self.new.tail.offset self.new.tail.slots (F.held s file.new)) }
-        ensures err { OnErr result ((s : List ℕ) → IsTrue (F.is_honest s file.new) → (old new : List ℕ) (done : ℕ) → IsDatabase old → Knows old self.old → self.old.length ≡ length new → length new ≤ done
-            → AreAt new 0 (min 4096 (length new)) first.now → Turning old new self.old.tail.offset self.old.tail.slots (F.held s file.old) done
-            → settled (F.held s file.new) ≡ old) }
+    // Gathers the differing bytes of the new first page that follow the mark.
+    fn gather_first(&mut self, first: &[u8]) -> io::Result<()>
+        ensures frame { self.new ≡ record self.old { tail = record self.old.tail { buffer = self.new.tail.buffer; spans = self.new.tail.spans } } }
+        ensures ok { OnOk result ((old new file : List ℕ) (done : ℕ) → IsDatabase old → Knows old self.old → self.old.length ≡ length new → length new ≤ done → 4096 ≤ done
+            → AreAt new 0 (min 4096 (length new)) first.now → Turning old new self.old.tail file done → Paged old new self.new.tail file) }
     {
         let old = self.old_first.as_slice();
         if old.len() < MIN_DATABASE_SIZE || first.len() < MIN_DATABASE_SIZE {
             return Err(Error::from(ErrorKind::InvalidData));
         }
-        let Some(changed) = find_difference(old, first) else {
+        let Some(changed) = find_difference(old, first, MIN_DATABASE_SIZE) else {
             return Ok(());
         };
-        self.tail.turn(file, changed.at, changed.old, changed.new)
+        self.tail.gather(changed.at, changed.old, changed.new.len())
     }
 
     // Ends a change of a file that is marked.
-    fn end_marked<F: Bytes>(&mut self, file: &mut F, first: &[u8]) -> io::Result<()>
-        requires { 16 ≤ length first.now }
+    fn end_marked<F: Bytes>(&mut self, file: &mut F, new: &[u8]) -> io::Result<()>
+        requires { 16 ≤ length new.now }
         ensures falls { (s : List ℕ) → IsTrue (F.is_honest s file.new) → IsTrue (F.is_honest s file.old) }
-        ensures ok { OnOk result ((s : List ℕ) → IsTrue (F.is_honest s file.new) → (old new : List ℕ) (done : ℕ) → IsDatabase old → IsDatabase new → Knows old self.old → self.old.length ≡ length new → length new ≤ done
-            → AreAt new 0 (min 4096 (length new)) first.now → Turning old new self.old.tail.offset self.old.tail.slots (F.held s file.old) done
-            → settled (F.held s file.new) ≡ new) }
-        ensures err { self.old.stage ≡ Stage.Marked → OnErr result ((s : List ℕ) → IsTrue (F.is_honest s file.new) → (old new : List ℕ) (done : ℕ) → IsDatabase old → IsDatabase new → Knows old self.old → self.old.length ≡ length new → length new ≤ done
-            → AreAt new 0 (min 4096 (length new)) first.now → Turning old new self.old.tail.offset self.old.tail.slots (F.held s file.old) done
-            → IsBroken old self.new (F.held s file.new) × StandsForEither old new (F.held s file.new)) }
+        ensures ok { OnOk result ((s : List ℕ) → IsTrue (F.is_honest s file.new) → (old : List ℕ) (done : ℕ) → IsDatabase old → IsDatabase new.now → Knows old self.old → self.old.length ≡ length new.now
+            → length new.now ≤ done → 4096 ≤ done → Turning old new.now self.old.tail (F.held s file.old) done → settled (F.held s file.new) ≡ new.now) }
+        ensures err { self.old.stage ≡ Stage.Marked → OnErr result ((s : List ℕ) → IsTrue (F.is_honest s file.new) → (old : List ℕ) (done : ℕ) → IsDatabase old → IsDatabase new.now → Knows old self.old
+            → self.old.length ≡ length new.now → length new.now ≤ done → 4096 ≤ done → Turning old new.now self.old.tail (F.held s file.old) done
+            → IsBroken old self.new (F.held s file.new) × StandsForEither old new.now (F.held s file.new)) }
     {
-        self.put_first(file, first)?;
-        self.tail.record_new(file, self.length, first)?;
+        self.gather_first(front_page(new))?;
+        self.tail.turn_last(file, new)?;
         self.stage = Stage::Committing;
-        put_front(file, self.length, first, self.tail.syncs)?;
+        put_front(file, self.length, new, self.tail.syncs)?;
         self.stage = Stage::Committed;
         let finished = finish(file, self.length, self.tail.syncs);
         reported(finished, self.tail.syncs)
@@ -335,46 +357,39 @@ impl Change {
     }
 
     // Ends a change that one call cannot make.
-    fn end_started<F: Bytes>(&mut self, file: &mut F, first: &[u8]) -> io::Result<()>
-        requires few { length first.now ≤ 4096 }
-        requires enough { 16 ≤ length first.now }
+    fn end_started<F: Bytes>(&mut self, file: &mut F, new: &[u8]) -> io::Result<()>
+        requires { 16 ≤ length new.now }
         ensures falls { (s : List ℕ) → IsTrue (F.is_honest s file.new) → IsTrue (F.is_honest s file.old) }
-        ensures ok { OnOk result ((s : List ℕ) → IsTrue (F.is_honest s file.new) → (old new : List ℕ) (done : ℕ) → IsDatabase new → self.old.length ≡ length new → length new ≤ done
-            → AreAt new 0 (min 4096 (length new)) first.now → IsAt old new done self.old (F.held s file.old) → settled (F.held s file.new) ≡ new) }
-        ensures err { OnErr result ((s : List ℕ) → IsTrue (F.is_honest s file.new) → (old new : List ℕ) (done : ℕ) → IsDatabase new → self.old.length ≡ length new → length new ≤ done
-            → AreAt new 0 (min 4096 (length new)) first.now → IsAt old new done self.old (F.held s file.old)
-            → IsBroken old self.new (F.held s file.new) × StandsForEither old new (F.held s file.new)) }
+        ensures ok { OnOk result ((s : List ℕ) → IsTrue (F.is_honest s file.new) → (old : List ℕ) (done : ℕ) → IsDatabase new.now → self.old.length ≡ length new.now → length new.now ≤ done → 4096 ≤ done
+            → IsAt old new.now done self.old (F.held s file.old) → settled (F.held s file.new) ≡ new.now) }
+        ensures err { OnErr result ((s : List ℕ) → IsTrue (F.is_honest s file.new) → (old : List ℕ) (done : ℕ) → IsDatabase new.now → self.old.length ≡ length new.now → length new.now ≤ done → 4096 ≤ done
+            → IsAt old new.now done self.old (F.held s file.old)
+            → IsBroken old self.new (F.held s file.new) × StandsForEither old new.now (F.held s file.new)) }
     {
         self.start(file)?;
         match self.stage {
-            Stage::Marked => self.end_marked(file, first),
-            _ => self.end_invalid(file, first),
+            Stage::Marked => self.end_marked(file, new),
+            _ => self.end_invalid(file, front_page(new)),
         }
     }
 
-    /// Ends the change with the new first page, after all other pages were written.
-    ///
-    /// `first` is the new first page, `count` the number of all new bytes.
-    pub(crate) fn end<F: Bytes>(
-        &mut self,
-        file: &mut F,
-        first: &[u8],
-        count: usize,
-    ) -> io::Result<()>
-        requires { length first.now ≤ 4096 }
+    /// Ends the change with the new first page, after all other pages were written, or wait for their turn. `new` is all new
+    /// bytes.
+    pub(crate) fn end<F: Bytes>(&mut self, file: &mut F, new: &[u8]) -> io::Result<()>
         ensures falls { (s : List ℕ) → IsTrue (F.is_honest s file.new) → IsTrue (F.is_honest s file.old) }
-        ensures ok { OnOk result ((s : List ℕ) → IsTrue (F.is_honest s file.new) → (old new : List ℕ) (done : ℕ) → count ≡ length new → length new ≤ done → 4096 ≤ done
-            → AreAt new 0 (min 4096 (length new)) first.now → IsAt old new done self.old (F.held s file.old) → (settled (F.held s file.new) ≡ new) × IsDatabase new) }
-        ensures err { OnErr result ((s : List ℕ) → IsTrue (F.is_honest s file.new) → (old new : List ℕ) (done : ℕ) → count ≡ length new → length new ≤ done → 4096 ≤ done
-            → AreAt new 0 (min 4096 (length new)) first.now → IsAt old new done self.old (F.held s file.old)
-            → IsBroken old self.new (F.held s file.new) × StandsForEither old new (F.held s file.new)) }
+        ensures ok { OnOk result ((s : List ℕ) → IsTrue (F.is_honest s file.new) → (old : List ℕ) (done : ℕ) → length new.now ≤ done → 4096 ≤ done
+            → IsAt old new.now done self.old (F.held s file.old) → (settled (F.held s file.new) ≡ new.now) × IsDatabase new.now) }
+        ensures err { OnErr result ((s : List ℕ) → IsTrue (F.is_honest s file.new) → (old : List ℕ) (done : ℕ) → length new.now ≤ done → 4096 ≤ done
+            → IsAt old new.now done self.old (F.held s file.old)
+            → IsBroken old self.new (F.held s file.new) × StandsForEither old new.now (F.held s file.new)) }
     {
-        if count != self.length || !is_database(first) {
+        if new.len() != self.length || !is_database(new) {
             return Err(Error::from(ErrorKind::InvalidInput));
         }
+        let first = front_page(new);
         match self.stage {
             Stage::Untouched if self.is_alone(first) => self.put_alone(file, first),
-            _ => self.end_started(file, first),
+            _ => self.end_started(file, new),
         }
     }
 

@@ -85,14 +85,18 @@ pub(crate) struct Difference<'a> {
     pub(crate) new: &'a [u8],
 }
 
-/// Returns the bytes in which a new page differs from the old page, after the first 16 bytes.
-pub(crate) fn find_difference<'a>(old: &'a [u8], new: &'a [u8]) -> Option<Difference<'a>>
-    requires old { 16 ≤ length old.now }
-    requires new { 16 ≤ length new.now }
-    ensures some { IfSome result (λ d. IsDifference old.now new.now d.at d.old.now d.new.now) }
-    ensures none { IsNone result → AreSame old.now new.now }
+/// Returns the bytes in which a new page differs from the old page, from byte `from` of both pages on.
+pub(crate) fn find_difference<'a>(
+    old: &'a [u8],
+    new: &'a [u8],
+    from: usize,
+) -> Option<Difference<'a>>
+    requires old { from ≤ length old.now }
+    requires new { from ≤ length new.now }
+    ensures some { IfSome result (λ d. IsDifference from old.now new.now d.at d.old.now d.new.now) }
+    ensures none { IsNone result → AreSame from old.now new.now }
 {
-    let at = first_difference(old, new);
+    let at = first_difference(old, new, from);
     let end = difference_end(old, new, at);
     if at == end {
         return None;
@@ -104,20 +108,38 @@ pub(crate) fn find_difference<'a>(old: &'a [u8], new: &'a [u8]) -> Option<Differ
     })
 }
 
-// Returns the index of the first byte in which two pages differ, after their first 16 bytes.
+// Returns the index of the first byte in which two pages differ, from byte `from` on.
 //
 // If no such byte differs, returns the length of the shorter page.
-fn first_difference(old: &[u8], new: &[u8]) -> usize
-    requires old { 16 ≤ length old.now }
-    requires new { 16 ≤ length new.now }
-    ensures least { 16 ≤ result }
+fn first_difference(old: &[u8], new: &[u8], from: usize) -> usize
+    requires old { from ≤ length old.now }
+    requires new { from ≤ length new.now }
+    ensures least { from ≤ result }
     ensures old { result ≤ length old.now }
     ensures new { result ≤ length new.now }
-    ensures same { (k : ℕ) → 16 ≤ k → k < result → slice_index old.now k ≡ slice_index new.now k }
+    ensures same { (k : ℕ) → from ≤ k → k < result → slice_index old.now k ≡ slice_index new.now k }
 {
-    let mut at = MIN_DATABASE_SIZE;
+    let mut at = first_differing_stride(old, new, from);
     while at < old.len() && at < new.len() && old[at] == new[at] {
         at += 1;
+    }
+    at
+}
+
+// Returns the index of the first `STRIDE` bytes in which two pages differ, `STRIDE` at a time from byte `from` on.
+//
+// If no such bytes differ, returns the index at which fewer bytes than `STRIDE` are left of a page.
+fn first_differing_stride(old: &[u8], new: &[u8], from: usize) -> usize
+    requires old { from ≤ length old.now }
+    requires new { from ≤ length new.now }
+    ensures least { from ≤ result }
+    ensures old { result ≤ length old.now }
+    ensures new { result ≤ length new.now }
+    ensures same { (k : ℕ) → from ≤ k → k < result → slice_index old.now k ≡ slice_index new.now k }
+{
+    let mut at = from;
+    while old.len() - at >= STRIDE && new.len() - at >= STRIDE && is_same_stride(old, new, at) {
+        at += STRIDE;
     }
     at
 }

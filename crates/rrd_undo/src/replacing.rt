@@ -1,4 +1,4 @@
-//! Replaces the bytes of a file: compares the pages one by one, writes those that differ, and the first page last.
+//! Replaces the bytes of a file: compares the pages that may differ, one by one, and writes the bytes that do.
 ghost use Rattle.std.specs.Prelude.{◌≡◌, ◌⊎◌, ℕ, List, IsTrue, None, OnErr, OnOk};
 ghost use Rattle.rrd_tail.specs.Marks.{mark_of};
 ghost use Rattle.rrd_tail.specs.Settled.{settled};
@@ -7,7 +7,8 @@ ghost use Rattle.rrd_undo.specs.Databases.{IsDatabase, IsNoDatabase};
 ghost use Rattle.rrd_undo.specs.Spans.{AgreesOutside};
 
 use crate::change::Change;
-use crate::page::{front_page, next_page, page_at};
+use crate::page::next_page;
+use crate::span::next_touched;
 use crate::{Bytes, Span, Syncs};
 use rrd_tail::PAGE;
 use std::alloc::Global;
@@ -28,9 +29,11 @@ pub fn replace<F: Bytes>(alloc: Global, file: &mut F, new: &[u8], syncs: Syncs) 
     ensures spoilt { OnErr result ((s : List ℕ) → IsTrue (F.is_honest s file.new) → (IsDatabase (F.held s file.old) → ⊥) → mark_of (F.held s file.old) ≡ None
         → (F.held s file.new ≡ F.held s file.old) ⊎ (F.held s file.new ≡ new.now) ⊎ IsNoDatabase (F.held s file.new)) }
 {
-    let mut change = Change::new(alloc, new.len(), syncs);
-    change.begin(file)?;
-    put_or_take_back(&mut change, file, new)
+    let all = [Span {
+        start: 0,
+        end: new.len(),
+    }];
+    replace_where(alloc, file, new, &all, syncs)
 }
 
 /// Replaces the bytes of a file by `new`, where the caller knows which bytes may differ from the file's own.
@@ -59,19 +62,25 @@ pub fn replace_where<F: Bytes>(
     ensures spoilt { OnErr result ((s : List ℕ) → IsTrue (F.is_honest s file.new) → AgreesOutside changed.now (F.held s file.old) new.now → (IsDatabase (F.held s file.old) → ⊥)
         → mark_of (F.held s file.old) ≡ None → (F.held s file.new ≡ F.held s file.old) ⊎ (F.held s file.new ≡ new.now) ⊎ IsNoDatabase (F.held s file.new)) }
 {
-    let _changed = changed;
-    replace(alloc, file, new, syncs)
+    let mut change = Change::new(alloc, new.len(), syncs);
+    change.begin(file)?;
+    put_or_take_back(&mut change, file, new, changed)
 }
 
 // Makes a file represent the bytes `new`. If that fails, tries to restore the old bytes.
-fn put_or_take_back<F: Bytes>(change: &mut Change, file: &mut F, new: &[u8]) -> io::Result<()>
+fn put_or_take_back<F: Bytes>(
+    change: &mut Change,
+    file: &mut F,
+    new: &[u8],
+    changed: &[Span],
+) -> io::Result<()>
     ensures falls { (s : List ℕ) → IsTrue (F.is_honest s file.new) → IsTrue (F.is_honest s file.old) }
-    ensures ok { OnOk result ((s : List ℕ) → IsTrue (F.is_honest s file.new) → (old : List ℕ) → IsAt old new.now 4096 change.old (F.held s file.old)
-        → (settled (F.held s file.new) ≡ new.now) × IsDatabase new.now) }
-    ensures err { OnErr result ((s : List ℕ) → IsTrue (F.is_honest s file.new) → (old : List ℕ) → IsAt old new.now 4096 change.old (F.held s file.old)
-        → StandsForEither old new.now (F.held s file.new)) }
+    ensures ok { OnOk result ((s : List ℕ) → IsTrue (F.is_honest s file.new) → (old : List ℕ) → AgreesOutside changed.now old new.now
+        → IsAt old new.now 4096 change.old (F.held s file.old) → (settled (F.held s file.new) ≡ new.now) × IsDatabase new.now) }
+    ensures err { OnErr result ((s : List ℕ) → IsTrue (F.is_honest s file.new) → (old : List ℕ) → AgreesOutside changed.now old new.now
+        → IsAt old new.now 4096 change.old (F.held s file.old) → StandsForEither old new.now (F.held s file.new)) }
 {
-    match put_pages(change, file, new) {
+    match put_pages(change, file, new, changed) {
         Ok(()) => Ok(()),
         Err(error) => {
             let _taken_back = change.take_back(file);
@@ -80,18 +89,23 @@ fn put_or_take_back<F: Bytes>(change: &mut Change, file: &mut F, new: &[u8]) -> 
     }
 }
 
-// Makes a file represent the bytes `new`.
-fn put_pages<F: Bytes>(change: &mut Change, file: &mut F, new: &[u8]) -> io::Result<()>
+// Makes a file represent the bytes `new`, of which those that are in no span are the old bytes.
+fn put_pages<F: Bytes>(
+    change: &mut Change,
+    file: &mut F,
+    new: &[u8],
+    changed: &[Span],
+) -> io::Result<()>
     ensures falls { (s : List ℕ) → IsTrue (F.is_honest s file.new) → IsTrue (F.is_honest s file.old) }
-    ensures ok { OnOk result ((s : List ℕ) → IsTrue (F.is_honest s file.new) → (old : List ℕ) → IsAt old new.now 4096 change.old (F.held s file.old)
-        → (settled (F.held s file.new) ≡ new.now) × IsDatabase new.now) }
-    ensures err { OnErr result ((s : List ℕ) → IsTrue (F.is_honest s file.new) → (old : List ℕ) → IsAt old new.now 4096 change.old (F.held s file.old)
-        → IsBroken old change.new (F.held s file.new) × StandsForEither old new.now (F.held s file.new)) }
+    ensures ok { OnOk result ((s : List ℕ) → IsTrue (F.is_honest s file.new) → (old : List ℕ) → AgreesOutside changed.now old new.now
+        → IsAt old new.now 4096 change.old (F.held s file.old) → (settled (F.held s file.new) ≡ new.now) × IsDatabase new.now) }
+    ensures err { OnErr result ((s : List ℕ) → IsTrue (F.is_honest s file.new) → (old : List ℕ) → AgreesOutside changed.now old new.now
+        → IsAt old new.now 4096 change.old (F.held s file.old) → IsBroken old change.new (F.held s file.new) × StandsForEither old new.now (F.held s file.new)) }
 {
-    let mut at = PAGE;
+    let mut at = next_touched(changed, PAGE, new.len());
     while at < new.len() {
-        change.put(file, page_at(new, at), at)?;
-        at = next_page(at)?;
+        change.put(file, new, at)?;
+        at = next_touched(changed, next_page(at)?, new.len());
     }
-    change.end(file, front_page(new), new.len())
+    change.end(file, new)
 }

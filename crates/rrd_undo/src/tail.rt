@@ -1,16 +1,19 @@
 //! The tail of a file that is being changed: a record of the old database, and a slot for each old page that a new
 //! page replaces.
-ghost use Rattle.std.specs.Prelude.{◌≡◌, ◌⊎◌, ℕ, ◌+◌, ◌-◌, ◌%◌, ◌^◌, ◌<◌, ◌≤◌, ◌++◌, min, List, length, take, drop, IsTrue, IfOk, OnErr, OnOk};
+ghost use Rattle.std.specs.Prelude.{◌≡◌, ◌⊎◌, ℕ, ◌+◌, ◌-◌, ◌%◌, ◌^◌, ◌<◌, ◌≤◌, ◌++◌, min, List, [], length, take, drop, replicate, slice_index, IsTrue, IfOk, OnErr, OnOk};
+ghost use Rattle.std.specs.List.{All};
 ghost use Rattle.rrd_tail.specs.Marks.{cut_mark, shape_for, undo_mark};
 ghost use Rattle.rrd_tail.specs.Records.{shaped_bytes};
 ghost use Rattle.rrd_tail.specs.Settled.{settled};
-ghost use Rattle.rrd_tail.specs.Slots.{slot_bytes, slot_offset};
+ghost use Rattle.rrd_tail.specs.Slots.{slot_offset};
 ghost use Rattle.rrd_undo.specs.Calls.{AreAt, ArePut, AreWholeOrNot, IsSized};
-ghost use Rattle.rrd_undo.specs.Undoing.{IsOldPage, IsOldRecorded, IsReady, IsTail, IsToCut, Keeps, Paged, Turns, Undoing, record_of, slot_of};
+ghost use Rattle.rrd_undo.specs.Gathering.{AreRecorded, ArePutIn, IsAppended, IsGathered, IsSaved, Paged, Turning, group_bytes, padded, slots_for};
+ghost use Rattle.rrd_undo.specs.Spans.{IsBeside};
+ghost use Rattle.rrd_undo.specs.Undoing.{IsOldPage, IsOldRecorded, IsReady, IsTail, IsToCut, Undoing, record_of, slot_of};
 ghost use Rattle.rrd_undo.specs.Databases.{IsDatabase};
 
-use crate::Bytes;
 use crate::page::page_from;
+use crate::{Bytes, Span};
 use rrd_tail::{
     DATABASE_MARK, PAGE, RECORD_SIZE, Record, SLOT_HEADER_SIZE, Shape, slot_header, undo_mark,
 };
@@ -18,6 +21,9 @@ use std::io::{self, Error, ErrorKind};
 
 /// The distance between the starts of two slots, in bytes.
 pub(crate) const SLOT: usize = SLOT_HEADER_SIZE + PAGE;
+
+// The number of bytes of slots that one call appends, at least: a change needs as much memory, and a page or two more.
+const GROUP: usize = 1 << 20;
 
 // The size of a long record, in bytes.
 const LONG_RECORD: usize = 2 * RECORD_SIZE;
@@ -176,25 +182,80 @@ pub(crate) fn offset_of_slot(tail: usize, number: usize) -> io::Result<usize>
     }
 }
 
-// Fills a buffer with a slot of the old bytes from byte `at` on.
-fn fill_slot(buffer: &mut Vec<u8>, tail: usize, at: usize, bytes: &[u8]) -> io::Result<()>
-    ensures { OnOk result (buffer.new.items ≡ slot_bytes tail (slot_of at bytes.now)) }
+// Appends zeros to a buffer.
+fn push_zeros(buffer: &mut Vec<u8>, count: usize) -> io::Result<()>
+    ensures { OnOk result (buffer.new.items ≡ buffer.old.items ++ replicate count 0) }
 {
-    buffer.clear();
+    let Some(end) = buffer.len().checked_add(count) else {
+        return Err(Error::from(ErrorKind::FileTooLarge));
+    };
+    buffer.resize(end, 0)?;
+    Ok(())
+}
+
+// Appends a slot of the old bytes from byte `at` on to a buffer, and zeros up to the next slot.
+fn push_padded(buffer: &mut Vec<u8>, tail: usize, at: usize, bytes: &[u8]) -> io::Result<()>
+    ensures { OnOk result (buffer.new.items ≡ buffer.old.items ++ padded tail (slot_of at bytes.now)) }
+{
     buffer.extend_from_slice(&slot_header(tail, at, bytes))?;
     buffer.extend_from_slice(bytes)?;
+    push_zeros(buffer, PAGE.saturating_sub(bytes.len()))
+}
+
+// Appends the slot of the old bytes from byte `at` on to a buffer, if there are any.
+fn push_slot(buffer: &mut Vec<u8>, tail: usize, at: usize, bytes: &[u8]) -> io::Result<()>
+    ensures { OnOk result (buffer.new.items ≡ buffer.old.items ++ group_bytes tail (slots_for at bytes.now)) }
+{
+    if bytes.is_empty() {
+        return Ok(());
+    }
+    push_padded(buffer, tail, at, bytes)
+}
+
+// Appends a record to a buffer.
+fn push_record(buffer: &mut Vec<u8>, shape: Shape, entry: &Record) -> io::Result<()>
+    ensures { OnOk result (buffer.new.items ≡ buffer.old.items ++ shaped_bytes shape entry.now) }
+{
+    buffer.extend_from_slice(&entry.bytes())?;
+    match shape {
+        Shape::Short => Ok(()),
+        Shape::Long => push_zeros(buffer, RECORD_SIZE),
+    }
+}
+
+// Writes the new bytes of spans of a file.
+fn put_spans<F: Bytes>(file: &mut F, new: &[u8], spans: &[Span]) -> io::Result<()>
+    ensures falls { (s : List ℕ) → IsTrue (F.is_honest s file.new) → IsTrue (F.is_honest s file.old) }
+    ensures ok { OnOk result ((s : List ℕ) → IsTrue (F.is_honest s file.new) → (old : List ℕ) (tail low : ℕ) → IsTail old tail → 16 ≤ low
+        → IsSaved old tail low spans.now (F.held s file.old)
+        → IsSaved old tail low spans.now (F.held s file.new) × ArePutIn spans.now new.now (F.held s file.old) (F.held s file.new)) }
+    ensures err { OnErr result ((s : List ℕ) → IsTrue (F.is_honest s file.new) → (old : List ℕ) (tail low : ℕ) → IsTail old tail → 16 ≤ low
+        → IsSaved old tail low spans.now (F.held s file.old) → settled (F.held s file.new) ≡ old) }
+{
+    for number in 0..spans.len() {
+        let span = spans[number];
+        if new.len() < span.end || span.end < span.start {
+            return Err(Error::from(ErrorKind::InvalidInput));
+        }
+        file.put(span.start, &new[span.start..span.end])?;
+    }
     Ok(())
 }
 
 /// The tail of a file that is being changed.
+///
+/// The old bytes of the next pages are gathered in memory, so that one call appends the slots of many pages. Then the new
+/// bytes are written over them.
 #[derive(Drop)]
 pub(crate) struct Tail {
     /// The offset of the tail: the start of a page, after the old bytes and after the new bytes.
     pub(crate) offset: usize,
-    /// The number of slots.
+    /// The number of slots that the file has.
     pub(crate) slots: usize,
-    /// The bytes of a slot to be written, or zeros.
+    /// The slots that wait to be appended; or zeros.
     pub(crate) buffer: Vec<u8>,
+    /// The spans of the file that wait for their new bytes.
+    pub(crate) spans: Vec<Span>,
     /// The setting for syncs of the file.
     pub(crate) syncs: Syncs,
 }
@@ -210,13 +271,16 @@ impl Tail {
         requires page { self.old.offset % 4096 ≡ 0 }
         requires enough { 16 ≤ length first.now }
         ensures falls { (s : List ℕ) → IsTrue (F.is_honest s file.new) → IsTrue (F.is_honest s file.old) }
-        ensures frame { self.new ≡ record self.old { slots = 0 } }
+        ensures frame { self.new ≡ record self.old { slots = 0; buffer = self.new.buffer; spans = self.new.spans } }
+        ensures none { (self.new.buffer.items ≡ []) × (self.new.spans.items ≡ []) }
         ensures ok { OnOk result ((s : List ℕ) → IsTrue (F.is_honest s file.new) → (old : List ℕ) → IsDatabase old → IsTail old self.old.offset → old_length ≡ length old
             → AreAt old 0 (min 4096 (length old)) first.now → F.held s file.old ≡ old → Undoing old self.old.offset 0 (F.held s file.new)) }
         ensures err { OnErr result ((s : List ℕ) → IsTrue (F.is_honest s file.new) → (old : List ℕ) → IsDatabase old → IsTail old self.old.offset → old_length ≡ length old
             → AreAt old 0 (min 4096 (length old)) first.now → F.held s file.old ≡ old → settled (F.held s file.new) ≡ old) }
     {
         self.slots = 0;
+        self.buffer.clear();
+        self.spans.clear();
         self.record_old(file, old_length, first)?;
         put_and_sync(file, 0, &undo_mark(self.offset), self.syncs)
     }
@@ -236,77 +300,120 @@ impl Tail {
         put_record(file, self.offset, old_length, first, self.syncs)
     }
 
-    // Copies the old bytes from byte `at` on to a slot, if there are any.
-    fn keep<F: Bytes>(&mut self, file: &mut F, at: usize, bytes: &[u8]) -> io::Result<()>
-        ensures falls { (s : List ℕ) → IsTrue (F.is_honest s file.new) → IsTrue (F.is_honest s file.old) }
-        ensures frame { self.new ≡ record self.old { slots = self.new.slots; buffer = self.new.buffer } }
-        ensures ok { OnOk result ((s : List ℕ) → IsTrue (F.is_honest s file.new) → (old : List ℕ) → IsDatabase old → IsTail old self.old.offset → IsOldPage old at bytes.now
-            → Undoing old self.old.offset self.old.slots (F.held s file.old)
-            → Keeps old self.old.offset self.new.slots at bytes.now (F.held s file.old) (F.held s file.new)) }
-        ensures err { OnErr result ((s : List ℕ) → IsTrue (F.is_honest s file.new) → (old : List ℕ) → IsDatabase old → IsTail old self.old.offset → IsOldPage old at bytes.now
-            → Undoing old self.old.offset self.old.slots (F.held s file.old) → settled (F.held s file.new) ≡ old) }
+    /// Gathers the old bytes from byte `at` on, which `count` new bytes are to replace. There may be fewer old bytes, or
+    /// none.
+    pub(crate) fn gather(&mut self, at: usize, bytes: &[u8], count: usize) -> io::Result<()>
+        ensures frame { self.new ≡ record self.old { buffer = self.new.buffer; spans = self.new.spans } }
+        ensures ok { OnOk result ((old : List ℕ) (low done : ℕ) → IsTail old self.old.offset → low ≤ at → IsOldPage old at bytes.now
+            → length bytes.now ≡ min (length old - at) count → at + count ≤ self.old.offset → at + count ≤ done
+            → IsGathered old self.old.offset low done self.old.buffer.items self.old.spans.items
+            → IsGathered old self.old.offset low done self.new.buffer.items self.new.spans.items) }
+        ensures beside { OnOk result ((k : ℕ) → All (IsBeside k) self.new.spans.items → All (IsBeside k) self.old.spans.items × ((k < at) ⊎ (at + count ≤ k))) }
     {
-        if bytes.is_empty() {
-            return Ok(());
-        }
+        let Some(end) = at.checked_add(count) else {
+            return Err(Error::from(ErrorKind::FileTooLarge));
+        };
+        push_slot(&mut self.buffer, self.offset, at, bytes)?;
+        self.spans.push(Span { start: at, end })?;
+        Ok(())
+    }
+
+    /// Checks whether as many slots are gathered as one call appends.
+    pub(crate) fn is_full(&self) -> bool {
+        self.buffer.len() >= GROUP
+    }
+
+    // Appends the slots that are gathered.
+    fn append<F: Bytes>(&mut self, file: &mut F) -> io::Result<()>
+        ensures falls { (s : List ℕ) → IsTrue (F.is_honest s file.new) → IsTrue (F.is_honest s file.old) }
+        ensures frame { self.new ≡ record self.old { slots = self.new.slots } }
+        ensures ok { OnOk result ((s : List ℕ) → IsTrue (F.is_honest s file.new) → (old : List ℕ) (low done : ℕ) → IsDatabase old → IsTail old self.old.offset
+            → Undoing old self.old.offset self.old.slots (F.held s file.old)
+            → (gathered : IsGathered old self.old.offset low done self.old.buffer.items self.old.spans.items)
+            → IsAppended old self.old.offset self.new.slots gathered.slots (F.held s file.old) (F.held s file.new)) }
+        ensures err { OnErr result ((s : List ℕ) → IsTrue (F.is_honest s file.new) → (old : List ℕ) (low done : ℕ) → IsDatabase old → IsTail old self.old.offset
+            → Undoing old self.old.offset self.old.slots (F.held s file.old)
+            → IsGathered old self.old.offset low done self.old.buffer.items self.old.spans.items → settled (F.held s file.new) ≡ old) }
+    {
         let offset = offset_of_slot(self.offset, self.slots)?;
-        fill_slot(&mut self.buffer, self.offset, at, bytes)?;
         file.append(offset, &self.buffer)?;
-        self.slots += 1;
+        self.slots += self.buffer.len() / SLOT;
         sync(file, self.syncs)
     }
 
-    /// Copies the old bytes from byte `at` on to a slot, and writes new bytes over them.
-    pub(crate) fn turn<F: Bytes>(
-        &mut self,
-        file: &mut F,
-        at: usize,
-        bytes: &[u8],
-        page: &[u8],
-    ) -> io::Result<()>
+    /// Appends the slots that are gathered, and then writes the new bytes over the old bytes that the slots have.
+    pub(crate) fn turn<F: Bytes>(&mut self, file: &mut F, new: &[u8]) -> io::Result<()>
         ensures falls { (s : List ℕ) → IsTrue (F.is_honest s file.new) → IsTrue (F.is_honest s file.old) }
-        ensures frame { self.new ≡ record self.old { slots = self.new.slots; buffer = self.new.buffer } }
-        ensures ok { OnOk result ((s : List ℕ) → IsTrue (F.is_honest s file.new) → (old : List ℕ) → IsDatabase old → IsTail old self.old.offset → IsOldPage old at bytes.now
-            → length bytes.now ≡ min (length old - at) (length page.now) → at + length page.now ≤ self.old.offset
-            → Undoing old self.old.offset self.old.slots (F.held s file.old)
-            → Turns old self.old.offset self.new.slots at page.now (F.held s file.old) (F.held s file.new)) }
-        ensures err { OnErr result ((s : List ℕ) → IsTrue (F.is_honest s file.new) → (old : List ℕ) → IsDatabase old → IsTail old self.old.offset → IsOldPage old at bytes.now
-            → length bytes.now ≡ min (length old - at) (length page.now) → at + length page.now ≤ self.old.offset
-            → Undoing old self.old.offset self.old.slots (F.held s file.old) → settled (F.held s file.new) ≡ old) }
+        ensures frame { self.new ≡ record self.old { slots = self.new.slots; buffer = self.new.buffer; spans = self.new.spans } }
+        ensures ok { OnOk result ((s : List ℕ) → IsTrue (F.is_honest s file.new) → (old : List ℕ) (done : ℕ) → IsDatabase old → IsTail old self.old.offset
+            → length new.now ≤ self.old.offset → Turning old new.now self.old (F.held s file.old) done → Turning old new.now self.new (F.held s file.new) done) }
+        ensures err { OnErr result ((s : List ℕ) → IsTrue (F.is_honest s file.new) → (old : List ℕ) (done : ℕ) → IsDatabase old → IsTail old self.old.offset
+            → length new.now ≤ self.old.offset → Turning old new.now self.old (F.held s file.old) done → settled (F.held s file.new) ≡ old) }
     {
-        self.keep(file, at, bytes)?;
-        file.put(at, page)
+        self.append(file)?;
+        put_spans(file, new, &self.spans)?;
+        self.buffer.clear();
+        self.spans.clear();
+        Ok(())
     }
 
-    /// Writes the record of the new bytes after all slots.
-    pub(crate) fn record_new<F: Bytes>(
-        &self,
-        file: &mut F,
-        new_length: usize,
-        first: &[u8],
-    ) -> io::Result<()>
-        requires { 16 ≤ length first.now }
+    // Appends the slots that are gathered, and the record of the new bytes.
+    fn append_last<F: Bytes>(&mut self, file: &mut F, new: &[u8]) -> io::Result<()>
+        requires { 16 ≤ length new.now }
         ensures falls { (s : List ℕ) → IsTrue (F.is_honest s file.new) → IsTrue (F.is_honest s file.old) }
-        ensures ok { OnOk result ((s : List ℕ) → IsTrue (F.is_honest s file.new) → (old new : List ℕ) → IsDatabase old → IsDatabase new → IsTail old self.now.offset → length new ≤ self.now.offset
-            → new_length ≡ length new → AreAt new 0 (min 4096 (length new)) first.now → Paged old new self.now.offset self.now.slots (F.held s file.old)
-            → IsReady old new self.now.offset (F.held s file.new)) }
-        ensures err { OnErr result ((s : List ℕ) → IsTrue (F.is_honest s file.new) → (old new : List ℕ) → IsDatabase old → IsDatabase new → IsTail old self.now.offset → length new ≤ self.now.offset
-            → new_length ≡ length new → AreAt new 0 (min 4096 (length new)) first.now → Paged old new self.now.offset self.now.slots (F.held s file.old)
-            → settled (F.held s file.new) ≡ old) }
+        ensures frame { self.new ≡ record self.old { buffer = self.new.buffer } }
+        ensures ok { OnOk result ((s : List ℕ) → IsTrue (F.is_honest s file.new) → (old : List ℕ) (low done : ℕ) → IsDatabase old → IsDatabase new.now
+            → IsTail old self.old.offset → length new.now ≤ self.old.offset → Undoing old self.old.offset self.old.slots (F.held s file.old)
+            → IsGathered old self.old.offset low done self.old.buffer.items self.old.spans.items
+            → IsSaved old self.old.offset low self.old.spans.items (F.held s file.new) × AreRecorded new.now self.old.offset (F.held s file.new)
+            × ((k : ℕ) → k < self.old.offset → slice_index (F.held s file.new) k ≡ slice_index (F.held s file.old) k)) }
+        ensures err { OnErr result ((s : List ℕ) → IsTrue (F.is_honest s file.new) → (old : List ℕ) (low done : ℕ) → IsDatabase old → IsDatabase new.now
+            → IsTail old self.old.offset → length new.now ≤ self.old.offset → Undoing old self.old.offset self.old.slots (F.held s file.old)
+            → IsGathered old self.old.offset low done self.old.buffer.items self.old.spans.items → settled (F.held s file.new) ≡ old) }
     {
-        let offset = self.record_offset()?;
-        put_record(file, offset, new_length, first, self.syncs)
+        let start = offset_of_slot(self.offset, self.slots)?;
+        let offset = record_offset(start, self.buffer.len())?;
+        let zeros = (offset - start).saturating_sub(self.buffer.len());
+        push_zeros(&mut self.buffer, zeros)?;
+        let entry = Record {
+            offset,
+            length: new.len(),
+            first: sixteen(new),
+        };
+        push_record(&mut self.buffer, Shape::for_length(new.len()), &entry)?;
+        file.append(start, &self.buffer)?;
+        sync(file, self.syncs)
     }
 
-    // Returns the offset of the record of the new bytes: the first page after all slots and the zeros that end them.
-    fn record_offset(&self) -> io::Result<usize>
-        ensures page { IfOk result (λ offset. offset % 4096 ≡ 0) }
-        ensures behind { IfOk result (λ offset. slot_offset self.now.offset self.now.slots + 32 ≤ offset) }
-        ensures fits { IfOk result (λ offset. offset < 2 ^ 64) }
+    /// Appends the slots that are gathered with the record of the new bytes, and then writes the new bytes over the old bytes
+    /// that the slots have.
+    pub(crate) fn turn_last<F: Bytes>(&mut self, file: &mut F, new: &[u8]) -> io::Result<()>
+        requires { 16 ≤ length new.now }
+        ensures falls { (s : List ℕ) → IsTrue (F.is_honest s file.new) → IsTrue (F.is_honest s file.old) }
+        ensures frame { self.new ≡ record self.old { buffer = self.new.buffer } }
+        ensures ok { OnOk result ((s : List ℕ) → IsTrue (F.is_honest s file.new) → (old : List ℕ) → IsDatabase old → IsDatabase new.now → IsTail old self.old.offset
+            → length new.now ≤ self.old.offset → Paged old new.now self.old (F.held s file.old) → IsReady old new.now self.old.offset (F.held s file.new)) }
+        ensures err { OnErr result ((s : List ℕ) → IsTrue (F.is_honest s file.new) → (old : List ℕ) → IsDatabase old → IsDatabase new.now → IsTail old self.old.offset
+            → length new.now ≤ self.old.offset → Paged old new.now self.old (F.held s file.old) → settled (F.held s file.new) ≡ old) }
     {
-        match offset_of_slot(self.offset, self.slots)?.checked_add(SLOT_HEADER_SIZE) {
-            Some(zeros) => page_from(zeros),
-            None => Err(Error::from(ErrorKind::FileTooLarge)),
-        }
+        self.append_last(file, new)?;
+        put_spans(file, new, &self.spans)?;
+        sync(file, self.syncs)
+    }
+}
+
+// Returns the offset of the record of the new bytes: the first page after `count` bytes of slots from byte `start` on, and
+// after the zeros that end the slots.
+fn record_offset(start: usize, count: usize) -> io::Result<usize>
+    ensures page { IfOk result (λ offset. offset % 4096 ≡ 0) }
+    ensures behind { IfOk result (λ offset. start + count + 32 ≤ offset) }
+    ensures fits { IfOk result (λ offset. offset < 2 ^ 64) }
+{
+    let Some(end) = start.checked_add(count) else {
+        return Err(Error::from(ErrorKind::FileTooLarge));
+    };
+    match end.checked_add(SLOT_HEADER_SIZE) {
+        Some(zeros) => page_from(zeros),
+        None => Err(Error::from(ErrorKind::FileTooLarge)),
     }
 }

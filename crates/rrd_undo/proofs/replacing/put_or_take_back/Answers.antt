@@ -3,7 +3,7 @@ use Rattle.rrd_undo.proofs.Stages.{back_stands}
 use Rattle.rrd_undo.proofs.replacing.put_or_take_back.Goals as goal
 
 pub returns-in-Err-clause-err : goal.returns-in-Err-clause-err
-returns-in-Err-clause-err g c s f old begun =
-    let both = c.in-Err.ensures.err s (search rules) old begun in
+returns-in-Err-clause-err g c s f old agrees begun =
+    let both = c.in-Err.ensures.err s (search rules) old agrees begun in
     let back = c.take_back-taken_back.ensures in
     back_stands old c.args.new.now _ _ (λ is. back.stands s (search rules) old is both.0) (λ none. back.none s (search rules) old none both.0) both.1

@@ -6,32 +6,32 @@ use Rattle.rrd_undo.proofs.Stages.{ended_stands, other_begins, other_left, other
 use Rattle.rrd_undo.proofs.change.Change.end_started.Goals as goal
 
 pub returns-in-Marked-clause-ok : goal.returns-in-Marked-clause-ok
-returns-in-Marked-clause-ok g c = on_ok c.end_marked.result _ _ (λ h s f old new done is_new counts all are is_at.
-    let at2 = c.in_ok-start.ensures.ok s (search rules) old new done is_at in
+returns-in-Marked-clause-ok g c = on_ok c.end_marked.result _ _ (λ h s f old done is_new counts all high is_at.
+    let at2 = c.in_ok-start.ensures.ok s (search rules) old c.args.new.now done is_at in
     let marked = (rw c.in-Marked.is at at2.holds) in
-    h s f old new done marked.0 is_new at2.knows (c.start.ensures.length ∙ counts) all are marked.1) c.end_marked.ensures.ok
+    h s f old done marked.0 is_new at2.knows (c.start.ensures.length ∙ counts) all high marked.1) c.end_marked.ensures.ok
 
 pub returns-in-Marked-clause-err : goal.returns-in-Marked-clause-err
-returns-in-Marked-clause-err g c = on_err c.end_marked.result _ _ (λ h s f old new done is_new counts all are is_at.
-    let at2 = c.in_ok-start.ensures.ok s (search rules) old new done is_at in
+returns-in-Marked-clause-err g c = on_err c.end_marked.result _ _ (λ h s f old done is_new counts all high is_at.
+    let at2 = c.in_ok-start.ensures.ok s (search rules) old c.args.new.now done is_at in
     let marked = (rw c.in-Marked.is at at2.holds) in
-    h s f old new done marked.0 is_new at2.knows (c.start.ensures.length ∙ counts) all are marked.1) (c.end_marked.ensures.err c.in-Marked.is)
+    h s f old done marked.0 is_new at2.knows (c.start.ensures.length ∙ counts) all high marked.1) (c.end_marked.ensures.err c.in-Marked.is)
 
 pub returns-in_default : goal.returns-in_default
 returns-in_default g c = record {
   falls = λ s f. search rules;
-  ok = on_ok c.end_invalid.result _ _ (λ h s f old new done is_new counts all are is_at.
-      let at2 = c.in_ok-start.ensures.ok s (search rules) old new done is_at in
-      let other = other_invalid c.start.new.self.stage old new _ _ _ done c.in_default.not-Marked c.in_ok-start.ensures.started at2.holds in
-      ap settled (h s f new done (c.start.ensures.length ∙ counts) all are other.1) ∙ settled_plain new is_new) c.end_invalid.ensures.ok;
-  err = on_err c.end_invalid.result _ _ (λ h s f old new done is_new counts all are is_at.
-      let at2 = c.in_ok-start.ensures.ok s (search rules) old new done is_at in
-      let other = other_invalid c.start.new.self.stage old new _ _ _ done c.in_default.not-Marked c.in_ok-start.ensures.started at2.holds in
-      let either = h s f new done (c.start.ensures.length ∙ counts) all are other.1 other.2 in (
+  ok = on_ok c.end_invalid.result _ _ (λ h s f old done is_new counts all high is_at.
+      let at2 = c.in_ok-start.ensures.ok s (search rules) old c.args.new.now done is_at in
+      let other = other_invalid c.start.new.self.stage old c.args.new.now _ _ done c.in_default.not-Marked c.in_ok-start.ensures.started at2.holds in
+      ap settled (h s f c.args.new.now done (c.start.ensures.length ∙ counts) all c.front_page.ensures.front other.1) ∙ settled_plain c.args.new.now is_new) c.end_invalid.ensures.ok;
+  err = on_err c.end_invalid.result _ _ (λ h s f old done is_new counts all high is_at.
+      let at2 = c.in_ok-start.ensures.ok s (search rules) old c.args.new.now done is_at in
+      let other = other_invalid c.start.new.self.stage old c.args.new.now _ _ done c.in_default.not-Marked c.in_ok-start.ensures.started at2.holds in
+      let either = h s f c.args.new.now done (c.start.ensures.length ∙ counts) all c.front_page.ensures.front other.1 other.3 in (
         rw c.end_invalid.ensures.frame (record {
           knows = at2.knows;
-          left = other_left c.start.new.self.stage old _ _ _ c.in_default.not-Marked c.in_ok-start.ensures.started other.0 (other_begins new _ is_new either);
+          left = other_left c.start.new.self.stage old _ _ _ c.in_default.not-Marked c.in_ok-start.ensures.started other.0 (other_begins c.args.new.now _ is_new either);
         }),
-        ended_stands old new _ other.0 either,
+        ended_stands old c.args.new.now _ other.0 either,
       )) c.end_invalid.ensures.err;
 }

@@ -1,7 +1,7 @@
 use Rattle.std.proofs.Common.{rules, refl, inl, inr, arith}
 use Rattle.rrd_undo.specs.Changing.{IsBroken, IsInvalid, IsKept, StandsForOld}
 use Rattle.rrd_undo.proofs.Laid.{always_err}
-use Rattle.rrd_undo.proofs.Stages.{invalid_behind, invalid_holds, invalid_stands, kept_behind, kept_stands}
+use Rattle.rrd_undo.proofs.Stages.{invalid_behind, invalid_holds, invalid_stands, invalid_stays, kept_behind, kept_stands}
 use Rattle.rrd_undo.proofs.change.Change.write_invalid_mark.Goals as goal
 
 pub returns-in_err-extend-clause-err : goal.returns-in_err-extend-clause-err
@@ -32,4 +32,4 @@ returns-clause-ok g c s f old new done other knows agree =
     let kept : IsKept old (g.F.Bytes.held s c.extend.new.file) = c.extend.ensures.kept s (search rules) old knows agree.same in
     let put = c.in_ok-put_whole.ensures.ok s (search rules) in
     let invalid : IsInvalid (g.F.Bytes.held s c.put_whole.new.self) = put.inside 0 (omega arith) in
-    rw c.extend.ensures.frame (record { knows = knows; holds = (other, invalid_holds old new _ _ _ _ done refl agree kept put, invalid) })
+    rw c.extend.ensures.frame (record { knows = knows; holds = (other, invalid_holds old new _ _ _ _ done refl agree kept put, invalid_stays old _ _ _ done refl kept put, invalid) })
