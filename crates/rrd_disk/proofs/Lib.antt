@@ -12,3 +12,4 @@ pub mod Overlays
 pub mod Parts
 pub mod Replaying
 pub mod Storing
+pub mod Spans

@@ -21,7 +21,7 @@ use Rattle.rrd_disk.specs.Entries.{SaysEntry}
 use Rattle.rrd_disk.specs.Events.{Event}
 use Rattle.rrd_disk.specs.declared.file_bytes.Entry.{Entry}
 use Rattle.rrd_disk.specs.Loading.{IsDatabaseStanding, StandsSo}
-use Rattle.rrd_disk.specs.Replayed.{World, bytes_after, bytes_of, is_honest_after, is_there}
+use Rattle.rrd_disk.specs.Replayed.{World, bytes_after, bytes_of, held_after, is_honest_after, is_there}
 use Rattle.rrd_disk.specs.Storing.{IsLoaded, IsNearly, IsPrepared, IsReadable, IsReady, IsStanding, IsWritten}
 use Rattle.rrd_disk.specs.declared.loading.Standing.{Standing}
 use Rattle.rrd_disk.specs.declared.loading.Standing.TheVariants.{Database, Unrecorded, Nothing}
@@ -37,11 +37,13 @@ pub readable_kept : (found : Found) (old new : List Event) → Falls old new
 readable_kept found old new falls same readable opened s honest denied =
     readable opened s (falls s honest) (subst IsNoFile (same s honest) denied)
 
--- a file that represents a database still does
+-- a file that is there still is
 pub standing_kept : (found : Found) (old new : List Event) → Falls old new
-    → ((s : World) → IsTrue (is_honest_after s new) → bytes_after s new ≡ bytes_after s old) → IsStanding found old → IsStanding found new
-standing_kept found old new falls same standing stayed s honest denied =
-    standing stayed s (falls s honest) (subst (λ (b : List ℕ). IsNoFile (settled b)) (same s honest) denied)
+    → ((s : World) → IsTrue (is_honest_after s new) → held_after s old ≡ Bytes (bytes_after s old) → held_after s new ≡ held_after s old) → IsStanding found old → IsStanding found new
+standing_kept found old new falls same standing stayed s honest =
+    let there = standing stayed s (falls s honest) in
+    let is = same s honest there in
+    is ∙ there ∙ ap (λ (h : Held). Bytes (bytes_of h)) (sym is)
 
 -- ---- marks
 

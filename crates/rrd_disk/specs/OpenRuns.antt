@@ -4,20 +4,21 @@ use Rattle.std.specs.Prelude.{◌≡◌, IsTrue, List, [], ◌∷◌, map, Optio
 use Rattle.rrd_disk.specs.Contents.{IsSound, represented}
 use Rattle.rrd_disk.specs.Events.{Event}
 use Rattle.rrd_disk.specs.Replayed.{World, held_after, is_honest_after}
+use Rattle.rrd_file.specs.declared.encoded.Encoded.{Encoded}
 use Rattle.rrd_spec.specs.Journal.Survivors.{Stored}
 use Rattle.rrd_store.specs.Runs as runs
-use Rattle.rrd_store.specs.Sessions.{IsRead}
+use Rattle.rrd_store.specs.Sessions.{IsInMemory}
 use Rattle.rrd_store.specs.Storages.{Held}
 
--- from each file for which all answers so far are honest, the file is one that the next run can read; and if there is a database
--- in memory, it is the one that the file represents
-pub record IsKeptOf (held : Held) (database : Option Stored) : Type 0 where
+-- from each file for which all answers so far are honest, the file is one that the next run can read; and what is in memory, a
+-- database and its bytes, is what the file represents
+pub record IsKeptOf (held : Held) (database : Option Stored) (encoded : Option Encoded) : Type 0 where
   pub sound : IsSound held
-  pub read : IsRead (Some (represented held)) database
+  pub memory : IsInMemory (Some (represented held)) database encoded
 
-abbrev pub IsKept : List Event → Option Stored → Type 0
-IsKept events database =
-    (w : World) → IsTrue (is_honest_after w events) → IsSound w.start → IsKeptOf (held_after w events) database
+abbrev pub IsKept : List Event → Option Stored → Option Encoded → Type 0
+IsKept events database encoded =
+    (w : World) → IsTrue (is_honest_after w events) → IsSound w.start → IsKeptOf (held_after w events) database encoded
 
 -- the calls that opened the file changed nothing that the file represents
 abbrev pub IsOpened : List Event → Type 0

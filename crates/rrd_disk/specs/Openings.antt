@@ -3,6 +3,7 @@ use Rattle.std.specs.Prelude.{◌≡◌, ℕ, IsTrue, List, length, Option, Some
 use Rattle.rrd_disk.specs.Events.{Event}
 use Rattle.rrd_disk.specs.Replayed.{World, bytes_after, held_after, is_honest_after}
 use Rattle.rrd_store.specs.Storages.{Bytes, Missing as NoFile}
+use Rattle.rrd_tail.specs.Marks.{mark_of}
 use Rattle.rrd_disk.specs.declared.opening.Opened.{Opened}
 use Rattle.rrd_disk.specs.declared.opening.Opened.TheVariants.{Regular, Pipe, Missing, Refused}
 
@@ -13,6 +14,10 @@ IsNone events = (s : World) → IsTrue (is_honest_after s events) → held_after
 -- there is a file
 abbrev pub IsThere : List Event → Type 0
 IsThere events = (s : World) → IsTrue (is_honest_after s events) → held_after s events ≡ Bytes (bytes_after s events)
+
+-- the file has no mark
+abbrev pub IsUnmarked : List Event → Type 0
+IsUnmarked events = (s : World) → IsTrue (is_honest_after s events) → mark_of (bytes_after s events) ≡ None
 
 -- the file has so many bytes
 abbrev pub HasLength : ℕ → List Event → Type 0

@@ -1,18 +1,21 @@
 -- Glue: what the steps of loading and replacing the database of a file do.
-use Rattle.std.specs.Prelude.{◌≡◌, ◌⊎◌, ◌↔◌, Bool, false, IsSome, IsTrue, List, ℕ, Option, Some, None, Result, Ok, Err, []}
+use Rattle.std.specs.Prelude.{◌≡◌, ◌⊎◌, ◌↔◌, Bool, false, IsSome, IsTrue, List, ℕ, map, Option, Some, None, Result, Ok, Err, []}
 use Rattle.rrd_disk.specs.Contents.{IsSound, represented}
 use Rattle.rrd_disk.specs.Events.{Event}
 use Rattle.rrd_disk.specs.Replayed.{World, bytes_after, bytes_of, held_after, is_honest_after}
 use Rattle.rrd_disk.specs.Loading.{IsDatabaseStanding}
+use Rattle.rrd_disk.specs.Openings.{IsThere}
 use Rattle.rrd_disk.specs.declared.loading.Standing.{Standing}
 use Rattle.rrd_disk.specs.declared.storage.Found.{Found}
 use Rattle.rrd_disk.specs.declared.storage.Found.TheVariants.{Open, Unsettled}
 use Rattle.rrd_spec.specs.Journal.Survivors.{Stored}
-use Rattle.rrd_store.specs.Storages.{Bytes, Finds, HasNone, Held, IsAfterFailure, IsNoFile}
+use Rattle.rrd_file.specs.declared.span.Span.{Span}
+use Rattle.rrd_store.specs.Storages.{Bytes, DiffersWithin, Finds, HasNone, Held, IsAfterFailure, IsNoFile}
 use Rattle.rrd_store.specs.declared.faults.TaskFault.{TaskFault}
 use Rattle.rrd_tail.specs.Marks.{mark_of}
 use Rattle.rrd_tail.specs.Settled.{settled}
 use Rattle.rrd_undo.specs.Databases.{IsDatabase}
+use Rattle.rrd_undo.specs.declared.span.Span.{Span as PageSpan}
 
 -- a file that the run may change has a database
 abbrev pub IsReadable : Found → List Event → Type 0
@@ -22,9 +25,9 @@ IsReadable found events = found ≡ Open → (s : World) → IsTrue (is_honest_a
 abbrev pub RepresentsSome : List Event → Type 0
 RepresentsSome events = (s : World) → IsTrue (is_honest_after s events) → ¬ IsNoFile (settled (bytes_after s events))
 
--- a file that stayed open after a change represents a database
+-- a file that stayed open after a change is there
 abbrev pub IsStanding : Found → List Event → Type 0
-IsStanding found events = found ≡ Unsettled → RepresentsSome events
+IsStanding found events = found ≡ Unsettled → IsThere events
 
 abbrev pub TellsMark : Bool → List Event → Type 0
 TellsMark is events = (s : World) → IsTrue (is_honest_after s events) → IsTrue is ↔ IsSome (mark_of (bytes_after s events))
@@ -129,4 +132,17 @@ IsWritten (Err error) bytes old new = IsAfterFailure (Some (represented old)) (S
 
 abbrev pub Writes : {E : Type 0} → List ℕ → List Event → List Event → Result (Unit {0}) E → Type 0
 Writes bytes old new result = (s : World) → IsTrue (is_honest_after s new) → IsSound (held_after s old)
+    → IsSound (held_after s new) × IsWritten result bytes (held_after s old) (held_after s new)
+
+-- the same spans
+abbrev pub page_span : Span → PageSpan
+page_span span = record { start = span.start; end = span.end }
+
+abbrev pub AreOf : List Span → List PageSpan → Type 0
+AreOf changed spans = spans ≡ map page_span changed
+
+-- the same as `Writes`, if the file is a database that differs from the new bytes within these spans alone
+abbrev pub WritesWhere : {E : Type 0} → List Span → List ℕ → List Event → List Event → Result (Unit {0}) E → Type 0
+WritesWhere changed bytes old new result = (s : World) → IsTrue (is_honest_after s new) → IsSound (held_after s old)
+    → DiffersWithin changed (Some (represented (held_after s old))) bytes
     → IsSound (held_after s new) × IsWritten result bytes (held_after s old) (held_after s new)

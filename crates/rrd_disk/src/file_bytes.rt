@@ -18,6 +18,9 @@ use std::io::{self, Error, ErrorKind};
 /// the system provides each of their pages anew.
 const FIRST_PART: u64 = 65_536;
 
+/// The length up to which all bytes of a file are read when it is opened: the second part would reach its end anyway.
+const WHOLE: u64 = 8 * FIRST_PART;
+
 /// How many times as long each later part is as all parts before it.
 const GROWTH: u64 = 7;
 
@@ -73,6 +76,11 @@ fn longer(length: Option<u64>, end: u64) -> Option<u64>
         Some(length) => Some(length.max(end)),
         None => None,
     }
+}
+
+// Returns how many of the first bytes of a file are read when it is opened.
+fn first_part(length: u64) -> u64 {
+    if length <= WHOLE { length } else { FIRST_PART }
 }
 
 /// Returns how many of the first bytes of a file are read after the first `had` bytes.
@@ -144,7 +152,7 @@ impl<D: Disk> FileBytes<D> {
             Opened::Regular(file, length) => {
                 self.file = Some(file);
                 self.length = Some(length);
-                self.read_to(length.min(FIRST_PART))?;
+                self.read_to(first_part(length))?;
                 Ok(Entry::Open)
             }
             Opened::Pipe(file) => Ok(Entry::Pipe(file)),

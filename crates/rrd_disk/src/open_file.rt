@@ -41,7 +41,7 @@ impl<D: Disk + Drop> OpenFile<D> {
     /// - `File`: the file is not a database, or memory ran out.
     pub fn open(alloc: Global, disk: D, place: OwnPlace) -> Result<OpenFile<D>, OpenFault>
         requires { D.events disk ≡ [] }
-        ensures kept { IfOk result (λ file. IsKept (D.events file.session.storage.bytes.disk) file.session.database) }
+        ensures kept { IfOk result (λ file. IsKept (D.events file.session.storage.bytes.disk) file.session.database file.session.encoded) }
         ensures opened { IfOk result (λ file. IsOpened (D.events file.session.storage.bytes.disk)) }
         ensures some { IfOk result (λ file. IsSome file.session.database) }
     {
@@ -71,9 +71,9 @@ impl<D: Disk + Drop> OpenFile<D> {
     ///
     /// As for [`OpenFile::open`].
     pub fn load(&mut self, alloc: Global) -> Result<(), TaskFault>
-        ensures kept { IsKept (D.events self.old.session.storage.bytes.disk) self.old.session.database
-            → IsKept (D.events self.new.session.storage.bytes.disk) self.new.session.database }
-        ensures stays { IsKept (D.events self.old.session.storage.bytes.disk) self.old.session.database
+        ensures kept { IsKept (D.events self.old.session.storage.bytes.disk) self.old.session.database self.old.session.encoded
+            → IsKept (D.events self.new.session.storage.bytes.disk) self.new.session.database self.new.session.encoded }
+        ensures stays { IsKept (D.events self.old.session.storage.bytes.disk) self.old.session.database self.old.session.encoded
             → IsReload (D.events self.old.session.storage.bytes.disk) (D.events self.new.session.storage.bytes.disk) }
         ensures some { OnOk result (IsSome self.new.session.database) }
         ensures fault { IfErr result IsOfPlace }
@@ -103,9 +103,9 @@ impl<D: Disk + Drop> OpenFile<D> {
         now: u64,
         out: &mut W,
     ) -> Result<(), TaskFault>
-        ensures kept { IsKept (D.events self.old.session.storage.bytes.disk) self.old.session.database
-            → IsKept (D.events self.new.session.storage.bytes.disk) self.new.session.database }
-        ensures file { IsKept (D.events self.old.session.storage.bytes.disk) self.old.session.database
+        ensures kept { IsKept (D.events self.old.session.storage.bytes.disk) self.old.session.database self.old.session.encoded
+            → IsKept (D.events self.new.session.storage.bytes.disk) self.new.session.database self.new.session.encoded }
+        ensures file { IsKept (D.events self.old.session.storage.bytes.disk) self.old.session.database self.old.session.encoded
             → IsOpenRun (D.events self.old.session.storage.bytes.disk) (D.events self.new.session.storage.bytes.disk)
             (ByCommand (record {
               words = words.now;
@@ -139,9 +139,9 @@ impl<D: Disk + Drop> OpenFile<D> {
         command: Command,
         out: &mut W,
     ) -> Result<(), TaskFault>
-        ensures kept { IsKept (D.events self.old.session.storage.bytes.disk) self.old.session.database
-            → IsKept (D.events self.new.session.storage.bytes.disk) self.new.session.database }
-        ensures file { IsKept (D.events self.old.session.storage.bytes.disk) self.old.session.database
+        ensures kept { IsKept (D.events self.old.session.storage.bytes.disk) self.old.session.database self.old.session.encoded
+            → IsKept (D.events self.new.session.storage.bytes.disk) self.new.session.database self.new.session.encoded }
+        ensures file { IsKept (D.events self.old.session.storage.bytes.disk) self.old.session.database self.old.session.encoded
             → IsOpenRun (D.events self.old.session.storage.bytes.disk) (D.events self.new.session.storage.bytes.disk)
             (ByRequest (record {
               command = command;
@@ -177,9 +177,9 @@ impl<D: Disk + Drop> OpenFile<D> {
         out: &mut W,
         gate: &G,
     ) -> Result<FileBatchEnd, TaskFault>
-        ensures kept { IsKept (D.events self.old.session.storage.bytes.disk) self.old.session.database
-            → IsKept (D.events self.new.session.storage.bytes.disk) self.new.session.database }
-        ensures file { IsKept (D.events self.old.session.storage.bytes.disk) self.old.session.database
+        ensures kept { IsKept (D.events self.old.session.storage.bytes.disk) self.old.session.database self.old.session.encoded
+            → IsKept (D.events self.new.session.storage.bytes.disk) self.new.session.database self.new.session.encoded }
+        ensures file { IsKept (D.events self.old.session.storage.bytes.disk) self.old.session.database self.old.session.encoded
             → IsOpenRun (D.events self.old.session.storage.bytes.disk) (D.events self.new.session.storage.bytes.disk)
             (ByBatch (record {
               now = now;

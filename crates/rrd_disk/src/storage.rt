@@ -4,8 +4,8 @@ ghost use Rattle.std.specs.Prelude.{◌≡◌, Err, IfErr, IfOk, IsTrue, List, N
 ghost use Rattle.rrd_disk.specs.Calls.{Falls, KeepsHeld, KeepsHeldFor};
 ghost use Rattle.rrd_disk.specs.Entries.{SaysEntry};
 ghost use Rattle.rrd_disk.specs.Loading.{IsStillThere, IsValidStanding, KeepsHonest, StandsSo};
-ghost use Rattle.rrd_disk.specs.Openings.{IsThere};
-ghost use Rattle.rrd_disk.specs.Storing.{IsEmpty, IsReadable, IsRepaired, IsStanding, KeepsBytes, KeepsOpen, KeepsSettled, Loads, LoadsMarked, LoadsOpen, Prepares, PreparesMarked, PreparesOpen, PreparesUnmarked, ReadsSome, RepresentsSome, Spoils, TellsMark, TellsNoDatabase, Writes};
+ghost use Rattle.rrd_disk.specs.Openings.{IsThere, IsUnmarked};
+ghost use Rattle.rrd_disk.specs.Storing.{AreOf, IsEmpty, IsReadable, IsRepaired, IsStanding, KeepsBytes, KeepsOpen, KeepsSettled, Loads, LoadsMarked, LoadsOpen, Prepares, PreparesMarked, PreparesOpen, PreparesUnmarked, ReadsSome, RepresentsSome, Spoils, TellsMark, TellsNoDatabase, Writes, WritesWhere};
 ghost use Rattle.rrd_disk.specs.declared.storage.Found.TheVariants.{Unopened};
 ghost use Rattle.rrd_file.specs.Faults.{IsOfFile};
 ghost use Rattle.rrd_disk.specs.declared.disk.Opening.TheVariants.{Make};
@@ -18,13 +18,13 @@ use crate::loading::{Standing, find_standing, load, load_pipe, repair};
 use crate::opening::not_regular;
 use crate::{Cause, Disk, Location, Opening};
 use rrd_base::Database;
-use rrd_file::FileFault;
 use rrd_file::laws::{file_begins, one_answer};
+use rrd_file::{FileFault, Span};
 use rrd_store::{Access, Storage, TaskFault};
 use rrd_tail::DATABASE_MARK;
 use rrd_undo::laws::files_without_marks_stand_for_themselves;
-use rrd_undo::{Bytes, has_mark, replace};
-use std::alloc::Global;
+use rrd_undo::{Bytes, Span as PageSpan, has_mark, replace, replace_where};
+use std::alloc::{AllocError, Global};
 use std::io::{self, Error, ErrorKind};
 use std::path::Path;
 
@@ -39,8 +39,8 @@ pub(crate) enum Found {
     Unwritable(Error),
     /// The file is open and locked, and has a database that the run may change.
     Open,
-    /// The file is open and locked, and represents a database: it may have a mark, because the last call of a change
-    /// failed.
+    /// The file is open and locked. It may have a mark, because the last call of a change failed. After a change whose
+    /// spans the caller knew, it is a database only if the caller was right.
     Unsettled,
 }
 
@@ -86,6 +86,20 @@ fn is_of_bytes(fault: &FileFault) -> bool
     ensures { IsTrue result → IsOfFile (Err fault.now) }
 {
     !matches!(fault, FileFault::Read | FileFault::OutOfMemory)
+}
+
+// Returns spans as the crate takes them that writes the pages.
+fn page_spans(alloc: Global, changed: &[Span]) -> Result<Vec<PageSpan>, AllocError>
+    ensures { IfOk result (λ spans. AreOf changed.now spans.items) }
+{
+    let mut spans = Vec::with_capacity(alloc, changed.len())?;
+    for span in changed {
+        spans.push(PageSpan {
+            start: span.start,
+            end: span.end,
+        })?;
+    }
+    Ok(spans)
 }
 
 // Checks whether a file begins like a database.
@@ -582,6 +596,60 @@ impl<D: Disk, L: Location> FileStorage<D, L> {
         ended
     }
 
+    // Replaces the bytes of an open file without a mark, of which only these may differ.
+    fn put_where(&mut self, alloc: Global, bytes: &[u8], changed: &[Span]) -> io::Result<()>
+        requires file { IsAnyFile bytes.now }
+        requires there { IsThere (D.events self.old.bytes.disk) }
+        requires unmarked { IsUnmarked (D.events self.old.bytes.disk) }
+        ensures falls { Falls (D.events self.old.bytes.disk) (D.events self.new.bytes.disk) }
+        ensures writes { WritesWhere changed.now bytes.now (D.events self.old.bytes.disk) (D.events self.new.bytes.disk) result }
+        ensures there { IsThere (D.events self.new.bytes.disk) }
+        ensures found { self.new.found ≡ Unopened }
+    {
+        file_begins();
+        files_without_marks_stand_for_themselves();
+        self.found = Found::Unopened;
+        let changed = page_spans(alloc, changed)?;
+        let syncs = self.place.settings().syncs;
+        replace_where(alloc, &mut self.bytes, bytes, &changed, syncs)
+    }
+
+    // Replaces the bytes of an open file without a mark, of which only these may differ. Then keeps the file open, or
+    // closes it.
+    fn write_open(&mut self, alloc: Global, bytes: &[u8], changed: &[Span]) -> io::Result<()>
+        requires file { IsAnyFile bytes.now }
+        requires there { IsThere (D.events self.old.bytes.disk) }
+        requires unmarked { IsUnmarked (D.events self.old.bytes.disk) }
+        ensures falls { Falls (D.events self.old.bytes.disk) (D.events self.new.bytes.disk) }
+        ensures writes { WritesWhere changed.now bytes.now (D.events self.old.bytes.disk) (D.events self.new.bytes.disk) result }
+    {
+        let ended = self.put_where(alloc, bytes, changed);
+        match (&ended, self.afterwards) {
+            (Ok(()), Afterwards::Open) => self.found = Found::Unsettled,
+            (Ok(()), Afterwards::Closed) | (Err(_), _) => self.bytes.close(),
+        }
+        ended
+    }
+
+    // Replaces the bytes of the file, of which only these may differ. Compares all bytes, unless the file has been open
+    // since an earlier run and has no mark.
+    fn write_where(&mut self, bytes: &[u8], changed: &[Span]) -> io::Result<()>
+        requires { IsAnyFile bytes.now }
+        ensures falls { Falls (D.events self.old.bytes.disk) (D.events self.new.bytes.disk) }
+        ensures writes { WritesWhere changed.now bytes.now (D.events self.old.bytes.disk) (D.events self.new.bytes.disk) result }
+    {
+        file_begins();
+        files_without_marks_stand_for_themselves();
+        if !self.is_open() {
+            return self.write(bytes);
+        }
+        let alloc = self.bytes.disk().alloc();
+        match is_marked(alloc, &mut self.bytes) {
+            Ok(false) => self.write_open(alloc, bytes, changed),
+            Ok(true) | Err(_) => self.write(bytes),
+        }
+    }
+
     // Closes the file, and forgets what was found.
     fn let_go(&mut self)
         ensures { self.new.bytes.disk ≡ self.old.bytes.disk }
@@ -632,6 +700,12 @@ impl<D: Disk, L: Location> Storage for FileStorage<D, L> {
 
     fn replace(&mut self, bytes: &[u8]) -> io::Result<()> {
         let ended = self.write(bytes);
+        self.place.cause().note(&ended);
+        ended
+    }
+
+    fn replace_where(&mut self, bytes: &[u8], changed: &[Span]) -> io::Result<()> {
+        let ended = self.write_where(bytes, changed);
         self.place.cause().note(&ended);
         ended
     }

@@ -37,3 +37,4 @@ pub mod Stayed
 pub mod Overwritten
 pub mod SlotsHeld
 pub mod CellsHeld
+pub mod Spanned

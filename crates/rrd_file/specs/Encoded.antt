@@ -30,6 +30,10 @@ cell_bytes content = spelled (map OfCell (all_cells content))
 abbrev pub journal_bytes : Stored → List ℕ
 journal_bytes d = spelled (flat_map entry_pieces d.journal)
 
+-- the bytes that stay in memory
+abbrev pub bytes_in : Encoded → List ℕ
+bytes_in e = e.bytes.items
+
 -- the bytes are the file of the database, and the offsets are those of its cells
 pub record Encodes (e : Encoded) (d : Stored) : Type 0 where
   pub bytes_are : e.bytes.items ≡ front_bytes d ++ (cell_bytes d.content ++ journal_bytes d)

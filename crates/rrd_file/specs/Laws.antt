@@ -12,6 +12,8 @@ use Rattle.rrd_spec.specs.Files.Rebuilding.{MayEntry}
 use Rattle.rrd_spec.specs.Journal.Survivors.{Stored, changed, reverted}
 use Rattle.rrd_spec.specs.declared.version.Version.{Version}
 use Rattle.rrd_spec.specs.Commands.Verdict.{verdict}
+use Rattle.rrd_file.specs.Encoded.{Encodes, bytes_in}
+use Rattle.rrd_file.specs.declared.encoded.Encoded.{Encoded}
 use Rattle.rrd_file.specs.declared.fault.FileFault.{FileFault}
 use Rattle.rrd_file.specs.declared.fault.FileFault.TheVariants.{NotOurs, Version as WrongVersion, Truncated, BadBlock, BadEntry, Trailing, Read, OutOfMemory}
 pub use Rattle.rrd_file.specs.Faults.{IsAnswer, IsFault, IsFile, IsOfFile, IsValidIn, IsValidStored}
@@ -50,6 +52,10 @@ EntriesHaveOneSpelling =
     (f : Filed) (x y : Entry) → MayEntry f x → MayEntry f y → entry_pieces x ≡ entry_pieces y → x ≡ y
 
 -- ---- databases
+
+-- the bytes that stay in memory for a database are its layout
+abbrev pub EncodedIsLayout : Encoded → Stored → Type 0
+EncodedIsLayout e d = Encodes e d → bytes_in e ≡ layout d
 
 -- an input has one result that depends on the input alone
 abbrev pub HasOneAnswer : List ℕ → Type 0

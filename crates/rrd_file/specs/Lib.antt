@@ -11,3 +11,4 @@ pub mod Said
 pub mod Progress
 pub mod Journal
 pub mod Length
+pub mod Spans

@@ -1,6 +1,6 @@
 //! The bytes of a file that stay in memory, and the few of them that an update changes.
-ghost use Rattle.std.specs.Prelude.{◌≡◌, ◌<◌, ◌≤◌, ◌++◌, IfSome, List, Some, length, map, slice_get, slice_range, ℕ};
-ghost use Rattle.std.specs.List.{AllByRecursion};
+ghost use Rattle.std.specs.Prelude.{◌≡◌, ◌+◌, ◌<◌, ◌≤◌, ◌++◌, ◌^◌, IfSome, List, OnOk, Some, length, map, slice_get, slice_index, slice_range, ℕ};
+ghost use Rattle.std.specs.List.{All, AllByRecursion};
 ghost use Rattle.rrd_fixed.specs.Written.{Writes};
 ghost use Rattle.rrd_spec.specs.Files.Slots.{cells_by_slot};
 ghost use Rattle.rrd_spec.specs.History.{Rra};
@@ -9,18 +9,19 @@ ghost use Rattle.rrd_spec.specs.Limits.{present};
 ghost use Rattle.rrd_file.specs.Encoded.{HoldsBeforeJournal, HoldsCells, HoldsRows, HoldsSlots, cell_bytes, front_bytes, journal_bytes, row_bytes};
 ghost use Rattle.rrd_file.specs.Layout.{spelled};
 ghost use Rattle.rrd_file.specs.Layout.Pieces.{OfCell};
+ghost use Rattle.rrd_file.specs.Spans.{IsBeside, IsWithin};
 
 use crate::cells::write_cells;
 use crate::journal::write_entries;
 use crate::layout::CELL_SIZE;
 use crate::writer::{PieceWriter, put_cells};
-use crate::{encoded_length, write_front};
+use crate::{Span, encoded_length, write_front};
 use rrd_base::{Database, database_is_valid};
 use rrd_fixed::WriteFault;
 use rrd_ring::Table;
 use rrd_spec::first_slot_row;
 use rrd_spec::laws::{rows_stand_in_slots, rows_stay_in_slots};
-use std::alloc::Global;
+use std::alloc::{AllocError, Global};
 use std::io::Write;
 
 /// The bytes of a database's file, which stay in memory from one change of the database to the next.
@@ -64,31 +65,47 @@ fn encode_journal<W: Write>(database: &Database, out: &mut W) -> Result<(), Writ
 }
 
 // Writes rows, from index `from` to before `to`, over as many rows of an earlier time. Those below index `kept` stay.
-fn put_rows<T: Table>(into: &mut [u8], rows: &T, sources: u64, from: u64, to: u64, kept: u64)
+// Returns how many bytes stay: those of these rows.
+fn put_rows<T: Table>(
+    into: &mut [u8],
+    rows: &T,
+    sources: u64,
+    from: u64,
+    to: u64,
+    kept: u64,
+) -> usize
     requires order { from ≤ to }
     requires there { to ≤ length (T.table rows.now) }
     requires few_rows { to ≤ present.max_rows }
     requires few_sources { sources ≤ present.max_sources }
     requires wide { AllByRecursion (HasOneEach sources) (T.table rows.now) }
     requires held { HoldsRows into.old (T.table rows.now) sources from to kept }
-    ensures { into.new ≡ row_bytes (slice_range (T.table rows.now) from to) }
+    ensures put { into.new ≡ row_bytes (slice_range (T.table rows.now) from to) }
+    ensures within { result ≤ length into.new }
+    ensures same { (k : ℕ) → k < result → slice_index into.new k ≡ slice_index into.old k }
 {
     let mut index = kept.max(from).min(to);
+    let stays = CELL_SIZE * ((index - from) * sources) as usize;
     while index < to {
         let (count, cells) = rows.together(index, to - index);
         let at = CELL_SIZE * ((index - from) * sources) as usize;
         put_cells(&mut into[at..at + CELL_SIZE * cells.len()], cells);
         index += count;
     }
+    stays
 }
 
-// Writes the rows of an archive that ended after `last` over those that it dropped since.
-fn put_slots(cells: &mut [u8], database: &Database, archive: u64, last: u64)
+// Writes the rows of an archive that ended after `last` over those that it dropped since. Returns where: at the end of the
+// slots up to the newest row, and of those after it.
+fn put_slots(cells: &mut [u8], database: &Database, archive: u64, last: u64) -> (Span, Span)
     requires archive_there { archive < length database.now.content.archives }
     requires held { (a : Rra) → slice_get database.now.content.archives archive ≡ Some a
         → HoldsSlots cells.old database.now.content last a }
-    ensures { (a : Rra) → slice_get database.now.content.archives archive ≡ Some a
+    ensures put { (a : Rra) → slice_get database.now.content.archives archive ≡ Some a
         → cells.new ≡ spelled (map OfCell (cells_by_slot database.now.content.step database.now.content.last a)) }
+    ensures newer { IsWithin (length cells.new) result.0 }
+    ensures older { IsWithin (length cells.new) result.1 }
+    ensures same { (k : ℕ) → IsBeside k result.0 → IsBeside k result.1 → slice_index cells.new k ≡ slice_index cells.old k }
 {
     rows_stand_in_slots();
     rows_stay_in_slots();
@@ -101,15 +118,35 @@ fn put_slots(cells: &mut [u8], database: &Database, archive: u64, last: u64)
     let kept = def.rows.saturating_sub(ended);
     let rows = database.rows(archive);
     let sources = database.sources();
-    let (newer, older) = cells.split_at_mut(CELL_SIZE * ((def.rows - first) * sources) as usize);
-    put_rows(newer, rows, sources, first, def.rows, kept);
-    put_rows(older, rows, sources, 0, first, kept);
+    let end = cells.len();
+    let middle = CELL_SIZE * ((def.rows - first) * sources) as usize;
+    let (newer, older) = cells.split_at_mut(middle);
+    let newer_stays = put_rows(newer, rows, sources, first, def.rows, kept);
+    let older_stays = put_rows(older, rows, sources, 0, first, kept);
+    let in_newer = Span {
+        start: newer_stays,
+        end: middle,
+    };
+    let in_older = Span {
+        start: middle + older_stays,
+        end,
+    };
+    (in_newer, in_older)
 }
 
-// Writes the rows of all archives that ended after `last` over those that the archives dropped since.
-fn put_all_slots(cells: &mut [u8], database: &Database, last: u64)
-    requires { HoldsCells cells.old database.now.content last }
-    ensures { cells.new ≡ cell_bytes database.now.content }
+// Writes the rows of all archives that ended after `last` over those that the archives dropped since. Adds where to
+// `changed`: `before` bytes come before the cells.
+fn put_all_slots(
+    cells: &mut [u8],
+    database: &Database,
+    last: u64,
+    before: usize,
+    changed: &mut Vec<Span>,
+) -> Result<(), AllocError>
+    requires held { HoldsCells cells.old database.now.content last }
+    requires fits { before + length cells.old < 2 ^ 64 }
+    ensures put { OnOk result (cells.new ≡ cell_bytes database.now.content) }
+    ensures same { OnOk result ((k : ℕ) → All (IsBeside (before + k)) changed.new.items → slice_index cells.new k ≡ slice_index cells.old k) }
 {
     rows_stand_in_slots();
     // The prover needs that numbers of rows are small.
@@ -118,23 +155,50 @@ fn put_all_slots(cells: &mut [u8], database: &Database, last: u64)
     for archive in 0..database.archives() {
         let count = database.archive(archive).rows * database.sources();
         let end = at + CELL_SIZE * count as usize;
-        put_slots(&mut cells[at..end], database, archive, last);
+        let (newer, older) = put_slots(&mut cells[at..end], database, archive, last);
+        changed.push(newer.later_by(before + at))?;
+        changed.push(older.later_by(before + at))?;
         at = end;
     }
+    Ok(())
 }
 
-// Writes the bytes before the journal over those of an earlier time.
-fn put_before_journal(bytes: &mut [u8], front: &[u8], database: &Database, last: u64)
+// Writes the bytes before the journal over those of an earlier time. Adds to `changed` where cells changed.
+fn put_before_journal(
+    bytes: &mut [u8],
+    front: &[u8],
+    database: &Database,
+    last: u64,
+    changed: &mut Vec<Span>,
+) -> Result<(), AllocError>
     requires { HoldsBeforeJournal bytes.old front.now database.now.content last }
-    ensures { bytes.new ≡ front.now ++ cell_bytes database.now.content }
+    ensures put { OnOk result (bytes.new ≡ front.now ++ cell_bytes database.now.content) }
+    ensures same { OnOk result ((k : ℕ) → length front.now ≤ k → All (IsBeside k) changed.new.items → slice_index bytes.new k ≡ slice_index bytes.old k) }
 {
     let (old_front, cells) = bytes.split_at_mut(front.len());
     old_front.copy_from_slice(front);
-    put_all_slots(cells, database, last);
+    put_all_slots(cells, database, last, front.len(), changed)
+}
+
+// Returns the number of spans that an update changes at most: two in each archive, what is before the cells, and the journal.
+fn most_spans(database: &Database) -> usize {
+    (database.archives() as usize)
+        .saturating_mul(2)
+        .saturating_add(2)
+}
+
+/// The bytes of a file after an update.
+#[derive(Drop)]
+pub struct Updated {
+    /// The bytes.
+    pub encoded: Encoded,
+    /// Where they may differ from the bytes before the update.
+    pub changed: Vec<Span>,
 }
 
 impl Encoded {
-    ghost use Rattle.rrd_file.specs.Encoded.{Encodes, Precedes};
+    ghost use Rattle.rrd_file.specs.Encoded.{Encodes, Precedes, bytes_in};
+    ghost use Rattle.rrd_file.specs.Spans.{AgreesOutside};
     ghost use Rattle.rrd_file.specs.Layout.{layout};
     ghost use Rattle.rrd_spec.specs.Journal.Survivors.{Stored};
 
@@ -156,13 +220,14 @@ impl Encoded {
         })
     }
 
-    /// Changes the bytes to those of `database`, which is the database after an update.
+    /// Changes the bytes to those of `database`, which is the database after an update, and tells where.
     ///
     /// Writes the cells of the rows that ended since, so the work does not grow with the rows that stay. Returns `None`
     /// if memory runs out.
-    pub fn updated(self, alloc: Global, database: &Database) -> Option<Encoded>
+    pub fn updated(self, alloc: Global, database: &Database) -> Option<Updated>
         requires { Precedes self database.now }
-        ensures { IfSome result (λ encoded. Encodes encoded database.now) }
+        ensures encodes { IfSome result (λ updated. Encodes updated.encoded database.now) }
+        ensures agrees { IfSome result (λ updated. AgreesOutside updated.changed.items (bytes_in self) (bytes_in updated.encoded)) }
     {
         let Encoded {
             mut bytes,
@@ -175,20 +240,25 @@ impl Encoded {
         if front.len() != cells_at {
             return None;
         }
+        let mut changed = Vec::with_capacity(alloc, most_spans(database)).ok()?;
         bytes.truncate(cells_end);
-        put_before_journal(&mut bytes, &front, database, last);
+        put_before_journal(&mut bytes, &front, database, last, &mut changed).ok()?;
         encode_journal(database, &mut bytes).ok()?;
-        Some(Encoded {
+        changed.push(Span { start: 0, end: cells_at }).ok()?;
+        changed.push(Span { start: cells_end, end: bytes.len() }).ok()?;
+        let encoded = Encoded {
             bytes,
             cells_at,
             cells_end,
             last: database.last(),
-        })
+        };
+        Some(Updated { encoded, changed })
     }
 
     /// Returns the bytes.
     pub fn as_slice(&self) -> &[u8]
-        ensures { (d : Stored) → Encodes self.now d → result.now ≡ layout d }
+        ensures bytes { result.now ≡ bytes_in self.now }
+        ensures layout { (d : Stored) → Encodes self.now d → result.now ≡ layout d }
     {
         &self.bytes
     }

@@ -3,6 +3,7 @@ ghost use Rattle.std.specs.Prelude.{ℕ, List};
 ghost use Rattle.rrd_spec.specs.Commands.{DatabaseChange};
 ghost use Rattle.rrd_spec.specs.Journal.Survivors.{Stored};
 ghost use Rattle.rrd_spec.specs.declared.version.Version.{Version};
+ghost use Rattle.rrd_file.specs.declared.encoded.Encoded.{Encoded};
 ghost use Rattle.rrd_file.specs.declared.fault.FileFault.{FileFault};
 ghost use Rattle.rrd_file.specs.Laws as laws;
 ghost use Rattle.rrd_file.specs.Examples as worked;
@@ -41,6 +42,11 @@ pub fn one_value()
 /// Theorem: the file of a database is its layout.
 pub fn file_is_layout()
     ensures { (bytes : List ℕ) (d : Stored) → laws.FileIsLayout bytes d }
+{}
+
+/// Theorem: the bytes that stay in memory for a database are its layout.
+pub fn encoded_is_layout()
+    ensures { (encoded : Encoded) (d : Stored) → laws.EncodedIsLayout encoded d }
 {}
 
 /// Theorem: an input has one result, except for failures of the reader and of memory.

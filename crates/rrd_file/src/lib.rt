@@ -38,12 +38,14 @@ mod layout;
 mod length;
 mod reader;
 mod source;
+mod span;
 mod values;
 mod writer;
 
-pub use encoded::Encoded;
+pub use encoded::{Encoded, Updated};
 pub use fault::FileFault;
 pub use length::encoded_length;
+pub use span::Span;
 
 // Writes the pieces before the cells.
 fn write_front<W: Write>(

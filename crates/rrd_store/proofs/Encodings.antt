@@ -1,5 +1,8 @@
 -- The bytes of a file that stay in memory are those of the database before a command.
-use Rattle.std.proofs.Common.{◌≡◌, ◌∙◌, ℕ, Bool, true, false, List, Option, Some, None, IfSome, Result, Ok, Err, option_map, refl, sym, subst}
+use Rattle.std.proofs.Common.{◌≡◌, ◌∙◌, ◌⊎◌, ◌<◌, ◌≤◌, ℕ, Bool, true, false, List, [], ◌∷◌, Option, Some, None, IfSome, Result, Ok, Err, Bor, option_map, length, refl, sym, ap, subst, inl, inr, arith}
+use Rattle.std.specs.List.{All}
+use Rattle.std.specs.Option.{option_copied}
+use Rattle.std.proofs.lemmas.List.Elements.{All-head}
 use Rattle.rrd_spec.specs.Commands.{Updating}
 use Rattle.rrd_spec.specs.Commands.Verdict.{verdict}
 use Rattle.rrd_spec.specs.Journal.Survivors.{Stored, changed}
@@ -7,23 +10,31 @@ use Rattle.rrd_spec.specs.Laws.Updates.{UpdateIsLater}
 use Rattle.rrd_spec.specs.History.{Content}
 use Rattle.rrd_spec.specs.declared.refusal.Refusal.{Refusal}
 use Rattle.rrd_spec.specs.declared.requests.update.Update.{Update}
-use Rattle.rrd_file.specs.Encoded.{Encodes, Precedes}
-use Rattle.rrd_file.specs.Faults.{IsValidStored}
+use Rattle.rrd_file.specs.Encoded.{Encodes, Precedes, bytes_in}
+use Rattle.rrd_file.specs.Faults.{IsFile, IsValidStored}
+use Rattle.rrd_file.specs.Laws.{EncodedIsLayout}
+use Rattle.rrd_file.specs.Layout.{layout}
+use Rattle.rrd_file.specs.Spans.{AgreesOutside, IsBeside}
 use Rattle.rrd_file.specs.declared.encoded.Encoded.{Encoded}
+use Rattle.rrd_file.specs.declared.span.Span.{Span}
 use Rattle.rrd_tool.specs.Commands.{effect}
 use Rattle.rrd_tool.specs.Effects.{Effect, Changes, stored_next, text_on, verdict_on}
 use Rattle.rrd_tool.specs.Execution.{Comes, Executes, database_left, fault_left, has_changed}
 use Rattle.rrd_tool.specs.declared.commands.Command.{Command}
 use Rattle.rrd_tool.specs.declared.execution.Outcome.{Outcome}
+use Rattle.rrd_tool.specs.declared.execution.Outcome.TheVariants.{Printed, Changed, Refused as WasRefused}
 use Rattle.rrd_tool.specs.declared.faults.Fault.{Fault}
 use Rattle.rrd_tool.specs.declared.faults.Fault.TheVariants.{Line, NoDatabase, Output, Refused}
-use Rattle.rrd_store.specs.Encoding.{AreOf, IsBefore, IsOf, IsUpdate}
-use Rattle.rrd_store.specs.Sessions.{first_there, kept_by}
+use Rattle.rrd_store.specs.Encoding.{AreOf, IsBefore, IsOf, IsUpdate, encoded_by, encoded_in}
+use Rattle.rrd_store.specs.Sessions.{HasBytes, first_there, kept_by}
+use Rattle.rrd_store.specs.Single.{Ends}
+use Rattle.rrd_store.specs.Storages.{Becomes, Bytes, DiffersWithin, Held, IsAnyFile, Leaves, Missing, Stays}
+use Rattle.rrd_store.specs.declared.encoding.Encoding.{Encoding}
 use Rattle.rrd_store.specs.declared.encoding.Reach.{Reach}
 use Rattle.rrd_store.specs.declared.encoding.Reach.TheVariants.{NewestRows}
 use Rattle.rrd_store.specs.declared.faults.TaskFault.{TaskFault}
 use Rattle.rrd_store.specs.declared.faults.TaskFault.TheVariants as task
-use Rattle.rrd_store.proofs.Sessions.{executes_same}
+use Rattle.rrd_store.proofs.Sessions.{executes_same, stays_same}
 
 some_same : {A : Type 0} (x y : A) → Some x ≡ Some y → x ≡ y
 some_same x y e = cc
@@ -96,3 +107,109 @@ pub taken_is : (encoded taken : Option Encoded) (database : Option Stored) (d : 
 taken_is None taken database d same is of = subst (λ (o : Option Encoded). IfSome o (λ e. IsOf e database)) (sym same) tt
 taken_is (Some x) taken database d same is of =
     subst (λ (o : Option Encoded). IfSome o (λ e. IsOf e database)) (sym same) (record { here = d; is = is; encodes = of x d refl is })
+
+-- the same are the file of a database
+pub taken_file : (encoded taken : Option Encoded) (database : Option Stored) (d : Stored) → taken ≡ encoded → database ≡ Some d → AreOf encoded database
+    → IsFile (layout d) d → ((e : Encoded) (k : Stored) → EncodedIsLayout e k) → IfSome taken (λ e. IsAnyFile (bytes_in e))
+taken_file None taken database d same is of file law = subst (λ (o : Option Encoded). IfSome o (λ e. IsAnyFile (bytes_in e))) (sym same) tt
+taken_file (Some x) taken database d same is of file law =
+    subst (λ (o : Option Encoded). IfSome o (λ e. IsAnyFile (bytes_in e))) (sym same)
+    (d, subst (λ (bytes : List ℕ). IsFile bytes d) (sym (law x d (of x d refl is))) file)
+
+-- ---- the bytes that the storage represents
+
+pub has_none : (held : Option Held) → HasBytes held None
+has_none None = tt
+has_none (Some held) = tt
+
+-- what the storage represents differs from the new bytes within the spans
+pub may_differ : (held : Option Held) (before : Encoded) (spans : List Span) (bytes : List ℕ)
+    → HasBytes held (Some before) → IsAnyFile (bytes_in before) → AgreesOutside spans (bytes_in before) bytes → DiffersWithin spans held bytes
+may_differ None before spans bytes has file agrees = tt
+may_differ (Some Missing) before spans bytes has file agrees = absurd cc
+may_differ (Some (Bytes old)) before spans bytes has file agrees =
+    let same : bytes_in before ≡ old = cc in
+    (subst IsAnyFile same file, subst (λ (l : List ℕ). AgreesOutside spans l bytes) same agrees)
+
+no_byte : (k end count : ℕ) → k < count → count ≤ end → (k < 0) ⊎ (end ≤ k) → ⊥
+no_byte k end count inside all (inl low) = omega arith
+no_byte k end count inside all (inr past) = omega arith
+
+-- any bytes differ within the span of all
+pub all_differ : (spans : List Span) (all : Span) (old bytes : List ℕ) → spans ≡ all ∷ [] → all.start ≡ 0 → length bytes ≤ all.end → AgreesOutside spans old bytes
+all_differ spans all old bytes spans_are starts ends = record {
+  each = λ k inside beside.
+      let is : IsBeside k all = All-head (IsBeside k) all [] (subst (All (IsBeside k)) spans_are beside) in
+      absurd (no_byte k all.end (length bytes) inside ends (subst (λ (n : ℕ). (k < n) ⊎ (all.end ≤ k)) starts is));
+}
+
+-- the same of bytes that there may be
+pub may_lent : (encoding : Option Encoding) (lent : Option (Bor Encoding)) (P : Encoding → Type 0) → option_copied lent ≡ encoding → IfSome encoding P → IfSome lent (λ e. P e.now)
+may_lent encoding None P same may = tt
+may_lent encoding (Some e) P same may = subst (λ (o : Option Encoding). IfSome o P) (sym same) may
+
+-- ---- after a command
+
+kept_if : (new : Option Held) (encoding : Option Encoding) (end : Result (Unit {0}) TaskFault) → HasBytes new (encoded_in encoding) → HasBytes new (encoded_by encoding end)
+kept_if new encoding (Ok x) has = has
+kept_if new encoding (Err task.CannotWrite) has = has_none new
+kept_if new encoding (Err task.CannotOpen) has = has
+kept_if new encoding (Err (task.Command fault)) has = has
+kept_if new encoding (Err (task.Stream fault)) has = has
+kept_if new encoding (Err (task.File fault)) has = has
+
+module _ (mid new : Option Held) (unknown : mid ≡ None → new ≡ None) where
+  stayed : (encoding : Option Encoding) (before : Option Encoded) (end : Result (Unit {0}) TaskFault) → Stays mid new → HasBytes mid before → encoded_in encoding ≡ before
+      → HasBytes new (encoded_by encoding end)
+  stayed encoding before end stays has same =
+      kept_if new encoding end (subst (λ (held : Option Held). HasBytes held (encoded_in encoding)) (sym (stays_same mid new unknown stays)) (subst (HasBytes mid) (sym same) has))
+
+  became : (old : Option Held) (e : Encoded) (d : Stored) → mid ≡ old → Becomes old new (layout d) → bytes_in e ≡ layout d → HasBytes new (Some e)
+  became None e d is becomes same = subst (λ (held : Option Held). HasBytes held (Some e)) (sym (unknown is)) tt
+  became (Some old) e d is becomes same = subst (λ (held : Option Held). HasBytes held (Some e)) (sym becomes) (ap (λ (l : List ℕ). Bytes l) (sym same))
+
+  wrote : (encoding : Option Encoding) (d : Stored) → Becomes mid new (layout d) → IfSome encoding (λ e. IsOf e.encoded (Some d)) → ((e : Encoded) (d : Stored) → EncodedIsLayout e d) → HasBytes new (encoded_in encoding)
+  wrote None d becomes of law = has_none new
+  wrote (Some e) d becomes of law =
+      let same : of.here ≡ d = some_same of.here d (sym of.is) in
+      became mid e.encoded d refl becomes (law e.encoded d (subst (Encodes e.encoded) same of.encodes))
+
+  changed_bytes : (encoding : Option Encoding) (d : Stored) (end : Result (Unit {0}) TaskFault) → Leaves (Some d) mid new end → IfSome encoding (λ e. IsOf e.encoded (Some d)) → ((e : Encoded) (d : Stored) → EncodedIsLayout e d)
+      → HasBytes new (encoded_by encoding end)
+  changed_bytes encoding d (Ok x) left of law = wrote encoding d left of law
+  changed_bytes encoding d (Err task.CannotWrite) left of law = has_none new
+  changed_bytes encoding d (Err task.CannotOpen) left of law = absurd left
+  changed_bytes encoding d (Err (task.Command fault)) left of law = absurd left
+  changed_bytes encoding d (Err (task.Stream fault)) left of law = absurd left
+  changed_bytes encoding d (Err (task.File fault)) left of law = absurd left
+
+  printed : (d : Stored) (text : List ℕ) (end : Result (Unit {0}) TaskFault) → Ends (Printed d) text mid new end → Stays mid new
+  printed d text (Ok x) ends = ends
+  printed d text (Err fault) ends = ends.2
+
+  pub kept_bytes : (encoding : Option Encoding) (before : Option Encoded) (outcome : Outcome) (text : List ℕ) (end : Result (Unit {0}) TaskFault) → Ends outcome text mid new end → HasBytes mid before
+      → (has_changed outcome ≡ false → encoded_in encoding ≡ before) → IfSome encoding (λ e. IsOf e.encoded (database_left outcome)) → ((e : Encoded) (d : Stored) → EncodedIsLayout e d)
+      → HasBytes new (encoded_by encoding end)
+  kept_bytes encoding before (Printed d) text end ends has same of law = stayed encoding before end (printed d text end ends) has (same refl)
+  kept_bytes encoding before (Changed d) text end ends has same of law = changed_bytes encoding d end ends of law
+  kept_bytes encoding before (WasRefused database fault) text end ends has same of law = stayed encoding before end ends.1 has (same refl)
+
+-- ---- the bytes that stay in memory are those of the database that stays
+
+of_in : (encoding : Option Encoding) (P : Encoded → Type 0) → IfSome encoding (λ e. P e.encoded) → IfSome (encoded_in encoding) P
+of_in None P of = tt
+of_in (Some e) P of = of
+
+of_by : (encoding : Option Encoding) (end : Result (Unit {0}) TaskFault) (P : Encoded → Type 0) → IfSome encoding (λ e. P e.encoded) → IfSome (encoded_by encoding end) P
+of_by encoding (Ok x) P of = of_in encoding P of
+of_by encoding (Err task.CannotWrite) P of = tt
+of_by encoding (Err task.CannotOpen) P of = of_in encoding P of
+of_by encoding (Err (task.Command fault)) P of = of_in encoding P of
+of_by encoding (Err (task.Stream fault)) P of = of_in encoding P of
+of_by encoding (Err (task.File fault)) P of = of_in encoding P of
+
+pub both_kept : (other : Option Stored) (outcome : Outcome) (end : Result (Unit {0}) TaskFault) (encoding : Option Encoding) (encoded : Option Encoded) (kept : Option Stored)
+    → IfSome encoding (λ e. IsOf e.encoded (database_left outcome)) → encoded ≡ encoded_by encoding end → kept ≡ kept_by other outcome end → AreOf encoded kept
+both_kept other outcome end encoding encoded kept of encoded_is kept_is =
+    kept_are other outcome end encoded kept
+    (subst (λ (o : Option Encoded). IfSome o (λ e. IsOf e (database_left outcome))) (sym encoded_is) (of_by encoding end (λ e. IsOf e (database_left outcome)) of)) kept_is

@@ -21,7 +21,7 @@ use Rattle.rrd_store.specs.declared.faults.TaskFault.{TaskFault}
 use Rattle.rrd_store.specs.declared.faults.TaskFault.TheVariants as task
 
 -- what was known is as it was, and what was not known is not known
-stays_same : (old new : Option Held) → (old ≡ None → new ≡ None) → Stays old new → new ≡ old
+pub stays_same : (old new : Option Held) → (old ≡ None → new ≡ None) → Stays old new → new ≡ old
 stays_same None new unknown stays = unknown refl
 stays_same (Some old) None unknown stays = absurd stays
 stays_same (Some old) (Some new) unknown stays = rw stays refl

@@ -1,6 +1,6 @@
 -- Glue: the bytes of a file that stay in memory beside the database.
-use Rattle.std.specs.Prelude.{◌≡◌, Option, Some, false, true}
-use Rattle.rrd_file.specs.Encoded.{Encodes, Precedes}
+use Rattle.std.specs.Prelude.{◌≡◌, ℕ, List, Option, Some, None, Result, Ok, Err, option_map, false, true, ⊤}
+use Rattle.rrd_file.specs.Encoded.{Encodes, Precedes, bytes_in}
 use Rattle.rrd_file.specs.declared.encoded.Encoded.{Encoded}
 use Rattle.rrd_spec.specs.Journal.Survivors.{Stored}
 use Rattle.rrd_spec.specs.Commands.{Updating}
@@ -8,8 +8,14 @@ use Rattle.rrd_spec.specs.declared.requests.update.Update.{Update}
 use Rattle.rrd_tool.specs.Effects.{Effect, Changes}
 use Rattle.rrd_tool.specs.Execution.{database_left, has_changed}
 use Rattle.rrd_tool.specs.declared.execution.Outcome.{Outcome}
+use Rattle.rrd_store.specs.Storages.{DiffersWithin, Held}
+use Rattle.rrd_store.specs.declared.encoding.Changed.{Changed}
+use Rattle.rrd_store.specs.declared.encoding.Changed.TheVariants.{Anywhere, Within}
+use Rattle.rrd_store.specs.declared.encoding.Encoding.{Encoding}
 use Rattle.rrd_store.specs.declared.encoding.Reach.{Reach}
 use Rattle.rrd_store.specs.declared.encoding.Reach.TheVariants.{NewestRows}
+use Rattle.rrd_store.specs.declared.faults.TaskFault.{TaskFault}
+use Rattle.rrd_store.specs.declared.faults.TaskFault.TheVariants as task
 
 abbrev pub IsUpdate : Effect → Type 0
 IsUpdate effect = (update : Update) × (effect ≡ Changes (Updating update))
@@ -31,3 +37,23 @@ pub record IsBefore (e : Encoded) (reach : Reach) (outcome : Outcome) : Type 0 w
   pub updated :
       reach ≡ NewestRows → has_changed outcome ≡ true → (now : Stored) → database_left outcome ≡ Some now
       → Precedes e now
+
+-- the bytes may be written over these contents, where they say that they differ
+abbrev pub DiffersBy : Changed → Option Held → List ℕ → Type 0
+DiffersBy Anywhere held bytes = ⊤
+DiffersBy (Within spans) held bytes = DiffersWithin spans.items held bytes
+
+abbrev pub MayReplace : Option Held → Encoding → Type 0
+MayReplace held e = DiffersBy e.changed held (bytes_in e.encoded)
+
+abbrev pub encoded_in : Option Encoding → Option Encoded
+encoded_in encoding = option_map (λ (e : Encoding). e.encoded) encoding
+
+-- the bytes that stay in memory after a command: none, if the storage could not be written
+abbrev pub encoded_by : Option Encoding → Result (Unit {0}) TaskFault → Option Encoded
+encoded_by encoding (Ok x) = encoded_in encoding
+encoded_by encoding (Err task.CannotWrite) = None
+encoded_by encoding (Err task.CannotOpen) = encoded_in encoding
+encoded_by encoding (Err (task.Command fault)) = encoded_in encoding
+encoded_by encoding (Err (task.Stream fault)) = encoded_in encoding
+encoded_by encoding (Err (task.File fault)) = encoded_in encoding

@@ -1,5 +1,7 @@
 -- Definition: runs on a database that stays in memory, beside the storage that it was read from or written to.
 use Rattle.std.specs.Prelude.{◌≡◌, ℕ, List, Option, Some, None, Result, Ok, Err, ⊤}
+use Rattle.rrd_file.specs.Encoded.{bytes_in}
+use Rattle.rrd_file.specs.declared.encoded.Encoded.{Encoded}
 use Rattle.rrd_spec.specs.Journal.Survivors.{Stored}
 use Rattle.rrd_tool.specs.Commands.{effect}
 use Rattle.rrd_tool.specs.Commands.Reading.{IsReading}
@@ -11,7 +13,7 @@ use Rattle.rrd_tool.specs.declared.faults.Fault.TheVariants.{Line}
 use Rattle.rrd_tool.specs.declared.faults.LineFault.{LineFault}
 use Rattle.rrd_store.specs.Batch.{RunsLines}
 use Rattle.rrd_store.specs.Single.{Ends, Stops}
-use Rattle.rrd_store.specs.Storages.{Held, Reads}
+use Rattle.rrd_store.specs.Storages.{Bytes, Held, Reads}
 use Rattle.rrd_store.specs.declared.batch.FileBatchEnd.{FileBatchEnd}
 use Rattle.rrd_store.specs.declared.faults.TaskFault.{TaskFault}
 use Rattle.rrd_store.specs.declared.faults.TaskFault.TheVariants as task
@@ -20,6 +22,17 @@ use Rattle.rrd_store.specs.declared.faults.TaskFault.TheVariants as task
 abbrev pub IsRead : Option Held → Option Stored → Type 0
 IsRead held None = ⊤
 IsRead held (Some database) = Reads held (Ok database)
+
+-- the storage represents the bytes in memory, if there are any
+abbrev pub HasBytes : Option Held → Option Encoded → Type 0
+HasBytes None encoded = ⊤
+HasBytes (Some held) None = ⊤
+HasBytes (Some held) (Some e) = held ≡ Bytes (bytes_in e)
+
+-- what is in memory is what the storage represents: reading it gives the database, and it has the bytes
+pub record IsInMemory (held : Option Held) (database : Option Stored) (encoded : Option Encoded) : Type 0 where
+  pub read : IsRead held database
+  pub bytes : HasBytes held encoded
 
 -- ---- one command on the database in memory
 

@@ -3,7 +3,9 @@ use Rattle.std.specs.Prelude.{◌≡◌, ◌⊎◌, ℕ, List, Option, Some, Non
 use Rattle.rrd_file.specs.Faults.{IsAnswer, IsFile}
 use Rattle.rrd_file.specs.Laws.{IsValidStored}
 use Rattle.rrd_file.specs.Layout.{layout}
+use Rattle.rrd_file.specs.Spans.{AgreesOutside}
 use Rattle.rrd_file.specs.declared.fault.FileFault.{FileFault}
+use Rattle.rrd_file.specs.declared.span.Span.{Span}
 use Rattle.rrd_spec.specs.Journal.Survivors.{Stored}
 use Rattle.rrd_store.specs.declared.faults.TaskFault.{TaskFault}
 use Rattle.rrd_store.specs.declared.faults.TaskFault.TheVariants.{Command, Stream, File, CannotOpen, CannotWrite}
@@ -49,6 +51,12 @@ IsSpoilt (Some old) new = HasNone old × (bytes : List ℕ) × (new ≡ Some (By
 -- database, bytes that are not a database
 abbrev pub IsAfterFailure : Option Held → Option Held → List ℕ → Type 0
 IsAfterFailure old new bytes = Stays old new ⊎ (Becomes old new bytes ⊎ IsSpoilt old new)
+
+-- the contents, if they are known, are the file of a database, which differs from these bytes within the spans alone
+abbrev pub DiffersWithin : List Span → Option Held → List ℕ → Type 0
+DiffersWithin changed None bytes = ⊤
+DiffersWithin changed (Some Missing) bytes = ⊥
+DiffersWithin changed (Some (Bytes old)) bytes = IsAnyFile old × AgreesOutside changed old bytes
 
 -- ---- the result of reading
 

@@ -1,13 +1,19 @@
 //! The bytes of a file that stay in memory beside the database.
-ghost use Rattle.std.specs.Prelude.{◌≡◌, IfSome};
+ghost use Rattle.std.specs.Prelude.{◌≡◌, IfSome, IsTrue, Option, Some, None, false, length, vec_len};
+ghost use Rattle.rrd_file.specs.Encoded.{Encodes, Precedes, bytes_in};
 ghost use Rattle.rrd_file.specs.Laws.{IsValidStored};
+ghost use Rattle.rrd_file.specs.Spans.{AgreesOutside};
 ghost use Rattle.rrd_tool.specs.Commands.{effect};
-ghost use Rattle.rrd_tool.specs.Execution.{database_left};
-ghost use Rattle.rrd_store.specs.Encoding.{AreOf, IsBefore, IsOf, IsUpdate};
+ghost use Rattle.rrd_tool.specs.Execution.{database_left, has_changed};
+ghost use Rattle.rrd_store.specs.Encoding.{AreOf, IsBefore, IsOf, IsUpdate, DiffersBy, MayReplace, encoded_by, encoded_in};
+ghost use Rattle.rrd_store.specs.Sessions.{HasBytes};
+ghost use Rattle.rrd_store.specs.Storages.{Held, IsAnyFile};
 ghost use Rattle.rrd_store.specs.declared.encoding.Reach.TheVariants.{NewestRows as OfNewestRows};
 
+use crate::TaskFault;
 use rrd_base::{Database, database_is_valid};
-use rrd_file::Encoded;
+use rrd_file::laws::{encoded_is_layout, layout_is_file};
+use rrd_file::{Encoded, Span, Updated};
 use rrd_tool::{Command, Outcome};
 use std::alloc::Global;
 
@@ -18,6 +24,22 @@ pub(crate) enum Reach {
     NewestRows,
     /// Any rows.
     AllRows,
+}
+
+/// Where the bytes of a file after a command may differ from those before it.
+#[derive(Drop)]
+pub(crate) enum Changed {
+    /// Anywhere: the bytes before it are not known.
+    Anywhere,
+    /// In these spans alone.
+    Within(Vec<Span>),
+}
+
+/// The bytes of a file after a command.
+#[derive(Drop)]
+pub(crate) struct Encoding {
+    pub(crate) encoded: Encoded,
+    pub(crate) changed: Changed,
 }
 
 /// Returns how much of a file a command may change.
@@ -46,12 +68,72 @@ pub(crate) fn take_encoded(
     requires { AreOf encoded.old database.now }
     ensures encoded { IfSome result (λ e. IsOf e database.now) }
     ensures valid { IfSome database.now IsValidStored }
+    ensures file { IfSome result (λ e. IsAnyFile (bytes_in e)) }
+    ensures bytes { (held : Option Held) → HasBytes held encoded.old → HasBytes held result }
 {
+    encoded_is_layout();
+    layout_is_file();
     match database {
         Some(database) => {
             database_is_valid(database);
             encoded.take()
         }
+        None => None,
+    }
+}
+
+// Encodes a database after an update, whose bytes before it are `before`.
+#[tactic(auto, using(crate::proofs::Encodings::may_differ))]
+fn encode_update(alloc: Global, before: Encoded, database: &Database) -> Option<Encoding>
+    requires { Precedes before database.now }
+    ensures of { IfSome result (λ e. Encodes e.encoded database.now) }
+    ensures may { (held : Option Held) → HasBytes held (Some before) → IsAnyFile (bytes_in before) → IfSome result (MayReplace held) }
+{
+    let Updated { encoded, changed } = before.updated(alloc, database)?;
+    Some(Encoding {
+        encoded,
+        changed: Changed::Within(changed),
+    })
+}
+
+// Returns the span of all bytes, if the bytes before a command are known.
+fn whole(alloc: Global, encoded: &Encoded, before: &Option<Encoded>) -> Option<Changed>
+    ensures { (held : Option Held) → HasBytes held before.now → IfSome before.now (λ b. IsAnyFile (bytes_in b))
+        → IfSome result (λ changed. DiffersBy changed held (bytes_in encoded.now)) }
+{
+    if before.is_none() {
+        return Some(Changed::Anywhere);
+    }
+    let mut changed = Vec::new(alloc);
+    let all = Span {
+        start: 0,
+        end: encoded.as_slice().len(),
+    };
+    changed.push(all).ok()?;
+    Some(Changed::Within(changed))
+}
+
+// Encodes a database after a command that may have changed all of its rows. `before` are the bytes before it, if they are
+// known.
+fn encode_all(alloc: Global, before: Option<Encoded>, database: &Database) -> Option<Encoding>
+    ensures of { IfSome result (λ e. Encodes e.encoded database.now) }
+    ensures may { (held : Option Held) → HasBytes held before → IfSome before (λ b. IsAnyFile (bytes_in b)) → IfSome result (MayReplace held) }
+{
+    let encoded = Encoded::new(alloc, database)?;
+    let changed = whole(alloc, &encoded, &before)?;
+    Some(Encoding { encoded, changed })
+}
+
+// Returns bytes that a command did not change.
+fn unchanged(before: Option<Encoded>) -> Option<Encoding>
+    ensures same { encoded_in result ≡ before }
+    ensures may { (held : Option Held) → IfSome result (MayReplace held) }
+{
+    match before {
+        Some(encoded) => Some(Encoding {
+            encoded,
+            changed: Changed::Anywhere,
+        }),
         None => None,
     }
 }
@@ -63,15 +145,34 @@ pub(crate) fn encoded_after(
     before: Option<Encoded>,
     reach: Reach,
     outcome: &Outcome,
-) -> Option<Encoded>
+) -> Option<Encoding>
     requires { IfSome before (λ e. IsBefore e reach outcome.now) }
-    ensures { IfSome result (λ e. IsOf e (database_left outcome.now)) }
+    ensures of { IfSome result (λ e. IsOf e.encoded (database_left outcome.now)) }
+    ensures same { has_changed outcome.now ≡ false → encoded_in result ≡ before }
+    ensures may { (held : Option Held) → HasBytes held before → IfSome before (λ b. IsAnyFile (bytes_in b)) → IfSome result (MayReplace held) }
 {
     match outcome {
-        Outcome::Printed(_) | Outcome::Refused { .. } => before,
+        Outcome::Printed(_) | Outcome::Refused { .. } => unchanged(before),
         Outcome::Changed(database) => match (before, reach) {
-            (Some(before), Reach::NewestRows) => before.updated(alloc, database),
-            _ => Encoded::new(alloc, database),
+            (Some(before), Reach::NewestRows) => encode_update(alloc, before, database),
+            (before, _) => encode_all(alloc, before, database),
         },
+    }
+}
+
+/// Returns the bytes that stay in memory after a command: none, if the storage could not be written, since nobody knows
+/// what it has.
+pub(crate) fn encoded_kept(
+    encoding: Option<Encoding>,
+    end: Result<(), TaskFault>,
+) -> Option<Encoded>
+    ensures { result ≡ encoded_by encoding end }
+{
+    if let Err(TaskFault::CannotWrite) = end {
+        return None;
+    }
+    match encoding {
+        Some(encoding) => Some(encoding.encoded),
+        None => None,
     }
 }

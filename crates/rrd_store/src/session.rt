@@ -7,18 +7,18 @@ ghost use Rattle.rrd_tool.specs.Execution.{database_left};
 ghost use Rattle.rrd_store.specs.Batch.{IsFileBatch};
 ghost use Rattle.rrd_store.specs.Encoding.{AreOf};
 ghost use Rattle.rrd_store.specs.Runs.{ByBatch, ByCommand, ByRequest, IsComputed};
-ghost use Rattle.rrd_store.specs.Sessions.{IsFileBatchOn, IsRead, IsSingleOn, RunsOn, beside, kept_by, started};
+ghost use Rattle.rrd_store.specs.Sessions.{HasBytes, IsFileBatchOn, IsInMemory, IsRead, IsSingleOn, RunsOn, beside, kept_by, started};
 ghost use Rattle.rrd_store.specs.Single.{FindsOne, IsSingle, RunsAs, StartsFrom};
 ghost use Rattle.rrd_store.specs.Storages.{Finds, Held};
 
 use crate::batch::run_on;
-use crate::encoding::{encoded_after, reach_of, take_encoded};
+use crate::encoding::{encoded_after, encoded_kept, reach_of, take_encoded};
 use crate::laws::storage_runs_follow_specification;
 use crate::single::finish;
 use crate::{Access, FileBatchEnd, Gate, Storage, TaskFault};
 use rrd_base::{Database, database_is_valid};
 use rrd_file::Encoded;
-use rrd_file::laws::layout_is_file;
+use rrd_file::laws::{encoded_is_layout, layout_is_file};
 use rrd_spec::laws::updates_keep_newest_rows;
 use rrd_tool::{Command, Outcome, Words, execute, read_command};
 use std::alloc::Global;
@@ -34,7 +34,7 @@ pub struct Session<P> {
     storage: P,
     // The database that was read from the storage last, or written to the storage last.
     database: Option<Database>,
-    // The bytes of this database's file, once a command has written it.
+    // The bytes of this database's file, once a command has written it: the storage represents these bytes.
     encoded: Option<Encoded>,
     is_written: bool,
     ghost encoded_is: { AreOf encoded database },
@@ -86,6 +86,7 @@ impl<P: Storage + Drop> Session<P> {
     pub fn new(storage: P) -> Session<P>
         ensures storage { result.storage ≡ storage }
         ensures database { result.database ≡ None }
+        ensures encoded { result.encoded ≡ None }
     {
         Session {
             storage,
@@ -148,6 +149,9 @@ impl<P: Storage + Drop> Session<P> {
             → Finds (P.contents s self.old.storage) result }
         ensures taken { self.new.database ≡ None }
         ensures same { (d : Stored) → self.old.database ≡ Some d → result ≡ Ok (Some d) }
+        ensures bytes { (s : Option Held) → P.is_honest s self.new.storage → P.is_sound s self.old.storage
+            → HasBytes (P.contents s self.old.storage) self.old.encoded
+            → HasBytes (P.contents s self.new.storage) self.new.encoded }
         ensures encoded { IfOk result (λ found. AreOf self.new.encoded found) }
     {
         self.is_written = false;
@@ -173,6 +177,9 @@ impl<P: Storage + Drop> Session<P> {
         ensures some { IfOk result (λ found. IsSome found) }
         ensures taken { self.new.database ≡ None }
         ensures same { (d : Stored) → self.old.database ≡ Some d → result ≡ Ok (Some d) }
+        ensures bytes { (s : Option Held) → P.is_honest s self.new.storage → P.is_sound s self.old.storage
+            → HasBytes (P.contents s self.old.storage) self.old.encoded
+            → HasBytes (P.contents s self.new.storage) self.new.encoded }
         ensures encoded { IfOk result (λ found. AreOf self.new.encoded found) }
     {
         match self.take(alloc)? {
@@ -192,9 +199,9 @@ impl<P: Storage + Drop> Session<P> {
             → P.is_sound s self.new.storage }
         ensures stays { (s : Option Held) → P.is_honest s self.new.storage → P.is_sound s self.old.storage
             → P.contents s self.new.storage ≡ P.contents s self.old.storage }
-        ensures read { (s : Option Held) → P.is_honest s self.new.storage → P.is_sound s self.old.storage
-            → IsRead (P.contents s self.old.storage) self.old.database
-            → IsRead (P.contents s self.new.storage) self.new.database }
+        ensures memory { (s : Option Held) → P.is_honest s self.new.storage → P.is_sound s self.old.storage
+            → IsInMemory (P.contents s self.old.storage) self.old.database self.old.encoded
+            → IsInMemory (P.contents s self.new.storage) self.new.database self.new.encoded }
         ensures some { OnOk result (IsSome self.new.database) }
         ensures fault { IfErr result (λ fault. (s : Option Held) → P.is_honest s self.new.storage → P.is_sound s self.old.storage
             → IsRead (P.contents s self.old.storage) self.old.database
@@ -223,6 +230,9 @@ impl<P: Storage + Drop> Session<P> {
             → IsRead (P.contents s self.old.storage) found) }
         ensures same { (d : Stored) → self.old.database ≡ Some d
             → (result ≡ Ok (started (effect command.now) d)) × (self.new.database ≡ beside (effect command.now) d) }
+        ensures bytes { (s : Option Held) → P.is_honest s self.new.storage → P.is_sound s self.old.storage
+            → HasBytes (P.contents s self.old.storage) self.old.encoded
+            → HasBytes (P.contents s self.new.storage) self.new.encoded }
         ensures encoded { IfOk result (λ found. AreOf self.new.encoded found) }
     {
         if let Command::Create(_) = command {
@@ -240,20 +250,23 @@ impl<P: Storage + Drop> Session<P> {
     ) -> Result<(), TaskFault>
         ensures falls { (s : Option Held) → P.is_honest s self.new.storage → P.is_honest s self.old.storage }
         ensures sound { (s : Option Held) → P.is_honest s self.new.storage → P.is_sound s self.old.storage
+            → IsInMemory (P.contents s self.old.storage) self.old.database self.old.encoded
             → P.is_sound s self.new.storage }
-        ensures read { (s : Option Held) → P.is_honest s self.new.storage → P.is_sound s self.old.storage
-            → IsRead (P.contents s self.old.storage) self.old.database
-            → IsRead (P.contents s self.new.storage) self.new.database }
+        ensures memory { (s : Option Held) → P.is_honest s self.new.storage → P.is_sound s self.old.storage
+            → IsInMemory (P.contents s self.old.storage) self.old.database self.old.encoded
+            → IsInMemory (P.contents s self.new.storage) self.new.database self.new.encoded }
         ensures run { (s : Option Held) → P.is_honest s self.new.storage → P.is_sound s self.old.storage
-            → IsRead (P.contents s self.old.storage) self.old.database
+            → IsInMemory (P.contents s self.old.storage) self.old.database self.old.encoded
             → RunsAs (Ok command) (P.contents s self.old.storage) (P.contents s self.new.storage)
             (W.contents out.old) (W.contents out.new) result }
         ensures on { (d : Stored) → self.old.database ≡ Some d
             → (s : Option Held) → P.is_honest s self.new.storage → P.is_sound s self.old.storage
+            → IsInMemory (P.contents s self.old.storage) self.old.database self.old.encoded
             → RunsOn command d self.new.database (P.contents s self.old.storage) (P.contents s self.new.storage)
             (W.contents out.old) (W.contents out.new) result }
     {
         layout_is_file();
+        encoded_is_layout();
         updates_keep_newest_rows();
         self.is_written = false;
         let reach = reach_of(&command);
@@ -261,12 +274,12 @@ impl<P: Storage + Drop> Session<P> {
         let encoded = take_encoded(&mut self.encoded, &database);
         let outcome = execute(alloc, database, command, out);
         outcome_is_valid(&outcome);
-        let encoded = encoded_after(alloc, encoded, reach, &outcome);
+        let encoding = encoded_after(alloc, encoded, reach, &outcome);
         let other = self.database.take();
-        let end = finish(alloc, &outcome, encoded.as_ref(), &mut self.storage, out);
+        let end = finish(alloc, &outcome, encoding.as_ref(), &mut self.storage, out);
         self.is_written = end.is_ok() && matches!(outcome, Outcome::Changed(_));
         self.database = database_kept(other, outcome, end);
-        self.encoded = encoded;
+        self.encoded = encoded_kept(encoding, end);
         end
     }
 
@@ -280,16 +293,18 @@ impl<P: Storage + Drop> Session<P> {
     ) -> Result<(), TaskFault>
         ensures falls { (s : Option Held) → P.is_honest s self.new.storage → P.is_honest s self.old.storage }
         ensures sound { (s : Option Held) → P.is_honest s self.new.storage → P.is_sound s self.old.storage
+            → IsInMemory (P.contents s self.old.storage) self.old.database self.old.encoded
             → P.is_sound s self.new.storage }
-        ensures read { (s : Option Held) → P.is_honest s self.new.storage → P.is_sound s self.old.storage
-            → IsRead (P.contents s self.old.storage) self.old.database
-            → IsRead (P.contents s self.new.storage) self.new.database }
+        ensures memory { (s : Option Held) → P.is_honest s self.new.storage → P.is_sound s self.old.storage
+            → IsInMemory (P.contents s self.old.storage) self.old.database self.old.encoded
+            → IsInMemory (P.contents s self.new.storage) self.new.database self.new.encoded }
         ensures run { (s : Option Held) → P.is_honest s self.new.storage → P.is_sound s self.old.storage
-            → IsRead (P.contents s self.old.storage) self.old.database
+            → IsInMemory (P.contents s self.old.storage) self.old.database self.old.encoded
             → IsSingle words.now now (P.contents s self.old.storage) (P.contents s self.new.storage)
             (W.contents out.old) (W.contents out.new) result }
         ensures on { (d : Stored) → self.old.database ≡ Some d
             → (s : Option Held) → P.is_honest s self.new.storage → P.is_sound s self.old.storage
+            → IsInMemory (P.contents s self.old.storage) self.old.database self.old.encoded
             → IsSingleOn words.now now d self.new.database (P.contents s self.old.storage) (P.contents s self.new.storage)
             (W.contents out.old) (W.contents out.new) result }
     {
@@ -313,20 +328,22 @@ impl<P: Storage + Drop> Session<P> {
     ) -> Result<(), TaskFault>
         ensures falls { (s : Option Held) → P.is_honest s self.new.storage → P.is_honest s self.old.storage }
         ensures sound { (s : Option Held) → P.is_honest s self.new.storage → P.is_sound s self.old.storage
+            → IsInMemory (P.contents s self.old.storage) self.old.database self.old.encoded
             → P.is_sound s self.new.storage }
-        ensures read { (s : Option Held) → P.is_honest s self.new.storage → P.is_sound s self.old.storage
-            → IsRead (P.contents s self.old.storage) self.old.database
-            → IsRead (P.contents s self.new.storage) self.new.database }
+        ensures memory { (s : Option Held) → P.is_honest s self.new.storage → P.is_sound s self.old.storage
+            → IsInMemory (P.contents s self.old.storage) self.old.database self.old.encoded
+            → IsInMemory (P.contents s self.new.storage) self.new.database self.new.encoded }
         ensures run { (s : Option Held) → P.is_honest s self.new.storage → P.is_sound s self.old.storage
-            → IsRead (P.contents s self.old.storage) self.old.database
+            → IsInMemory (P.contents s self.old.storage) self.old.database self.old.encoded
             → IsSingle words.now now (P.contents s self.old.storage) (P.contents s self.new.storage)
             (W.contents out.old) (W.contents out.new) result }
         ensures on { (d : Stored) → self.old.database ≡ Some d
             → (s : Option Held) → P.is_honest s self.new.storage → P.is_sound s self.old.storage
+            → IsInMemory (P.contents s self.old.storage) self.old.database self.old.encoded
             → IsSingleOn words.now now d self.new.database (P.contents s self.old.storage) (P.contents s self.new.storage)
             (W.contents out.old) (W.contents out.new) result }
         ensures computed { (s : Option Held) → P.is_honest s self.new.storage → P.is_sound s self.old.storage
-            → IsRead (P.contents s self.old.storage) self.old.database
+            → IsInMemory (P.contents s self.old.storage) self.old.database self.old.encoded
             → IsComputed (P.contents s self.old.storage) (P.contents s self.new.storage)
             (ByCommand (record {
               words = words.now;
@@ -354,20 +371,22 @@ impl<P: Storage + Drop> Session<P> {
     ) -> Result<(), TaskFault>
         ensures falls { (s : Option Held) → P.is_honest s self.new.storage → P.is_honest s self.old.storage }
         ensures sound { (s : Option Held) → P.is_honest s self.new.storage → P.is_sound s self.old.storage
+            → IsInMemory (P.contents s self.old.storage) self.old.database self.old.encoded
             → P.is_sound s self.new.storage }
-        ensures read { (s : Option Held) → P.is_honest s self.new.storage → P.is_sound s self.old.storage
-            → IsRead (P.contents s self.old.storage) self.old.database
-            → IsRead (P.contents s self.new.storage) self.new.database }
+        ensures memory { (s : Option Held) → P.is_honest s self.new.storage → P.is_sound s self.old.storage
+            → IsInMemory (P.contents s self.old.storage) self.old.database self.old.encoded
+            → IsInMemory (P.contents s self.new.storage) self.new.database self.new.encoded }
         ensures run { (s : Option Held) → P.is_honest s self.new.storage → P.is_sound s self.old.storage
-            → IsRead (P.contents s self.old.storage) self.old.database
+            → IsInMemory (P.contents s self.old.storage) self.old.database self.old.encoded
             → RunsAs (Ok command) (P.contents s self.old.storage) (P.contents s self.new.storage)
             (W.contents out.old) (W.contents out.new) result }
         ensures on { (d : Stored) → self.old.database ≡ Some d
             → (s : Option Held) → P.is_honest s self.new.storage → P.is_sound s self.old.storage
+            → IsInMemory (P.contents s self.old.storage) self.old.database self.old.encoded
             → RunsOn command d self.new.database (P.contents s self.old.storage) (P.contents s self.new.storage)
             (W.contents out.old) (W.contents out.new) result }
         ensures computed { (s : Option Held) → P.is_honest s self.new.storage → P.is_sound s self.old.storage
-            → IsRead (P.contents s self.old.storage) self.old.database
+            → IsInMemory (P.contents s self.old.storage) self.old.database self.old.encoded
             → IsComputed (P.contents s self.old.storage) (P.contents s self.new.storage)
             (ByRequest (record {
               command = command;
@@ -393,9 +412,9 @@ impl<P: Storage + Drop> Session<P> {
         ensures falls { (s : Option Held) → P.is_honest s self.new.storage → P.is_honest s self.old.storage }
         ensures sound { (s : Option Held) → P.is_honest s self.new.storage → P.is_sound s self.old.storage
             → P.is_sound s self.new.storage }
-        ensures read { (s : Option Held) → P.is_honest s self.new.storage → P.is_sound s self.old.storage
-            → IsRead (P.contents s self.old.storage) self.old.database
-            → IsRead (P.contents s self.new.storage) self.new.database }
+        ensures memory { (s : Option Held) → P.is_honest s self.new.storage → P.is_sound s self.old.storage
+            → IsInMemory (P.contents s self.old.storage) self.old.database self.old.encoded
+            → IsInMemory (P.contents s self.new.storage) self.new.database self.new.encoded }
         ensures run { (s : Option Held) → P.is_honest s self.new.storage → P.is_sound s self.old.storage
             → IsRead (P.contents s self.old.storage) self.old.database
             → IsFileBatch now numbered (P.contents s self.old.storage) (P.contents s self.new.storage)
@@ -443,9 +462,9 @@ impl<P: Storage + Drop> Session<P> {
         ensures falls { (s : Option Held) → P.is_honest s self.new.storage → P.is_honest s self.old.storage }
         ensures sound { (s : Option Held) → P.is_honest s self.new.storage → P.is_sound s self.old.storage
             → P.is_sound s self.new.storage }
-        ensures read { (s : Option Held) → P.is_honest s self.new.storage → P.is_sound s self.old.storage
-            → IsRead (P.contents s self.old.storage) self.old.database
-            → IsRead (P.contents s self.new.storage) self.new.database }
+        ensures memory { (s : Option Held) → P.is_honest s self.new.storage → P.is_sound s self.old.storage
+            → IsInMemory (P.contents s self.old.storage) self.old.database self.old.encoded
+            → IsInMemory (P.contents s self.new.storage) self.new.database self.new.encoded }
         ensures run { (s : Option Held) → P.is_honest s self.new.storage → P.is_sound s self.old.storage
             → IsRead (P.contents s self.old.storage) self.old.database
             → IsFileBatch now numbered (P.contents s self.old.storage) (P.contents s self.new.storage)

@@ -7,14 +7,14 @@ ghost use Rattle.rrd_tool.specs.Execution.{database_left, fault_left, has_change
 ghost use Rattle.rrd_tool.specs.Lines.{is_empty};
 ghost use Rattle.rrd_store.specs.Runs.{ByCommand, IsComputed};
 ghost use Rattle.rrd_store.specs.Single.{Ends, IsSingle, StartsFrom, access_for};
-ghost use Rattle.rrd_store.specs.Encoding.{IsOf};
+ghost use Rattle.rrd_store.specs.Encoding.{IsOf, MayReplace};
 ghost use Rattle.rrd_store.specs.Storages.{Held, Leaves};
 
+use crate::encoding::Encoding;
 use crate::laws::storage_runs_follow_specification;
 use crate::stored::{store, store_encoded};
 use crate::{Access, Storage, TaskFault};
 use rrd_base::Database;
-use rrd_file::Encoded;
 use rrd_fixed::flush;
 use rrd_tool::{Command, Fault, Outcome, Words, execute, read_command};
 use std::alloc::Global;
@@ -65,45 +65,47 @@ fn start<P: Storage>(
 fn write<P: Storage>(
     alloc: Global,
     database: &Database,
-    encoded: Option<&Encoded>,
+    encoding: Option<&Encoding>,
     storage: &mut P,
 ) -> Result<(), TaskFault>
-    requires { IfSome encoded (λ e. Encodes e.now database.now) }
+    requires { IfSome encoding (λ e. Encodes e.now.encoded database.now) }
     ensures falls { (s : Option Held) → P.is_honest s storage.new → P.is_honest s storage.old }
     ensures sound { (s : Option Held) → P.is_honest s storage.new → P.is_sound s storage.old
-        → P.is_sound s storage.new }
+        → IfSome encoding.entry (λ e. MayReplace (P.contents s storage.old) e.now) → P.is_sound s storage.new }
     ensures unknown { (s : Option Held) → P.contents s storage.old ≡ None → P.contents s storage.new ≡ None }
     ensures left { (s : Option Held) → P.is_honest s storage.new → P.is_sound s storage.old
+        → IfSome encoding.entry (λ e. MayReplace (P.contents s storage.old) e.now)
         → Leaves (Some database.now) (P.contents s storage.old) (P.contents s storage.new) result }
 {
-    match encoded {
-        Some(encoded) => store_encoded(storage, encoded, database),
+    match encoding {
+        Some(encoding) => store_encoded(storage, encoding, database),
         None => store(alloc, storage, Some(database)),
     }
 }
 
-/// Flushes the output of a command, or writes the database that the command changed. `encoded` are the bytes of this
+/// Flushes the output of a command, or writes the database that the command changed. `encoding` are the bytes of this
 /// database, if they are in memory.
 pub(crate) fn finish<P: Storage, W: Write>(
     alloc: Global,
     outcome: &Outcome,
-    encoded: Option<&Encoded>,
+    encoding: Option<&Encoding>,
     storage: &mut P,
     out: &mut W,
 ) -> Result<(), TaskFault>
-    requires { IfSome encoded (λ e. IsOf e.now (database_left outcome.now)) }
+    requires { IfSome encoding (λ e. IsOf e.now.encoded (database_left outcome.now)) }
     ensures falls { (s : Option Held) → P.is_honest s storage.new → P.is_honest s storage.old }
     ensures sound { (s : Option Held) → P.is_honest s storage.new → P.is_sound s storage.old
-        → P.is_sound s storage.new }
+        → IfSome encoding.entry (λ e. MayReplace (P.contents s storage.old) e.now) → P.is_sound s storage.new }
     ensures unknown { (s : Option Held) → P.contents s storage.old ≡ None → P.contents s storage.new ≡ None }
     ensures storage { (s : Option Held) → P.is_honest s storage.new → P.is_sound s storage.old
+        → IfSome encoding.entry (λ e. MayReplace (P.contents s storage.old) e.now)
         → (text : List ℕ) → (fault_left outcome.now ≡ None → has_changed outcome.now ≡ false → is_empty text ≡ false)
         → Ends outcome.now text (P.contents s storage.old) (P.contents s storage.new) result }
     ensures out { Keeps (W.contents out.old) (W.contents out.new) }
 {
     match outcome {
         Outcome::Refused { fault, .. } => Err(TaskFault::Command(*fault)),
-        Outcome::Changed(database) => write(alloc, database, encoded, storage),
+        Outcome::Changed(database) => write(alloc, database, encoding, storage),
         Outcome::Printed(_) => match flush(out) {
             Ok(()) => Ok(()),
             Err(_) => Err(TaskFault::Command(Fault::Output)),

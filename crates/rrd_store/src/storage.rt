@@ -1,9 +1,10 @@
 //! The storage of a database, which keeps the bytes of the database as a file does.
 ghost use Rattle.std.specs.Prelude.{◌≡◌, None, OnErr, OnOk, Option};
-ghost use Rattle.rrd_store.specs.Storages.{Becomes, Finds, Held, IsAfterFailure, IsAnyFile};
+ghost use Rattle.rrd_store.specs.Storages.{Becomes, DiffersWithin, Finds, Held, IsAfterFailure, IsAnyFile};
 
 use crate::TaskFault;
 use rrd_base::Database;
+use rrd_file::Span;
 use std::alloc::Global;
 use std::io;
 
@@ -67,5 +68,27 @@ pub trait Storage {
         ensures ok { OnOk result ((s : Option Held) → is_honest s self.new → is_sound s self.old
             → Becomes (contents s self.old) (contents s self.new) bytes.now) }
         ensures err { OnErr result ((s : Option Held) → is_honest s self.new → is_sound s self.old
+            → IsAfterFailure (contents s self.old) (contents s self.new) bytes.now) };
+
+    /// Replaces the bytes by the bytes of a database, as [`Storage::replace`] does, where the caller knows which bytes
+    /// may differ.
+    ///
+    /// If the storage represents bytes of which one outside the spans `changed` differs from the new bytes, nothing is
+    /// promised of what it represents afterwards: only a caller that knows the bytes may call this.
+    ///
+    /// # Errors
+    ///
+    /// As [`Storage::replace`].
+    fn replace_where(&mut self, bytes: &[u8], changed: &[Span]) -> io::Result<()>
+        requires { IsAnyFile bytes.now }
+        ensures falls { (s : Option Held) → is_honest s self.new → is_honest s self.old }
+        ensures sound { (s : Option Held) → is_honest s self.new → is_sound s self.old
+            → DiffersWithin changed.now (contents s self.old) bytes.now → is_sound s self.new }
+        ensures unknown { (s : Option Held) → contents s self.old ≡ None → contents s self.new ≡ None }
+        ensures ok { OnOk result ((s : Option Held) → is_honest s self.new → is_sound s self.old
+            → DiffersWithin changed.now (contents s self.old) bytes.now
+            → Becomes (contents s self.old) (contents s self.new) bytes.now) }
+        ensures err { OnErr result ((s : Option Held) → is_honest s self.new → is_sound s self.old
+            → DiffersWithin changed.now (contents s self.old) bytes.now
             → IsAfterFailure (contents s self.old) (contents s self.new) bytes.now) };
 }

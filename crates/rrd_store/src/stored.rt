@@ -1,13 +1,15 @@
 //! Reads and writes a stored database.
 ghost use Rattle.std.specs.Prelude.{◌≡◌, IfSome, None, Option, Some, option_map};
-ghost use Rattle.rrd_store.specs.Storages.{Bytes, Decodes, Held, Leaves, Replaces};
+ghost use Rattle.rrd_store.specs.Encoding.{MayReplace};
+ghost use Rattle.rrd_store.specs.Storages.{Bytes, Decodes, DiffersWithin, Held, Leaves, Replaces};
 ghost use Rattle.rrd_file.specs.Encoded.{Encodes};
 ghost use Rattle.rrd_file.specs.Layout.{layout};
 
+use crate::encoding::{Changed, Encoding};
 use crate::{Storage, TaskFault};
 use rrd_base::{Database, database_is_valid};
 use rrd_file::laws::layout_is_file;
-use rrd_file::{Encoded, decode, encode, encoded_length};
+use rrd_file::{Span, decode, encode, encoded_length};
 use std::alloc::Global;
 
 /// Decodes the database whose file the bytes are. A storage calls this with the bytes that it represents.
@@ -55,21 +57,50 @@ fn put<P: Storage>(storage: &mut P, bytes: &[u8], database: &Database) -> Result
     }
 }
 
+// Replaces the bytes of a storage by these, which are those of a database, and differ in these spans alone.
+fn put_where<P: Storage>(
+    storage: &mut P,
+    bytes: &[u8],
+    changed: &[Span],
+    database: &Database,
+) -> Result<(), TaskFault>
+    requires { bytes.now ≡ layout database.now }
+    ensures falls { (s : Option Held) → P.is_honest s storage.new → P.is_honest s storage.old }
+    ensures sound { (s : Option Held) → P.is_honest s storage.new → P.is_sound s storage.old
+        → DiffersWithin changed.now (P.contents s storage.old) bytes.now → P.is_sound s storage.new }
+    ensures unknown { (s : Option Held) → P.contents s storage.old ≡ None → P.contents s storage.new ≡ None }
+    ensures replaced { (s : Option Held) → P.is_honest s storage.new → P.is_sound s storage.old
+        → DiffersWithin changed.now (P.contents s storage.old) bytes.now
+        → Replaces (P.contents s storage.old) (P.contents s storage.new) (layout database.now) result }
+{
+    database_is_valid(database);
+    layout_is_file();
+    match storage.replace_where(bytes, changed) {
+        Ok(()) => Ok(()),
+        Err(_) => Err(TaskFault::CannotWrite),
+    }
+}
+
 /// Replaces the bytes of a storage by those of a database, which are in memory.
 pub(crate) fn store_encoded<P: Storage>(
     storage: &mut P,
-    encoded: &Encoded,
+    encoding: &Encoding,
     database: &Database,
 ) -> Result<(), TaskFault>
-    requires { Encodes encoded.now database.now }
+    requires { Encodes encoding.now.encoded database.now }
     ensures falls { (s : Option Held) → P.is_honest s storage.new → P.is_honest s storage.old }
     ensures sound { (s : Option Held) → P.is_honest s storage.new → P.is_sound s storage.old
-        → P.is_sound s storage.new }
+        → MayReplace (P.contents s storage.old) encoding.now → P.is_sound s storage.new }
     ensures unknown { (s : Option Held) → P.contents s storage.old ≡ None → P.contents s storage.new ≡ None }
     ensures replaced { (s : Option Held) → P.is_honest s storage.new → P.is_sound s storage.old
+        → MayReplace (P.contents s storage.old) encoding.now
         → Replaces (P.contents s storage.old) (P.contents s storage.new) (layout database.now) result }
 {
-    put(storage, encoded.as_slice(), database)
+    let bytes = encoding.encoded.as_slice();
+    match &encoding.changed {
+        Changed::Anywhere => put(storage, bytes, database),
+        Changed::Within(changed) => put_where(storage, bytes, changed, database),
+    }
 }
 
 // Replaces the bytes of a storage by those of a database.

@@ -5,6 +5,7 @@ mod ending;
 mod scripts;
 mod session;
 mod single;
+mod spans;
 mod storage;
 mod strange_files;
 mod task;

@@ -301,6 +301,7 @@ fn assert_session_leaves_the_same(
             apart.storage.bytes.as_slice(),
             "{line}: {script:?}"
         );
+        assert!(rt; together.storage().agrees, "{line}: {script:?}");
     }
     Ok(())
 }

@@ -1,8 +1,9 @@
 //! A storage in memory that may fail.
-ghost use Rattle.std.specs.Prelude.{◌<◌, IfOk, IsTrue, Some, if◌then◌else◌, length, ⊤};
+ghost use Rattle.std.specs.Prelude.{◌≡◌, ◌<◌, IfOk, IsTrue, Some, if◌then◌else◌, length, ⊤};
 ghost use Rattle.rrd_store.specs.Storages.{Bytes, HasNone, IsAnyFile, IsNoFile, Missing};
 
 use rrd_base::Database;
+use rrd_file::Span;
 use rrd_file::laws::{file_begins, file_is_layout, layouts_differ};
 use rrd_store::{Access, Storage, TaskFault, decoded};
 use std::alloc::{AllocError, Global};
@@ -33,10 +34,39 @@ pub(crate) struct InMemory {
     pub(crate) opens: bool,
     pub(crate) begins: bool,
     pub(crate) ending: Ending,
+    // The one change that ends so, counted from 0 on; each change, if there is none.
+    pub(crate) ending_at: Option<usize>,
+    changes: usize,
     pub(crate) room: usize,
     // What it was opened for last, and how many bytes it was to take.
     pub(crate) access: Option<Access>,
     pub(crate) expected: Option<usize>,
+    // The spans of the last change, if it came with spans: those that have a byte. Whether each change that came with
+    // spans differed within them alone.
+    pub(crate) spans: Option<Vec<(usize, usize)>>,
+    pub(crate) agrees: bool,
+}
+
+// The spans that have a byte.
+fn some_bytes(alloc: Global, changed: &[Span]) -> Result<Vec<(usize, usize)>, AllocError> {
+    let mut spans = Vec::new(alloc);
+    for span in changed {
+        if span.start < span.end {
+            spans.push((span.start, span.end))?;
+        }
+    }
+    Ok(spans)
+}
+
+// Checks that each new byte outside the spans is the old byte there.
+fn agrees_outside(changed: &[Span], old: &[u8], new: &[u8]) -> bool {
+    for (at, byte) in new.iter().enumerate() {
+        let named = changed.iter().any(|s| s.start <= at && at < s.end);
+        if !named && old.get(at).copied() != Some(*byte) {
+            return false;
+        }
+    }
+    true
 }
 
 impl InMemory {
@@ -57,9 +87,26 @@ impl InMemory {
             opens: true,
             begins: true,
             ending: Ending::Whole,
+            ending_at: None,
+            changes: 0,
             room: usize::MAX,
             access: None,
             expected: None,
+            spans: None,
+            agrees: true,
+        }
+    }
+
+    // How the next change ends.
+    fn next_ending(&mut self) -> Ending
+        ensures bytes { self.new.bytes ≡ self.old.bytes }
+        ensures missing { self.new.is_missing ≡ self.old.is_missing }
+    {
+        let number = self.changes;
+        self.changes = number.saturating_add(1);
+        match self.ending_at {
+            Some(at) if at != number => Ending::Whole,
+            _ => self.ending,
         }
     }
 
@@ -104,9 +151,19 @@ impl Storage for InMemory {
         }
     }
 
+    fn replace_where(&mut self, bytes: &[u8], changed: &[Span]) -> io::Result<()> {
+        self.agrees = self.agrees && agrees_outside(changed, &self.bytes, bytes);
+        let spans = some_bytes(self.alloc, changed)?;
+        let ended = self.replace(bytes);
+        self.spans = Some(spans);
+        ended
+    }
+
     fn replace(&mut self, bytes: &[u8]) -> io::Result<()> {
+        self.spans = None;
         self.expected = Some(bytes.len());
-        if !self.begins || self.ending == Ending::OldStays {
+        let ending = self.next_ending();
+        if !self.begins || ending == Ending::OldStays {
             return Err(Error::from(ErrorKind::PermissionDenied));
         }
         if self.room < bytes.len() {
@@ -118,7 +175,7 @@ impl Storage for InMemory {
         }
         self.bytes = Vec::from_slice(self.alloc, bytes)?;
         self.is_missing = false;
-        if self.ending == Ending::NewStays {
+        if ending == Ending::NewStays {
             return Err(Error::from(ErrorKind::Other));
         }
         Ok(())

@@ -1,5 +1,11 @@
+use Rattle.std.proofs.Common.{◌≡◌, ◌+◌, ℕ, get_or}
+use Rattle.std.specs.List.{All}
+use Rattle.rrd_file.specs.Spans.{IsBeside}
 use Rattle.rrd_file.proofs.CellsHeld.{ArePutBefore}
 use Rattle.rrd_file.proofs.encoded.put_all_slots.Given as goal
 
 abbrev pub invariant-loop-archive : goal.invariant-loop-archive
-invariant-loop-archive l = ArePutBefore l.cells l.database.content l.last l.at l.archive
+invariant-loop-archive l = record {
+  put : ArePutBefore l.cells l.database.content l.last l.at l.archive;
+  same : (k : ℕ) → All (IsBeside (l.before + k)) l.changed.items → get_or l.cells k 0 ≡ get_or l.fn.cells k 0;
+}

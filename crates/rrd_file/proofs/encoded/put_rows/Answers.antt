@@ -4,20 +4,35 @@ use Rattle.std.proofs.lemmas.Nat.{mul-le}
 use Rattle.rrd_file.specs.Encoded.{row_bytes}
 use Rattle.rrd_file.proofs.CellRuns.{cells_bytes}
 use Rattle.rrd_file.proofs.Overwritten.{cells_of_rows, many_cells, put_begins, put_ends, put_goes_on, put_within}
+use Rattle.rrd_file.proofs.Spanned.{before_part}
 use Rattle.rrd_file.proofs.encoded.put_rows.Goals as goal
 
 pub loop-index-init : goal.loop-index-init
 loop-index-init g c =
-    put_begins c.args.into.now (g.T.Table.table c.args.rows.now) c.args.sources c.args.from c.args.to c.args.kept c.requires.order c.requires.there c.requires.wide c.min-index.result (omega (arith, c.min-index.ensures, c.max.ensures)) c.requires.held
+    record {
+      put = put_begins c.args.into.now (g.T.Table.table c.args.rows.now) c.args.sources c.args.from c.args.to c.args.kept c.requires.order c.requires.there c.requires.wide c.min-index.result (omega (arith, c.min-index.ensures, c.max.ensures)) c.requires.held;
+      same = λ k low. refl;
+      later = omega arith;
+    }
+
+pub overflow_mul-stays : goal.overflow_mul-stays
+overflow_mul-stays g c =
+    let few : c.min-index.result - c.args.from ≤ 1000000 = omega (arith, c.min-index.ensures, c.requires.few_rows) in
+    omega (arith, mul-le (c.min-index.result - c.args.from) c.args.sources 1000000 64 few c.requires.few_sources)
+
+pub overflow_mul-stays-2 : goal.overflow_mul-stays-2
+overflow_mul-stays-2 g c =
+    let few : c.min-index.result - c.args.from ≤ 1000000 = omega (arith, c.min-index.ensures, c.requires.few_rows) in
+    omega (arith, mul-le (c.min-index.result - c.args.from) c.args.sources 1000000 64 few c.requires.few_sources)
 
 pub overflow_mul-at : goal.overflow_mul-at
 overflow_mul-at g c =
-    let few : c.loop-index.index - c.args.from ≤ 1000000 = omega (arith, c.loop-index.invariant.high, c.requires.few_rows) in
+    let few : c.loop-index.index - c.args.from ≤ 1000000 = omega (arith, c.loop-index.invariant.put.high, c.requires.few_rows) in
     omega (arith, mul-le (c.loop-index.index - c.args.from) c.args.sources 1000000 64 few c.requires.few_sources)
 
 pub overflow_mul-at-in-loop-index : goal.overflow_mul-at-in-loop-index
 overflow_mul-at-in-loop-index g c =
-    let few : c.loop-index.index - c.args.from ≤ 1000000 = omega (arith, c.loop-index.invariant.high, c.requires.few_rows) in
+    let few : c.loop-index.index - c.args.from ≤ 1000000 = omega (arith, c.loop-index.invariant.put.high, c.requires.few_rows) in
     omega (arith, mul-le (c.loop-index.index - c.args.from) c.args.sources 1000000 64 few c.requires.few_sources)
 
 pub overflow_add-at : goal.overflow_add-at
@@ -27,7 +42,7 @@ overflow_add-at g c =
     let count = c.together-count.result.0 in
     let run : index + count ≤ c.args.to = omega (arith, c.together-count.ensures.few, c.loop-index-test.true) in
     let many = many_cells rows c.args.sources index count c.together-count.result.1.now c.together-count.ensures.cells (omega (arith, run, c.requires.there)) c.requires.wide in
-    let few : index - c.args.from ≤ 1000000 = omega (arith, c.loop-index.invariant.high, c.requires.few_rows) in
+    let few : index - c.args.from ≤ 1000000 = omega (arith, c.loop-index.invariant.put.high, c.requires.few_rows) in
     let few_more : count ≤ 1000000 = omega (arith, run, c.requires.few_rows) in
     omega (arith, many, mul-le (index - c.args.from) c.args.sources 1000000 64 few c.requires.few_sources, mul-le count c.args.sources 1000000 64 few_more c.requires.few_sources)
 
@@ -38,7 +53,7 @@ slice_bounds-put_cells-end g c =
     let count = c.together-count.result.0 in
     let run : index + count ≤ c.args.to = omega (arith, c.together-count.ensures.few, c.loop-index-test.true) in
     let many = many_cells rows c.args.sources index count c.together-count.result.1.now c.together-count.ensures.cells (omega (arith, run, c.requires.there)) c.requires.wide in
-    let within = put_within c.loop-index.into rows c.args.sources c.args.from c.args.to c.args.kept c.requires.order c.requires.there c.requires.wide index count run c.loop-index.invariant in
+    let within = put_within c.loop-index.into rows c.args.sources c.args.from c.args.to c.args.kept c.requires.order c.requires.there c.requires.wide index count run c.loop-index.invariant.put in
     omega (arith, many, within)
 
 pub loop-index-preserved : goal.loop-index-preserved
@@ -56,7 +71,22 @@ loop-index-preserved g c =
     c.put_cells.ensures ∙ ap cells_bytes c.together-count.ensures.cells ∙ cells_of_rows (take count (drop index rows)) in
     let put : take at c.loop-index.into ++ (c.put_cells.new.into ++ drop (at + size - at) (drop at c.loop-index.into)) ≡ take at c.loop-index.into ++ (c.put_cells.new.into ++ drop (at + size) c.loop-index.into) =
     ap (λ k. take at c.loop-index.into ++ (c.put_cells.new.into ++ drop k (drop at c.loop-index.into))) length_is ∙ ap (λ l. take at c.loop-index.into ++ (c.put_cells.new.into ++ l)) (drop-drop size at c.loop-index.into) in
-    put_goes_on c.loop-index.into rows c.args.sources c.args.from c.args.to c.args.kept c.requires.order c.requires.there c.requires.wide index count at size c.put_cells.new.into _ run refl (ap (λ k. 16 * k) many) bytes put c.loop-index.invariant
+    let within = put_within c.loop-index.into rows c.args.sources c.args.from c.args.to c.args.kept c.requires.order c.requires.there c.requires.wide index count run c.loop-index.invariant.put in
+    let further : (index - c.args.from) * c.args.sources ≤ (index + count - c.args.from) * c.args.sources =
+    mul-le (index - c.args.from) c.args.sources (index + count - c.args.from) c.args.sources (omega arith) (omega arith) in
+    record {
+      put = put_goes_on c.loop-index.into rows c.args.sources c.args.from c.args.to c.args.kept c.requires.order c.requires.there c.requires.wide index count at size c.put_cells.new.into _ run refl (ap (λ k. 16 * k) many) bytes put c.loop-index.invariant.put;
+      same = λ k low.
+          before_part at c.loop-index.into (c.put_cells.new.into ++ drop (at + size - at) (drop at c.loop-index.into)) k (omega (arith, c.loop-index.invariant.later)) (omega (arith, within))
+          ∙ c.loop-index.invariant.same k low;
+      later = omega (arith, c.loop-index.invariant.later, further);
+    }
 
-pub returns : goal.returns
-returns g c = put_ends c.loop-index.into (g.T.Table.table c.args.rows.now) c.args.sources c.args.from c.args.to c.args.kept c.requires.order c.requires.there c.requires.wide c.loop-index.index (omega (arith, c.loop-index-test.false)) c.loop-index.invariant
+pub returns-clause-put : goal.returns-clause-put
+returns-clause-put g c = put_ends c.loop-index.into (g.T.Table.table c.args.rows.now) c.args.sources c.args.from c.args.to c.args.kept c.requires.order c.requires.there c.requires.wide c.loop-index.index (omega (arith, c.loop-index-test.false)) c.loop-index.invariant.put
+
+pub returns-clause-within : goal.returns-clause-within
+returns-clause-within g c =
+    let index = c.loop-index.index in
+    let within = put_within c.loop-index.into (g.T.Table.table c.args.rows.now) c.args.sources c.args.from c.args.to c.args.kept c.requires.order c.requires.there c.requires.wide index 0 (omega (arith, c.loop-index.invariant.put.high)) c.loop-index.invariant.put in
+    omega (arith, within, c.loop-index.invariant.later)

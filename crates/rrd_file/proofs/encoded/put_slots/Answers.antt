@@ -8,6 +8,7 @@ use Rattle.rrd_spec.specs.Settings.{resolution}
 use Rattle.rrd_file.specs.Encoded.{row_bytes}
 use Rattle.rrd_file.proofs.CellsFiled.{def_of, rows_are, same_def, small_def}
 use Rattle.rrd_file.proofs.SlotsHeld.{are_held, rows_held}
+use Rattle.rrd_file.proofs.Spanned.{beside_both}
 use Rattle.rrd_file.proofs.Told.{archive_at, there}
 use Rattle.rrd_file.proofs.Turned.{archive_spelled}
 use Rattle.rrd_file.proofs.encoded.put_slots.Goals as goal
@@ -40,8 +41,8 @@ first_slot_row-first-requires c =
       few_rows = small.few_rows;
     }
 
-pub overflow_mul-def : goal.overflow_mul-def
-overflow_mul-def c =
+pub overflow_mul-middle : goal.overflow_mul-middle
+overflow_mul-middle c =
     let d = c.args.database.now.content in
     let def = c.archive-def.result in
     let valid = c.database_is_valid.ensures.content_is in
@@ -49,8 +50,8 @@ overflow_mul-def c =
     let small = small_def d c.args.archive def valid is in
     omega (arith, mul-le (def.rows - c.first_slot_row-first.result) c.sources-sources.result 1000000 64 (omega (arith, small.few_rows)) c.sources-sources.ensures.few)
 
-pub overflow_mul-def-2 : goal.overflow_mul-def-2
-overflow_mul-def-2 c =
+pub overflow_mul-middle-2 : goal.overflow_mul-middle-2
+overflow_mul-middle-2 c =
     let d = c.args.database.now.content in
     let def = c.archive-def.result in
     let valid = c.database_is_valid.ensures.content_is in
@@ -81,8 +82,8 @@ split_at_mut-newer-requires c =
     let held = are_held c.rows_stand_in_slots.ensures.row c.rows_stay_in_slots.ensures.row c.args.cells.now d c.args.last a c.resolution-resolution.result c.first_slot_row-first.result c.saturating_sub-kept.result (16 * ((def.rows - c.first_slot_row-first.result) * c.sources-sources.result)) (c.requires.held a found.1) c.resolution-resolution.ensures.some size some first kept mid in
     held.within
 
-pub put_rows-requires : goal.put_rows-requires
-put_rows-requires c =
+pub put_rows-newer_stays-requires : goal.put_rows-newer_stays-requires
+put_rows-newer_stays-requires c =
     let d = c.args.database.now.content in
     let def = c.archive-def.result in
     let valid = c.database_is_valid.ensures.content_is in
@@ -111,8 +112,8 @@ put_rows-requires c =
       held = rows_held c.split_at_mut-newer.result.0.now _ c.rows-rows.result.now a.rows c.sources-sources.result (length d.sources) c.first_slot_row-first.result def.rows (length a.rows) c.saturating_sub-kept.result c.split_at_mut-newer.ensures.front table sources (sym rows) held.newer;
     }
 
-pub put_rows-requires-2 : goal.put_rows-requires-2
-put_rows-requires-2 c =
+pub put_rows-older_stays-requires : goal.put_rows-older_stays-requires
+put_rows-older_stays-requires c =
     let d = c.args.database.now.content in
     let def = c.archive-def.result in
     let valid = c.database_is_valid.ensures.content_is in
@@ -141,14 +142,21 @@ put_rows-requires-2 c =
       held = rows_held c.split_at_mut-newer.result.1.now _ c.rows-rows.result.now a.rows c.sources-sources.result (length d.sources) 0 c.first_slot_row-first.result c.first_slot_row-first.result c.saturating_sub-kept.result c.split_at_mut-newer.ensures.back table sources refl held.older;
     }
 
-pub returns : goal.returns
-returns c a e =
+pub returns-clause-put : goal.returns-clause-put
+returns-clause-put c a e =
     let d = c.args.database.now.content in
     let def = c.archive-def.result in
     let first = c.first_slot_row-first.result in
     let table : c.rows-rows.result.now ≡ a.rows = c.rows-rows.ensures a e in
     let size : c.resolution-resolution.result ≡ resolution d.step def = c.resolution-resolution.ensures.value ∙ ap (λ n. resolution n def) c.step.ensures in
     let whole = archive_spelled c.rows_stand_in_slots.ensures.row d c.args.archive def c.resolution-resolution.result c.last.result first a c.database_is_valid.ensures.content_is (def_of d c.args.archive def c.archive-def.ensures) e size c.last.ensures c.first_slot_row-first.ensures.place in
-    let newer : c.put_rows.new.into ≡ row_bytes (slice_range a.rows first def.rows) = c.put_rows.ensures ∙ ap (λ (rows : List (List Cell)). row_bytes (slice_range rows first def.rows)) table in
-    let older : c.put_rows-2.new.into ≡ row_bytes (slice_range a.rows 0 first) = c.put_rows-2.ensures ∙ ap (λ (rows : List (List Cell)). row_bytes (slice_range rows 0 first)) table in
+    let newer : c.put_rows-newer_stays.new.into ≡ row_bytes (slice_range a.rows first def.rows) = c.put_rows-newer_stays.ensures.put ∙ ap (λ (rows : List (List Cell)). row_bytes (slice_range rows first def.rows)) table in
+    let older : c.put_rows-older_stays.new.into ≡ row_bytes (slice_range a.rows 0 first) = c.put_rows-older_stays.ensures.put ∙ ap (λ (rows : List (List Cell)). row_bytes (slice_range rows 0 first)) table in
     (λ i. newer i ++ older i) ∙ sym whole
+
+pub returns-clause-same : goal.returns-clause-same
+returns-clause-same c k beside_newer beside_older =
+    beside_both c.args.cells.now c.split_at_mut-newer.result.0.now c.split_at_mut-newer.result.1.now c.put_rows-newer_stays.new.into c.put_rows-older_stays.new.into
+    _ c.put_rows-newer_stays.result c.put_rows-older_stays.result (length c.args.cells.now) k c.split_at_mut-newer.ensures.value c.split_at_mut-newer.ensures.front_len
+    (omega (arith, c.split_at_mut-newer.ensures.front_len)) (omega arith) (omega arith)
+    c.put_rows-newer_stays.ensures.same c.put_rows-older_stays.ensures.same beside_newer beside_older (omega (arith, c.put_rows-newer_stays.ensures.within))

@@ -33,5 +33,5 @@ returns-clause-run g c s honest sound =
     let before = g.P.Storage.contents s c.args.storage.now in
     let after = g.P.Storage.contents s c.finish.new.storage in
     let text = text_on c.in_ok-database.database (effect c.in_ok-command.command) in
-    let ends : Ends c.execute-outcome.result text before after c.finish.result = rw (c.start.ensures.stays s started sound) at (c.finish.ensures.storage s honest mid_sound text c.execute-outcome.ensures.says) in
+    let ends : Ends c.execute-outcome.result text before after c.finish.result = rw (c.start.ensures.stays s started sound) at (c.finish.ensures.storage s honest mid_sound tt text c.execute-outcome.ensures.says) in
     (Ok c.in_ok-command.command, c.in_ok-command.ensures, (Ok c.in_ok-database.database, c.in_ok-database.ensures.start s started sound, (c.execute-outcome.result, done, ends)))

@@ -28,8 +28,8 @@ returns-clause-kept g c = λ kept w honest sound.
     let same = world_in_held w in
     let now : IsTrue (is_honest_after (world_in (held_of w)) new) = subst (λ (v : World). IsTrue (is_honest_after v new)) (sym same) honest in
     let was = kept (world_in (held_of w)) (c.load.ensures.falls (Some (held_of w)) now) (subst (λ (v : World). IsSound v.start) (sym same) sound) in
-    subst (λ (v : World). IsKeptOf (held_after v new) c.load.new.self.database) same
-    (record { sound = c.load.ensures.sound (Some (held_of w)) now was.sound; read = c.load.ensures.read (Some (held_of w)) now was.sound was.read })
+    subst (λ (v : World). IsKeptOf (held_after v new) c.load.new.self.database c.load.new.self.encoded) same
+    (record { sound = c.load.ensures.sound (Some (held_of w)) now was.sound; memory = c.load.ensures.memory (Some (held_of w)) now was.sound was.memory })
 
 pub returns-clause-stays : goal.returns-clause-stays
 returns-clause-stays g c = λ kept w honest sound.

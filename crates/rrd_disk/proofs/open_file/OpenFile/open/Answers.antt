@@ -1,6 +1,6 @@
 use Rattle.std.proofs.Common.{◌≡◌, ◌∙◌, [], IsTrue, List, Option, Some, ap, sym, subst}
 use Rattle.rrd_spec.specs.Journal.Survivors.{Stored}
-use Rattle.rrd_store.specs.Sessions.{IsRead}
+use Rattle.rrd_store.specs.Sessions.{IsInMemory}
 use Rattle.rrd_disk.specs.Asked.{held_of, world_in}
 use Rattle.rrd_disk.specs.Contents.{IsSound, represented}
 use Rattle.rrd_disk.specs.Events.{Event}
@@ -20,10 +20,10 @@ returns-in-Ok-clause-kept g c = λ w honest sound.
     let first : IsSound (world_in code).start = subst (λ (v : World). IsSound v.start) (sym same) sound in
     let begun : events ≡ [] = rw (c.new-session.ensures.storage, c.staying_open.ensures) c.requires in
     let was : IsSound (held_after (world_in code) events) = subst (λ (e : List Event). IsSound (held_after (world_in code) e)) (sym begun) first in
-    let none : IsRead (Some (represented (held_after (world_in code) events))) c.new-session.result.database =
-    subst (λ (d : Option Stored). IsRead (Some (represented (held_after (world_in code) events))) d) (sym c.new-session.ensures.database) tt in
-    subst (λ (v : World). IsKeptOf (held_after v new) c.load.new.self.database) same
-    (record { sound = c.load.ensures.sound (Some code) now was; read = c.load.ensures.read (Some code) now was none })
+    let none : IsInMemory (Some (represented (held_after (world_in code) events))) c.new-session.result.database c.new-session.result.encoded =
+    rw (c.new-session.ensures.database, c.new-session.ensures.encoded) (record { read = tt; bytes = tt }) in
+    subst (λ (v : World). IsKeptOf (held_after v new) c.load.new.self.database c.load.new.self.encoded) same
+    (record { sound = c.load.ensures.sound (Some code) now was; memory = c.load.ensures.memory (Some code) now was none })
 
 pub returns-in-Ok-clause-opened : goal.returns-in-Ok-clause-opened
 returns-in-Ok-clause-opened g c = λ w honest sound.

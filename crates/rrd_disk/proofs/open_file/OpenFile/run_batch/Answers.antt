@@ -13,8 +13,8 @@ returns-clause-kept g c = λ kept w honest sound.
     let same = world_in_held w in
     let now : IsTrue (is_honest_after (world_in (held_of w)) new) = subst (λ (v : World). IsTrue (is_honest_after v new)) (sym same) honest in
     let was = kept (world_in (held_of w)) (c.run_batch.ensures.falls (Some (held_of w)) now) (subst (λ (v : World). IsSound v.start) (sym same) sound) in
-    subst (λ (v : World). IsKeptOf (held_after v new) c.run_batch.new.self.database) same
-    (record { sound = c.run_batch.ensures.sound (Some (held_of w)) now was.sound; read = c.run_batch.ensures.read (Some (held_of w)) now was.sound was.read })
+    subst (λ (v : World). IsKeptOf (held_after v new) c.run_batch.new.self.database c.run_batch.new.self.encoded) same
+    (record { sound = c.run_batch.ensures.sound (Some (held_of w)) now was.sound; memory = c.run_batch.ensures.memory (Some (held_of w)) now was.sound was.memory })
 
 pub returns-clause-file : goal.returns-clause-file
 returns-clause-file g c = λ kept w honest sound.
@@ -34,7 +34,7 @@ returns-clause-file g c = λ kept w honest sound.
       end = c.run_batch.result;
     }) in
     subst (λ (v : World). IsTrue (is_honest_after v old) × runs.Did (represented (held_after v old)) run (represented (held_after v new))) same
-    (before, c.run_batch.ensures.run (Some (held_of w)) now was.sound was.read)
+    (before, c.run_batch.ensures.run (Some (held_of w)) now was.sound was.memory.read)
 
 pub returns-clause-on : goal.returns-clause-on
 returns-clause-on g c d same = c.run_batch.ensures.on d same None tt tt

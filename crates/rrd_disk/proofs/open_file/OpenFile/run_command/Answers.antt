@@ -13,8 +13,8 @@ returns-clause-kept g c = λ kept w honest sound.
     let same = world_in_held w in
     let now : IsTrue (is_honest_after (world_in (held_of w)) new) = subst (λ (v : World). IsTrue (is_honest_after v new)) (sym same) honest in
     let was = kept (world_in (held_of w)) (c.run_command.ensures.falls (Some (held_of w)) now) (subst (λ (v : World). IsSound v.start) (sym same) sound) in
-    subst (λ (v : World). IsKeptOf (held_after v new) c.run_command.new.self.database) same
-    (record { sound = c.run_command.ensures.sound (Some (held_of w)) now was.sound; read = c.run_command.ensures.read (Some (held_of w)) now was.sound was.read })
+    subst (λ (v : World). IsKeptOf (held_after v new) c.run_command.new.self.database c.run_command.new.self.encoded) same
+    (record { sound = c.run_command.ensures.sound (Some (held_of w)) now was.sound was.memory; memory = c.run_command.ensures.memory (Some (held_of w)) now was.sound was.memory })
 
 pub returns-clause-file : goal.returns-clause-file
 returns-clause-file g c = λ kept w honest sound.
@@ -31,10 +31,10 @@ returns-clause-file g c = λ kept w honest sound.
       end = c.run_command.result;
     }) in
     subst (λ (v : World). IsTrue (is_honest_after v old) × runs.Did (represented (held_after v old)) run (represented (held_after v new))) same
-    (before, c.run_command.ensures.run (Some (held_of w)) now was.sound was.read)
+    (before, c.run_command.ensures.run (Some (held_of w)) now was.sound was.memory)
 
 pub returns-clause-on : goal.returns-clause-on
-returns-clause-on g c d same = c.run_command.ensures.on d same None tt tt
+returns-clause-on g c d same = c.run_command.ensures.on d same None tt tt (record { read = c.database_is_valid.ensures; bytes = tt })
 
 pub returns-clause-any : goal.returns-clause-any
-returns-clause-any g c = (c.run_command.ensures.run None tt tt c.database_is_valid.ensures, c.run_command.ensures.computed None tt tt c.database_is_valid.ensures)
+returns-clause-any g c = (c.run_command.ensures.run None tt tt (record { read = c.database_is_valid.ensures; bytes = tt }), c.run_command.ensures.computed None tt tt (record { read = c.database_is_valid.ensures; bytes = tt }))

@@ -6,5 +6,5 @@ invariant_of-self g c = record {
   readable = readable_kept c.args.self.now.found (g.D.Disk.events c.args.self.now.bytes.disk) (g.D.Disk.events c.is_marked.new.file.disk)
       c.is_marked.ensures.falls c.is_marked.ensures.bytes c.args.self.now.readable;
   standing = standing_kept c.args.self.now.found (g.D.Disk.events c.args.self.now.bytes.disk) (g.D.Disk.events c.is_marked.new.file.disk)
-      c.is_marked.ensures.falls c.is_marked.ensures.bytes c.args.self.now.standing;
+      c.is_marked.ensures.falls c.is_marked.ensures.same c.args.self.now.standing;
 }

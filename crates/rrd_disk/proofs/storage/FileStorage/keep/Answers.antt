@@ -2,15 +2,17 @@ use Rattle.std.proofs.Common.{◌≡◌, ◌∙◌, Bool, false, List, ℕ, Ok, 
 use Rattle.rrd_store.specs.Storages.{IsNoFile}
 use Rattle.rrd_tail.specs.Marks.{mark_of}
 use Rattle.rrd_tail.specs.Settled.{settled}
-use Rattle.rrd_disk.specs.Replayed.{bytes_after}
+use Rattle.rrd_disk.specs.Replayed.{bytes_after, held_after}
 use Rattle.rrd_disk.specs.Storing.{TellsMark}
 use Rattle.rrd_disk.proofs.Contents.{Laws}
-use Rattle.rrd_disk.proofs.Storing.{if_ok_at, told_unmarked}
+use Rattle.rrd_disk.proofs.Storing.{if_ok_at, there_standing, told_unmarked}
 use Rattle.rrd_disk.proofs.storage.FileStorage.keep.Goals as goal
 
 -- a file that represents a database, and has no mark, has this database
 pub invariant_of-self : goal.invariant_of-self
-invariant_of-self g c = record {
+invariant_of-self g c =
+    let laws : Laws = record { begins = c.file_begins.ensures; database = c.files_without_marks_stand_for_themselves.ensures.database; unmarked = c.files_without_marks_stand_for_themselves.ensures.unmarked } in
+    record {
   readable = λ opened s honest denied.
       let old = g.D.Disk.events c.args.self.now.bytes.disk in
       let new = g.D.Disk.events c.is_marked.new.file.disk in
@@ -19,14 +21,18 @@ invariant_of-self g c = record {
       let none = told_unmarked false (mark_of (bytes_after s new)) (told s honest) refl in
       let same = ap settled (sym (c.is_marked.ensures.bytes s honest)) ∙ c.files_without_marks_stand_for_themselves.ensures.unmarked (bytes_after s new) none in
       c.requires.has s (c.is_marked.ensures.falls s honest) (subst IsNoFile (sym same) denied);
-  standing = λ stayed s honest denied.
-      c.requires.has s (c.is_marked.ensures.falls s honest) (subst (λ (b : List ℕ). IsNoFile (settled b)) (c.is_marked.ensures.bytes s honest) denied);
+  standing = λ stayed s honest.
+      there_standing laws (held_after s (g.D.Disk.events c.is_marked.new.file.disk)) (λ denied.
+      c.requires.has s (c.is_marked.ensures.falls s honest) (subst (λ (b : List ℕ). IsNoFile (settled b)) (c.is_marked.ensures.bytes s honest) denied));
 }
 
 -- the same file, which may have a mark
 pub invariant_of-self-in-Ok-true : goal.invariant_of-self-in-Ok-true
-invariant_of-self-in-Ok-true g c = record {
+invariant_of-self-in-Ok-true g c =
+    let laws : Laws = record { begins = c.file_begins.ensures; database = c.files_without_marks_stand_for_themselves.ensures.database; unmarked = c.files_without_marks_stand_for_themselves.ensures.unmarked } in
+    record {
   readable = λ opened s honest denied. cc;
-  standing = λ stayed s honest denied.
-      c.requires.has s (c.is_marked.ensures.falls s honest) (subst (λ (b : List ℕ). IsNoFile (settled b)) (c.is_marked.ensures.bytes s honest) denied);
+  standing = λ stayed s honest.
+      there_standing laws (held_after s (g.D.Disk.events c.is_marked.new.file.disk)) (λ denied.
+      c.requires.has s (c.is_marked.ensures.falls s honest) (subst (λ (b : List ℕ). IsNoFile (settled b)) (c.is_marked.ensures.bytes s honest) denied));
 }

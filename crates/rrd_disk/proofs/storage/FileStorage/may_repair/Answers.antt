@@ -8,5 +8,5 @@ invariant_of-self g c = record {
   readable = readable_kept c.args.self.now.found (g.D.Disk.events c.args.self.now.bytes.disk) (g.D.Disk.events c.may_write.new.self.disk)
       c.may_write.ensures.falls (λ s honest. ap bytes_of (c.may_write.ensures.same s)) c.args.self.now.readable;
   standing = standing_kept c.args.self.now.found (g.D.Disk.events c.args.self.now.bytes.disk) (g.D.Disk.events c.may_write.new.self.disk)
-      c.may_write.ensures.falls (λ s honest. ap bytes_of (c.may_write.ensures.same s)) c.args.self.now.standing;
+      c.may_write.ensures.falls (λ s honest there. c.may_write.ensures.same s) c.args.self.now.standing;
 }

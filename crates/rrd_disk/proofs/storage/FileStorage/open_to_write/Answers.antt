@@ -2,7 +2,7 @@ use Rattle.std.proofs.Common.{◌≡◌, sym, ◌∙◌}
 use Rattle.rrd_disk.specs.Replayed.{held_after}
 use Rattle.rrd_disk.specs.declared.storage.Found.TheVariants.{Open, Unsettled}
 use Rattle.rrd_disk.proofs.Contents.{Laws}
-use Rattle.rrd_disk.proofs.Storing.{made_near, made_sound, on_ok, prepared_made, prepared_readable, prepared_twice, there_standing, unprepared}
+use Rattle.rrd_disk.proofs.Storing.{made_near, made_sound, on_ok, prepared_made, prepared_readable, prepared_twice, unprepared}
 use Rattle.rrd_disk.proofs.storage.FileStorage.open_to_write.Goals as goal
 
 pub returns-in-Open-clause-prepared : goal.returns-in-Open-clause-prepared
@@ -37,7 +37,7 @@ returns-in-Unsettled-clause-prepared g c = λ s honest sound.
     let is : c.args.self.now.found ≡ Unsettled = sym c.replace.ensures.value ∙ c.in-Unsettled.is in
     let before = c.prepare-in-Unsettled.ensures.falls s honest in
     c.prepare-in-Unsettled.ensures.prepared s honest sound
-    (there_standing laws (held_after s (g.D.Disk.events c.args.self.now.bytes.disk)) (c.args.self.now.standing is s before))
+    (c.args.self.now.standing is s before)
 
 pub returns-in-Missing-clause-prepared : goal.returns-in-Missing-clause-prepared
 returns-in-Missing-clause-prepared g c = λ s honest sound.

@@ -9,7 +9,7 @@ invariant_of-self g c = record {
   readable = readable_kept c.args.self.now.found (g.D.Disk.events c.args.self.now.bytes.disk) (g.D.Disk.events c.find_standing.new.file.disk)
       c.find_standing.ensures.falls (λ s honest. ap bytes_of (c.find_standing.ensures.same s honest)) c.args.self.now.readable;
   standing = standing_kept c.args.self.now.found (g.D.Disk.events c.args.self.now.bytes.disk) (g.D.Disk.events c.find_standing.new.file.disk)
-      c.find_standing.ensures.falls (λ s honest. ap bytes_of (c.find_standing.ensures.same s honest)) c.args.self.now.standing;
+      c.find_standing.ensures.falls (λ s honest there. c.find_standing.ensures.same s honest) c.args.self.now.standing;
 }
 
 pub returns-in-Ok-clause-loads : goal.returns-in-Ok-clause-loads

@@ -8,5 +8,5 @@ invariant_of-self g c = record {
   readable = readable_kept c.args.self.now.found (g.D.Disk.events c.args.self.now.bytes.disk) (g.D.Disk.events c.mend.new.self.disk)
       c.mend.ensures.falls (λ s honest. ap bytes_of (c.mend.ensures.same s honest)) c.args.self.now.readable;
   standing = standing_kept c.args.self.now.found (g.D.Disk.events c.args.self.now.bytes.disk) (g.D.Disk.events c.mend.new.self.disk)
-      c.mend.ensures.falls (λ s honest. ap bytes_of (c.mend.ensures.same s honest)) c.args.self.now.standing;
+      c.mend.ensures.falls (λ s honest there. c.mend.ensures.same s honest) c.args.self.now.standing;
 }

@@ -3,16 +3,22 @@ use Rattle.rrd_spec.specs.Journal.Survivors.{Stored}
 use Rattle.rrd_spec.specs.Limits.{newest}
 use Rattle.rrd_store.specs.Sessions.{IsLinesOn}
 use Rattle.rrd_store.specs.Storages.{Held}
+use Rattle.rrd_store.proofs.Encodings.{has_none}
 use Rattle.rrd_store.proofs.Sessions.{lines_read, ok_same}
 use Rattle.rrd_store.proofs.session.Session.run_lines.Goals as goal
 
-pub returns-clause-read : goal.returns-clause-read
-returns-clause-read g c s honest sound read =
+pub returns-clause-memory : goal.returns-clause-memory
+returns-clause-memory g c s honest sound memory =
     let loaded = c.run_on-end.ensures.falls s honest in
     let mid = c.take.ensures.sound s loaded sound in
     let lines = c.run_on-end.ensures.run s honest mid in
-    lines_read (g.P.Storage.contents s c.take.new.self.storage) (g.P.Storage.contents s c.run_on-end.new.storage) lines.0.last c.run_on-end.result.1 c.run_on-end.result.0.unstored
-    (c.run_on-end.ensures.unknown s) lines.0.left lines.1 c.run_on-end.ensures.valid (λ d. c.layout_is_file.ensures.read newest d)
+    let read_now = lines_read (g.P.Storage.contents s c.take.new.self.storage) (g.P.Storage.contents s c.run_on-end.new.storage) lines.0.last c.run_on-end.result.1 c.run_on-end.result.0.unstored
+    (c.run_on-end.ensures.unknown s) lines.0.left lines.1 c.run_on-end.ensures.valid (λ d. c.layout_is_file.ensures.read newest d) in
+    record { read = read_now; bytes = rw c.take-before.ensures.after (has_none (g.P.Storage.contents s c.run_on-end.new.storage)) }
+
+pub returns-in_err-database-clause-memory : goal.returns-in_err-database-clause-memory
+returns-in_err-database-clause-memory g c s honest sound memory =
+    record { read = rw c.take.ensures.taken tt; bytes = c.take.ensures.bytes s honest sound memory.bytes }
 
 pub returns-clause-on : goal.returns-clause-on
 returns-clause-on g c d same s honest sound =

@@ -5,4 +5,4 @@ pub returns-clause-run : goal.returns-clause-run
 returns-clause-run g c s honest sound read = (Ok c.in_ok-parsed.parsed, c.in_ok-parsed.ensures, c.perform.ensures.run s honest sound read)
 
 pub returns-clause-on : goal.returns-clause-on
-returns-clause-on g c d same s honest sound = (Ok c.in_ok-parsed.parsed, c.in_ok-parsed.ensures, c.perform.ensures.on d same s honest sound)
+returns-clause-on g c d same s honest sound memory = (Ok c.in_ok-parsed.parsed, c.in_ok-parsed.ensures, c.perform.ensures.on d same s honest sound memory)

@@ -1,0 +1,6 @@
+use Rattle.std.proofs.Common.{◌∙◌, sym}
+use Rattle.rrd_file.proofs.Joined.{joined_layout}
+use Rattle.rrd_file.proofs.laws.encoded_is_layout.Goals as goal
+
+pub returns : goal.returns
+returns c e d is = is.bytes_are ∙ sym (joined_layout d)

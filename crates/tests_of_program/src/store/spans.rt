@@ -1,0 +1,118 @@
+//! The spans of a file that a session says it changes: an update changes what is before the cells, the slots of the rows that
+//! ended, and the journal.
+use super::storage::{Ending, InMemory};
+use rrd_store::Session;
+use std::alloc::Global;
+use std::process::Abort;
+use std::test::Fail;
+use test_data::words_of;
+
+// A file of 193 bytes before the cells, 64 and 48 bytes of cells, and a journal of two changes. The rows of the second
+// archive have two steps.
+const CREATE: &str =
+    "create --step 10 --start 0 --journal 2 DS:a:GAUGE:100:U:U RRA:LAST:0.5:1:4 RRA:AVERAGE:0.5:2:3";
+
+// Where the cells begin, and where they end.
+const CELLS: (usize, usize) = (193, 305);
+
+// Updates, and the spans of cells that they change. A row of number n, counted from time 0 on, is in the slot of n modulo
+// the number of rows; the slots of the first archive begin at 193, those of the second at 257.
+const UPDATES: &[(&str, &[(usize, usize)])] = &[
+    // No row ends.
+    ("update 15:2", &[]),
+    // Row 2 of the first archive, and row 1 of the second.
+    ("update 20:3", &[(225, 241), (273, 289)]),
+    // Rows 3 and 4: the last slot and the first. Row 2 of the second.
+    ("update 30:4 40:5", &[(193, 209), (241, 257), (289, 305)]),
+    // Rows 5 to 8: all slots, up to that of the newest row and after it. Rows 3 and 4 of the second: its first two.
+    ("update 50:6 80:7", &[(193, 209), (209, 257), (257, 289)]),
+    // More rows than there are: the newest are in the third slot and in the first.
+    (
+        "update 300:8",
+        &[(193, 241), (241, 257), (257, 273), (273, 305)],
+    ),
+    ("update 310:9", &[(241, 257)]),
+];
+
+// Runs a line, and tells whether it was written.
+fn run(alloc: Global, session: &mut Session<InMemory>, line: &str) -> Result<bool, Fail> {
+    let mut out = Vec::new(alloc);
+    let end = session.run(alloc, &words_of(alloc, line)?, 0, &mut out);
+    Ok(end.is_ok() && session.is_written())
+}
+
+// The spans of the last change, if it came with spans.
+fn spans_of(session: &Session<InMemory>) -> Option<&[(usize, usize)]> {
+    session.storage().spans.as_deref()
+}
+
+// Checks the spans of an update: these cells, what is before the cells, and the journal.
+fn assert_spans(rt: &impl Abort, session: &Session<InMemory>, line: &str, cells: &[(usize, usize)]) {
+    let storage = session.storage();
+    assert!(rt; storage.agrees, "{line}");
+    let Some(spans) = spans_of(session) else {
+        assert!(rt; false, "{line}: no spans");
+        return;
+    };
+    assert_eq!(rt; spans.len(), cells.len().saturating_add(2), "{line}: {spans:?}");
+    assert!(rt; spans.starts_with(cells), "{line}: {spans:?}");
+    assert!(rt; spans.contains(&(0, CELLS.0)), "{line}: {spans:?}");
+    assert!(rt; spans.contains(&(CELLS.1, storage.bytes.len())), "{line}: {spans:?}");
+}
+
+#[test]
+fn updates_name_the_slots_that_they_change(rt: HostRuntime) -> Result<(), Fail> {
+    let alloc = rt.alloc();
+    let mut session = Session::new(InMemory::missing(alloc));
+    assert!(&rt; run(alloc, &mut session, CREATE)?, "{CREATE}");
+    // Of the first change nobody knows what was there.
+    assert!(&rt; spans_of(&session).is_none());
+    assert!(&rt; run(alloc, &mut session, "update 10:1")?);
+    assert_spans(&rt, &session, "update 10:1", &[(209, 225)]);
+    for (line, cells) in UPDATES {
+        assert!(&rt; run(alloc, &mut session, line)?, "{line}");
+        assert_spans(&rt, &session, line, cells);
+    }
+    Ok(())
+}
+
+// A change of another kind may change every byte.
+#[test]
+fn other_changes_name_all_bytes(rt: HostRuntime) -> Result<(), Fail> {
+    let alloc = rt.alloc();
+    let mut session = Session::new(InMemory::missing(alloc));
+    for line in [CREATE, "update 10:1"] {
+        assert!(&rt; run(alloc, &mut session, line)?, "{line}");
+    }
+    for line in ["tune --heartbeat a:90", "resize 0 GROW 2", "revert", "revert"] {
+        assert!(&rt; run(alloc, &mut session, line)?, "{line}");
+        let all = [(0, session.storage().bytes.len())];
+        assert_eq!(&rt; spans_of(&session), Some(&all[..]), "{line}");
+    }
+    Ok(())
+}
+
+// After a write that failed nobody knows what is there: the next change comes without spans.
+#[test]
+fn a_failed_write_forgets_the_bytes(rt: HostRuntime) -> Result<(), Fail> {
+    let alloc = rt.alloc();
+    for ending in [Ending::OldStays, Ending::NewStays] {
+        let mut storage = InMemory::missing(alloc);
+        storage.ending = ending;
+        storage.ending_at = Some(3);
+        let mut session = Session::new(storage);
+        for (line, is_written, has_spans) in [
+            (CREATE, true, false),
+            ("update 10:1", true, true),
+            ("update 20:1", true, true),
+            ("update 30:1", false, true),
+            ("update 40:1", true, false),
+            ("update 50:1", true, true),
+        ] {
+            assert_eq!(&rt; run(alloc, &mut session, line)?, is_written, "{line}");
+            assert_eq!(&rt; spans_of(&session).is_some(), has_spans, "{line}");
+            assert!(&rt; session.storage().agrees, "{line}");
+        }
+    }
+    Ok(())
+}
