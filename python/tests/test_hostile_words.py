@@ -78,6 +78,15 @@ class Record(unittest.TestCase):
         self.assertEqual(self.given(), b"create\0--step=10\0--start=5\0DS:g:GAUGE:9:-1000:U\0RRA:MAX:0.5:1:4")
         self.recorder.update(self.file, None, "10:NaN:-NAN:nan:-1.5000005:1.5000005")
         self.assertEqual(self.given(), b"update 10:U:U:U:-1.5:1.500001\n")
+        # What is no number is passed as it is, and rrdi refuses it.
+        self.recorder.update(self.file, None, "10:1.2.3:1..2:1e:1e+:e5:.:-:+nan:nano:1e2e3")
+        self.assertEqual(self.given(), b"update 10:1.2.3:1..2:1e:1e+:e5:.:-:U:nano:1e2e3\n")
+        # An exponent may have many digits; rrdi refuses what is too large.
+        self.recorder.update(self.file, None, "10:1e100:-2.5e+30:1e-100:1e0000000000000000000001")
+        self.assertEqual(self.given(), b"update 10:1" + b"0" * 100 + b":-25" + b"0" * 29 + b":0:10\n")
+        for text, zeros in (("1e9999", 9_999), ("1e99999999999999999999", 9_999)):
+            self.recorder.update(self.file, None, f"10:{text}")
+            self.assertEqual(self.given(), b"update 10:1" + b"0" * zeros + b"\n")
         # A start of 0 is one; a negative one stands for the present.
         self.recorder.create(self.file, 10, 0, "DS:g:GAUGE:9:U:U", "RRA:MAX:0.5:1:4")
         self.assertIn(b"\0--start=0\0", self.given())

@@ -9,7 +9,7 @@ import threading
 import unittest
 from typing import List, Optional, Tuple
 
-from cases import needs_program, run_in_threads
+from cases import HANG, needs_program, run_in_threads
 from doubles import TOP
 from tool_case import ToolCase
 
@@ -161,6 +161,27 @@ class Record(ToolCase):
 
         run_in_threads(8, run)
         self.assertEqual(sorted(errors), [""] * 240 + ["f: sample 1 of 1: not later than 1000000029"])
+
+    def test_an_error_is_that_of_its_thread(self) -> None:
+        """Two threads in turns: a call of one neither shows nor clears the error of the other one."""
+        self.make()
+        has_failed, may_look, errors = threading.Event(), threading.Event(), []  # type: threading.Event, threading.Event, List[str]
+
+        def fail() -> None:
+            errors.append(self.recorder.update(self.file, None, "5:1"))
+            has_failed.set()
+            may_look.wait(HANG)
+            errors.append(self.recorder.error())
+
+        other = threading.Thread(target=fail)
+        other.start()
+        has_failed.wait(HANG)
+        self.assertEqual(self.recorder.error(), "")
+        self.assertEqual(self.recorder.update(self.file, None, "1000000010:1"), "")
+        may_look.set()
+        other.join()
+        self.assertIn("not later than", errors[0])
+        self.assertEqual(errors[0], errors[1])
 
 
 if __name__ == "__main__":

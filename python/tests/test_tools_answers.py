@@ -144,6 +144,11 @@ show again => RRDs::times('noon 20240101', 'start+1h'); chdir '..'; """ + self.N
             "again: 1704110400; 1704114000; undef", self.SHOWN[:-1]])
         self.assertEqual([path for path in self.folder.rglob("made")], [])
 
+    def test_an_undefined_word(self) -> None:
+        """It is an empty word, without a warning."""
+        self.assertEqual(self.perl("show none => RRDs::times(undef, 'now'); " + self.NOW, f"-I{TOP}/perl"),
+                         "none: undef; cannot parse time: \n" + self.SHOWN)
+
     def test_rrdp(self) -> None:
         """RRDtool's own module for pipes gets each command's answer."""
         assert PERL
@@ -181,6 +186,20 @@ show outer => RRDs::last('slow'); show last => RRDs::last('f');"""
         self.assertEqual(self.perl(self.NOW, "-T", self.installed()), self.SHOWN)
         self.assertEqual(self.perl("show graph => RRDs::graph('p.png', 'PRINT:a:x'); " + self.NOW, "-T", f"-I{self.folder}/perl"),
                          "graph: [tainted x]; 3; 2; undef\n" + self.SHOWN)
+
+    def test_the_environment_in_taint_mode(self) -> None:
+        """Nothing is passed on that would choose a program, or load code into one."""
+        self.installed()
+        environment = self.folder / "environment"
+        shutil.move(self.stub("shows", f"env >{environment}\nread line; printf 'OK 1\\n7'; read line"), self.folder / "tools/rrdi-rrdtool")
+        kept = {"TZ": "UTC", "HERE": "x"}
+        dropped = {name: str(self.folder / "none") for name in ("LD_LIBRARY_PATH", "LD_AUDIT_OF_NOTHING", "PYTHONPATH", "PYTHONHOME",
+                                                                "RRDI", "RRDI_LIBRARY", "BASH_ENV", "ENV", "CDPATH")}
+        self.assertEqual(self.perl("show last => RRDs::last('f');", "-T", f"-I{self.folder}/perl", env={**kept, **dropped}),
+                         "last: 7; undef\n")
+        found = dict(line.split("=", 1) for line in environment.read_text().splitlines() if "=" in line)
+        self.assertEqual([name for name in dropped if name in found], [])
+        self.assertEqual({name: found.get(name) for name in [*kept, "PATH"]}, {**kept, "PATH": "/usr/local/bin:/usr/bin:/bin"})
 
     @unittest.skipUnless(PROGRAM, "rrdi not found")
     def test_taint_mode_on_a_database(self) -> None:
