@@ -34,7 +34,7 @@ pub enum Part {
     /// A data source's new maximum rate: `maximum`.
     Maximum,
     /// A source's new type: `type`.
-    Class,
+    Kind,
     /// A source's new name: `rename`.
     Rename,
     /// An archive's number: `archive`.
@@ -66,7 +66,7 @@ impl Part {
             Part::Heartbeat => "heartbeat",
             Part::Minimum => "minimum",
             Part::Maximum => "maximum",
-            Part::Class => "type",
+            Part::Kind => "type",
             Part::Rename => "rename",
             Part::Archive => "archive",
             Part::Change => "change",

@@ -41,7 +41,7 @@ tune_of rows =
     optional (setting_of whole_of) part.Heartbeat (first_of (codes "heartbeat") rows)
     >>= (λ heartbeat. optional (setting_of bound_of) part.Minimum (first_of (codes "minimum") rows)
     >>= (λ minimum. optional (setting_of bound_of) part.Maximum (first_of (codes "maximum") rows)
-    >>= (λ maximum. optional (setting_of kind_of) part.Class (first_of (codes "type") rows)
+    >>= (λ maximum. optional (setting_of kind_of) part.Kind (first_of (codes "type") rows)
     >>= (λ kind. optional (setting_of name_of) part.Rename (first_of (codes "rename") rows)
     >>= (λ rename. optional archive_tune_of part.Definition (first_of (codes "definition") rows)
     >>= (λ archive. Ok (command.Tune (record {

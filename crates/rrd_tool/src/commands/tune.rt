@@ -67,7 +67,7 @@ pub(crate) fn read(matches: &ArgMatches<'_>) -> Result<Command, LineFault>
     let heartbeat = read_optional(Part::Heartbeat, text_of(matches, "heartbeat"))?;
     let minimum = read_optional(Part::Minimum, text_of(matches, "minimum"))?;
     let maximum = read_optional(Part::Maximum, text_of(matches, "maximum"))?;
-    let kind = read_optional(Part::Class, text_of(matches, "type"))?;
+    let kind = read_optional(Part::Kind, text_of(matches, "type"))?;
     let rename = read_optional(Part::Rename, text_of(matches, "rename"))?;
     let archive = read_optional(Part::Definition, text_of(matches, "definition"))?;
     Ok(Command::Tune(Tuning {

@@ -82,7 +82,7 @@ const UNREAD: &[(Part, &str)] = &[
     (Part::Heartbeat, "unreadable heartbeat"),
     (Part::Minimum, "unreadable minimum"),
     (Part::Maximum, "unreadable maximum"),
-    (Part::Class, "unreadable type"),
+    (Part::Kind, "unreadable type"),
     (Part::Rename, "unreadable rename"),
     (Part::Archive, "unreadable archive"),
     (Part::Change, "unreadable change"),

@@ -21,7 +21,7 @@ returns-in_err-rename c =
     let heartbeat : optional (setting_of whole_of) part.Heartbeat (first_of (codes "heartbeat") rows) ≡ Ok c.in_ok-heartbeat.heartbeat = rw c.text_of.ensures at c.in_ok-heartbeat.ensures in
     let minimum : optional (setting_of bound_of) part.Minimum (first_of (codes "minimum") rows) ≡ Ok c.in_ok-minimum.minimum = rw c.text_of-2.ensures at c.in_ok-minimum.ensures in
     let maximum : optional (setting_of bound_of) part.Maximum (first_of (codes "maximum") rows) ≡ Ok c.in_ok-maximum.maximum = rw c.text_of-3.ensures at c.in_ok-maximum.ensures in
-    let kind : optional (setting_of kind_of) part.Class (first_of (codes "type") rows) ≡ Ok c.in_ok-kind.kind = rw c.text_of-4.ensures at c.in_ok-kind.ensures in
+    let kind : optional (setting_of kind_of) part.Kind (first_of (codes "type") rows) ≡ Ok c.in_ok-kind.kind = rw c.text_of-4.ensures at c.in_ok-kind.ensures in
     let fault = c.in_err-rename.field-0.0 in
     let bad : Meets (optional (setting_of name_of) part.Rename (first_of (codes "rename") rows)) (Err fault) =
     subst (λ text. Meets (optional (setting_of name_of) part.Rename text) (Err fault)) c.text_of-5.ensures c.in_err-rename.ensures in
@@ -44,7 +44,7 @@ returns-in_err-archive c =
     let heartbeat : optional (setting_of whole_of) part.Heartbeat (first_of (codes "heartbeat") rows) ≡ Ok c.in_ok-heartbeat.heartbeat = rw c.text_of.ensures at c.in_ok-heartbeat.ensures in
     let minimum : optional (setting_of bound_of) part.Minimum (first_of (codes "minimum") rows) ≡ Ok c.in_ok-minimum.minimum = rw c.text_of-2.ensures at c.in_ok-minimum.ensures in
     let maximum : optional (setting_of bound_of) part.Maximum (first_of (codes "maximum") rows) ≡ Ok c.in_ok-maximum.maximum = rw c.text_of-3.ensures at c.in_ok-maximum.ensures in
-    let kind : optional (setting_of kind_of) part.Class (first_of (codes "type") rows) ≡ Ok c.in_ok-kind.kind = rw c.text_of-4.ensures at c.in_ok-kind.ensures in
+    let kind : optional (setting_of kind_of) part.Kind (first_of (codes "type") rows) ≡ Ok c.in_ok-kind.kind = rw c.text_of-4.ensures at c.in_ok-kind.ensures in
     let rename : optional (setting_of name_of) part.Rename (first_of (codes "rename") rows) ≡ Ok c.in_ok-rename.rename = rw c.text_of-5.ensures at c.in_ok-rename.ensures in
     let fault = c.in_err-archive.field-0.0 in
     let bad : Meets (optional archive_tune_of part.Definition (first_of (codes "definition") rows)) (Err fault) =
@@ -67,7 +67,7 @@ returns c =
     let heartbeat : optional (setting_of whole_of) part.Heartbeat (first_of (codes "heartbeat") rows) ≡ Ok c.in_ok-heartbeat.heartbeat = rw c.text_of.ensures at c.in_ok-heartbeat.ensures in
     let minimum : optional (setting_of bound_of) part.Minimum (first_of (codes "minimum") rows) ≡ Ok c.in_ok-minimum.minimum = rw c.text_of-2.ensures at c.in_ok-minimum.ensures in
     let maximum : optional (setting_of bound_of) part.Maximum (first_of (codes "maximum") rows) ≡ Ok c.in_ok-maximum.maximum = rw c.text_of-3.ensures at c.in_ok-maximum.ensures in
-    let kind : optional (setting_of kind_of) part.Class (first_of (codes "type") rows) ≡ Ok c.in_ok-kind.kind = rw c.text_of-4.ensures at c.in_ok-kind.ensures in
+    let kind : optional (setting_of kind_of) part.Kind (first_of (codes "type") rows) ≡ Ok c.in_ok-kind.kind = rw c.text_of-4.ensures at c.in_ok-kind.ensures in
     let rename : optional (setting_of name_of) part.Rename (first_of (codes "rename") rows) ≡ Ok c.in_ok-rename.rename = rw c.text_of-5.ensures at c.in_ok-rename.ensures in
     let archive : optional archive_tune_of part.Definition (first_of (codes "definition") rows) ≡ Ok c.in_ok-archive.archive = rw c.text_of-6.ensures at c.in_ok-archive.ensures in
     rw (heartbeat, minimum, maximum, kind, rename, archive) refl
