@@ -14,7 +14,6 @@ from typing import Any, Callable, Iterable, Optional
 from carbon import instrumentation, log
 from carbon.database import TimeSeriesDatabase
 
-from ..allocation import keep_freed_memory
 from ..library import load_library
 from ..limits import MOST_CHANGES
 from ..reader.selected import OpenFile
@@ -59,7 +58,6 @@ class RrdiDatabase(TimeSeriesDatabase):  # type: ignore[misc]
             load_library(settings.get("RRDI_LIBRARY") or None)
         except (OSError, AttributeError) as error:
             raise SystemExit(f"rrdi: {error}") from None
-        keep_freed_memory()
         self.journal = whole_number(settings, "RRDI_JOURNAL", 16, MOST_CHANGES)
         most_future = whole_number(settings, "RRDI_MAX_FUTURE", 600, 10**9)
         interval = settings.CARBON_METRIC_INTERVAL
