@@ -17,7 +17,7 @@ from ..protocol import Library, OpenedFile
 from ..words import present
 from .writers import BatchWriter, Outcome, lines_of, outcome_of
 
-MANY = 100  # samples; with fewer, the second change of the file costs more than the lines
+MANY = 50  # samples; with fewer, the second change of the file costs more than the lines
 NOTHING_TAKEN = (BAD_WORD, REFUSED, USAGE)
 BUSY = (errno.EAGAIN, errno.EWOULDBLOCK)
 
