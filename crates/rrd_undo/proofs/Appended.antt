@@ -1,23 +1,21 @@
 -- Slots that are appended, many at once, and the record of the new bytes behind them.
-use Rattle.std.proofs.Common.{◌≡◌, ◌⊎◌, ℕ, ◌+◌, ◌-◌, ◌*◌, ◌%◌, ◌^◌, ◌<◌, ◌≤◌, List, [], ◌∷◌, ◌++◌, length, take, slice_index, replicate, Some, refl, sym, ◌∙◌, ap, inl, inr, arith, append-nil, append_assoc, length-append, length-take, get_or-take}
+use Rattle.std.proofs.Common.{◌≡◌, ℕ, ◌+◌, ◌-◌, ◌*◌, ◌<◌, ◌≤◌, List, [], ◌∷◌, ◌++◌, length, take, slice_index, replicate, refl, sym, ◌∙◌, ap, inl, inr, arith, append-nil, append_assoc, length-append, length-take, get_or-take}
 use Rattle.std.proofs.lemmas.Bool.{cases_lt}
-use Rattle.std.proofs.lemmas.List.{get_or-append-add, get_or-replicate, get_or_append_left, get_or_past, length-replicate}
+use Rattle.std.proofs.lemmas.List.{get_or-append-add, get_or_append_left, get_or_past, length-replicate}
 use Rattle.std.proofs.lemmas.List.Elements.{All-cons, All-head, All-nil, All-tail}
 use Rattle.std.specs.List.{All}
 use Rattle.rrd_tail.specs.Bytes.{StandsAt}
-use Rattle.rrd_tail.specs.Marks.{shape_for, size_of, undo_mark}
-use Rattle.rrd_tail.specs.Records.{IsRightAt, record_at, shaped_bytes}
+use Rattle.rrd_tail.specs.Marks.{undo_mark}
 use Rattle.rrd_tail.specs.Settled.{settled}
 use Rattle.rrd_tail.specs.Slots.{IsRightSlot, Slot, all_laid, slot_bytes, slot_offset, slots_in}
-use Rattle.rrd_tail.specs.declared.mark.Shape.{Shape}
 use Rattle.rrd_undo.specs.Calls.{ArePut, IsFrontPut}
 use Rattle.rrd_undo.specs.Databases.{IsDatabase}
-use Rattle.rrd_undo.specs.Gathering.{AreRecorded, IsAppended, IsOldSlot, group_bytes, padded}
+use Rattle.rrd_undo.specs.Gathering.{IsAppended, IsOldSlot, group_bytes, padded}
 use Rattle.rrd_undo.specs.Undoing.{IsTail, Restores, Undoing, record_of}
-use Rattle.rrd_undo.proofs.Cutting.{put_stands, stands_same}
+use Rattle.rrd_undo.proofs.Cutting.{stands_same}
 use Rattle.rrd_undo.proofs.Laid.{all_laid_both, laid_old}
-use Rattle.rrd_undo.proofs.Undone.{length-sixteen, record_same, right_record_of, shaped_length, shaped_stands, undone_settled}
-use Rattle.rrd_tail.proofs.Lemmas.{cut_slot_is_not_counted, last_record_is_read, record_is_read, slot_bytes_length, slot_is_appended, undo_mark_length, zeros_end_slots}
+use Rattle.rrd_undo.proofs.Undone.{record_same, undone_settled}
+use Rattle.rrd_tail.proofs.Lemmas.{cut_slot_is_not_counted, slot_bytes_length, slot_is_appended, undo_mark_length, zeros_end_slots}
 
 -- the file g is the file f, and where f has ended, from an offset on, a first part of these bytes
 pub record IsExtended (at : ℕ) (bytes f g : List ℕ) : Type 0 where

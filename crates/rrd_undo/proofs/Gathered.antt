@@ -8,13 +8,13 @@ use Rattle.rrd_tail.specs.Marks.{shape_for, size_of}
 use Rattle.rrd_tail.specs.Records.{shaped_bytes}
 use Rattle.rrd_tail.specs.Settled.{settled}
 use Rattle.rrd_tail.specs.Slots.{Slot, all_laid, slot_offset, slots_in}
-use Rattle.rrd_undo.specs.Calls.{AreAt, ArePut, IsFrontPut}
+use Rattle.rrd_undo.specs.Calls.{ArePut, IsFrontPut}
 use Rattle.rrd_undo.specs.Databases.{IsDatabase}
 use Rattle.rrd_undo.specs.Gathering.{AddsSpan, AreRecorded, IsAppended, IsCovered, IsGathered, IsOldSlot, IsSaved, group_bytes, padded, slots_for}
 use Rattle.rrd_undo.specs.Spans.{IsBeside}
 use Rattle.rrd_undo.specs.Undoing.{EndsBelow, IsOldPage, IsTail, Undoing, record_of, slot_of}
 use Rattle.rrd_undo.specs.declared.span.Span.{Span}
-use Rattle.rrd_undo.proofs.Appended.{IsExtended, appended_settled, extended_front, front_extends, group_appended, group_front, group_goes_on, group_length, put_extends}
+use Rattle.rrd_undo.proofs.Appended.{IsExtended, extended_front, front_extends, group_appended, group_front, group_goes_on, group_length, put_extends}
 use Rattle.rrd_undo.proofs.Laid.{all_laid_both, laid_in, laid_old}
 use Rattle.rrd_undo.proofs.Turned.{new_recorded}
 use Rattle.rrd_undo.proofs.Undone.{length-sixteen, shaped_length}

@@ -1,7 +1,7 @@
 -- Files with an undo mark.
-use Rattle.std.proofs.Common.{◌≡◌, ◌⊎◌, ℕ, ◌+◌, ◌-◌, ◌%◌, ◌^◌, ◌<◌, ◌≤◌, min, List, [], ◌∷◌, ◌++◌, length, take, slice_index, Some, refl, sym, ◌∙◌, ap, inl, inr, arith, length-take, length-append, replicate, get_or-take}
+use Rattle.std.proofs.Common.{◌≡◌, ℕ, ◌+◌, ◌%◌, ◌^◌, ◌<◌, ◌≤◌, min, List, [], length, take, slice_index, Some, refl, sym, ◌∙◌, ap, inl, inr, arith, length-take, length-append, replicate, get_or-take}
 use Rattle.std.proofs.lemmas.Bool.{cases_lt, lt-ltb, le-ltb}
-use Rattle.std.proofs.lemmas.List.{ext_get_or, get_or_append_left, length-replicate, take_all}
+use Rattle.std.proofs.lemmas.List.{ext_get_or, get_or_append_left, length-replicate}
 use Rattle.rrd_tail.specs.Bytes.{StandsAt}
 use Rattle.rrd_tail.specs.Laws.{IsUndone}
 use Rattle.rrd_tail.specs.Marks.{cut_mark, shape_for, size_of, undo_mark}

@@ -1,6 +1,5 @@
 -- Glue: the undoing of a change by the file's tail, and what each step of a change preserves (own).
-use Rattle.std.specs.Prelude.{◌≡◌, ◌⊎◌, ℕ, ◌+◌, ◌%◌, ◌^◌, ◌<◌, ◌≤◌, List, [], ◌∷◌, ◌++◌, length, take, slice_index, Some}
-use Rattle.std.specs.List.{All}
+use Rattle.std.specs.Prelude.{◌≡◌, ℕ, ◌+◌, ◌%◌, ◌^◌, ◌<◌, ◌≤◌, List, length, take, slice_index, Some}
 use Rattle.rrd_tail.specs.Bytes.{StandsAt}
 use Rattle.rrd_tail.specs.Marks.{cut_mark, shape_for, undo_mark}
 use Rattle.rrd_tail.specs.Records.{last_record, record_at}

@@ -22,7 +22,8 @@ use std::io::{self, Error, ErrorKind};
 /// The distance between the starts of two slots, in bytes.
 pub(crate) const SLOT: usize = SLOT_HEADER_SIZE + PAGE;
 
-// The number of bytes of slots that one call appends, at least: a change needs as much memory, and a page or two more.
+// As soon as the slots that wait have this many bytes, one call appends them. So a change of any size needs only this much
+// memory, and a few pages.
 const GROUP: usize = 1 << 20;
 
 // The size of a long record, in bytes.

@@ -1,4 +1,3 @@
-use Rattle.std.proofs.Common.{rules}
 use Rattle.rrd_undo.proofs.Laid.{on_err, on_ok}
 use Rattle.rrd_undo.proofs.Stages.{all_agree}
 use Rattle.rrd_undo.proofs.replacing.replace.Goals as goal

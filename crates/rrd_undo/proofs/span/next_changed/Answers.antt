@@ -1,6 +1,6 @@
-use Rattle.std.proofs.Common.{◌≡◌, ℕ, ◌+◌, ◌<◌, ◌≤◌, length, slice_index_or, take, inl, inr, arith}
+use Rattle.std.proofs.Common.{◌≡◌, ◌+◌, ◌<◌, length, slice_index_or, take, inl, inr, arith}
 use Rattle.std.proofs.lemmas.List.{take_all}
-use Rattle.std.proofs.lemmas.List.Elements.{All-more, All-same}
+use Rattle.std.proofs.lemmas.List.Elements.{All-more}
 use Rattle.std.specs.List.{All}
 use Rattle.rrd_undo.specs.Spans.{IsBeside}
 use Rattle.rrd_undo.specs.declared.span.Span.{Span}

@@ -1,4 +1,4 @@
-use Rattle.std.proofs.Common.{rules, ◌≡◌, ◌⊎◌, ℕ, ◌+◌, ◌-◌, ◌<◌, ◌≤◌, min, length, refl, ap, arith}
+use Rattle.std.proofs.Common.{◌≡◌, ℕ, ◌+◌, ◌-◌, ◌<◌, ◌≤◌, min, length, refl, ap, arith}
 use Rattle.rrd_undo.specs.Changing.{IsPage}
 use Rattle.rrd_undo.specs.Gathering.{Turning}
 use Rattle.rrd_undo.specs.Pages.{IsDifference}

@@ -1,10 +1,10 @@
-use Rattle.std.proofs.Common.{◌≡◌, ◌⊎◌, ℕ, ◌+◌, ◌-◌, ◌<◌, ◌≤◌, min, length, refl, ap, inl, inr, arith}
-use Rattle.rrd_undo.specs.Pages.{IsDifference, IsSame}
+use Rattle.std.proofs.Common.{◌≡◌, ◌+◌, ◌-◌, ◌≤◌, min, length, refl, ap, arith}
+use Rattle.rrd_undo.specs.Pages.{IsDifference}
 use Rattle.rrd_undo.specs.Undoing.{IsOldPage}
 use Rattle.rrd_undo.specs.declared.tail.Tail.{Tail}
 use Rattle.rrd_undo.proofs.Laid.{on_two}
 use Rattle.rrd_undo.proofs.Gathered.{gathered_lower}
-use Rattle.rrd_undo.proofs.Stages.{both_have, differing_count, differing_old, first_is_page, first_waits, outside_difference}
+use Rattle.rrd_undo.proofs.Stages.{both_have, differing_count, differing_old, first_is_page, first_waits}
 use Rattle.rrd_undo.proofs.change.Change.gather_first.Goals as goal
 
 pub returns-in_default-clause-ok : goal.returns-in_default-clause-ok

@@ -1,4 +1,4 @@
-use Rattle.std.proofs.Common.{rules, ◌+◌, ◌/◌, ◌≤◌, ◌∙◌, ap, length, refl, arith}
+use Rattle.std.proofs.Common.{rules, ◌+◌, ◌/◌, ◌∙◌, ap, length, refl, arith}
 use Rattle.rrd_tail.specs.Settled.{settled}
 use Rattle.rrd_undo.proofs.Laid.{always_err, on_any}
 use Rattle.rrd_undo.proofs.Gathered.{appended_same, group_cut, group_put}
