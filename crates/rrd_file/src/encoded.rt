@@ -244,8 +244,18 @@ impl Encoded {
         bytes.truncate(cells_end);
         put_before_journal(&mut bytes, &front, database, last, &mut changed).ok()?;
         encode_journal(database, &mut bytes).ok()?;
-        changed.push(Span { start: 0, end: cells_at }).ok()?;
-        changed.push(Span { start: cells_end, end: bytes.len() }).ok()?;
+        changed
+            .push(Span {
+                start: 0,
+                end: cells_at,
+            })
+            .ok()?;
+        changed
+            .push(Span {
+                start: cells_end,
+                end: bytes.len(),
+            })
+            .ok()?;
         let encoded = Encoded {
             bytes,
             cells_at,

@@ -47,17 +47,29 @@ fn spans_of(session: &Session<InMemory>) -> Option<&[(usize, usize)]> {
 }
 
 // Checks the spans of an update: these cells, what is before the cells, and the journal.
-fn assert_spans(rt: &impl Abort, session: &Session<InMemory>, line: &str, cells: &[(usize, usize)]) {
+fn assert_spans(
+    rt: &impl Abort,
+    session: &Session<InMemory>,
+    line: &str,
+    cells: &[(usize, usize)],
+) {
     let storage = session.storage();
     assert!(rt; storage.agrees, "{line}");
     let Some(spans) = spans_of(session) else {
         assert!(rt; false, "{line}: no spans");
         return;
     };
-    assert_eq!(rt; spans.len(), cells.len().saturating_add(2), "{line}: {spans:?}");
+    assert_eq!(rt;
+        spans.len(),
+        cells.len().saturating_add(2),
+        "{line}: {spans:?}"
+    );
     assert!(rt; spans.starts_with(cells), "{line}: {spans:?}");
     assert!(rt; spans.contains(&(0, CELLS.0)), "{line}: {spans:?}");
-    assert!(rt; spans.contains(&(CELLS.1, storage.bytes.len())), "{line}: {spans:?}");
+    assert!(rt;
+        spans.contains(&(CELLS.1, storage.bytes.len())),
+        "{line}: {spans:?}"
+    );
 }
 
 #[test]
@@ -84,7 +96,12 @@ fn other_changes_name_all_bytes(rt: HostRuntime) -> Result<(), Fail> {
     for line in [CREATE, "update 10:1"] {
         assert!(&rt; run(alloc, &mut session, line)?, "{line}");
     }
-    for line in ["tune --heartbeat a:90", "resize 0 GROW 2", "revert", "revert"] {
+    for line in [
+        "tune --heartbeat a:90",
+        "resize 0 GROW 2",
+        "revert",
+        "revert",
+    ] {
         assert!(&rt; run(alloc, &mut session, line)?, "{line}");
         let all = [(0, session.storage().bytes.len())];
         assert_eq!(&rt; spans_of(&session), Some(&all[..]), "{line}");

@@ -13,26 +13,26 @@ pub invariant_of-self : goal.invariant_of-self
 invariant_of-self g c =
     let laws : Laws = record { begins = c.file_begins.ensures; database = c.files_without_marks_stand_for_themselves.ensures.database; unmarked = c.files_without_marks_stand_for_themselves.ensures.unmarked } in
     record {
-  readable = λ opened s honest denied.
-      let old = g.D.Disk.events c.args.self.now.bytes.disk in
-      let new = g.D.Disk.events c.is_marked.new.file.disk in
-      let was : c.is_marked.result ≡ Ok false = cc in
-      let told = if_ok_at (λ (b : Bool). TellsMark b new) c.is_marked.result false was c.is_marked.ensures.ok in
-      let none = told_unmarked false (mark_of (bytes_after s new)) (told s honest) refl in
-      let same = ap settled (sym (c.is_marked.ensures.bytes s honest)) ∙ c.files_without_marks_stand_for_themselves.ensures.unmarked (bytes_after s new) none in
-      c.requires.has s (c.is_marked.ensures.falls s honest) (subst IsNoFile (sym same) denied);
-  standing = λ stayed s honest.
-      there_standing laws (held_after s (g.D.Disk.events c.is_marked.new.file.disk)) (λ denied.
-      c.requires.has s (c.is_marked.ensures.falls s honest) (subst (λ (b : List ℕ). IsNoFile (settled b)) (c.is_marked.ensures.bytes s honest) denied));
-}
+      readable = λ opened s honest denied.
+          let old = g.D.Disk.events c.args.self.now.bytes.disk in
+          let new = g.D.Disk.events c.is_marked.new.file.disk in
+          let was : c.is_marked.result ≡ Ok false = cc in
+          let told = if_ok_at (λ (b : Bool). TellsMark b new) c.is_marked.result false was c.is_marked.ensures.ok in
+          let none = told_unmarked false (mark_of (bytes_after s new)) (told s honest) refl in
+          let same = ap settled (sym (c.is_marked.ensures.bytes s honest)) ∙ c.files_without_marks_stand_for_themselves.ensures.unmarked (bytes_after s new) none in
+          c.requires.has s (c.is_marked.ensures.falls s honest) (subst IsNoFile (sym same) denied);
+      standing = λ stayed s honest.
+          there_standing laws (held_after s (g.D.Disk.events c.is_marked.new.file.disk)) (λ denied.
+          c.requires.has s (c.is_marked.ensures.falls s honest) (subst (λ (b : List ℕ). IsNoFile (settled b)) (c.is_marked.ensures.bytes s honest) denied));
+    }
 
 -- the same file, which may have a mark
 pub invariant_of-self-in-Ok-true : goal.invariant_of-self-in-Ok-true
 invariant_of-self-in-Ok-true g c =
     let laws : Laws = record { begins = c.file_begins.ensures; database = c.files_without_marks_stand_for_themselves.ensures.database; unmarked = c.files_without_marks_stand_for_themselves.ensures.unmarked } in
     record {
-  readable = λ opened s honest denied. cc;
-  standing = λ stayed s honest.
-      there_standing laws (held_after s (g.D.Disk.events c.is_marked.new.file.disk)) (λ denied.
-      c.requires.has s (c.is_marked.ensures.falls s honest) (subst (λ (b : List ℕ). IsNoFile (settled b)) (c.is_marked.ensures.bytes s honest) denied));
-}
+      readable = λ opened s honest denied. cc;
+      standing = λ stayed s honest.
+          there_standing laws (held_after s (g.D.Disk.events c.is_marked.new.file.disk)) (λ denied.
+          c.requires.has s (c.is_marked.ensures.falls s honest) (subst (λ (b : List ℕ). IsNoFile (settled b)) (c.is_marked.ensures.bytes s honest) denied));
+    }

@@ -37,8 +37,8 @@ returns-clause-writes g c = λ s honest sound differs.
     let none = c.requires.unmarked s before in
     let file = bytes_after s old in
     let differ = differs_there c.args.changed.now (represented (held_after s old)) file bytes (itself laws (held_after s old) file there none) differs in
-    let spans = c.in_ok-changed.changed.items in
-    let agrees : AgreesOutside spans file bytes = agrees_there c.args.changed.now spans file bytes c.in_ok-changed.ensures differ.1 in
+    let spans = c.deref.result.now in
+    let agrees : AgreesOutside spans file bytes = agrees_there c.args.changed.now spans file bytes (c.deref.ensures.value ∙ c.in_ok-changed.ensures) differ.1 in
     let some : IsNoFile file → ⊥ = λ denied. denied differ.0.0 differ.0.1 in
     let ready : IsReady (held_after s old) = record { there = there; unmarked = none; is = λ begins. some } in
     after_replacing laws bytes (held_after s old) (held_after s old) (held_after s new) c.requires.file (inl refl) ready

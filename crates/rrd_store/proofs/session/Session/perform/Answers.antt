@@ -51,11 +51,11 @@ returns-clause-memory g c s honest sound memory =
     let found : IsRead mid c.in_ok-database.database = rw stays (c.in_ok-database.ensures.found s before sound memory.read) in
     record {
       read = rw c.database_kept.ensures (kept_read mid new c.take-other.result (c.finish-end.ensures.unknown s) beside_it outcome text c.finish-end.result ends
-      (λ unchanged. subst (λ (k : Option Stored). IsRead mid k) (sym (executes_same c.in_ok-database.database c.args.command _ _ outcome c.execute-outcome.ensures.kept unchanged)) found)
-      (λ d is. subst (λ (k : Option Stored). IfSome k IsValidStored) is c.outcome_is_valid.ensures)
-      (λ d. c.layout_is_file.ensures.read newest d));
+          (λ unchanged. subst (λ (k : Option Stored). IsRead mid k) (sym (executes_same c.in_ok-database.database c.args.command _ _ outcome c.execute-outcome.ensures.kept unchanged)) found)
+          (λ d is. subst (λ (k : Option Stored). IfSome k IsValidStored) is c.outcome_is_valid.ensures)
+          (λ d. c.layout_is_file.ensures.read newest d));
       bytes = rw c.encoded_kept.ensures (kept_bytes mid new (c.finish-end.ensures.unknown s) c.encoded_after-encoding.result c.take_encoded-encoded.result outcome text c.finish-end.result ends had
-      c.encoded_after-encoding.ensures.same c.encoded_after-encoding.ensures.of c.encoded_is_layout.ensures);
+          c.encoded_after-encoding.ensures.same c.encoded_after-encoding.ensures.of c.encoded_is_layout.ensures);
     }
 
 pub returns-clause-run : goal.returns-clause-run
