@@ -5,17 +5,39 @@ import os
 import re
 import subprocess
 import sys
+import tempfile
 import unittest
+from pathlib import Path
+from typing import List, Tuple
+from unittest.mock import patch
 
 from cases import needs_program
 from doubles import TOP
 from test_tools_moving import DUMP
 from tool_case import NO_RRDTOOL, RRDTOOL, Ran, ToolCase
 
+from rrdi.tools.import_many import Bar, OldFile
+
 WHOLE = DUMP.replace("COMPUTE", "GAUGE")
 SKIPPED = "skipped data source double: type COMPUTE is not supported"
 FETCH = ("fetch", "AVERAGE", "-s", "1600000000", "-e", "1600000029")
 OLD_FORM = b"RRD\0"
+
+
+class Bars(unittest.TestCase):
+    def test_the_next_file_goes_on(self) -> None:
+        """The bar of a file begins where the last file ended, and no file takes more than its share."""
+        shown: List[Tuple[int, int]] = []
+        with tempfile.TemporaryDirectory() as folder:
+            for name, size in (("a", 100), ("b", 300)):
+                Path(folder, name).write_bytes(bytes(size))
+            bar = Bar([OldFile(f"{folder}/{name}", name) for name in "ab"])
+        with patch.object(bar.progress, "show", lambda done, total: shown.append((done, total))):
+            bar.reading(50, 100)
+            bar.end_file(100)
+            bar.reading(150, 300)
+            bar.reading(900, 300)
+        self.assertEqual(shown, [(50, 400), (250, 400), (400, 400)])
 
 
 @needs_program
