@@ -52,9 +52,17 @@ static void run(struct rrdi_file *opened, uint8_t *line, size_t length) {
     rrdi_run_open(opened, line, length, 0, output, sizeof output, &answer);
 }
 
+/* Reads standard input to its end, which may come in parts. Returns the number of bytes. */
+static long read_lines(void) {
+    long size = 0, more;
+    while ((more = syscall(SYS_read, 0, lines + size, sizeof lines - size)) > 0)
+        size += more;
+    return more < 0 ? -1 : size;
+}
+
 int main(int count, char **arguments) {
     struct rrdi_file opened = {0};
-    ssize_t size = syscall(SYS_read, 0, lines, sizeof lines);
+    long size = read_lines();
     if (count != 2 || size < 0)
         return 2;
     const char *path = arguments[1];
