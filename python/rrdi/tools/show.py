@@ -83,8 +83,8 @@ def read_options(words: List[str]) -> ShowOptions:
 
 # ---- Rows of one archive
 
-class Table(NamedTuple):
-    """Rows of one archive, by the times at which they end."""
+class ShownRows(NamedTuple):
+    """The rows of one archive that rrdi-show prints, by the times at which they end."""
 
     number: int
     function: str
@@ -127,7 +127,7 @@ def archive_number(outline: Outline, options: ShowOptions, begin: int, until: in
     return numbers[choose(settings, function, begin, until, number_of(options.values, "resolution") or 1)]
 
 
-def read_table(options: ShowOptions) -> Table:
+def read_table(options: ShowOptions) -> ShownRows:
     """Reads the rows that were asked for."""
     with reporting(options.file), OpenFile(options.file) as file:
         outline = file.outline()
@@ -139,10 +139,10 @@ def read_table(options: ShowOptions) -> Table:
         newest = outline.last - outline.last % archive.seconds
         raise Failure(f"{options.file}: archive {number} has no row from {time_text(begin)} to {time_text(until)}, only from "
                       f"{time_text(max(newest - archive.retention, 0))} to {time_text(newest)}")
-    return Table(number, archive.function, archive.steps, outline.step, list(outline.sources), rows)
+    return ShownRows(number, archive.function, archive.steps, outline.step, list(outline.sources), rows)
 
 
-def table_texts(table: Table) -> Iterator[str]:
+def table_texts(table: ShownRows) -> Iterator[str]:
     """Yields the table with a line for each row; the columns have as many decimals as their numbers need."""
     columns = [shown_cells([cells[at] for cells in table.rows.values()]) for at in range(len(table.names))]
     widths = [max([len(name), *map(len, column)]) for name, column in zip(table.names, columns)]
@@ -161,7 +161,7 @@ def shown_cells(cells: Cells) -> List[str]:
     return ["-" if cell is None else str(cell)[:-cut] if cut else str(cell) for cell in cells]
 
 
-def table_json(table: Table) -> str:
+def table_json(table: ShownRows) -> str:
     return as_json({"archive": table.number, "function": table.function, "seconds": table.seconds, "sources": table.names,
                     "rows": [{"time": time, "cells": cells} for time, cells in table.rows.items()]})
 
