@@ -20,9 +20,9 @@ const CELLS: (usize, usize) = (193, 305);
 const UPDATES: &[(&str, &[(usize, usize)])] = &[
     // No row ends.
     ("update 15:2", &[]),
-    // Row 2 of the first archive, and row 1 of the second.
+    // The first archive ends its row 2, and the second its row 1.
     ("update 20:3", &[(225, 241), (273, 289)]),
-    // Rows 3 and 4: the last slot and the first. Row 2 of the second.
+    // Rows 3 and 4: the last slot and the first. The second ends its row 2.
     ("update 30:4 40:5", &[(193, 209), (241, 257), (289, 305)]),
     // Rows 5 to 8: all slots, up to that of the newest row and after it. Rows 3 and 4 of the second: its first two.
     ("update 50:6 80:7", &[(193, 209), (209, 257), (257, 289)]),
