@@ -150,7 +150,7 @@ class Check:
             is_well = self.is_well(step, started.returncode, lines)
             self.passed += passed_in(step, lines) if is_well else 0
             if self.at and is_well and step.least and step.words[0] != LAST.words[0]:
-                results.record(step.name.split(), lines[-1], self.at, self.top / "docs/results.md")
+                results.record(step.name.split(), lines, self.at, self.top / "docs/results.md")
         return is_well
 
     def start(self, step: Step) -> subprocess.Popen[str] | None:
