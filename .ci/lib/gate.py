@@ -73,11 +73,13 @@ LAST = Step((".ci/run-built", "--lacking"), 8)
 BUILT = re.compile(r"crates/(rrdi/out/rrdi|(tests_\w+)/out/\2_tests)")
 # Debian's packages of the tools that the scripts need, by the names of the tools.
 PACKAGES = {"strace": "strace", "cc": "gcc", "make": "make", "objcopy": "binutils", "mypy": "mypy"}
+# And of those that only the sessions of some pages need.
+OF_PAGES = {"rrdtool": "rrdtool", "gnuplot": "gnuplot-nox", "pkg-config": "pkg-config"}
 
 
-def install_tools() -> None:
+def install_tools(packages: dict[str, str]) -> None:
     """Installs missing tools, if that is allowed. run-built reports what a script still lacks."""
-    lacking = [package for tool, package in PACKAGES.items() if not shutil.which(tool)]
+    lacking = [package for tool, package in packages.items() if not shutil.which(tool)]
     if not lacking or os.geteuid() != 0 or not shutil.which("apt-get"):
         return
     try:
@@ -256,7 +258,8 @@ def run_all(top: Path, is_alone: bool = False, records: bool = False) -> int:
 
 
 def main(options: argparse.Namespace) -> int:
-    install_tools()
+    for packages in (PACKAGES, OF_PAGES):
+        install_tools(packages)
     return run_all(TOP, options.alone, options.record)
 
 
