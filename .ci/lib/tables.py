@@ -81,12 +81,12 @@ def scene(figures: Figures) -> str:
 Line = Tuple[str, str, str, str, str]
 BY_C, BY_PYTHON = "measure-library", "measure-python"
 LINES: Tuple[Line, ...] = (
-    ("`rrdi update`, a process each", "measure-updates", "{}", "rrdi", "rrdtool"),
-    ("Python, `rrdi.update`", BY_PYTHON, "{}, 1 a call", "rrdi", "rrdtool"),
+    ("[`rrdi update`](#by-the-program), a process each", "measure-updates", "{}", "rrdi", "rrdtool"),
+    ("[Python](#from-python), `rrdi.update`", BY_PYTHON, "{}, 1 a call", "rrdi", "rrdtool"),
     ("the same, 20 samples", BY_PYTHON, "{}, 20 a call", "rrdi", "rrdtool"),
     ("Python, an open `Database`", BY_PYTHON, "{}, 1 a call", "open", "rrdtool"),
     ("the same, 20 samples", BY_PYTHON, "{}, 20 a call", "open", "rrdtool"),
-    ("C, by path", BY_C, "{}, 1 a call", "path", "librrd"),
+    ("[C](#the-c-library), by path", BY_C, "{}, 1 a call", "path", "librrd"),
     ("the same, 20 samples", BY_C, "{}, 20 a call", "path", "librrd"),
     ("C, an open file", BY_C, "{}, 1 a call", "open", "librrd"),
     ("the same, 20 samples", BY_C, "{}, 20 a call", "open", "librrd"),
@@ -127,7 +127,7 @@ def many(figures: Figures) -> str:
     for points in (1, 6, 60):
         values = [figures.value("measure-graphite", f"a writer alone, {points} points", name) for name in ("rrdi", "whisper")]
         rows.append([f"carbon's writer alone, a write of {points} point{'s' * (points > 1)}", "", "", *(digits(value) for value in values)])
-    return table(["Samples", "A second", "rrdcached, whisper", "µs each", "rrdcached, whisper"], rows, figures.origins())
+    return table(["Samples", "A second", "rrdcached, whisper", "Processor time, µs", "rrdcached, whisper"], rows, figures.origins())
 
 
 def batches(figures: Figures) -> str:
