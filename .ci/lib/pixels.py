@@ -49,7 +49,8 @@ def unfiltered(kind: int, line: bytes, above: bytes, step: int) -> bytes:
 
 def rows_of(data: bytes, length: int, step: int) -> List[bytes]:
     """Returns the rows of the pixels, of `length` bytes each."""
-    rows, above = [], bytes(length)
+    rows: List[bytes] = []
+    above = bytes(length)
     for at in range(0, len(data), length + 1):
         line = data[at + 1:at + 1 + length]
         above = unfiltered(data[at], line, above, step) if data[at] else line

@@ -69,7 +69,8 @@ def commands_of(page: str) -> List[Command]:
 
 def of_manual(source: str) -> str:
     """Returns a manual page with its examples as a page has them: indented, and line by line where they were."""
-    lines, is_example = [], False
+    lines: List[str] = []
+    is_example = False
     for line in source.splitlines():
         is_example = line.startswith(".Bd") or is_example and not line.startswith(".Ed")
         lines.append(INDENT + line.replace("\\e", "\\") if is_example else line)
