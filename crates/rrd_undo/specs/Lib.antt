@@ -1,6 +1,7 @@
 pub mod Calls
 pub mod Databases
 pub mod Fronts
+pub mod Power
 pub mod Pages
 pub mod Spans
 pub mod Undoing
