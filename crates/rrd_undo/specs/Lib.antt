@@ -8,4 +8,5 @@ pub mod Undoing
 pub mod Gathering
 pub mod Settling
 pub mod Changing
+pub mod Failing
 pub mod Memory
