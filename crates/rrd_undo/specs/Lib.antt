@@ -2,6 +2,7 @@ pub mod Calls
 pub mod Databases
 pub mod Fronts
 pub mod Power
+pub mod Leaving
 pub mod Pages
 pub mod Spans
 pub mod Undoing
