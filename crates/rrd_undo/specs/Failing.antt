@@ -19,6 +19,10 @@ pub record IsTornBelow (old : List ℕ) (tail : ℕ) (file c : List ℕ) : Type 
   pub behind : (k : ℕ) → tail ≤ k → slice_index c k ≡ slice_index file k
   pub restores : Restores old tail c
 
+-- whatever the disk may have is such
+abbrev pub AreTornBelow : List ℕ → ℕ → List ℕ → (List ℕ → Type 0) → Type 0
+AreTornBelow old tail file may_leave = (c : List ℕ) → may_leave c → IsTornBelow old tail file c
+
 -- the disk has the file, except perhaps the first sixteen bytes
 pub record IsSameBehind (file c : List ℕ) : Type 0 where
   pub len : length c ≡ length file
