@@ -6,5 +6,7 @@ pub mod Appended
 pub mod Turned
 pub mod Gathered
 pub mod Stages
+pub mod Powered
+pub mod Torn
 pub mod Recovering
 pub mod Fronted

@@ -33,7 +33,7 @@ saved_settled old tail low spans f is_tail saved = undone_settled old tail f is_
 part_at : (l : List ℕ) (a b i : ℕ) → a ≤ b → a + i < b → slice_index (slice_range l a b) i ≡ slice_index l (a + i)
 part_at l a b i ordered low = get_or-take (b - a) (drop a l) i 0 (omega arith) ∙ get_or-drop a l i 0
 
-part_length : (l : List ℕ) (a b : ℕ) → a ≤ b → b ≤ length l → length (slice_range l a b) ≡ b - a
+pub part_length : (l : List ℕ) (a b : ℕ) → a ≤ b → b ≤ length l → length (slice_range l a b) ≡ b - a
 part_length l a b ordered within = omega (arith, length-take (b - a) (drop a l), length-drop a l)
 
 -- a byte of the tail is in no span
@@ -46,13 +46,13 @@ pub beside_front : (old : List ℕ) (tail low : ℕ) (slots : List Slot) (spans 
 beside_front old tail low slots spans k front all =
     All-weaker (IsCovered old tail low slots) (IsBeside k) (λ span covered. inl (omega (arith, covered.from))) spans all
 
-covered_same : (old : List ℕ) (tail low : ℕ) (slots others : List Slot) (spans : List Span) → others ≡ slots → All (IsCovered old tail low slots) spans
+pub covered_same : (old : List ℕ) (tail low : ℕ) (slots others : List Slot) (spans : List Span) → others ≡ slots → All (IsCovered old tail low slots) spans
     → All (IsCovered old tail low others) spans
 covered_same old tail low slots others spans same all = rw same all
 
 module _ (old : List ℕ) (tail low : ℕ) (spans : List Span) (f : List ℕ) (is_tail : IsTail old tail) (high : 16 ≤ low) (saved : IsSaved old tail low spans f)
     (span : Span) (covered : IsCovered old tail low (slots_in tail f) span) (count : ℕ) (ends : span.start + count ≤ span.end) where
-  any_length : (g : List ℕ) → AreAny span.start count f g → length g ≡ length f
+  pub any_length : (g : List ℕ) → AreAny span.start count f g → length g ≡ length f
   any_length g any = omega (arith, any.longer, any.bound, saved.restores.reaches, covered.within)
 
   any_slots : (g : List ℕ) → AreAny span.start count f g → slots_in tail g ≡ slots_in tail f

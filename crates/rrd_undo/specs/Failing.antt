@@ -1,12 +1,21 @@
 -- Glue: what a power failure may leave of a database at each stage of a change (own).
-use Rattle.std.specs.Prelude.{◌≡◌, ◌⊎◌, ℕ, ◌<◌, ◌≤◌, List, length, slice_index, ⊤}
+use Rattle.std.specs.Prelude.{◌≡◌, ◌⊎◌, ℕ, ◌<◌, ◌≤◌, List, ◌++◌, length, slice_index, ⊤}
+use Rattle.std.specs.List.{All}
+use Rattle.rrd_tail.specs.Slots.{Slot, slots_in}
 use Rattle.rrd_undo.specs.Databases.{IsDatabase}
+use Rattle.rrd_undo.specs.Gathering.{IsOldSlot}
 use Rattle.rrd_undo.specs.Power.{AllStand, IsMarkedOnly}
 use Rattle.rrd_undo.specs.Undoing.{Restores}
 use Rattle.rrd_undo.specs.declared.change.Change.{Change}
 use Rattle.rrd_undo.specs.declared.change.Stage.{Stage}
 use Rattle.rrd_undo.specs.declared.change.Stage.TheVariants.{Untouched, Marked, Committing, Committed, Unkept, Invalid}
 use Rattle.rrd_undo.specs.declared.tail.Syncs.TheVariants.{Ordered}
+
+-- slots of old bytes were appended to the file's own
+pub record IsGrown (old : List ℕ) (tail : ℕ) (file changed : List ℕ) : Type 0 where
+  pub more : List Slot
+  pub olds : All (IsOldSlot old) more
+  pub slots_are : slots_in tail changed ≡ slots_in tail file ++ more
 
 -- one of two
 abbrev pub IsEither : List ℕ → List ℕ → List ℕ → Type 0
