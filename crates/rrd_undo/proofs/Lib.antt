@@ -8,5 +8,6 @@ pub mod Gathered
 pub mod Stages
 pub mod Powered
 pub mod Torn
+pub mod Begun
 pub mod Recovering
 pub mod Fronted

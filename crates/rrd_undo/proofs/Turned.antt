@@ -80,9 +80,6 @@ module _ (old : List ℕ) (tail low : ℕ) (spans : List Span) (f : List ℕ) (i
     covered = covered_same old tail low (slots_in tail f) (slots_in tail g) spans (any_slots g any) saved.covered;
   }
 
-  pub any_settled : (g : List ℕ) → AreAny span.start count f g → settled g ≡ old
-  any_settled g any = saved_settled old tail low spans g is_tail (any_saved g any)
-
 -- ---- spans are put, one after another
 
 pub put_begun : (old : List ℕ) (tail low : ℕ) (spans : List Span) (new f : List ℕ) → IsSaved old tail low spans f → IsPutTo old tail low spans new 0 f f
@@ -100,8 +97,11 @@ module _ (old : List ℕ) (tail low : ℕ) (spans : List Span) (new : List ℕ) 
   size : length (slice_range new span.start span.end) ≡ span.end - span.start
   size = part_length new span.start span.end ordered few
 
+  pub span_saved : (g : List ℕ) → AreAny span.start (length (slice_range new span.start span.end)) f g → IsSaved old tail low spans g
+  span_saved g any = any_saved old tail low spans f is_tail high so_far.saved span this_covered (span.end - span.start) there g (rw size at any)
+
   pub span_failed : (g : List ℕ) → AreAny span.start (length (slice_range new span.start span.end)) f g → settled g ≡ old
-  span_failed g any = any_settled old tail low spans f is_tail high so_far.saved span this_covered (span.end - span.start) there g (rw size at any)
+  span_failed g any = saved_settled old tail low spans g is_tail (span_saved g any)
 
   pub span_put : (g : List ℕ) → ArePut span.start (slice_range new span.start span.end) f g → IsPutTo old tail low spans new (number + 1) file g
   span_put g put =

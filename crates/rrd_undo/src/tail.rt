@@ -279,6 +279,8 @@ fn put_spans<F: Bytes>(file: &mut F, new: &[u8], spans: &[Span]) -> io::Result<(
         → IsSaved old tail low spans.now (F.held s file.new) × ArePutIn spans.now new.now (F.held s file.old) (F.held s file.new)) }
     ensures err { OnErr result ((s : List ℕ) → IsTrue (F.is_honest s file.new) → (old : List ℕ) (tail low : ℕ) → IsTail old tail → 16 ≤ low
         → IsSaved old tail low spans.now (F.held s file.old) → settled (F.held s file.new) ≡ old) }
+    ensures saved { (s : List ℕ) → IsTrue (F.is_honest s file.new) → (old : List ℕ) (tail low : ℕ) → IsTail old tail → 16 ≤ low
+        → IsSaved old tail low spans.now (F.held s file.old) → IsSaved old tail low spans.now (F.held s file.new) }
     ensures torn { (d s : List ℕ) → IsTrue (F.is_honest s file.new) → (old : List ℕ) (tail low : ℕ) → IsTail old tail → 16 ≤ low
         → IsSaved old tail low spans.now (F.held s file.old) → AreTornBelow old tail (F.held s file.old) (F.may_leave d s file.old)
         → AreTornBelow old tail (F.held s file.new) (F.may_leave d s file.new) }
