@@ -6,8 +6,8 @@ pub mod Appended
 pub mod Turned
 pub mod Gathered
 pub mod Stages
+pub mod Recovering
 pub mod Powered
 pub mod Torn
 pub mod Begun
-pub mod Recovering
 pub mod Fronted

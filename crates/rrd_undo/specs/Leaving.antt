@@ -1,8 +1,9 @@
 -- Glue: what the disk may have of a file between the steps of a change (own).
-use Rattle.std.specs.Prelude.{◌≡◌, ◌⊎◌, ℕ, List, ◌++◌, length, take, drop}
+use Rattle.std.specs.Prelude.{◌≡◌, ◌⊎◌, ℕ, ◌≤◌, List, ◌++◌, length, take, drop, slice_index}
 use Rattle.rrd_tail.specs.Marks.{cut_mark, shape_for}
 use Rattle.rrd_undo.specs.Calls.{AreWholeOrNot}
 use Rattle.rrd_undo.specs.Databases.{IsDatabase}
+use Rattle.rrd_undo.specs.Settling.{IsUndone}
 use Rattle.rrd_undo.specs.Undoing.{IsReady}
 
 -- what the disk may have had before a call, or the bytes that the file had then
@@ -21,3 +22,9 @@ pub record IsDeciding (old new : List ℕ) (tail : ℕ) (file : List ℕ) (may_l
   pub ready : IsReady old new tail before
   pub held : AreWholeOrNot 0 (front_of new) before file
   pub left : (c : List ℕ) → may_leave c → AreWholeOrNot 0 (front_of new) before c
+
+-- what the disk may have while slots are put back: the old bytes can be restored from it too, and its tail is the file's
+pub record IsUndoneToo (old : List ℕ) (tail : ℕ) (file c : List ℕ) : Type 0 where
+  pub undone : IsUndone old tail c
+  pub len : length c ≡ length file
+  pub same : (k : ℕ) → tail ≤ k → slice_index c k ≡ slice_index file k

@@ -2,12 +2,12 @@ pub mod Calls
 pub mod Databases
 pub mod Fronts
 pub mod Power
-pub mod Leaving
 pub mod Pages
 pub mod Spans
 pub mod Undoing
 pub mod Gathering
 pub mod Settling
+pub mod Leaving
 pub mod Changing
 pub mod Failing
 pub mod Memory
