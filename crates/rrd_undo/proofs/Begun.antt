@@ -136,9 +136,9 @@ module _ (old : List ℕ) (tail : ℕ) (is : IsDatabase old) (is_tail : IsTail o
       (is_marked f (Cut (shape_for (length old))) (cut_mark_is_read (shape_for (length old)) f recorded.to_cut.marked))
   either_marked f g recorded (inr put) = is_marked g (Undo tail) (undo_mark_is_read tail g is_tail.fits (put_stands 0 (undo_mark tail) f g put))
 
-  pub mark_stand : (f g : List ℕ) (before after : List ℕ → Type 0) → IsOldRecorded old tail f → IsStored f before → AreWholeOrNot 0 (undo_mark tail) f g
+  pub undo_stand : (f g : List ℕ) (before after : List ℕ → Type 0) → IsOldRecorded old tail f → IsStored f before → AreWholeOrNot 0 (undo_mark tail) f g
       → ((b : List ℕ) → after b → Leaves (AreTorn 0 (undo_mark tail)) (OrHeld f before) b) → AllStand (λ b. b ≡ old) g after
-  mark_stand f g before after recorded stored either leaves =
+  undo_stand f g before after recorded stored either leaves =
       let enough : 16 ≤ length f = omega (arith, recorded.to_cut.longer, is.enough) in
       let within : IsInSector 0 (undo_mark tail) = omega (arith, undo_mark_length tail) in
       let held = rest_same f g enough either in

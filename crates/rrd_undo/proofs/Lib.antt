@@ -10,4 +10,5 @@ pub mod Recovering
 pub mod Powered
 pub mod Torn
 pub mod Begun
+pub mod Caught
 pub mod Fronted

@@ -1,6 +1,7 @@
 -- Glue: what a power failure may leave of a database at each stage of a change (own).
-use Rattle.std.specs.Prelude.{◌≡◌, ◌⊎◌, ℕ, ◌<◌, ◌≤◌, List, ◌++◌, length, slice_index, ⊤}
+use Rattle.std.specs.Prelude.{◌≡◌, ◌⊎◌, ℕ, ◌<◌, ◌≤◌, List, ◌++◌, length, slice_index, None, ⊤}
 use Rattle.std.specs.List.{All}
+use Rattle.rrd_tail.specs.Marks.{mark_of}
 use Rattle.rrd_tail.specs.Slots.{Slot, slots_in}
 use Rattle.rrd_undo.specs.Databases.{IsDatabase}
 use Rattle.rrd_undo.specs.Gathering.{IsOldSlot}
@@ -46,6 +47,12 @@ MayHave Committed old tail file c = ⊤
 MayHave Unkept old tail file c = ⊤
 MayHave Invalid old tail file c = ⊤
 
+-- the sixteen bytes that decide may have been put, in the file and on the disk
+pub record IsUndecided (file : List ℕ) (may_leave : List ℕ → Type 0) : Type 0 where
+  pub enough : 16 ≤ length file
+  pub marked : mark_of file ≡ None → ⊥
+  pub each : (c : List ℕ) → may_leave c → IsSameBehind file c
+
 -- no call has failed, and what the disk may have of a database can be restored
 pub record IsSafe (old : List ℕ) (change : Change) (file : List ℕ) (may_leave : List ℕ → Type 0) : Type 0 where
   pub is : IsDatabase old
@@ -57,4 +64,4 @@ pub record IsCaught (old new : List ℕ) (change : Change) (file : List ℕ) (ma
   pub is : IsDatabase old
   pub ordered : change.tail.syncs ≡ Ordered
   pub all : AllStand (IsEither old new) file may_leave
-  pub again : change.stage ≡ Committing → (c : List ℕ) → may_leave c → IsSameBehind file c
+  pub again : change.stage ≡ Committing → IsUndecided file may_leave
