@@ -39,7 +39,7 @@ returns-in_err-begin-clause-power g c d s f ordered is agrees rests =
 pub returns-clause-power : goal.returns-clause-power
 returns-clause-power g c d s f ordered is agrees rests =
     let begun = c.in_ok-begin.ensures.ok s (search rules) c.args.new.now in
-    let safe = c.in_ok-begin.ensures.safe d s (search rules) is (c.new.ensures ∙ ordered) rests in
+    let safe = c.in_ok-begin.ensures.safe d s (search rules) is (c.new-change.ensures ∙ ordered) rests in
     on_both c.put_or_take_back.result _ _ _ c.put_or_take_back.ensures.there c.put_or_take_back.ensures.caught
     (λ there. either_new _ c.args.new.now _ _ (there d s f (g.F.Bytes.held s c.args.file.now) agrees begun safe))
     (λ caught. caught d s f (g.F.Bytes.held s c.args.file.now) agrees begun safe)
@@ -47,4 +47,4 @@ returns-clause-power g c d s f ordered is agrees rests =
 pub returns-clause-there : goal.returns-clause-there
 returns-clause-there g c = on_ok c.put_or_take_back.result _ _ (λ there d s f ordered is agrees rests.
     there d s f _ agrees (c.in_ok-begin.ensures.ok s (search rules) c.args.new.now)
-    (c.in_ok-begin.ensures.safe d s (search rules) is (c.new.ensures ∙ ordered) rests)) c.put_or_take_back.ensures.there
+    (c.in_ok-begin.ensures.safe d s (search rules) is (c.new-change.ensures ∙ ordered) rests)) c.put_or_take_back.ensures.there

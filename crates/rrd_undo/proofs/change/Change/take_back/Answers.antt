@@ -1,6 +1,7 @@
-use Rattle.std.proofs.Common.{◌≡◌, ◌⊎◌, ◌<◌, ◌∙◌, ap, inl, inr, length, arith}
+use Rattle.std.proofs.Common.{rules, ◌≡◌, ◌⊎◌, ◌<◌, ◌∙◌, ap, inl, inr, length, arith}
 use Rattle.rrd_tail.specs.Settled.{settled}
 use Rattle.rrd_undo.specs.Databases.{IsNoDatabase}
+use Rattle.rrd_undo.proofs.Caught.{again_stand}
 use Rattle.rrd_undo.proofs.Laid.{on_both, on_ok}
 use Rattle.rrd_undo.proofs.NoDatabases.{emptied_none, short_sized, unkept_sized}
 use Rattle.rrd_undo.proofs.Cutting.{settled_plain}
@@ -46,8 +47,31 @@ returns-in-Untouched-clause-ok g c = on_ok c.restore_first.result _ _ (λ h s f 
 pub returns-in-Untouched-clause-power : goal.returns-in-Untouched-clause-power
 returns-in-Untouched-clause-power g c d s f old new broken caught = rw (c.restore_first.ensures.ordered caught.ordered) caught.all
 
-pub returns-in-Marked-clause-power : goal.returns-in-Marked-clause-power
-returns-in-Marked-clause-power g c d s f old new broken caught = stand_two old new _ _ _ _ (λ P. c.settle.ensures.power d s f P) caught.all
+pub returns-in_err-settle-in-Marked-clause-power : goal.returns-in_err-settle-in-Marked-clause-power
+returns-in_err-settle-in-Marked-clause-power g c d s f old new broken caught = stand_two old new _ _ _ _ (λ P. c.settle.ensures.power d s f P) caught.all
+
+pub returns-in_ok-settle-in-Marked-clause-power : goal.returns-in_ok-settle-in-Marked-clause-power
+returns-in_ok-settle-in-Marked-clause-power g c d s f old new broken caught = stand_two old new _ _ _ _ (λ P. c.settle.ensures.power d s f P) caught.all
+
+pub returns-in_err-mark_again-in-Committing-clause-power : goal.returns-in_err-mark_again-in-Committing-clause-power
+returns-in_err-mark_again-in-Committing-clause-power g c d s f old new broken caught =
+    let left = (rw c.in-Committing.is at broken.left) in
+    again_stand old new _ broken.knows.tail _ _ caught.all (caught.again c.in-Committing.is) left.1 _ _
+    (c.in_err-mark_again-in-Committing.ensures.err s (search rules)) (c.mark_again.ensures.power d s (search rules))
+
+pub returns-in_err-settle-in-Committing-clause-power : goal.returns-in_err-settle-in-Committing-clause-power
+returns-in_err-settle-in-Committing-clause-power g c d s f old new broken caught =
+    let left = (rw c.in-Committing.is at broken.left) in
+    stand_two old new _ _ _ _ (λ P. c.settle-in-Committing.ensures.power d s f P)
+    (again_stand old new _ broken.knows.tail _ _ caught.all (caught.again c.in-Committing.is) left.1 _ _
+    (inr (c.in_ok-mark_again-in-Committing.ensures.ok s (search rules))) (c.mark_again.ensures.power d s (search rules)))
+
+pub returns-in_ok-settle-in-Committing-clause-power : goal.returns-in_ok-settle-in-Committing-clause-power
+returns-in_ok-settle-in-Committing-clause-power g c d s f old new broken caught =
+    let left = (rw c.in-Committing.is at broken.left) in
+    stand_two old new _ _ _ _ (λ P. c.settle-in-Committing.ensures.power d s f P)
+    (again_stand old new _ broken.knows.tail _ _ caught.all (caught.again c.in-Committing.is) left.1 _ _
+    (inr (c.in_ok-mark_again-in-Committing.ensures.ok s (search rules))) (c.mark_again.ensures.power d s (search rules)))
 
 pub returns-in-Unkept-clause-power : goal.returns-in-Unkept-clause-power
 returns-in-Unkept-clause-power g c d s f old new broken caught =
