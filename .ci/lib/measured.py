@@ -1,5 +1,5 @@
-"""Keeps what scripts have measured: one line of docs/measured.jsonl for each row, with its commit, its day, and the load of
-the machine (0 if it is not known). The tables of docs/performance.md come from it."""
+"""Keeps what scripts have measured: one line of docs/measured.jsonl for each row, with its commit, its day and the load
+of the machine (0 if it is not known). The tables of docs/performance.md come from it."""
 from __future__ import annotations
 
 import json
@@ -32,7 +32,8 @@ class Row(NamedTuple):
 def tell(row: str, **values: float) -> None:
     """Prints a row as .ci/record-result takes it: counts as they are, and three digits of other values."""
     rounded = {name: value if isinstance(value, int) else float(f"{value:.3g}") for name, value in values.items()}
-    print(FRONT + json.dumps({"row": row, "values": rounded, "load": round(os.getloadavg()[0], 1)}, ensure_ascii=False), flush=True)
+    told = {"row": row, "values": rounded, "load": round(os.getloadavg()[0], 1)}
+    print(FRONT + json.dumps(told, ensure_ascii=False), flush=True)
 
 
 def taken(words: Sequence[str], lines: Iterable[str], commit: str, day: str) -> List[Row]:

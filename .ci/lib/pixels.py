@@ -75,7 +75,8 @@ def picture(path: Path) -> Picture:
     rows = rows_of(zlib.decompress(found[b"IDAT"]), (width * step * depth + 7) // 8, step)
     if color == PALETTE:
         colors = found[b"PLTE"]
-        return Picture(width, height, [colors[3 * index:3 * index + 3] for row in rows for index in unpacked(row, depth)[:width]])
+        indexes = (index for row in rows for index in unpacked(row, depth)[:width])
+        return Picture(width, height, [colors[3 * index:3 * index + 3] for index in indexes])
     return Picture(width, height, [row[at:at + step] for row in rows for at in range(0, width * step, step)])
 
 

@@ -25,8 +25,9 @@ TRIED_IN_C = """
     $ cc -std=c99 -D_POSIX_C_SOURCE=200809L -Wall -Wextra -Werror -o room room.c $(pkg-config --cflags --libs rrdi)
     $ LD_LIBRARY_PATH=$(pkg-config --variable=libdir rrdi) ./room && rrdi info room.rrdi | grep undoable && sleep 1
     undoable = 1
-    $ LD_LIBRARY_PATH=$(pkg-config --variable=libdir rrdi) ./room && rrdi info room.rrdi | grep undoable && ls room.rrdi*
+    $ LD_LIBRARY_PATH=$(pkg-config --variable=libdir rrdi) ./room && rrdi info room.rrdi | grep undoable
     undoable = 2
+    $ ls room.rrdi*
     room.rrdi
 """
 
@@ -103,7 +104,7 @@ def sessions(top: Path) -> Dict[str, List[Command]]:
         text, name = path.read_text(encoding="utf-8"), str(path.relative_to(top))
         commands = commands_of(text if path.suffix == ".md" else of_manual(text))
         if len(commands) != count_shown(text):
-            raise ValueError(f"{name} shows {count_shown(text)} commands, but only {len(commands)} in a form that can be run")
+            raise ValueError(f"{name} shows {count_shown(text)} commands, and only {len(commands)} of them can be run")
         commands += commands_of(of_program(text)) if path.suffix == ".3" else []
         if commands:
             found[name] = commands

@@ -38,7 +38,7 @@ class Figures:
         return found.values[name]
 
     def beside(self, script: str, row: str, name: str, other: str) -> str:
-        """Returns a cell with a value, and in brackets another one of the same row; nothing if the row was not measured."""
+        """Returns a cell with a value and in brackets another one of its row; nothing if the row was not measured."""
         if (script, row) not in self.rows:
             return ""
         one, two = (self.value(script, row, each) for each in (name, other))
@@ -53,7 +53,8 @@ class Figures:
         """Returns the scripts, commits and days of the rows that were used."""
         found: Dict[str, List[str]] = {}
         for row in self.used.values():
-            told = f"`{row.commit}`, {row.day}" + f", load {row.load:g}" * (row.load > 0) + ", by hand" * (row.by == BY_HAND)
+            load, hand = f", load {row.load:g}" * (row.load > 0), ", by hand" * (row.by == BY_HAND)
+            told = f"`{row.commit}`, {row.day}{load}{hand}"
             if told not in found.setdefault(row.script, []):
                 found[row.script].append(told)
         scripts = [f"`.ci/{script}` ({' and '.join(told)})" for script, told in found.items()]
@@ -73,8 +74,8 @@ def scene(figures: Figures) -> str:
     by_process = rate("measure-updates", "30 KB", "rrdi")
     python = [rate("measure-python", f"{size}, 1 a call", "rrdi") for size in ("62 KB", "3 KB")]
     open_files = [rate("measure-library", f"{size}, 1 a call", "open") for size in ("62 KB", "3 KB")]
-    return wrapped(f"In one second, one processor made {by_process} updates with a process for each, {python[0]} to {python[1]} from "
-                   f"Python, and {open_files[0]} to {open_files[1]} from C on open files.")
+    return wrapped(f"In one second, one processor made {by_process} updates with a process for each, {python[0]} to "
+                   f"{python[1]} from Python, and {open_files[0]} to {open_files[1]} from C on open files.")
 
 
 # The rows of the table of updates: what is done, the script, its row, and the two values of a cell.
@@ -100,34 +101,52 @@ LINES: Tuple[Line, ...] = (
 def updates(figures: Figures) -> str:
     """Returns the table of calls, with a column for each length of a file."""
     columns = (("480 B", "3 KB"), ("30 KB", "62 KB"), ("400 KB",), ("4 MB",), ("64 MB",))
-    rows = [[what, *("".join(figures.beside(script, row.format(size), name, other) for size in sizes) for sizes in columns)]
-            for what, script, row, name, other in LINES]
-    return table(["One call", "480 bytes, 3 KB", "30 KB, 62 KB", *(sizes[0] for sizes in columns[2:])], rows, figures.origins())
+    rows = []
+    for what, script, row, name, other in LINES:
+        cells = [[figures.beside(script, row.format(size), name, other) for size in sizes] for sizes in columns]
+        rows.append([what, *map("".join, cells)])
+    head = ["One call", "480 bytes, 3 KB", "30 KB, 62 KB", *(sizes[0] for sizes in columns[2:])]
+    return table(head, rows, figures.origins())
 
 
 def writes(figures: Figures) -> str:
     """Returns the table of what an update writes."""
-    rows = [[size, digits(figures.value("measure-writes", size, "calls"), 9), digits(figures.value("measure-writes", size, "bytes"), 9)]
-            for size in SIZES if ("measure-writes", size) in figures.rows]
+    script, names = "measure-writes", ("calls", "bytes")
+    rows = [[size, *(digits(figures.value(script, size, name), 9) for name in names)]
+            for size in SIZES if (script, size) in figures.rows]
     return table(["File", "Calls that write", "Bytes written"], rows, figures.origins())
+
+
+def of_feeders(figures: Figures) -> List[List[str]]:
+    """Returns the rows of rrdi-feed and rrdcached."""
+    rows = []
+    for samples in (60, 600):
+        for way, name in (("library", "the C library"), ("program", "the program")):
+            names = f"rrdi-feed with the {way}, {samples} samples", f"rrdcached, {samples} samples"
+            cells = [figures.span("compare-feeders", row, value) for value in ("rate", "cost") for row in names]
+            rows.append([f"`rrdi-feed` with {name}, {samples} lines for each of 1,000 files", *cells])
+    return rows
+
+
+def of_graphite(figures: Figures) -> List[List[str]]:
+    """Returns the rows of carbon over rrdi and whisper."""
+    def values(row: str, *names: str) -> List[str]:
+        return [digits(figures.value("measure-graphite", row, name)) for name in names]
+    rows = []
+    for metrics, points in ((500, 120), (5_000, 24), (5_000, 1)):
+        told = f"carbon-cache, {points} point{'s' * (points > 1)} of each of {metrics:,} metrics"
+        rates = "rate_rrdi", "rate_whisper", "cost_rrdi", "cost_whisper"
+        rows.append([told, *values(f"{metrics} metrics, {points} points", *rates)])
+    for points in (1, 6, 60):
+        told = f"carbon's writer alone, a write of {points} point{'s' * (points > 1)}"
+        rows.append([told, "", "", *values(f"a writer alone, {points} points", "rrdi", "whisper")])
+    return rows
 
 
 def many(figures: Figures) -> str:
     """Returns the table of many samples for many files, a second."""
-    rows = []
-    for samples in (60, 600):
-        for way, name in (("library", "the C library"), ("program", "the program")):
-            ours, theirs = f"rrdi-feed with the {way}, {samples} samples", f"rrdcached, {samples} samples"
-            cells = [figures.span("compare-feeders", row, value) for value in ("rate", "cost") for row in (ours, theirs)]
-            rows.append([f"`rrdi-feed` with {name}, {samples} lines for each of 1,000 files", *cells])
-    for metrics, points in ((500, 120), (5_000, 24), (5_000, 1)):
-        row = f"{metrics} metrics, {points} points"
-        values = [figures.value("measure-graphite", row, name) for name in ("rate_rrdi", "rate_whisper", "cost_rrdi", "cost_whisper")]
-        rows.append([f"carbon-cache, {points} point{'s' * (points > 1)} of each of {metrics:,} metrics", *(digits(value) for value in values)])
-    for points in (1, 6, 60):
-        values = [figures.value("measure-graphite", f"a writer alone, {points} points", name) for name in ("rrdi", "whisper")]
-        rows.append([f"carbon's writer alone, a write of {points} point{'s' * (points > 1)}", "", "", *(digits(value) for value in values)])
-    return table(["Samples", "A second", "rrdcached, whisper", "Processor time, µs", "rrdcached, whisper"], rows, figures.origins())
+    head = ["Samples", "A second", "rrdcached, whisper", "Processor time, µs", "rrdcached, whisper"]
+    return table(head, [*of_feeders(figures), *of_graphite(figures)], figures.origins())
 
 
 def batches(figures: Figures) -> str:
@@ -137,7 +156,8 @@ def batches(figures: Figures) -> str:
     return table(["Work", "Instructions"], rows, figures.origins())
 
 
-TEXTS: Dict[str, Callable[[Figures], str]] = {"scene": scene, "updates": updates, "writes": writes, "many": many, "batches": batches}
+TEXTS: Dict[str, Callable[[Figures], str]] = {
+    "scene": scene, "updates": updates, "writes": writes, "many": many, "batches": batches}
 
 
 def filled(page: str, rows: Sequence[Row]) -> str:

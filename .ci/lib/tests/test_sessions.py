@@ -33,19 +33,25 @@ PAGE = """Text.
 
 class Sessions(unittest.TestCase):
     def test_commands(self) -> None:
-        self.assertEqual(commands_of(PAGE), [Command("one a \\\n      b\n", "its output\n  and more\n", 3),
-                                             Command("two <<'END'\ninput\nEND\nno input\n", "", 7), Command("three\n", "", 16)])
+        one = Command("one a \\\n      b\n", "its output\n  and more\n", 3)
+        two = Command("two <<'END'\ninput\nEND\nno input\n", "", 7)
+        self.assertEqual(commands_of(PAGE), [one, two, Command("three\n", "", 16)])
         self.assertEqual(count_shown(PAGE), 3)
 
     def test_an_output_may_begin_like_input(self) -> None:
         self.assertEqual(commands_of("    $ a\n    b\n    > c\n"), [Command("a\n", "b\n> c\n", 1)])
 
     def test_needs(self) -> None:
-        for text, needs in (("rrdtool create a", ["rrdtool"]), ("rrdi-rrdtool create a", []), ("import rrdtool\nrrdtool.fetch()", []),
-                            ("rrdi-import --into a b", ["rrdtool"]), ("rrdi-export a.rrdi b.rrd", ["rrdtool"]), ("rrdi-export a.rrdi > b.xml", []),
-                            ("xargs rrdtool update a", ["rrdtool"]), ("rrdi-plot a b", ["gnuplot"]), ("gnuplot -e a", ["gnuplot"]),
-                            ("cc -o a a.c $(pkg-config --cflags rrdi)", ["cc", "pkg-config"]), ("rrdi-graph a.png", ["rrdtool"])):
-            self.assertEqual(Command(text, "", 1).needs(), needs, text)
+        needs = {
+            "": ("rrdi-rrdtool create a", "import rrdtool\nrrdtool.fetch()", "rrdi-export a.rrdi > b.xml"),
+            "rrdtool": ("rrdtool create a", "xargs rrdtool update a", "rrdi-import --into a b",
+                        "rrdi-export a.rrdi b.rrd", "rrdi-graph a.png"),
+            "gnuplot": ("rrdi-plot a b", "gnuplot -e a"),
+            "cc pkg-config": ("cc -o a a.c $(pkg-config --cflags rrdi)",),
+        }
+        for tools, commands in needs.items():
+            for text in commands:
+                self.assertEqual(Command(text, "", 1).needs(), tools.split(), text)
 
     def test_manual(self) -> None:
         source = ".Sh A\n.Bd -literal\n$ a \\e\n    b\nc\n.Ed\n.Dl $ d\n"
@@ -53,10 +59,11 @@ class Sessions(unittest.TestCase):
         self.assertEqual(count_shown(source), 2)
 
     def test_program_of_a_manual(self) -> None:
-        source = ".Bd -literal -offset indent\nint other;\n.Ed\n.Bd -literal -offset indent\n#include <a.h>\nint b = '\\en';\n.Ed\n"
+        begin = ".Bd -literal -offset indent\n"
+        source = f"{begin}int other;\n.Ed\n{begin}#include <a.h>\nint b = '\\en';\n.Ed\n"
         first, compiled, *runs = commands_of(of_program(source))
         self.assertEqual(first.text, "cat > room.c <<'END'\n#include <a.h>\nint b = '\\n';\nEND\n")
-        self.assertTrue(compiled.text.startswith("cc ") and len(runs) == 2)
+        self.assertTrue(compiled.text.startswith("cc ") and len(runs) == 3)
         self.assertEqual(of_program(".Bd -literal\n$ a\n.Ed\n"), "")
 
     def test_a_command_in_another_form_is_refused(self) -> None:
@@ -75,8 +82,8 @@ def png(width: int, depth: int, color: int, rows: List[bytes], palette: bytes = 
         return struct.pack(">I4s", len(data), kind) + data + struct.pack(">I", zlib.crc32(kind + data))
     head = struct.pack(">IIBBBBB", width, len(rows), depth, color, 0, 0, 0)
     packed = zlib.compress(b"".join(rows))
-    return (pixels.SIGNATURE + chunk(b"IHDR", head) + (chunk(b"PLTE", palette) if palette else b"") + chunk(b"IDAT", packed[:4])
-            + chunk(b"IDAT", packed[4:]) + chunk(b"IEND", b""))
+    parts = chunk(b"IDAT", packed[:4]) + chunk(b"IDAT", packed[4:]) + chunk(b"IEND", b"")
+    return pixels.SIGNATURE + chunk(b"IHDR", head) + (chunk(b"PLTE", palette) if palette else b"") + parts
 
 
 class Pixels(unittest.TestCase):
