@@ -4,8 +4,8 @@ ghost use Rattle.rrd_tail.specs.Marks.{mark_of};
 ghost use Rattle.rrd_tail.specs.Settled.{settled};
 ghost use Rattle.rrd_undo.specs.Changing.{IsAt, IsBroken, StandsForEither};
 ghost use Rattle.rrd_undo.specs.Databases.{IsDatabase, IsNoDatabase};
-ghost use Rattle.rrd_undo.specs.Failing.{IsCaught, IsEither, IsSafe};
-ghost use Rattle.rrd_undo.specs.Power.{AllStand, RestsOn};
+ghost use Rattle.rrd_undo.specs.Failing.{IsCaught, IsSafe};
+ghost use Rattle.rrd_undo.specs.Power.{AllStand, IsEither, RestsOn};
 ghost use Rattle.rrd_undo.specs.Spans.{AgreesOutside};
 ghost use Rattle.rrd_undo.specs.declared.tail.Syncs.{Syncs};
 
