@@ -89,9 +89,16 @@ class Groups(unittest.TestCase):
         full, short = Answer(CANNOT_WRITE, errno.ENOSPC, 0, b"cannot write"), Answer(NO_MEMORY, 0, 0, b"out of memory")
         self.assertEqual(self.write(SAMPLES, full)[0], Outcome(lost="cannot write"))
         self.assertEqual(self.write(SAMPLES, short)[0], Outcome(again="out of memory"))
-        # The file has some of the samples by then.
-        self.assertEqual(self.write(SAMPLES, DONE, short)[0], Outcome(lost="out of memory"))
-        self.assertEqual(self.write(SAMPLES, DONE, Answer(OK, 0, 0, b"ERROR: x\n", (1,)), short)[0], Outcome(lost="out of memory"))
+
+    def test_faults_after_the_first_change(self) -> None:
+        """The file has the older samples by then, and after the second change each one that is not refused."""
+        full, short = Answer(CANNOT_WRITE, errno.ENOSPC, 0, b"cannot write"), Answer(NO_MEMORY, 0, 0, b"out of memory")
+        self.assertEqual(self.write(SAMPLES, DONE, full)[0], Outcome(lost="cannot write", done=MANY - 4))
+        self.assertEqual(self.write(SAMPLES, DONE, short)[0], Outcome(again="out of memory", done=MANY - 4))
+        refused = Answer(OK, 0, 0, b"ERROR: bad value\n", (2,))
+        for answer in full, short:
+            self.assertEqual(self.write(SAMPLES, DONE, refused, answer)[0],
+                             Outcome(lost=answer.output.decode(), refused=((SAMPLES[-3], "bad value"),), done=MANY))
 
     def test_a_word_that_would_become_two(self) -> None:
         samples = [b"10:1\x0020:2", *SAMPLES[2:], b"9999:1"]

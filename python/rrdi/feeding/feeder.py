@@ -163,6 +163,7 @@ class Feeder:
 
     def end_batch(self, file: bytes, samples: List[bytes], outcome: Outcome) -> None:
         self.running.discard(file)
+        samples = samples[outcome.done:]
         if outcome.lost:
             self.say_lost(file, outcome.lost, samples)
         for sample, reason in outcome.refused:

@@ -56,22 +56,20 @@ def write_open(file: bytes, opened: OpenedFile, samples: List[bytes]) -> Outcome
     if answer.fault != OK:
         return outcome_of(file, samples, answer)
     answer = opened.batch(lines_of(newer), now)
-    if answer.fault == OK and answer.refused:
-        return again_one_by_one(file, opened, samples, len(newer) - len(answer.refused), now)
-    return after_the_first(outcome_of(file, newer, answer))
+    outcome = outcome_of(file, newer, answer)
+    if outcome.refused:
+        return again_one_by_one(file, opened, samples, len(newer), outcome, now)
+    return outcome._replace(done=len(older)) if answer.fault != OK else outcome
 
 
-def again_one_by_one(file: bytes, opened: OpenedFile, samples: List[bytes], taken: int, now: int) -> Outcome:
-    """Takes back the update of the older samples and the `taken` ones after it, and passes each sample as an update: the
-    journal has room for more than were taken."""
-    reverts = taken + 1
+def again_one_by_one(file: bytes, opened: OpenedFile, samples: List[bytes], newer: int, before: Outcome, now: int) -> Outcome:
+    """Takes back the update of the older samples and those of the `newer` ones that were not refused `before`, and passes
+    each sample as an update: the journal has room for more than were taken. If that fails, the file still has each sample
+    that it took."""
+    reverts = newer - len(before.refused) + 1
     answer = opened.batch(b"revert\n" * reverts + lines_of(samples), now)
-    return after_the_first(outcome_of(file, samples, answer, reverts))
-
-
-def after_the_first(outcome: Outcome) -> Outcome:
-    """Returns the outcome of a later change. If it fails, the samples cannot be tried again: the file has some of them."""
-    return Outcome(lost=outcome.again) if outcome.again else outcome
+    outcome = outcome_of(file, samples, answer, reverts)
+    return outcome if answer.fault == OK else before._replace(lost=outcome.again or outcome.lost, done=len(samples))
 
 
 def journal_of(opened: OpenedFile) -> int:
