@@ -2,12 +2,17 @@
 file of another kind."""
 from __future__ import annotations
 
+import os
 import unittest
+from unittest import mock
 
-from cases import needs_program
+from cases import needs_program, new_folder
 from tool_case import Ran, ToolCase
 
 from rrdi.explaining import why_refused
+from rrdi.tools import program
+from rrdi.tools.command_line import Failure
+from rrdi.tools.feed import Explaining
 from rrdi.tools.hints import file_hint, option_hint
 
 SOURCE = "ds[{0}].name = {1}\nds[{0}].type = {2}\nds[{0}].minimal_heartbeat = 60\nds[{0}].min = U\nds[{0}].max = U\n" \
@@ -51,6 +56,22 @@ class Samples(unittest.TestCase):
                 ("x:1", "unreadable sample 1", "its time is 'x', not whole seconds since 1970 or N")):
             with self.subTest(sample=sample):
                 self.assertEqual(self.why(sample, reason), why)
+
+
+class Feeders(unittest.TestCase):
+    def test_the_sources_of_a_file(self) -> None:
+        """A file is asked for its sources once, and again when it has changed."""
+        file, explaining = new_folder(self) / "f.rrdi", Explaining()
+        other = INFO.replace(" = temp\n", " = hot\n")
+        with mock.patch.object(program, "ask", side_effect=[Failure("cannot open"), INFO, other]) as ask:
+            wanted = "sample 1 has 1 value, 2 are wanted: in, "
+            for data, why in ((None, ""), (None, ""), (b"1", f"{wanted}temp"), (None, f"{wanted}temp"), (b"22", f"{wanted}hot")):
+                if data is not None:
+                    file.write_bytes(data)
+                self.assertEqual(explaining.why(os.fsencode(file), b"10:1", "wrong number of values"), why)
+            explaining.MOST_KEPT = 1
+            self.assertEqual(explaining.why(b"none", b"10:1", "wrong number of values"), "")
+        self.assertEqual(ask.call_count, 3)
 
 
 class Tools(ToolCase):
