@@ -167,6 +167,8 @@ class Batches(unittest.TestCase):
     def test_refused_samples(self) -> None:
         _, feeder, said = self.fed(b"a 10:1\na 20:3", {b"a": [Outcome(refused=((b"20:3", "bad value"),))]})
         self.assertEqual((said, feeder.has_failed), ("rrdi-feed: a 20:3: bad value\n", True))
+        _, _, said = self.fed(b"\x07 \x1b[2J:1", {b"\x07": [Outcome(refused=((b"\x1b[2J:1", "unreadable sample 1"),))]})
+        self.assertEqual(said, "rrdi-feed: \\x07 \\x1b[2J:1: unreadable sample 1\n")
 
     def test_again(self) -> None:
         again = Outcome(again="cannot open")

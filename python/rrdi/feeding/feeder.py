@@ -43,7 +43,11 @@ class Waiting:
 
 def line_text(line: bytes) -> str:
     """Returns a line for a message: without its end, and with control characters as escapes."""
-    text = text_of(line[:LONGEST_SHOWN]).strip() + (".." if len(line) > LONGEST_SHOWN else "")
+    return printable(text_of(line[:LONGEST_SHOWN]).strip() + (".." if len(line) > LONGEST_SHOWN else ""))
+
+
+def printable(text: str) -> str:
+    """Returns a text with control characters as escapes: they could change what a terminal shows."""
     return "".join(letter if letter.isprintable() else ascii(letter)[1:-1] for letter in text)
 
 
@@ -167,7 +171,7 @@ class Feeder:
         if outcome.lost:
             self.say_lost(file, outcome.lost, samples)
         for sample, reason in outcome.refused:
-            self.say(f"{text_of(file)} {text_of(sample)}: {reason}")
+            self.say(f"{printable(text_of(file))} {printable(text_of(sample))}: {reason}")
             detail = self.explain(file, sample, reason)
             if detail:
                 self.say(detail)
