@@ -56,6 +56,12 @@ class Lines(unittest.TestCase):
                                        b"c/d": [b"5:U", b"6:1"]})
         self.assertEqual((feeder.count, said, feeder.has_failed), (8, "", False))
 
+    def test_a_file_with_the_name_of_the_command(self) -> None:
+        """The first word UPDATE is never FILE, whether or not that file has samples."""
+        feeder, said = self.taken(b"update update 10:1\nupdate 20:2\nupdate b 30:3\nUPDATE Update 40:4")
+        self.assertEqual(feeder.held, {b"./update": [b"10:1"], b"b": [b"30:3"], b"./Update": [b"40:4"]})
+        self.assertEqual(said, "rrdi-feed: expected FILE SAMPLE.., got: update 20:2\n")
+
     def test_now(self) -> None:
         before = int(time.time())
         feeder, _ = self.taken(b"a N:1\na N:2\na 5:1 N:3\nNow 5:1")

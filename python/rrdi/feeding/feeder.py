@@ -132,6 +132,8 @@ class Feeder:
         if not samples or b"\0" in file or any(word.startswith(b"-") for word in words):
             self.say_bad("expected FILE SAMPLE..", line)
             return
+        if file.upper() == b"UPDATE":  # a later line may begin with this word, and is then of another FILE
+            file = b"./" + file
         now = b"%d" % int(time.time())
         samples = [now + sample[1:] if sample.startswith(b"N:") else sample for sample in samples]
         if any(len(UPDATE + sample) > LONGEST_LINE for sample in samples):
