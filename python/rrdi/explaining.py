@@ -70,6 +70,8 @@ def why_refused(sample: str, reason: str, ask: Optional[Ask] = None) -> str:
     parts = sample.split(":")
     if reason == "unreadable sample 1":
         return why_unreadable(parts, write_instead)
+    if reason == "usage" and not re.fullmatch("[!-~]+", sample):
+        return "it has a character that is not printable ASCII"
     error = error_of_line(reason)
     explain(error, ["update", sample], ask)
     return error.detail

@@ -52,6 +52,7 @@ class Samples(unittest.TestCase):
                 ("10:1:2:3", "wrong number of values", "sample 1 has 3 values, 2 are wanted: in, temp"),
                 ("10:1.5:2", "bad value", "value 1 of sample 1 is 1.5; in is of type COUNTER, which takes whole numbers without a "
                                           "point from 0 to 2^64 - 1"),
+                ("10:\x1b[2J", "usage", "it has a character that is not printable ASCII"), ("10:1:2", "usage", ""),
                 ("10:1:2", "not later than 10", ""), ("10", "unreadable sample 1", "'10' has no value; write TIME:VALUE"),
                 ("x:1", "unreadable sample 1", "its time is 'x', not whole seconds since 1970 or N")):
             with self.subTest(sample=sample):
