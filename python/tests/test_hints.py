@@ -2,6 +2,7 @@
 file of another kind."""
 from __future__ import annotations
 
+import errno
 import os
 import unittest
 from unittest import mock
@@ -12,6 +13,7 @@ from tool_case import Ran, ToolCase
 from rrdi.explaining import why_refused
 from rrdi.tools import program
 from rrdi.tools.command_line import Failure
+from rrdi.tools.conversion import make
 from rrdi.tools.feed import Explaining
 from rrdi.tools.hints import file_hint, option_hint
 
@@ -79,6 +81,25 @@ class Tools(ToolCase):
     def test_an_option(self) -> None:
         ran = self.tool("rrdi-show", "f", "--jsn")
         self.assertEqual((ran.status, ran.out, ran.err.splitlines()[-1]), (2, "", "rrdi-show: there is no option --jsn; did you mean --json?"))
+
+    def test_what_cannot_be_converted(self) -> None:
+        self.write("new.rrdi", b"RRDI")
+        for name, why in ((".", "is a directory; --into and --in-place convert the files below it"),
+                          ("new.rrdi", "is a file of rrdi already")):
+            self.assertEqual(self.tool("rrdi-import", name, "x.rrdi"), Ran(1, "", f"rrdi-import: {name} {why}\n"))
+
+    @needs_program
+    def test_why_a_file_is_not_opened(self) -> None:
+        """A tool names the file, and the system's reason."""
+        self.stub("gnuplot", "exit 3")
+        self.assertEqual(self.tool("rrdi-plot", ".", "x.png", "AVERAGE").err, "rrdi-plot: .: cannot open: Is a directory\n")
+        self.assertEqual(self.tool("rrdi-plot", "none", "x.png", "AVERAGE").err,
+                         "rrdi-plot: none: cannot open: No such file or directory\n")
+        with mock.patch.object(program, "batch", side_effect=program.CommandFailed("cannot open")), \
+                self.assertRaisesRegex(Failure, "none/x.rrdi: cannot open: No such file or directory"):
+            make(str(self.folder / "none/x.rrdi"), [])
+        failed = program.CommandFailed("cannot open", errno.EAGAIN)
+        self.assertEqual(failed.of_file("f"), "f: cannot open: another program holds its lock")
 
     @needs_program
     def test_files_of_other_programs(self) -> None:
