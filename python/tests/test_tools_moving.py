@@ -303,7 +303,8 @@ class Compare(ToolCase):
         good = f"{self.ONE} nan {self.TWO}"
         self.compare(good, self.TWO)
         self.assertEqual(self.tool("rrdi-compare", "old.rrd", "none.rrdi"),
-                         Ran(1, "", "rrdi-compare: rrdi does not fetch AVERAGE from none.rrdi: cannot open: No such file or directory\n"))
+                         Ran(1, "", "rrdi-compare: rrdi does not fetch AVERAGE from none.rrdi: cannot open: No such file or "
+                                    "directory\n"))
         self.stub("rrdtool", f'[ $1 = info ] && cat {self.folder}/info && exit; echo "ERROR: no" >&2; exit 1')
         self.assertEqual(self.compare(good, self.TWO),
                          Ran(1, "", "rrdi-compare: rrdtool does not fetch AVERAGE from old.rrd: ERROR: no\n"))
