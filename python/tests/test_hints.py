@@ -61,6 +61,14 @@ class Samples(unittest.TestCase):
                 self.assertEqual(self.why(sample, reason), why)
 
 
+    def test_a_time_ahead_of_the_clock(self) -> None:
+        """A sample of a wrong clock makes rrdi refuse each one after it."""
+        with mock.patch("rrdi.explaining.time.time", return_value=1_700_000_000.5):
+            for last, why in (("1700000060", ""), ("1700003600", "1700003600 is 3600 seconds ahead of the clock; if a sample has "
+                                                   "this wrong time, rrdi revert takes it back")):
+                self.assertEqual(self.why("1700000000:1:2", f"not later than {last}"), why)
+
+
 class Feeders(unittest.TestCase):
     def test_the_sources_of_a_file(self) -> None:
         """A file is asked for its sources once, and again when it has changed."""
