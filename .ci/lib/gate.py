@@ -73,16 +73,21 @@ LAST = Step((".ci/run-built", "--lacking"), 8)
 BUILT = re.compile(r"crates/(rrdi/out/rrdi|(tests_\w+)/out/\2_tests)")
 # Debian's packages of the tools that the scripts need, by the names of the tools.
 PACKAGES = {"strace": "strace", "cc": "gcc", "make": "make", "objcopy": "binutils", "mypy": "mypy"}
+# And of those that only the sessions of some pages need.
+OF_PAGES = {"rrdtool": "rrdtool", "gnuplot": "gnuplot-nox", "pkg-config": "pkg-config"}
 
 
-def install_tools() -> None:
+def install_tools(packages: dict[str, str]) -> None:
     """Installs missing tools, if that is allowed. run-built reports what a script still lacks."""
-    lacking = [package for tool, package in PACKAGES.items() if not shutil.which(tool)]
+    lacking = [package for tool, package in packages.items() if not shutil.which(tool)]
     if not lacking or os.geteuid() != 0 or not shutil.which("apt-get"):
         return
+    install = ["install", "-y", "-qq", *lacking]
     try:
-        subprocess.run(["apt-get", "install", "-y", "-qq", *lacking], timeout=300, stdin=subprocess.DEVNULL,
-                       stdout=subprocess.DEVNULL, stderr=subprocess.DEVNULL, check=False)
+        for words in (install, ["update", "-qq"], install):  # a new machine may have no list of packages yet
+            if not all(map(shutil.which, packages)):
+                subprocess.run(["apt-get", *words], timeout=300, stdin=subprocess.DEVNULL, stdout=subprocess.DEVNULL,
+                               stderr=subprocess.DEVNULL, check=False)
     except (OSError, subprocess.TimeoutExpired) as error:
         print(f"run: {' '.join(lacking)} could not be installed: {error}")
 
@@ -150,7 +155,7 @@ class Check:
             is_well = self.is_well(step, started.returncode, lines)
             self.passed += passed_in(step, lines) if is_well else 0
             if self.at and is_well and step.least and step.words[0] != LAST.words[0]:
-                results.record(step.name.split(), lines[-1], self.at, self.top / "docs/results.md")
+                results.record(step.name.split(), lines, self.at, self.top / "docs/results.md")
         return is_well
 
     def start(self, step: Step) -> subprocess.Popen[str] | None:
@@ -256,7 +261,8 @@ def run_all(top: Path, is_alone: bool = False, records: bool = False) -> int:
 
 
 def main(options: argparse.Namespace) -> int:
-    install_tools()
+    for packages in (PACKAGES, OF_PAGES):
+        install_tools(packages)
     return run_all(TOP, options.alone, options.record)
 
 

@@ -1,5 +1,6 @@
 """Keeps the page of results: one row for each command, with the last line that it printed, the commit and the day. Of a
-long line the row has the total, and a list under the table has every count."""
+long line the row has the total, and a list under the table has every count. What a command has measured goes into the file
+of measurements, and from there into the page about them."""
 from __future__ import annotations
 
 import itertools
@@ -9,6 +10,7 @@ import time
 from pathlib import Path
 from typing import List, NamedTuple, Sequence
 
+from lib import measured, tables
 from lib.program import TOP
 from lib.tally import number_tried
 
@@ -113,13 +115,17 @@ def commit(top: Path) -> str:
     return git("rev-parse", "--short=8", "HEAD").strip()
 
 
-def record(words: Sequence[str], last_line: str, at: str, page: Path = PAGE, seconds: float | None = None) -> bool:
-    """Puts the result of a command into the page. `at` is the commit, and `seconds` the time since 1970 at which the
-    command ended, by default now. Returns whether the last line is a result: it begins with the number of things that
-    were tried."""
+def record(words: Sequence[str], lines: Sequence[str], at: str, page: Path = PAGE, seconds: float | None = None) -> bool:
+    """Puts the result of a command into the page, by the lines that it printed, and what it measured beside the page. `at`
+    is the commit, and `seconds` the time since 1970 at which the command ended, by default now. Returns whether the last
+    line is a result: it begins with the number of things that were tried."""
+    last_line = lines[-1] if lines else ""
     if number_tried(last_line) == 0:
         return False
     day = time.strftime("%Y-%m-%d", time.gmtime(seconds))
+    rows = measured.taken(words, lines, at, day)
+    if rows:
+        tables.take(rows, page.parent)
     line = readable(re.sub(r"^[\w-]+: (?=\d)", "", last_line))
     page.write_text(with_result(page.read_text(encoding="utf-8"), Result(command_of(words), line, at, day)), encoding="utf-8")
     return True

@@ -1,4 +1,4 @@
-"""Each script says at its head what it alone finds; CONTRIBUTING.md names each script and each module of lib."""
+"""Each script says at its head what it alone finds; CONTRIBUTING.md names each script, and the map each module of lib."""
 from __future__ import annotations
 
 import re
@@ -17,4 +17,5 @@ class Heads(unittest.TestCase):
             self.assertTrue(re.search(rf"\.ci/{path.name}\b(?!-)", page), f"CONTRIBUTING.md lacks {path.name}")
             if path.name != "run":  # which has no words of its own
                 self.assertRegex(path.read_text(encoding="utf-8")[:5_000], "It (alone finds|finds no fault)", path.name)
-        self.assertEqual(modules - set(re.findall(r"`(\w+)`", page)), set())
+        plan = (TOP / "docs/ARCHITECTURE.md").read_text(encoding="utf-8")
+        self.assertEqual(modules - set(re.findall(r"`(\w+)`", plan)), set())

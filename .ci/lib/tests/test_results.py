@@ -44,9 +44,9 @@ class Rows(unittest.TestCase):
             page = Path(folder, "results.md")
             page.write_text(BEFORE + HEAD)
             for line in ("", "done", "0 runs: 0 wrong"):
-                self.assertFalse(record([".ci/a"], line, "44444444", page))
+                self.assertFalse(record([".ci/a"], [line], "44444444", page))
             self.assertEqual(page.read_text(), BEFORE + HEAD)
-            self.assertTrue(record([".ci/a"], "run-built: 13 scripts: 0 wrong", "44444444", page))
+            self.assertTrue(record([".ci/a"], ["run-built: 13 scripts: 0 wrong"], "44444444", page))
             self.assertIn("| `.ci/a` | 13 scripts: 0 wrong | `44444444` | ", page.read_text())
 
 

@@ -15,15 +15,15 @@ IMPLEMENTATION = re.compile(r"^impl\b.*\b(Bytes|Disk|Storage) for (\w+)", re.MUL
 BY_HAND = {"crates/rrd_disk/proofs/record/Record/new/Proof.antt", "crates/rrd_disk/proofs/record/Record/note/Proof.antt",
            "crates/rrd_disk/proofs/record/Record/TheSendSync/Send.antt",
            "crates/rrd_ring/proofs/ring/row_mut/Proof.antt",
-           "library/rrdi_c/proofs/handle/Handle/into_unboxed/Proof.antt.in", "library/rrdi_c/proofs/handle/Handle/none/Proof.antt.in",
+           "library/rrdi_c/proofs/handle/Handle/into_raw_box/Proof.antt.in", "library/rrdi_c/proofs/handle/Handle/none/Proof.antt.in",
            "library/rrdi_c/proofs/handle/Handle/of/Proof.antt.in",
-           "library/rrdi_c/proofs/unboxed/Unboxed/from_box/Proof.antt.in",
-           "library/rrdi_c/proofs/unboxed/Unboxed/into_box/Proof.antt.in"}
+           "library/rrdi_c/proofs/raw_box/RawBox/from_box/Proof.antt.in",
+           "library/rrdi_c/proofs/raw_box/RawBox/into_box/Proof.antt.in"}
 
 # Words that may lead around the prover, and the lines that have one.
 WAY_AROUND = re.compile(r"\b(unsafe|axiom|postulate)\b", re.IGNORECASE)
 UNSAFE = {("crates/rrd_disk/src/record.rt", "unsafe impl Send for Record {}"),
-          ("library/rrdi_c/src/unboxed.rt.in", "unsafe { Box::from_raw(alloc, address) }")}
+          ("library/rrdi_c/src/raw_box.rt.in", "unsafe { Box::from_raw(alloc, address) }")}
 
 
 def searched() -> Iterator[Path]:

@@ -43,7 +43,7 @@ impl Gate for Always {
     }
 }
 
-// Writes the database that a batch left, if the gate allows it.
+// Writes the database that a batch left, if there is one and the gate allows it.
 fn store_allowed<P: Storage, G: Gate>(
     alloc: Global,
     storage: &mut P,
@@ -58,8 +58,9 @@ fn store_allowed<P: Storage, G: Gate>(
         → Leaves (option_map (λ d. d.now) database.entry) (P.contents s storage.old) (P.contents s storage.new) result }
 {
     match database {
+        None => Ok(()),
         Some(_) if !gate.allows() => Err(TaskFault::CannotWrite),
-        _ => store(alloc, storage, database),
+        Some(database) => store(alloc, storage, database),
     }
 }
 

@@ -96,13 +96,6 @@ impl<P: Storage + Drop> Session<P> {
         }
     }
 
-    /// Ends the session, and returns its storage.
-    pub fn into_storage(self) -> P
-        ensures { result ≡ self.storage }
-    {
-        self.storage
-    }
-
     /// Returns the storage.
     pub fn storage(&self) -> &P
         ensures { result.now ≡ self.now.storage }

@@ -79,7 +79,7 @@ fn write<P: Storage>(
 {
     match encoding {
         Some(encoding) => store_encoded(storage, encoding, database),
-        None => store(alloc, storage, Some(database)),
+        None => store(alloc, storage, database),
     }
 }
 

@@ -1,7 +1,7 @@
 //! Reads and writes a stored database.
-ghost use Rattle.std.specs.Prelude.{◌≡◌, IfSome, None, Option, Some, option_map};
+ghost use Rattle.std.specs.Prelude.{◌≡◌, IfSome, None, Option, Some};
 ghost use Rattle.rrd_store.specs.Encoding.{MayReplace};
-ghost use Rattle.rrd_store.specs.Storages.{Bytes, Decodes, DiffersWithin, Held, Leaves, Replaces};
+ghost use Rattle.rrd_store.specs.Storages.{Bytes, Decodes, DiffersWithin, Held, Replaces};
 ghost use Rattle.rrd_file.specs.Encoded.{Encodes};
 ghost use Rattle.rrd_file.specs.Layout.{layout};
 
@@ -103,8 +103,12 @@ pub(crate) fn store_encoded<P: Storage>(
     }
 }
 
-// Replaces the bytes of a storage by those of a database.
-fn replace<P: Storage>(alloc: Global, storage: &mut P, database: &Database) -> Result<(), TaskFault>
+/// Replaces the bytes of a storage by those of a database.
+pub(crate) fn store<P: Storage>(
+    alloc: Global,
+    storage: &mut P,
+    database: &Database,
+) -> Result<(), TaskFault>
     ensures falls { (s : Option Held) → P.is_honest s storage.new → P.is_honest s storage.old }
     ensures sound { (s : Option Held) → P.is_honest s storage.new → P.is_sound s storage.old
         → P.is_sound s storage.new }
@@ -116,23 +120,4 @@ fn replace<P: Storage>(alloc: Global, storage: &mut P, database: &Database) -> R
         return Err(TaskFault::CannotWrite);
     };
     put(storage, &bytes, database)
-}
-
-/// Replaces the bytes of a storage by those of a database, if there is a database.
-pub(crate) fn store<P: Storage>(
-    alloc: Global,
-    storage: &mut P,
-    database: Option<&Database>,
-) -> Result<(), TaskFault>
-    ensures falls { (s : Option Held) → P.is_honest s storage.new → P.is_honest s storage.old }
-    ensures sound { (s : Option Held) → P.is_honest s storage.new → P.is_sound s storage.old
-        → P.is_sound s storage.new }
-    ensures unknown { (s : Option Held) → P.contents s storage.old ≡ None → P.contents s storage.new ≡ None }
-    ensures left { (s : Option Held) → P.is_honest s storage.new → P.is_sound s storage.old
-        → Leaves (option_map (λ d. d.now) database.entry) (P.contents s storage.old) (P.contents s storage.new) result }
-{
-    match database {
-        None => Ok(()),
-        Some(database) => replace(alloc, storage, database),
-    }
 }

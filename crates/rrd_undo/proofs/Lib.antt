@@ -7,4 +7,8 @@ pub mod Turned
 pub mod Gathered
 pub mod Stages
 pub mod Recovering
+pub mod Powered
+pub mod Torn
+pub mod Begun
+pub mod Caught
 pub mod Fronted

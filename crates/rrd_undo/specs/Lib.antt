@@ -1,10 +1,13 @@
 pub mod Calls
 pub mod Databases
 pub mod Fronts
+pub mod Power
 pub mod Pages
 pub mod Spans
 pub mod Undoing
 pub mod Gathering
 pub mod Settling
+pub mod Leaving
 pub mod Changing
+pub mod Failing
 pub mod Memory

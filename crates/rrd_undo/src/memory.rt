@@ -79,6 +79,9 @@ impl Bytes for Memory {
 
     ghost is_honest = { λ _ _. true };
 
+    // the bytes are on no disk, and nothing is claimed of a power failure
+    ghost may_leave = { λ _ _ _ _. ⊥ };
+
     fn len(&mut self) -> io::Result<usize> {
         spend(&mut self.calls_left)?;
         Ok(self.bytes.len())
