@@ -1,8 +1,8 @@
 """Builds the wheel and the source archive of this package for pip, by the functions that PEP 517 and PEP 660 name.
 
-If librrdi was built (`make library` leaves out/librrdi.so.0 in the repository), wheel and archive have it beside the
-modules, and the wheel's tag names the systems on which the library runs. Without the library the wheel runs anywhere, has
-only the modules, and its summary says so.
+If librrdi was built (`make library` leaves out/librrdi.so.0 in the repository), or the variable RRDI_LIBRARY names it,
+wheel and archive have it beside the modules, and the wheel's tag names the systems on which the library runs. Without
+the library the wheel runs anywhere, has only the modules, and its summary says so.
 
 Setuptools would need the network in pip's own environment, leave folders in the tree, and take a library for a module of
 one version of Python.
@@ -15,6 +15,7 @@ import gzip
 import hashlib
 import importlib.util
 import io
+import os
 import re
 import sys
 import tarfile
@@ -23,6 +24,8 @@ from pathlib import Path
 from typing import Any, Dict, Optional
 
 HERE = Path(__file__).resolve().parent
+# The repository, or the source archive: what is above a folder to which that was unpacked, such as /tmp, is anybody's.
+TOP = HERE if (HERE / "PKG-INFO").is_file() else HERE.parent
 LIBRARY = "rrdi/librrdi.so.0"
 SUMMARY = "Round-robin time-series databases with RRDtool's commands and exact undo"
 LICENSE = "MIT OR Apache-2.0"
@@ -36,10 +39,7 @@ Settings = Optional[Dict[str, Any]]
 
 def build_wheel(wheel_directory: str, config_settings: Settings = None, metadata_directory: Optional[str] = None) -> str:
     """Builds a wheel, and returns its name."""
-    library = find_library()
-    if library is None:
-        print("rrdi: librrdi.so.0 not found, so the wheel has no C library; `make library` builds it", file=sys.stderr)
-    return write_wheel(Path(wheel_directory), modules(), library)
+    return write_wheel(Path(wheel_directory), modules(), find_library("wheel"))
 
 
 def build_editable(wheel_directory: str, config_settings: Settings = None, metadata_directory: Optional[str] = None) -> str:
@@ -49,7 +49,7 @@ def build_editable(wheel_directory: str, config_settings: Settings = None, metad
 
 def build_sdist(sdist_directory: str, config_settings: Settings = None) -> str:
     """Builds a source archive, and returns its name. Wheels of the archive are those of the tree."""
-    project, library = read_project(), find_library()
+    project, library = read_project(), find_library("source archive")
     files = {**modules(), **licenses(), **{name: (HERE / name).read_bytes() for name in ("pyproject.toml", "build_backend.py")}}
     files["PKG-INFO"] = metadata_of(project, library is not None)
     if library:
@@ -83,17 +83,24 @@ def modules() -> Dict[str, bytes]:
     return {path.relative_to(HERE).as_posix(): path.read_bytes() for path in paths}
 
 
-def find_library() -> Optional[bytes]:
-    """Returns the library that was built in the repository, or that is in the source archive."""
-    for path in (HERE / LIBRARY, HERE.parent / "out/librrdi.so.0"):
-        if path.is_file():
+def find_library(what: str) -> Optional[bytes]:
+    """Returns the library that RRDI_LIBRARY names, or else the one in the source archive, or that was built in the
+    repository. If there is none, says that `what` is built without it.
+
+    # Errors
+    `OSError` if RRDI_LIBRARY names no file.
+    """
+    named = os.environ.get("RRDI_LIBRARY")
+    for path in (Path(named),) if named else (HERE / LIBRARY, TOP / "out/librrdi.so.0"):
+        if named or path.is_file():
             return path.read_bytes()
+    print(f"rrdi: no librrdi.so.0, so the {what} has no C library; `make library` builds it, RRDI_LIBRARY names it",
+          file=sys.stderr)
     return None
 
 
 def licenses() -> Dict[str, bytes]:
-    """Returns the licenses, which are at the top of the repository or of the source archive."""
-    return {path.name: path.read_bytes() for folder in (HERE.parent, HERE) for path in folder.glob("LICENSE*")}
+    return {path.name: path.read_bytes() for path in TOP.glob("LICENSE*")}
 
 
 # ---- What a wheel says of itself

@@ -2,6 +2,7 @@
 from __future__ import annotations
 
 import re
+import time
 from typing import Callable, Dict, List, NamedTuple, Optional, Sequence
 
 from .amounts import LARGEST, gauge_text, shortened
@@ -22,6 +23,7 @@ OTHERS = {"create": [("-s", "--step"), ("--journal", "--journal")], "fetch": [("
 DEFINITION = "DS:name:GAUGE|COUNTER|DERIVE|ABSOLUTE:heartbeat:min:max or RRA:AVERAGE|MIN|MAX|LAST:xff:steps:rows"
 WHOLE = "whole numbers without a point"
 MOST_NAMES = 8  # of a file's sources that a text names
+AHEAD = 60  # seconds by which a time may be ahead of the clock before that is said: clocks of two machines differ
 
 Ask = Callable[[List[str]], str]
 
@@ -70,6 +72,8 @@ def why_refused(sample: str, reason: str, ask: Optional[Ask] = None) -> str:
     parts = sample.split(":")
     if reason == "unreadable sample 1":
         return why_unreadable(parts, write_instead)
+    if reason == "usage" and not re.fullmatch("[!-~]+", sample):
+        return "it has a character that is not printable ASCII"
     error = error_of_line(reason)
     explain(error, ["update", sample], ask)
     return error.detail
@@ -178,14 +182,19 @@ def _why_bad_word(words: Sequence[str], reason: str) -> str:
 
 
 def _why_not_later(given: Given, before: int, ask: Optional[Ask]) -> str:
-    """Says which of several samples is too early: the first one, or one that follows a sample of the time `before`."""
-    last = _answer(ask, "last").strip() if len(given.samples) > 1 else ""
+    """Says which of several samples is too early: the first one, or one that follows a sample of the time `before`. Of one
+    sample, says whether `before` is ahead of the clock."""
+    if len(given.samples) == 1:
+        ahead = before - int(time.time())
+        return f"{before} is {ahead} seconds ahead of the clock; if a sample has this wrong time, rrdi revert takes it back" \
+            if ahead > AHEAD else ""
+    last = _answer(ask, "last").strip()
     if not last:
         return ""
     times = [_seconds(sample) for sample in given.samples]
-    for number, (earlier, time) in enumerate(zip([int(last), *times], times), 1):
-        if time is not None and earlier == before and time <= before:
-            return f"sample {number} has the time {time}"
+    for number, (earlier, at) in enumerate(zip([int(last), *times], times), 1):
+        if at is not None and earlier == before and at <= before:
+            return f"sample {number} has the time {at}"
     return ""
 
 

@@ -37,13 +37,21 @@ class Building(unittest.TestCase):
         (self.tree / "out").mkdir()
         (self.tree / "out/librrdi.so.0").write_bytes(data)
 
-    def build(self, hook: str, tree: "Path | None" = None) -> Path:
+    def run_hook(self, hook: str, tree: "Path | None" = None, **env: str) -> "subprocess.CompletedProcess[str]":
         """Calls a function of the backend as pip does, in a process that may write compiled modules."""
         code = f"import build_backend; print(build_backend.{hook}({str(self.made)!r}))"
-        ran = subprocess.run([sys.executable, "-c", code], cwd=tree or self.tree / "python", capture_output=True, text=True,
-                             env={"PYTHONPATH": "."})
+        return subprocess.run([sys.executable, "-c", code], cwd=tree or self.tree / "python", capture_output=True, text=True,
+                              env={"PYTHONPATH": ".", **env})
+
+    def build(self, hook: str, tree: "Path | None" = None, **env: str) -> Path:
+        ran = self.run_hook(hook, tree, **env)
         self.assertEqual(ran.returncode, 0, ran.stderr)
         return self.made / ran.stdout.strip()
+
+    def unpack(self, archive: Path) -> Path:
+        with tarfile.open(archive) as opened:
+            opened.extractall(self.folder)
+        return self.folder / f"rrdi-{VERSION}"
 
     def names(self) -> List[str]:
         return sorted(str(path) for path in self.tree.rglob("*"))
@@ -77,10 +85,37 @@ class Building(unittest.TestCase):
     def test_a_wheel_of_the_source_archive(self) -> None:
         self.put_library(library(183, "2.17"))
         wheel = self.build("build_wheel").read_bytes()
-        with tarfile.open(self.build("build_sdist")) as archive:
-            archive.extractall(self.folder)
-        again = self.build("build_wheel", self.folder / f"rrdi-{VERSION}")
+        again = self.build("build_wheel", self.unpack(self.build("build_sdist")))
         self.assertEqual((again.name, again.read_bytes()), (f"rrdi-{VERSION}-py3-none-manylinux_2_17_aarch64.whl", wheel))
+
+    def test_what_is_beside_the_source_archive(self) -> None:
+        """pip unpacks an archive in a folder of /tmp. No file of /tmp is in the wheel."""
+        source = self.unpack(self.build("build_sdist"))
+        (self.folder / "out").mkdir()
+        (self.folder / "out/librrdi.so.0").write_bytes(library(62))
+        (self.folder / "LICENSE-OTHER").write_text("")
+        wheel = self.build("build_wheel", source)
+        self.assertEqual(wheel.name, f"rrdi-{VERSION}-py3-none-any.whl")
+        with zipfile.ZipFile(wheel) as archive:
+            self.assertEqual([name for name in archive.namelist() if "LICENSE" in name],
+                             [f"rrdi-{VERSION}.dist-info/licenses/LICENSE-MIT"])
+
+    def test_a_library_that_a_variable_names(self) -> None:
+        self.put_library(library(62, "2.17"))
+        named = self.folder / "librrdi.so.0"
+        named.write_bytes(library(62, "2.40"))
+        wheel = self.build("build_wheel", RRDI_LIBRARY=str(named))
+        self.assertEqual(wheel.name, f"rrdi-{VERSION}-py3-none-manylinux_2_40_x86_64.whl")
+        with zipfile.ZipFile(wheel) as archive:
+            self.assertEqual(archive.read("rrdi/librrdi.so.0"), named.read_bytes())
+        source = self.unpack(self.build("build_sdist", RRDI_LIBRARY=str(named)))
+        self.assertEqual(self.build("build_wheel", source).name, wheel.name)
+        ran = self.run_hook("build_wheel", RRDI_LIBRARY=f"{named}.none")
+        self.assertIn("No such file or directory: ", ran.stderr)
+
+    def test_no_library(self) -> None:
+        for hook, what in (("build_wheel", "wheel"), ("build_sdist", "source archive")):
+            self.assertIn(f"so the {what} has no C library; ", self.run_hook(hook).stderr)
 
     def test_an_editable_wheel(self) -> None:
         with zipfile.ZipFile(self.build("build_editable")) as archive:

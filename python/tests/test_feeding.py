@@ -56,6 +56,12 @@ class Lines(unittest.TestCase):
                                        b"c/d": [b"5:U", b"6:1"]})
         self.assertEqual((feeder.count, said, feeder.has_failed), (8, "", False))
 
+    def test_a_file_with_the_name_of_the_command(self) -> None:
+        """The first word UPDATE is never FILE, whether or not that file has samples."""
+        feeder, said = self.taken(b"update update 10:1\nupdate 20:2\nupdate b 30:3\nUPDATE Update 40:4")
+        self.assertEqual(feeder.held, {b"./update": [b"10:1"], b"b": [b"30:3"], b"./Update": [b"40:4"]})
+        self.assertEqual(said, "rrdi-feed: expected FILE SAMPLE.., got: update 20:2\n")
+
     def test_now(self) -> None:
         before = int(time.time())
         feeder, _ = self.taken(b"a N:1\na N:2\na 5:1 N:3\nNow 5:1")
@@ -167,6 +173,8 @@ class Batches(unittest.TestCase):
     def test_refused_samples(self) -> None:
         _, feeder, said = self.fed(b"a 10:1\na 20:3", {b"a": [Outcome(refused=((b"20:3", "bad value"),))]})
         self.assertEqual((said, feeder.has_failed), ("rrdi-feed: a 20:3: bad value\n", True))
+        _, _, said = self.fed(b"\x07 \x1b[2J:1", {b"\x07": [Outcome(refused=((b"\x1b[2J:1", "unreadable sample 1"),))]})
+        self.assertEqual(said, "rrdi-feed: \\x07 \\x1b[2J:1: unreadable sample 1\n")
 
     def test_again(self) -> None:
         again = Outcome(again="cannot open")
@@ -179,6 +187,17 @@ class Batches(unittest.TestCase):
         self.assertEqual(said, "rrdi-feed: a: cannot write; 2 samples may be lost\nrrdi-feed: may be lost: a 10:1 20:3\n")
         _, _, said = self.fed(b"a 10:1", {b"a": [Outcome(again="cannot open")] * 9}, patience=0)
         self.assertEqual(said, "rrdi-feed: a: cannot open; 1 samples may be lost\nrrdi-feed: may be lost: a 10:1\n")
+
+    def test_what_an_earlier_change_has_done(self) -> None:
+        """Only the samples after it are tried again, or may be lost."""
+        some = Outcome(again="out of memory", done=2)
+        writer, feeder, said = self.fed(b"a 10:1\na 20:3\na 30:5", {b"a": [some]})
+        self.assertEqual((writer.batches[1:], feeder.count, said), ([(b"a", [b"30:5"])], 0, ""))
+        _, _, said = self.fed(b"a 10:1\na 20:3\na 30:5", {b"a": [Outcome(lost="cannot write", done=1)]})
+        self.assertEqual(said, "rrdi-feed: a: cannot write; 2 samples may be lost\nrrdi-feed: may be lost: a 20:3 30:5\n")
+        every = Outcome(lost="cannot write", refused=((b"20:3", "bad value"),), done=3)
+        _, _, said = self.fed(b"a 10:1\na 20:3\na 30:5", {b"a": [every]})
+        self.assertEqual(said, "rrdi-feed: a: cannot write; 0 samples may be lost\nrrdi-feed: a 20:3: bad value\n")
 
     def test_a_writer_that_fails(self) -> None:
         feeder = Feeder(FeedOptions(), mock.Mock(write=mock.Mock(side_effect=MemoryError("none"))))

@@ -23,14 +23,16 @@ DONE = Answer(OK, 0, 0, b"")
 
 
 class FakeFile:
-    """An open file with a journal, and an answer for each call after `info`."""
+    """An open file with a journal, and an answer for each call after `info`. A call may change it although it fails."""
 
-    def __init__(self, answers: List[Answer], depth: int):
-        self.answers, self.depth, self.is_closed = answers, depth, False
+    def __init__(self, answers: List[Answer], depth: int, is_changed: bool = False):
+        self.answers, self.depth, self.is_changed, self.is_closed = answers, depth, is_changed, False
         self.calls: List[bytes] = []
 
     def run(self, words: bytes, now: int) -> Answer:
-        return Answer(OK, 0, 0, b"step = 10\njournal = %d\n" % self.depth) if words == b"info" else self.batch(words, now)
+        last = len(self.calls) if self.is_changed else 0
+        info = Answer(OK, 0, 0, b"step = 10\nlast_update = %d\njournal = %d\n" % (last, self.depth))
+        return info if words == b"info" else self.batch(words, now)
 
     def batch(self, lines: bytes, now: int) -> Answer:
         self.calls.append(lines)
@@ -59,8 +61,9 @@ def updates(samples: List[bytes]) -> bytes:
 
 
 class Groups(unittest.TestCase):
-    def write(self, samples: List[bytes], *answers: Answer, depth: int = 4) -> Tuple[Outcome, List[bytes]]:
-        file = FakeFile(list(answers), depth)
+    def write(self, samples: List[bytes], *answers: Answer, depth: int = 4,
+              is_changed: bool = False) -> Tuple[Outcome, List[bytes]]:
+        file = FakeFile(list(answers), depth, is_changed)
         library: Any = FakeLibrary(file)
         outcome = GroupWriter(library).write(b"a", samples)
         self.assertTrue(file.is_closed)
@@ -87,11 +90,22 @@ class Groups(unittest.TestCase):
 
     def test_faults(self) -> None:
         full, short = Answer(CANNOT_WRITE, errno.ENOSPC, 0, b"cannot write"), Answer(NO_MEMORY, 0, 0, b"out of memory")
-        self.assertEqual(self.write(SAMPLES, full)[0], Outcome(lost="cannot write"))
+        self.assertEqual(self.write(SAMPLES, full, full)[0], Outcome(lost="cannot write"))
         self.assertEqual(self.write(SAMPLES, short)[0], Outcome(again="out of memory"))
-        # The file has some of the samples by then.
-        self.assertEqual(self.write(SAMPLES, DONE, short)[0], Outcome(lost="out of memory"))
-        self.assertEqual(self.write(SAMPLES, DONE, Answer(OK, 0, 0, b"ERROR: x\n", (1,)), short)[0], Outcome(lost="out of memory"))
+        # An update of one sample needs less room. If the file has changed, it may have the older samples.
+        self.assertEqual(self.write(SAMPLES, full, DONE)[1][1:], [updates(SAMPLES)])
+        outcome, calls = self.write(SAMPLES, full, is_changed=True)
+        self.assertEqual((outcome, len(calls)), (Outcome(lost="cannot write"), 1))
+
+    def test_faults_after_the_first_change(self) -> None:
+        """The file has the older samples by then, and after the second change each one that is not refused."""
+        full, short = Answer(CANNOT_WRITE, errno.ENOSPC, 0, b"cannot write"), Answer(NO_MEMORY, 0, 0, b"out of memory")
+        self.assertEqual(self.write(SAMPLES, DONE, full)[0], Outcome(lost="cannot write", done=MANY - 4))
+        self.assertEqual(self.write(SAMPLES, DONE, short)[0], Outcome(again="out of memory", done=MANY - 4))
+        refused = Answer(OK, 0, 0, b"ERROR: bad value\n", (2,))
+        for answer in full, short:
+            self.assertEqual(self.write(SAMPLES, DONE, refused, answer)[0],
+                             Outcome(lost=answer.output.decode(), refused=((SAMPLES[-3], "bad value"),), done=MANY))
 
     def test_a_word_that_would_become_two(self) -> None:
         samples = [b"10:1\x0020:2", *SAMPLES[2:], b"9999:1"]

@@ -2,12 +2,19 @@
 file of another kind."""
 from __future__ import annotations
 
+import errno
+import os
 import unittest
+from unittest import mock
 
-from cases import needs_program
+from cases import needs_program, new_folder
 from tool_case import Ran, ToolCase
 
 from rrdi.explaining import why_refused
+from rrdi.tools import program
+from rrdi.tools.command_line import Failure
+from rrdi.tools.conversion import make
+from rrdi.tools.feed import Explaining
 from rrdi.tools.hints import file_hint, option_hint
 
 SOURCE = "ds[{0}].name = {1}\nds[{0}].type = {2}\nds[{0}].minimal_heartbeat = 60\nds[{0}].min = U\nds[{0}].max = U\n" \
@@ -47,16 +54,60 @@ class Samples(unittest.TestCase):
                 ("10:1:2:3", "wrong number of values", "sample 1 has 3 values, 2 are wanted: in, temp"),
                 ("10:1.5:2", "bad value", "value 1 of sample 1 is 1.5; in is of type COUNTER, which takes whole numbers without a "
                                           "point from 0 to 2^64 - 1"),
+                ("10:\x1b[2J", "usage", "it has a character that is not printable ASCII"), ("10:1:2", "usage", ""),
                 ("10:1:2", "not later than 10", ""), ("10", "unreadable sample 1", "'10' has no value; write TIME:VALUE"),
                 ("x:1", "unreadable sample 1", "its time is 'x', not whole seconds since 1970 or N")):
             with self.subTest(sample=sample):
                 self.assertEqual(self.why(sample, reason), why)
 
 
+    def test_a_time_ahead_of_the_clock(self) -> None:
+        """A sample of a wrong clock makes rrdi refuse each one after it."""
+        with mock.patch("rrdi.explaining.time.time", return_value=1_700_000_000.5):
+            for last, why in (("1700000060", ""), ("1700003600", "1700003600 is 3600 seconds ahead of the clock; if a sample has "
+                                                   "this wrong time, rrdi revert takes it back")):
+                self.assertEqual(self.why("1700000000:1:2", f"not later than {last}"), why)
+
+
+class Feeders(unittest.TestCase):
+    def test_the_sources_of_a_file(self) -> None:
+        """A file is asked for its sources once, and again when it has changed."""
+        file, explaining = new_folder(self) / "f.rrdi", Explaining()
+        other = INFO.replace(" = temp\n", " = hot\n")
+        with mock.patch.object(program, "ask", side_effect=[Failure("cannot open"), INFO, other]) as ask:
+            wanted = "sample 1 has 1 value, 2 are wanted: in, "
+            for data, why in ((None, ""), (None, ""), (b"1", f"{wanted}temp"), (None, f"{wanted}temp"), (b"22", f"{wanted}hot")):
+                if data is not None:
+                    file.write_bytes(data)
+                self.assertEqual(explaining.why(os.fsencode(file), b"10:1", "wrong number of values"), why)
+            explaining.MOST_KEPT = 1
+            self.assertEqual(explaining.why(b"none", b"10:1", "wrong number of values"), "")
+        self.assertEqual(ask.call_count, 3)
+
+
 class Tools(ToolCase):
     def test_an_option(self) -> None:
         ran = self.tool("rrdi-show", "f", "--jsn")
         self.assertEqual((ran.status, ran.out, ran.err.splitlines()[-1]), (2, "", "rrdi-show: there is no option --jsn; did you mean --json?"))
+
+    def test_what_cannot_be_converted(self) -> None:
+        self.write("new.rrdi", b"RRDI")
+        for name, why in ((".", "is a directory; --into and --in-place convert the files below it"),
+                          ("new.rrdi", "is a file of rrdi already")):
+            self.assertEqual(self.tool("rrdi-import", name, "x.rrdi"), Ran(1, "", f"rrdi-import: {name} {why}\n"))
+
+    @needs_program
+    def test_why_a_file_is_not_opened(self) -> None:
+        """A tool names the file, and the system's reason."""
+        self.stub("gnuplot", "exit 3")
+        self.assertEqual(self.tool("rrdi-plot", ".", "x.png", "AVERAGE").err, "rrdi-plot: .: cannot open: Is a directory\n")
+        self.assertEqual(self.tool("rrdi-plot", "none", "x.png", "AVERAGE").err,
+                         "rrdi-plot: none: cannot open: No such file or directory\n")
+        with mock.patch.object(program, "batch", side_effect=program.CommandFailed("cannot open")), \
+                self.assertRaisesRegex(Failure, "none/x.rrdi: cannot open: No such file or directory"):
+            make(str(self.folder / "none/x.rrdi"), [])
+        failed = program.CommandFailed("cannot open", errno.EAGAIN)
+        self.assertEqual(failed.of_file("f"), "f: cannot open: another program holds its lock")
 
     @needs_program
     def test_files_of_other_programs(self) -> None:

@@ -108,8 +108,8 @@ class Starting(unittest.TestCase):
     def test_what_was_killed(self) -> None:
         """Only what does not run is started, whether one process was killed or both."""
         first = self.start("node1")
-        with self.assertRaisesRegex(self.module.Failure, "node1 runs already"):
-            self.start("node1")
+        with self.assertRaisesRegex(self.module.Failure, "already running: node1, node1;"):
+            self.module.start_all(self.cluster, ["node1", "node1"], sys.executable)
         self.kill("node1", first["carbon"])
         second = self.start("node1")
         self.assertEqual(second["web"], first["web"])
@@ -117,6 +117,12 @@ class Starting(unittest.TestCase):
         self.kill("node1", *second.values())
         third = self.start("node1")
         self.assertFalse(set(third.values()) & set(second.values()))
+
+    def test_several_members(self) -> None:
+        """Those that run are passed over."""
+        first = self.start("node1")
+        self.module.start_all(self.cluster, ["node1", "relay"], sys.executable)
+        self.assertEqual((self.ids("node1"), list(self.ids("relay"))), (first, ["carbon"]))
 
     def test_a_port_of_another_program(self) -> None:
         with socket.create_server(("127.0.0.1", self.cluster.ports("front").web)), \

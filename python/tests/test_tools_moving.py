@@ -117,7 +117,7 @@ class Import(ToolCase):
                          Ran(1, "", NOTE + "rrdi-import: new.rrdi: cannot write\n"))
         self.assertEqual([path.name for path in self.folder.glob("new.rrdi*")], [])
         self.assertEqual(self.tool("rrdi-import", "old.rrd", "/nowhere/new.rrdi").err,
-                         NOTE + "rrdi-import: /nowhere/new.rrdi: cannot open\n")
+                         NOTE + "rrdi-import: /nowhere/new.rrdi: cannot open: No such file or directory\n")
 
     def test_a_link_is_no_rrdtool(self) -> None:
         (self.bin / "rrdtool").unlink()
@@ -303,7 +303,8 @@ class Compare(ToolCase):
         good = f"{self.ONE} nan {self.TWO}"
         self.compare(good, self.TWO)
         self.assertEqual(self.tool("rrdi-compare", "old.rrd", "none.rrdi"),
-                         Ran(1, "", "rrdi-compare: rrdi does not fetch AVERAGE from none.rrdi: cannot open\n"))
+                         Ran(1, "", "rrdi-compare: rrdi does not fetch AVERAGE from none.rrdi: cannot open: No such file or "
+                                    "directory\n"))
         self.stub("rrdtool", f'[ $1 = info ] && cat {self.folder}/info && exit; echo "ERROR: no" >&2; exit 1')
         self.assertEqual(self.compare(good, self.TWO),
                          Ran(1, "", "rrdi-compare: rrdtool does not fetch AVERAGE from old.rrd: ERROR: no\n"))

@@ -43,7 +43,11 @@ class Waiting:
 
 def line_text(line: bytes) -> str:
     """Returns a line for a message: without its end, and with control characters as escapes."""
-    text = text_of(line[:LONGEST_SHOWN]).strip() + (".." if len(line) > LONGEST_SHOWN else "")
+    return printable(text_of(line[:LONGEST_SHOWN]).strip() + (".." if len(line) > LONGEST_SHOWN else ""))
+
+
+def printable(text: str) -> str:
+    """Returns a text with control characters as escapes: they could change what a terminal shows."""
     return "".join(letter if letter.isprintable() else ascii(letter)[1:-1] for letter in text)
 
 
@@ -128,6 +132,8 @@ class Feeder:
         if not samples or b"\0" in file or any(word.startswith(b"-") for word in words):
             self.say_bad("expected FILE SAMPLE..", line)
             return
+        if file.upper() == b"UPDATE":  # a later line may begin with this word, and is then of another FILE
+            file = b"./" + file
         now = b"%d" % int(time.time())
         samples = [now + sample[1:] if sample.startswith(b"N:") else sample for sample in samples]
         if any(len(UPDATE + sample) > LONGEST_LINE for sample in samples):
@@ -163,10 +169,11 @@ class Feeder:
 
     def end_batch(self, file: bytes, samples: List[bytes], outcome: Outcome) -> None:
         self.running.discard(file)
+        samples = samples[outcome.done:]
         if outcome.lost:
             self.say_lost(file, outcome.lost, samples)
         for sample, reason in outcome.refused:
-            self.say(f"{text_of(file)} {text_of(sample)}: {reason}")
+            self.say(f"{printable(text_of(file))} {printable(text_of(sample))}: {reason}")
             detail = self.explain(file, sample, reason)
             if detail:
                 self.say(detail)

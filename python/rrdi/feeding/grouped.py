@@ -11,9 +11,9 @@ import re
 from typing import List, Optional
 
 from ..environment import is_synced, milliseconds
-from ..errors import BAD_WORD, OK, REFUSED, USAGE
+from ..errors import BAD_WORD, CANNOT_WRITE, OK, REFUSED, USAGE
 from ..limits import MOST_CHANGES
-from ..protocol import Library, OpenedFile
+from ..protocol import Answer, Library, OpenedFile
 from ..words import present
 from .writers import BatchWriter, Outcome, lines_of, outcome_of
 
@@ -45,37 +45,36 @@ class GroupWriter(BatchWriter):
 
 def write_open(file: bytes, opened: OpenedFile, samples: List[bytes]) -> Outcome:
     """Passes samples to a file that stays open and locked meanwhile."""
-    now, depth = present(None), journal_of(opened)
+    now, before = present(None), opened.run(b"info", 0)
+    depth = journal_of(before)
     older, newer = samples[:-depth], samples[-depth:]
     words = b" ".join(older)
     is_many = len(older) >= depth and b"\0" not in words
     answer = opened.run(b"update\0" + words.replace(b" ", b"\0"), now) if is_many else None
-    if answer is None or answer.fault in NOTHING_TAKEN:
-        # Of a refused update no sample is taken, and those that rrdi would take alone are to be taken.
+    if answer is None or answer.fault in NOTHING_TAKEN or answer.fault == CANNOT_WRITE and opened.run(b"info", 0) == before:
+        # Of a refused update no sample is taken, and those that rrdi would take alone are to be taken. On a full disk there
+        # may be room for updates of one sample.
         return outcome_of(file, samples, opened.batch(lines_of(samples), now))
     if answer.fault != OK:
         return outcome_of(file, samples, answer)
     answer = opened.batch(lines_of(newer), now)
-    if answer.fault == OK and answer.refused:
-        return again_one_by_one(file, opened, samples, len(newer) - len(answer.refused), now)
-    return after_the_first(outcome_of(file, newer, answer))
+    outcome = outcome_of(file, newer, answer)
+    if outcome.refused:
+        return again_one_by_one(file, opened, samples, len(newer), outcome, now)
+    return outcome._replace(done=len(older)) if answer.fault != OK else outcome
 
 
-def again_one_by_one(file: bytes, opened: OpenedFile, samples: List[bytes], taken: int, now: int) -> Outcome:
-    """Takes back the update of the older samples and the `taken` ones after it, and passes each sample as an update: the
-    journal has room for more than were taken."""
-    reverts = taken + 1
+def again_one_by_one(file: bytes, opened: OpenedFile, samples: List[bytes], newer: int, before: Outcome, now: int) -> Outcome:
+    """Takes back the update of the older samples and those of the `newer` ones that were not refused `before`, and passes
+    each sample as an update: the journal has room for more than were taken. If that fails, the file still has each sample
+    that it took."""
+    reverts = newer - len(before.refused) + 1
     answer = opened.batch(b"revert\n" * reverts + lines_of(samples), now)
-    return after_the_first(outcome_of(file, samples, answer, reverts))
+    outcome = outcome_of(file, samples, answer, reverts)
+    return outcome if answer.fault == OK else before._replace(lost=outcome.again or outcome.lost, done=len(samples))
 
 
-def after_the_first(outcome: Outcome) -> Outcome:
-    """Returns the outcome of a later change. If it fails, the samples cannot be tried again: the file has some of them."""
-    return Outcome(lost=outcome.again) if outcome.again else outcome
-
-
-def journal_of(opened: OpenedFile) -> int:
+def journal_of(info: Answer) -> int:
     """Returns how many changes the journal of a file keeps: the most that one can have, if the library does not tell."""
-    answer = opened.run(b"info", 0)
-    found = re.search(rb"^journal = ([0-9]+)$", answer.output, re.MULTILINE)
-    return int(found[1]) if found and answer.fault == OK else MOST_CHANGES
+    found = re.search(rb"^journal = ([0-9]+)$", info.output, re.MULTILINE)
+    return int(found[1]) if found and info.fault == OK else MOST_CHANGES

@@ -12,11 +12,13 @@ from ..words import present
 
 
 class Outcome(NamedTuple):
-    """The outcome of a batch. At most one of the reasons has a text."""
+    """The outcome of a batch. At most one of the reasons has a text. Each of them is about the samples after the first
+    `done` ones."""
 
-    again: str = ""  # why feed has to try all samples again: rrdi has none of them
-    lost: str = ""  # why all samples may be lost
+    again: str = ""  # why feed has to try samples again: rrdi has none of them
+    lost: str = ""  # why samples may be lost
     refused: Tuple[Tuple[bytes, str], ...] = ()  # each refused sample, and why
+    done: int = 0  # of the first samples, those that an earlier change has stored or refused
 
 
 class Writer(Protocol):

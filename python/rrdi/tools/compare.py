@@ -123,7 +123,7 @@ def compare_archive(old: str, new: str, span: ArchiveSpan) -> Counts:
     try:
         text = program.ask(["fetch", new, *words])
     except program.CommandFailed as failed:
-        raise Failure(f"rrdi does not fetch {span.function} from {new}: {failed}") from None
+        raise Failure(f"rrdi does not fetch {span.function} from {failed.of_file(new)}") from None
     rows = printed_rows(text)
     counts = Counts()
     for time, row in zip(rows.times, rows.words):

@@ -80,7 +80,7 @@ def make(new: str, lines: Iterable[str], makes_folder: bool = False) -> None:
         try:
             program.batch(made.unfinished, given)
         except program.CommandFailed as failed:
-            raise Failure(f"{new}: {failed}") from None
+            raise Failure(failed.of_file(new, os.path.dirname(new) or ".")) from None
         if not made.appear():
             raise Failure(f"{new} already exists")
 

@@ -49,7 +49,7 @@ import os
 import re
 import signal
 import tempfile
-from typing import Dict, List, NamedTuple, Optional
+from typing import Dict, List, NamedTuple, Optional, Tuple
 
 from ..choice import chosen, chosen_library
 from ..explaining import why_refused
@@ -111,25 +111,42 @@ def rules_of(path: Optional[str], writer: Writer) -> List[Rule]:
     return rules
 
 
+FileState = Tuple[int, ...]
+
+
+def state_of(file: bytes) -> FileState:
+    """Returns what is another after each change of a file; nothing if there is no file."""
+    try:
+        status = os.stat(file)
+    except OSError:
+        return ()
+    return status.st_dev, status.st_ino, status.st_size, status.st_mtime_ns
+
+
 class Explaining:
-    """Explains refusals. Asks each file at most once for its sources."""
+    """Explains refusals. Asks each file for its sources once, and again after a change of the file."""
 
     MOST_KEPT = 1_000  # files
 
     def __init__(self) -> None:
-        self.settings: Dict[bytes, str] = {}
+        # Each file as it was when it was asked, and its answer.
+        self.settings: Dict[bytes, Tuple[FileState, str]] = {}
 
     def why(self, file: bytes, sample: bytes, reason: str) -> str:
         """Returns what was wrong with a refused sample; nothing if that is not known."""
         return why_refused(sample.decode(errors="replace"), reason, lambda question: self.ask(file, question[0]))
 
     def ask(self, file: bytes, question: str) -> str:
-        if file not in self.settings and len(self.settings) < self.MOST_KEPT:
-            try:
-                self.settings[file] = program.ask([question, os.fsdecode(file)])
-            except Failure:
-                self.settings[file] = ""
-        return self.settings.get(file, "")
+        before, answer = self.settings.get(file, (None, ""))
+        state = state_of(file)
+        if state == before or before is None and len(self.settings) >= self.MOST_KEPT:
+            return answer
+        try:
+            answer = program.ask([question, os.fsdecode(file)])
+        except Failure:
+            answer = ""
+        self.settings[file] = (state, answer)
+        return answer
 
 
 def chosen_writer() -> BatchWriter:

@@ -39,10 +39,12 @@ not, and a line on standard error says why; 2 after wrong arguments.
 """
 from __future__ import annotations
 
+import os
 import re
 from typing import Iterator, List, NamedTuple, Optional
 
 from ..importing.dump import Refusal
+from ..kinds import is_of_rrdi
 from ..words import in_one_line
 from .command_line import Failure, Progress, Tool, WrongArguments, called_name, say
 from .conversion import Conversion, make
@@ -94,8 +96,21 @@ def counted(lines: Iterator[str]) -> Iterator[str]:
     progress.end()
 
 
+def look_at(old: str) -> None:
+    """Looks whether a file can be one of another program.
+
+    # Errors
+    `Failure` if it cannot.
+    """
+    if os.path.isdir(old):
+        raise Failure(f"{old} is a directory; {INTO} and {IN_PLACE} convert the files below it")
+    if is_of_rrdi(old):
+        raise Failure(f"{old} is a file of rrdi already")
+
+
 def import_one(old: str, new: Optional[str], journal: Optional[str]) -> int:
     """Converts one file, and returns the status."""
+    look_at(old)
     conversion = Conversion(old, journal, lambda text: say(called_name(TOOL), f"{in_one_line(old)}: {text}"))
     progress = Progress(f"reading {old}")
 

@@ -1,16 +1,17 @@
 """Runs commands of rrdi for the tools, which use databases only through this module and the reader."""
 from __future__ import annotations
 
+import errno
 import os
 import re
 import time
 from contextlib import contextmanager
-from typing import TYPE_CHECKING, Callable, Iterable, Iterator, List
+from typing import TYPE_CHECKING, Callable, Iterable, Iterator, List, Optional
 
 from ..by_program import NoAnswer
 from ..choice import chosen, program_path
 from ..environment import milliseconds, sync_of_environment
-from ..errors import OK, reason_of, reasons_in
+from ..errors import LOCKED, OK, reason_of, reasons_in
 from ..limits import LONGEST_LINE
 from ..printed import Settings, settings_of
 from ..words import as_bytes, as_text
@@ -24,7 +25,30 @@ OF_A_LINE = re.compile("[\t -~]*")
 
 
 class CommandFailed(Failure):
-    """rrdi refused a command, or cannot run it; the text is its reason."""
+    """rrdi refused a command, or cannot run it; the text is its reason, and `system_error` the system's, or 0."""
+
+    def __init__(self, reason: str, system_error: int = 0):
+        super().__init__(reason)
+        self.system_error = system_error
+
+    def of_file(self, file: str, opened: Optional[str] = None) -> str:
+        """Returns the reason with the file, and why the system did not open or write it. If the library does not tell, the
+        system is asked for the path `opened`, by default that of the file."""
+        why = ""
+        if self.system_error:
+            why = "another program holds its lock" if self.system_error in LOCKED else os.strerror(self.system_error)
+        elif str(self) == "cannot open":
+            why = why_not_opened(file if opened is None else opened)
+        return f"{file}: {self}{': ' if why else ''}{why}"
+
+
+def why_not_opened(path: str) -> str:
+    """Returns the system's reason for not opening a file to read it; nothing if it opens the file."""
+    try:
+        os.close(os.open(path, os.O_RDONLY | os.O_NONBLOCK | os.O_CLOEXEC))
+    except OSError as error:
+        return error.strerror or str(error)
+    return os.strerror(errno.EISDIR) if os.path.isdir(path) else ""
 
 
 def answered(call: Callable[..., Answer], file: str, given: bytes) -> Answer:
@@ -41,7 +65,7 @@ def answered(call: Callable[..., Answer], file: str, given: bytes) -> Answer:
             raise CommandFailed(f"{none.program} ended with status {none.status}") from None
         raise Failure(f"cannot run {none.program}: {none.reason}") from None
     if answer.fault != OK:
-        raise CommandFailed(reason_of(answer.fault, answer.output).split("\n")[0])
+        raise CommandFailed(reason_of(answer.fault, answer.output).split("\n")[0], answer.system_error)
     return answer
 
 
@@ -51,13 +75,7 @@ def naming(file: str) -> Iterator[None]:
     try:
         yield
     except CommandFailed as failed:
-        why = ""
-        if str(failed) == "cannot open":
-            try:
-                os.close(os.open(file, os.O_RDONLY | os.O_NONBLOCK | os.O_CLOEXEC))
-            except OSError as error:
-                why = f": {error.strerror}"
-        raise CommandFailed(f"{file}: {failed}{why}") from None
+        raise CommandFailed(failed.of_file(file)) from None
 
 
 def ask(words: List[str]) -> str:
