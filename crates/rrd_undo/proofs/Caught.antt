@@ -8,9 +8,9 @@ use Rattle.rrd_tail.specs.declared.mark.Mark.TheVariants.{Undo}
 use Rattle.rrd_undo.specs.Calls.{ArePut, AreWholeOrNot}
 use Rattle.rrd_undo.specs.Changing.{Holds, IsAt, Knows}
 use Rattle.rrd_undo.specs.Databases.{IsDatabase}
-use Rattle.rrd_undo.specs.Failing.{IsCaught, IsEither, IsSafe, IsSameBehind, IsUndecided, MayHave}
+use Rattle.rrd_undo.specs.Failing.{IsCaught, IsSafe, IsSameBehind, IsUndecided, MayHave}
 use Rattle.rrd_undo.specs.Leaving.{IsDeciding, OrHeld, front_of}
-use Rattle.rrd_undo.specs.Power.{AllStand, AreTorn, IsInSector, IsMarkedOnly, Leaves, RestsOn, SlotsTell}
+use Rattle.rrd_undo.specs.Power.{AllStand, AreTorn, IsEither, IsInSector, IsMarkedOnly, Leaves, RestsOn, SlotsTell}
 use Rattle.rrd_undo.specs.Undoing.{IsTail}
 use Rattle.rrd_undo.specs.declared.change.Change.{Change}
 use Rattle.rrd_undo.specs.declared.change.Stage.{Stage}

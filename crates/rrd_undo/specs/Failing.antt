@@ -5,7 +5,7 @@ use Rattle.rrd_tail.specs.Marks.{mark_of}
 use Rattle.rrd_tail.specs.Slots.{Slot, slots_in}
 use Rattle.rrd_undo.specs.Databases.{IsDatabase}
 use Rattle.rrd_undo.specs.Gathering.{IsOldSlot}
-use Rattle.rrd_undo.specs.Power.{AllStand, IsMarkedOnly}
+use Rattle.rrd_undo.specs.Power.{AllStand, IsEither, IsMarkedOnly}
 use Rattle.rrd_undo.specs.Undoing.{Restores}
 use Rattle.rrd_undo.specs.declared.change.Change.{Change}
 use Rattle.rrd_undo.specs.declared.change.Stage.{Stage}
@@ -17,10 +17,6 @@ pub record IsGrown (old : List ℕ) (tail : ℕ) (file changed : List ℕ) : Typ
   pub more : List Slot
   pub olds : All (IsOldSlot old) more
   pub slots_are : slots_in tail changed ≡ slots_in tail file ++ more
-
--- one of two
-abbrev pub IsEither : List ℕ → List ℕ → List ℕ → Type 0
-IsEither old new bytes = (bytes ≡ old) ⊎ (bytes ≡ new)
 
 -- the disk has the file, except perhaps the bytes below the tail and after the first sixteen; the old bytes can be restored
 pub record IsTornBelow (old : List ℕ) (tail : ℕ) (file c : List ℕ) : Type 0 where

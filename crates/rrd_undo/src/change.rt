@@ -86,9 +86,9 @@ fn reported(finished: io::Result<()>, syncs: Syncs) -> io::Result<()> {
 }
 
 impl Change {
-    ghost use Rattle.rrd_undo.specs.Failing.{AreTornBelow, IsCaught, IsEither, IsSafe};
+    ghost use Rattle.rrd_undo.specs.Failing.{AreTornBelow, IsCaught, IsSafe};
     ghost use Rattle.rrd_undo.specs.Leaving.{OrHeld};
-    ghost use Rattle.rrd_undo.specs.Power.{AllStand, AreTorn, IsStored, Leaves, RestsOn};
+    ghost use Rattle.rrd_undo.specs.Power.{AllStand, AreTorn, IsEither, IsStored, Leaves, RestsOn};
     ghost use Rattle.rrd_undo.specs.declared.tail.Syncs.{Syncs};
     ghost use Rattle.rrd_undo.specs.declared.change.Stage.{Stage};
     ghost use Rattle.rrd_undo.specs.Changing.{Agreeing, ArePutBelow, CanRestore, IsAt, IsBroken, IsFirstPut, IsInvalid, IsKept, IsPage, IsStarted, Knows, StandsForEither, StandsForOld, StaysBehind};

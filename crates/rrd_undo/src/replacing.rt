@@ -4,8 +4,8 @@ ghost use Rattle.rrd_tail.specs.Marks.{mark_of};
 ghost use Rattle.rrd_tail.specs.Settled.{settled};
 ghost use Rattle.rrd_undo.specs.Changing.{IsAt, IsBroken, StandsForEither};
 ghost use Rattle.rrd_undo.specs.Databases.{IsDatabase, IsNoDatabase};
-ghost use Rattle.rrd_undo.specs.Failing.{IsCaught, IsEither, IsSafe};
-ghost use Rattle.rrd_undo.specs.Power.{AllStand, RestsOn};
+ghost use Rattle.rrd_undo.specs.Failing.{IsCaught, IsSafe};
+ghost use Rattle.rrd_undo.specs.Power.{AllStand, IsEither, RestsOn};
 ghost use Rattle.rrd_undo.specs.Spans.{AgreesOutside};
 ghost use Rattle.rrd_undo.specs.declared.tail.Syncs.{Syncs};
 
@@ -18,6 +18,9 @@ use std::alloc::Global;
 use std::io;
 
 /// Replaces the bytes of a file by `new`.
+///
+/// With [`Syncs::Ordered`], whatever a power failure leaves of a database represents its old bytes or the new ones, also if
+/// a call failed. After a change without an error it represents the new ones.
 ///
 /// # Errors
 ///

@@ -1,6 +1,7 @@
 use Rattle.std.proofs.Common.{rules, ◌≡◌, ◌∙◌, ap, inl, inr, length, refl, arith}
 use Rattle.rrd_undo.specs.Changing.{AreKnown, Knows}
-use Rattle.rrd_undo.specs.Failing.{AreTornBelow, IsEither}
+use Rattle.rrd_undo.specs.Failing.{AreTornBelow}
+use Rattle.rrd_undo.specs.Power.{IsEither}
 use Rattle.rrd_undo.specs.Undoing.{IsReady}
 use Rattle.rrd_undo.specs.declared.change.Change.{Change}
 use Rattle.rrd_undo.specs.declared.change.Stage.TheVariants.{Committed, Marked}
