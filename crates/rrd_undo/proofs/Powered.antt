@@ -13,7 +13,7 @@ use Rattle.rrd_tail.specs.declared.mark.Mark.{Mark}
 use Rattle.rrd_tail.specs.declared.mark.Mark.TheVariants.{Cut, Undo}
 use Rattle.rrd_tail.specs.declared.mark.Shape.{Shape}
 use Rattle.rrd_tail.specs.declared.record.Record.{Record}
-use Rattle.rrd_tail.proofs.Lemmas.{cut_mark_is_read, cut_mark_length, mark_stands, slots_stay, undo_mark_is_read, undo_mark_length}
+use Rattle.rrd_tail.proofs.Lemmas.{cut_mark_is_read, cut_mark_length, mark_stands, plain_has_no_mark, slots_stay, undo_mark_is_read, undo_mark_length}
 use Rattle.rrd_tail.proofs.Standing.{get_or-part, length-part}
 use Rattle.rrd_undo.specs.Calls.{AreAny, AreAt, ArePut, AreWholeOrNot, IsSized}
 use Rattle.rrd_undo.specs.Databases.{IsDatabase}
@@ -21,7 +21,7 @@ use Rattle.rrd_undo.specs.Leaving.{IsDeciding, IsUndoneToo, OrHeld, front_of}
 use Rattle.rrd_undo.specs.Power.{AllStand, AreTorn, IsInSector, IsMarkedOnly, IsSizedOrNot, IsStored, Leaves, RestsOn, SlotsTell}
 use Rattle.rrd_undo.specs.Settling.{IsBack, IsFront, IsPutBack, IsUndone}
 use Rattle.rrd_undo.specs.Undoing.{IsCut, IsReady, IsToCut, slot_of}
-use Rattle.rrd_undo.proofs.Cutting.{cut_put, cut_put_settled, cut_settled, sized_cut, sized_or_not, to_cut_settled}
+use Rattle.rrd_undo.proofs.Cutting.{cut_put, cut_put_settled, cut_settled, database_stands, sized_cut, sized_or_not, to_cut_settled}
 use Rattle.rrd_undo.proofs.Recovering.{any_length, any_slots, any_undone, front_again, release_or_not, release_sized, slot_here, undone_stands_for, unmark_or_not, unmark_put}
 use Rattle.rrd_undo.proofs.Turned.{committed, committed_or_not}
 use Rattle.rrd_undo.proofs.Undone.{length-sixteen, size_some}
@@ -179,6 +179,17 @@ stand_synced P file before after leaves all = record {
 pub stand_one : (P : List ℕ → Type 0) (file x : List ℕ) (may_leave : List ℕ → Type 0) → AllStand (λ b. b ≡ x) file may_leave → P x → AllStand P file may_leave
 stand_one P file x may_leave all is = stand_more (λ b. b ≡ x) P file may_leave (λ b same. subst P (sym same) is) all
 
+pub stand_either : (P : List ℕ → Bool) (old new file : List ℕ) (may_leave : List ℕ → Type 0) → IsTrue (P old) → IsTrue (P new)
+    → AllStand (λ b. (b ≡ old) ⊎ (b ≡ new)) file may_leave → AllStand (λ b. IsTrue (P b)) file may_leave
+stand_either P old new file may_leave is_old is_new = stand_more (λ b. (b ≡ old) ⊎ (b ≡ new)) (λ b. IsTrue (P b)) file may_leave (λ b either. elim either as (λ _. IsTrue (P b)) [
+  | inl same ↦ subst (λ (x : List ℕ). IsTrue (P x)) (sym same) is_old
+  | inr same ↦ subst (λ (x : List ℕ). IsTrue (P x)) (sym same) is_new
+])
+
+-- a database of which all stand may be changed
+pub rests_of : (P : List ℕ → Type 0) (file : List ℕ) (may_leave : List ℕ → Type 0) → AllStand P file may_leave → IsDatabase file → RestsOn file may_leave
+rests_of P file may_leave all is = all.rests (plain_has_no_mark file (database_stands file is))
+
 -- one of two, as a test
 abbrev is_one : List ℕ → List ℕ → List ℕ → Bool
 is_one x y b = bytes_eq b x || bytes_eq b y
@@ -321,8 +332,13 @@ finish_sized n bytes f g after counts is either leaves =
 
 module _ (old new : List ℕ) (tail : ℕ) (f : List ℕ) (is_old : IsDatabase old) (is_new : IsDatabase new) (ready : IsReady old new tail f) where
   front_of_length : length (front_of new) ≡ 16
-  front_of_length = omega (arith, length-append (cut_mark (shape_for (length new))) (drop 4 (take 16 new)), cut_mark_length (shape_for (length new)),
-    length-drop 4 (take 16 new), length-sixteen new is_new.enough)
+  front_of_length = omega (
+    arith,
+    length-append (cut_mark (shape_for (length new))) (drop 4 (take 16 new)),
+    cut_mark_length (shape_for (length new)),
+    length-drop 4 (take 16 new),
+    length-sixteen new is_new.enough,
+  )
 
   pub decided_length : (g : List ℕ) → AreWholeOrNot 0 (front_of new) f g → length g ≡ length f
   decided_length g (inl same) = ap length same
@@ -360,10 +376,15 @@ deciding_stand P old new tail file may_leave is p_old p_new =
 pub front_in_sector : (new first front : List ℕ) → IsDatabase new → take 16 first ≡ take 16 new → front ≡ cut_mark (shape_for (length new)) ++ drop 4 (take 16 first)
     → IsInSector 0 front × (front ≡ front_of new)
 front_in_sector new first front is are front_is =
-    let same : front ≡ front_of new = front_is ∙ ap (λ (b : List ℕ). cut_mark (shape_for (length new)) ++ drop 4 b) are in
-    (
-      omega (arith, ap length same, length-append (cut_mark (shape_for (length new))) (drop 4 (take 16 new)), cut_mark_length (shape_for (length new)), length-drop 4 (take 16 new),
-      length-sixteen new is.enough),
+    let same : front ≡ front_of new = front_is ∙ ap (λ (b : List ℕ). cut_mark (shape_for (length new)) ++ drop 4 b) are in (
+      omega (
+        arith,
+        ap length same,
+        length-append (cut_mark (shape_for (length new))) (drop 4 (take 16 new)),
+        cut_mark_length (shape_for (length new)),
+        length-drop 4 (take 16 new),
+        length-sixteen new is.enough,
+      ),
       same,
     )
 

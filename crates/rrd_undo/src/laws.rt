@@ -1,10 +1,12 @@
 //! Theorems about the bytes that a change leaves in a file if calls fail, and that a kill leaves in a file in memory.
 //!
 //! The module is public only for readers of the contracts and for tests: the program calls none of these functions.
-ghost use Rattle.std.specs.Prelude.{◌≡◌, ◌⊎◌, IfOk, IsTrue, List, None, ℕ, OnErr, OnOk};
+ghost use Rattle.std.specs.Prelude.{◌≡◌, ◌⊎◌, Bool, IfOk, IsTrue, List, None, ℕ, OnErr, OnOk};
+ghost use Rattle.std.specs.List.{All};
 ghost use Rattle.rrd_tail.specs.Marks.{mark_of};
 ghost use Rattle.rrd_tail.specs.Settled.{settled};
 ghost use Rattle.rrd_undo.specs.Databases.{IsDatabase, IsNoDatabase};
+ghost use Rattle.rrd_undo.specs.Power.{AllStand};
 
 use crate::{Bytes, Memory, Syncs, replace, settle};
 use std::alloc::Global;
@@ -92,4 +94,46 @@ pub fn settled_bytes(alloc: Global, bytes: Vec<u8>) -> io::Result<Vec<u8>>
 pub fn files_without_marks_stand_for_themselves()
     ensures database { (bytes : List ℕ) → IsDatabase bytes → mark_of bytes ≡ None }
     ensures unmarked { (bytes : List ℕ) → mark_of bytes ≡ None → settled bytes ≡ bytes }
+{}
+
+/// Settles a file, and then replaces its bytes, with syncs.
+///
+/// Theorem: let the file represent one of some databases, of which the new bytes are one too, and let whatever a power
+/// failure may leave of the file do so. Then both are so afterwards, also if a call failed. If no call failed, the file
+/// and whatever a power failure may leave represent the new bytes. The databases are those that pass a test `P`.
+///
+/// # Errors
+///
+/// A call of the file failed, memory ran out, or `new` is not a database.
+pub fn settled_and_replaced<F: Bytes>(alloc: Global, file: &mut F, new: &[u8]) -> io::Result<()>
+    ensures falls { (s : List ℕ) → IsTrue (F.is_honest s file.new) → IsTrue (F.is_honest s file.old) }
+    ensures power { (d s : List ℕ) → IsTrue (F.is_honest s file.new) → (P : List ℕ → Bool) → ((b : List ℕ) → IsTrue (P b) → IsDatabase b) → IsTrue (P new.now)
+        → AllStand (λ b. IsTrue (P b)) (F.held s file.old) (F.may_leave d s file.old) → AllStand (λ b. IsTrue (P b)) (F.held s file.new) (F.may_leave d s file.new) }
+    ensures there { OnOk result ((d s : List ℕ) → IsTrue (F.is_honest s file.new) → (P : List ℕ → Bool) → ((b : List ℕ) → IsTrue (P b) → IsDatabase b)
+        → AllStand (λ b. IsTrue (P b)) (F.held s file.old) (F.may_leave d s file.old) → AllStand (λ b. b ≡ new.now) (F.held s file.new) (F.may_leave d s file.new)) }
+{
+    let mut buffer = Vec::new(alloc);
+    settle(file, &mut buffer)?;
+    replace(alloc, file, new, Syncs::Ordered)
+}
+
+/// Settles a file and replaces its bytes, again and again, whatever fails: a process that is killed makes no more calls,
+/// as one whose calls all fail, and the next process settles the file first.
+///
+/// Theorem: if the file represents one of some databases, of which all new bytes are too, and whatever a power failure
+/// may leave of the file does so, then both are so afterwards. The databases are those that pass a test `P`.
+pub fn changes_stand<F: Bytes>(alloc: Global, file: &mut F, news: &[Vec<u8>])
+    ensures falls { (s : List ℕ) → IsTrue (F.is_honest s file.new) → IsTrue (F.is_honest s file.old) }
+    ensures power { (d s : List ℕ) → IsTrue (F.is_honest s file.new) → (P : List ℕ → Bool) → ((b : List ℕ) → IsTrue (P b) → IsDatabase b) → All (λ new. IsTrue (P new.items)) news.now
+        → AllStand (λ b. IsTrue (P b)) (F.held s file.old) (F.may_leave d s file.old) → AllStand (λ b. IsTrue (P b)) (F.held s file.new) (F.may_leave d s file.new) }
+{
+    for number in 0..news.len() {
+        let _replaced = settled_and_replaced(alloc, file, &news[number]);
+    }
+}
+
+/// Theorem: bytes that a power failure left, and that represent a database, stand for it as a file of which the disk has
+/// all bytes. So [`changes_stand`] goes on from them.
+pub fn left_bytes_stand()
+    ensures { (P : List ℕ → Bool) (left : List ℕ) → IsTrue (P (settled left)) → AllStand (λ b. IsTrue (P b)) left (λ c. c ≡ left) }
 {}
