@@ -1,13 +1,11 @@
 -- What the disk may have of a database while the database gets its mark.
-use Rattle.std.proofs.Common.{◌≡◌, ◌⊎◌, ℕ, ◌+◌, ◌%◌, ◌<◌, ◌≤◌, List, length, take, slice_index, Some, None, refl, sym, ◌∙◌, ap, subst, inl, inr, arith}
+use Rattle.std.proofs.Common.{◌≡◌, ◌⊎◌, ℕ, ◌%◌, ◌<◌, ◌≤◌, List, length, slice_index, None, refl, sym, ◌∙◌, ap, subst, inl, inr, arith}
 use Rattle.std.proofs.lemmas.Bool.{cases_lt}
 use Rattle.std.proofs.lemmas.List.{get_or_past}
 use Rattle.rrd_tail.specs.Bytes.{StandsAt}
 use Rattle.rrd_tail.specs.Marks.{cut_mark, mark_of, shape_for, size_of, undo_mark}
 use Rattle.rrd_tail.specs.Records.{shaped_bytes}
-use Rattle.rrd_tail.specs.Settled.{settled}
 use Rattle.rrd_tail.specs.declared.mark.Mark.TheVariants.{Cut, Undo}
-use Rattle.rrd_tail.specs.declared.mark.Shape.{Shape}
 use Rattle.rrd_undo.specs.Calls.{ArePut, AreWholeOrNot}
 use Rattle.rrd_undo.specs.Databases.{IsDatabase}
 use Rattle.rrd_undo.specs.Leaving.{OrHeld}

@@ -1,16 +1,15 @@
 -- What the disk may have of a database at the stages of a change.
-use Rattle.std.proofs.Common.{◌≡◌, ◌⊎◌, ℕ, ◌+◌, ◌<◌, ◌≤◌, List, length, take, slice_index, None, refl, sym, ◌∙◌, ap, subst, inl, inr, arith}
+use Rattle.std.proofs.Common.{◌≡◌, ℕ, List, length, take, slice_index, None, refl, sym, ◌∙◌, ap, subst, inl, inr, arith}
 use Rattle.std.proofs.lemmas.Bool.{cases_lt}
 use Rattle.rrd_tail.specs.Marks.{mark_of, undo_mark}
 use Rattle.rrd_tail.specs.Settled.{settled}
-use Rattle.rrd_tail.specs.Slots.{slots_in}
 use Rattle.rrd_tail.specs.declared.mark.Mark.TheVariants.{Undo}
 use Rattle.rrd_undo.specs.Calls.{ArePut, AreWholeOrNot}
-use Rattle.rrd_undo.specs.Changing.{Holds, IsAt, Knows}
+use Rattle.rrd_undo.specs.Changing.{Holds, IsAt}
 use Rattle.rrd_undo.specs.Databases.{IsDatabase}
 use Rattle.rrd_undo.specs.Failing.{IsCaught, IsSafe, IsSameBehind, IsUndecided, MayHave}
-use Rattle.rrd_undo.specs.Leaving.{IsDeciding, OrHeld, front_of}
-use Rattle.rrd_undo.specs.Power.{AllStand, AreTorn, IsEither, IsInSector, IsMarkedOnly, Leaves, RestsOn, SlotsTell}
+use Rattle.rrd_undo.specs.Leaving.{IsDeciding, OrHeld}
+use Rattle.rrd_undo.specs.Power.{AllStand, AreTorn, IsEither, IsInSector, Leaves, RestsOn, SlotsTell}
 use Rattle.rrd_undo.specs.Undoing.{IsTail}
 use Rattle.rrd_undo.specs.declared.change.Change.{Change}
 use Rattle.rrd_undo.specs.declared.change.Stage.{Stage}

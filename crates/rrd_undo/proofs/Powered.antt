@@ -1,5 +1,5 @@
 -- Files of which the power may leave a part.
-use Rattle.std.proofs.Common.{◌≡◌, ◌⊎◌, ℕ, ◌+◌, ◌-◌, ◌%◌, ◌^◌, ◌<◌, ◌≤◌, ◌++◌, max, min, List, Bool, true, false, ◌||◌, length, take, drop, slice_index, Option, Some, None, IsSome, IsTrue, refl, sym, ◌∙◌, ap, subst, inl, inr, arith, length-take, length-drop, length-append, get_or-take, get_or-drop, slice_range}
+use Rattle.std.proofs.Common.{◌≡◌, ◌⊎◌, ℕ, ◌+◌, ◌-◌, ◌<◌, ◌≤◌, ◌++◌, min, List, Bool, true, ◌||◌, length, take, drop, slice_index, Option, Some, None, IsSome, IsTrue, refl, sym, ◌∙◌, ap, subst, inl, inr, arith, length-take, length-drop, length-append, get_or-take, slice_range}
 use Rattle.std.proofs.lemmas.Bool.{cases_Bool, cases_lt, false≢true, or_left, or_right}
 use Rattle.std.proofs.lemmas.List.{ext_get_or}
 use Rattle.std.proofs.lemmas.Slice.Eq.{bytes_eq-Decides}
@@ -15,14 +15,14 @@ use Rattle.rrd_tail.specs.declared.mark.Shape.{Shape}
 use Rattle.rrd_tail.specs.declared.record.Record.{Record}
 use Rattle.rrd_tail.proofs.Lemmas.{cut_mark_is_read, cut_mark_length, mark_stands, plain_has_no_mark, slots_stay, undo_mark_is_read, undo_mark_length}
 use Rattle.rrd_tail.proofs.Standing.{get_or-part, length-part}
-use Rattle.rrd_undo.specs.Calls.{AreAny, AreAt, ArePut, AreWholeOrNot, IsSized}
+use Rattle.rrd_undo.specs.Calls.{AreAny, AreAt, ArePut, AreWholeOrNot}
 use Rattle.rrd_undo.specs.Databases.{IsDatabase}
 use Rattle.rrd_undo.specs.Leaving.{IsDeciding, IsUndoneToo, OrHeld, front_of}
 use Rattle.rrd_undo.specs.Power.{AllStand, AreTorn, IsInSector, IsMarkedOnly, IsSizedOrNot, IsStored, Leaves, RestsOn, SlotsTell}
 use Rattle.rrd_undo.specs.Settling.{IsBack, IsFront, IsPutBack, IsUndone}
 use Rattle.rrd_undo.specs.Undoing.{IsCut, IsReady, IsToCut, slot_of}
-use Rattle.rrd_undo.proofs.Cutting.{cut_put, cut_put_settled, cut_settled, database_stands, sized_cut, sized_or_not, to_cut_settled}
-use Rattle.rrd_undo.proofs.Recovering.{any_length, any_slots, any_undone, front_again, release_or_not, release_sized, slot_here, undone_stands_for, unmark_or_not, unmark_put}
+use Rattle.rrd_undo.proofs.Cutting.{cut_put, cut_put_settled, cut_settled, database_stands, sized_cut, sized_or_not}
+use Rattle.rrd_undo.proofs.Recovering.{any_length, any_undone, front_again, release_or_not, release_sized, slot_here, undone_stands_for, unmark_or_not, unmark_put}
 use Rattle.rrd_undo.proofs.Turned.{committed, committed_or_not}
 use Rattle.rrd_undo.proofs.Undone.{length-sixteen, size_some}
 

@@ -1,4 +1,4 @@
-use Rattle.std.proofs.Common.{◌≡◌, List, ℕ, IsTrue}
+use Rattle.std.proofs.Common.{◌≡◌, IsTrue}
 use Rattle.rrd_undo.proofs.Powered.{stored_stand}
 use Rattle.rrd_undo.proofs.laws.left_bytes_stand.Goals as goal
 

@@ -1,5 +1,4 @@
 use Rattle.std.proofs.Common.{rules, refl, sym, subst, List, ℕ, IsTrue}
-use Rattle.rrd_undo.specs.Databases.{IsDatabase}
 use Rattle.rrd_undo.proofs.Laid.{on_ok}
 use Rattle.rrd_undo.proofs.Powered.{rests_of, stand_either}
 use Rattle.rrd_undo.proofs.laws.settled_and_replaced.Goals as goal
