@@ -56,20 +56,19 @@ returns-then-is_full g c =
     let slots : c.gather.new.self.slots ≡ c.args.self.now.tail.slots = ap (λ (x : Tail). x.slots) c.gather.ensures.frame in
     let gathered = c.in_ok-gather.ensures.ok old 4096 (c.args.at + 4096) knows.tail (omega (arith, c.requires.first)) kept count
     (omega (arith, d.within, page.len, few, knows.below, c.requires.within)) (omega (arith, d.within, page.len))
-    (gathered_later old c.args.self.now.tail.offset 4096 c.args.at (c.args.at + 4096) c.args.self.now.tail.buffer.items c.args.self.now.tail.spans.items (omega arith) t.gathered) in
-    (
+    (gathered_later old c.args.self.now.tail.offset 4096 c.args.at (c.args.at + 4096) c.args.self.now.tail.buffer.items c.args.self.now.tail.spans.items (omega arith) t.gathered) in (
       rw offset knows.tail,
       omega (arith, offset, few, knows.below),
       page_waits old c.args.new.now c.args.self.now.tail c.gather.new.self _ c.args.at c.requires.first offset slots t (rw offset gathered)
-    (λ k away.
-    let both = c.in_ok-gather.ensures.beside k away in (
-      both.0,
-      λ from below within.
-          let far : k - c.args.at < length c.page_at-page.result.now = omega (arith, page.len) in
-          both_have old c.args.new.now c.args.at 0 c.page_at-page.result.now c.args.self.now.old_page.items n page are (omega arith) enough (omega arith) high
-          k from (omega (arith, far)) (outside_difference 0 c.args.self.now.old_page.items c.page_at-page.result.now c.args.at k c.in-Some.changed.at c.in-Some.changed.old.now
-          c.in-Some.changed.new.now (omega arith) far d both.1),
-    )),
+          (λ k away.
+          let both = c.in_ok-gather.ensures.beside k away in (
+            both.0,
+            λ from below within.
+                let far : k - c.args.at < length c.page_at-page.result.now = omega (arith, page.len) in
+                both_have old c.args.new.now c.args.at 0 c.page_at-page.result.now c.args.self.now.old_page.items n page are (omega arith) enough (omega arith) high
+                k from (omega (arith, far)) (outside_difference 0 c.args.self.now.old_page.items c.page_at-page.result.now c.args.at k c.in-Some.changed.at c.in-Some.changed.old.now
+                c.in-Some.changed.new.now (omega arith) far d both.1),
+          )),
     ) in
     record {
       falls = λ s f. search rules;
