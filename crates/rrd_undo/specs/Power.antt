@@ -13,7 +13,8 @@ abbrev pub IsInSector : ℕ → List ℕ → Type 0
 IsInSector at bytes = at % 512 + length bytes ≤ 512
 
 -- a write of which the disk may have any part; but of a write within one sector it has all, or none. That is a premise about
--- the disk
+-- the disk. Where the write makes the file longer, it is one about the file system too: the new length is not stored before the
+-- bytes
 pub record AreTorn (at : ℕ) (bytes old new : List ℕ) : Type 0 where
   pub any : AreAny at (length bytes) old new
   pub whole : IsInSector at bytes → AreWholeOrNot at bytes old new
