@@ -266,6 +266,14 @@ module _ (old : List ℕ) (tail : ℕ) (is : IsDatabase old) (is_tail : IsTail o
   group_none : (f g : List ℕ) → slots_in tail g ≡ slots_in tail f → IsGrown old tail f g
   group_none f g none = record { more = []; olds = All-nil (IsOldSlot old); slots_are = none ∙ sym (append-nil (slots_in tail f)) }
 
+  -- one slot is complete, and then others
+  grown_next : (total : ℕ) (s : Slot) (f mid g : List ℕ) → IsOldSlot old s → IsAppended old tail total (s ∷ []) f mid → IsGrown old tail mid g → IsGrown old tail f g
+  grown_next total s f mid g old_slot first grown = record {
+    more = s ∷ grown.more;
+    olds = All-cons (IsOldSlot old) s grown.more old_slot grown.olds;
+    slots_are = grown.slots_are ∙ ap (λ (xs : List Slot). xs ++ grown.more) first.slots_are ∙ append_assoc (slots_in tail f) (s ∷ []) grown.more;
+  }
+
   -- a group that was cut short
   pub group_grown : (more : List Slot) (slots total : ℕ) (f g rest : List ℕ) → total ≡ slots + length more → All (IsOldSlot old) more → Undoing old tail slots f
       → IsExtended (slot_offset tail slots) (group_bytes tail more ++ rest) f g → length g ≤ slot_offset tail total → IsGrown old tail f g
@@ -282,14 +290,9 @@ module _ (old : List ℕ) (tail : ℕ) (is : IsDatabase old) (is_tail : IsTail o
             one_more slots f (take n g) s more rest undoing old_slot
             (extended_front n (slot_offset tail slots) (group_bytes tail (s ∷ more) ++ rest) f g (omega (arith, undoing.room)) reaches ext)
             (omega (arith, mid_len, old_slot.page.few)) (omega (arith, mid_len)) in
-            let grown : IsGrown old tail (take n g) g =
-            group_grown more (slots + 1) total (take n g) g rest (omega (arith, counts)) (All-tail (IsOldSlot old) s more olds) first.undoing
-            (rest_extends slots f g s more rest old_slot reaches ext) ends in
-            record {
-              more = s ∷ grown.more;
-              olds = All-cons (IsOldSlot old) s grown.more old_slot grown.olds;
-              slots_are = grown.slots_are ∙ ap (λ (xs : List Slot). xs ++ grown.more) first.slots_are ∙ append_assoc (slots_in tail f) (s ∷ []) grown.more;
-            }
+            grown_next (slots + 1) s f (take n g) g old_slot first
+            (group_grown more (slots + 1) total (take n g) g rest (omega (arith, counts)) (All-tail (IsOldSlot old) s more olds) first.undoing
+            (rest_extends slots f g s more rest old_slot reaches ext) ends)
         | inr within ↦ elim (cases_lt (length g) (slot_offset tail slots + (32 + length s.bytes))) as (λ _. IsGrown old tail f g) [
           | inl short ↦ group_none f g (cut_more slots f g s more rest undoing old_slot ext short)
           | inr whole ↦

@@ -56,6 +56,6 @@ pub record AllStand (P : List ℕ → Type 0) (file : List ℕ) (may_leave : Lis
   pub again : (c d : List ℕ) → may_leave c → ArePut 0 (take 16 file) c d → SlotsTell file d → P (settled d)
   pub rests : mark_of file ≡ None → RestsOn file may_leave
 
--- one of two
+-- the old bytes or the new ones
 abbrev pub IsEither : List ℕ → List ℕ → List ℕ → Type 0
 IsEither old new bytes = (bytes ≡ old) ⊎ (bytes ≡ new)

@@ -19,6 +19,9 @@ use std::io;
 
 /// Replaces the bytes of a file by `new`.
 ///
+/// With [`Syncs::Ordered`], whatever a power failure leaves of a database represents its old bytes or the new ones, also if
+/// a call failed. After a change without an error it represents the new ones.
+///
 /// # Errors
 ///
 /// A call of the file failed, memory ran out, or `new` is not a database. A database then represents its old bytes or
