@@ -3,10 +3,11 @@ use Rattle.std.proofs.Common.{◌≡◌, ℕ, ◌+◌, ◌-◌, ◌<◌, ◌≤�
 use Rattle.std.specs.Io.{ReadsAtMost}
 use Rattle.std.proofs.lemmas.List.{get_or_append_left, get_or-append_right}
 use Rattle.std.proofs.lemmas.Bool.{cases_lt}
-use Rattle.rrd_disk.specs.Calls.{Falls, IsGotAtOnce, IsPartPut, IsSizedOrNot, LeavesPart, LeavesSized, PlaceStays}
+use Rattle.rrd_disk.specs.Calls.{Falls, IsGotAtOnce, IsPartPut, LeavesPart, LeavesSized, PlaceStays}
 use Rattle.rrd_disk.specs.Events.{Event, Got, Put, PutFailed, SizeFailed, Sized}
 use Rattle.rrd_disk.specs.Replayed.{World, bytes_after, held_after, is_honest_after, is_honest_read, is_there}
 use Rattle.rrd_undo.specs.Calls.{AreAt, ArePut, IsSized}
+use Rattle.rrd_undo.specs.Power.{IsSizedOrNot}
 use Rattle.rrd_disk.proofs.Parts.{part_put, part_twice, sized_over, sized_twice}
 use Rattle.rrd_disk.proofs.Replaying.{honest_before, put_failed_is, put_failed_keeps_place, put_is, read-AreAt, read_ends, read_is, read_within, size_failed_is, size_failed_keeps_place, sized_is}
 
