@@ -7,4 +7,5 @@ pub mod Turned
 pub mod Gathered
 pub mod Stages
 pub mod Recovering
+pub mod Powered
 pub mod Fronted

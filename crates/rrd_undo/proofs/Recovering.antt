@@ -176,18 +176,18 @@ back_ended old tail number f back none = λ k high low.
     let e : drop number (slots_in tail f) ≡ [] = slots_end tail f number back.within none in
     rw e at (back.laid k high low)
 
-module _ (old : List ℕ) (tail number offset : ℕ) (bytes taken f : List ℕ) (back : IsBack old tail number f) (found : slot_at tail f number ≡ Some (slot_of offset bytes))
-    (taken_is : taken ≡ bytes) where
+module _ (old : List ℕ) (tail number offset : ℕ) (bytes f : List ℕ) (undone : IsUndone old tail f) (within : number ≤ length (slots_in tail f))
+    (found : slot_at tail f number ≡ Some (slot_of offset bytes)) where
   here : IsSlot (slots_in tail f) number offset bytes × IsRightSlot tail (slot_of offset bytes) × (number < length (slots_in tail f))
-  here = slot_here tail f number offset bytes back.within found
+  here = slot_here tail f number offset bytes within found
 
   right : IsRightSlot tail (slot_of offset bytes)
   right = here.1
 
-  any_length : (g : List ℕ) → AreAny offset (length bytes) f g → length g ≡ length f
-  any_length g any = omega (arith, any.longer, any.bound, back.undone.restores.reaches, right.below)
+  pub any_length : (g : List ℕ) → AreAny offset (length bytes) f g → length g ≡ length f
+  any_length g any = omega (arith, any.longer, any.bound, undone.restores.reaches, right.below)
 
-  any_slots : (g : List ℕ) → AreAny offset (length bytes) f g → slots_in tail g ≡ slots_in tail f
+  pub any_slots : (g : List ℕ) → AreAny offset (length bytes) f g → slots_in tail g ≡ slots_in tail f
   any_slots g any = slots_stay tail f g (any_length g any) (λ k high. any.outside k (inr (omega (arith, right.below))))
 
   -- bytes that a slot reaches are the slot's, whatever the file has there
@@ -200,24 +200,29 @@ module _ (old : List ℕ) (tail number offset : ℕ) (bytes taken f : List ℕ) 
     ]
   ]
 
-  any_undone : (g : List ℕ) → AreAny offset (length bytes) f g → IsUndone old tail g
+  pub any_undone : (g : List ℕ) → AreAny offset (length bytes) f g → IsUndone old tail g
   any_undone g any = record {
-    is = back.undone.is;
-    is_tail = back.undone.is_tail;
+    is = undone.is;
+    is_tail = undone.is_tail;
     marked = record {
-      within = omega (arith, any.longer, back.undone.marked.within);
-      each = λ i low. any.outside (0 + i) (inl (omega (arith, undo_mark_length tail, right.behind))) ∙ back.undone.marked.each i low;
+      within = omega (arith, any.longer, undone.marked.within);
+      each = λ i low. any.outside (0 + i) (inl (omega (arith, undo_mark_length tail, right.behind))) ∙ undone.marked.each i low;
     };
     restores = record {
-      reaches = omega (arith, any.longer, back.undone.restores.reaches);
-      recorded = record_same tail tail (record_of tail old) f g refl back.undone.is_tail.fits any.longer
-          (λ k high low. any.outside k (inr (omega (arith, right.below)))) back.undone.restores.recorded;
-      each = λ k high low. rw (any_slots g any) (same_laid g any k ∙ back.undone.restores.each k high low);
+      reaches = omega (arith, any.longer, undone.restores.reaches);
+      recorded = record_same tail tail (record_of tail old) f g refl undone.is_tail.fits any.longer
+          (λ k high low. any.outside k (inr (omega (arith, right.below)))) undone.restores.recorded;
+      each = λ k high low. rw (any_slots g any) (same_laid g any k ∙ undone.restores.each k high low);
     };
   }
 
+module _ (old : List ℕ) (tail number offset : ℕ) (bytes taken f : List ℕ) (back : IsBack old tail number f) (found : slot_at tail f number ≡ Some (slot_of offset bytes))
+    (taken_is : taken ≡ bytes) where
+  this : IsSlot (slots_in tail f) number offset bytes × IsRightSlot tail (slot_of offset bytes) × (number < length (slots_in tail f))
+  this = slot_here tail f number offset bytes back.within found
+
   pub slot_failed : (g : List ℕ) → AreAny offset (length taken) f g → IsUndone old tail g
-  slot_failed g any_taken = any_undone g (rw taken_is at any_taken)
+  slot_failed g any_taken = any_undone old tail number offset bytes f back.undone back.within found g (rw taken_is at any_taken)
 
   put_laid : (g : List ℕ) → ArePut offset bytes f g → (k : ℕ) → slice_index g k ≡ laid (slot_of offset bytes) k (slice_index f k)
   put_laid g put k = elim (cases_lt k offset) as (λ _. slice_index g k ≡ laid (slot_of offset bytes) k (slice_index f k)) [
@@ -235,14 +240,14 @@ module _ (old : List ℕ) (tail number offset : ℕ) (bytes taken f : List ℕ) 
   slot_back n g len put_taken =
       let put : ArePut offset bytes f g = rw taken_is at put_taken in
       let any : AreAny offset (length bytes) f g = record { longer = omega (arith, put.len); bound = omega (arith, put.len); outside = put.outside } in
-      let slots : slots_in tail g ≡ slots_in tail f = any_slots g any in (
+      let slots : slots_in tail g ≡ slots_in tail f = any_slots old tail number offset bytes f back.undone back.within found g any in (
         record {
-          undone = any_undone g any;
-          within = omega (arith, here.2, ap length slots);
-          laid = λ k high low. rw (slots, add-one) (sym (ap (λ (l : List Slot). all_laid l k (slice_index f k)) here.0
+          undone = any_undone old tail number offset bytes f back.undone back.within found g any;
+          within = omega (arith, this.2, ap length slots);
+          laid = λ k high low. rw (slots, add-one) (sym (ap (λ (l : List Slot). all_laid l k (slice_index f k)) this.0
               ∙ ap (all_laid (drop (suc number) (slots_in tail f)) k) (sym (put_laid g put k))) ∙ back.laid k high low);
         },
-        len ∙ sym (any_length g any),
+        len ∙ sym (any_length old tail number offset bytes f back.undone back.within found g any),
       )
 
 -- ---- the room of the slots is freed

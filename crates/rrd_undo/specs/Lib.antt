@@ -7,5 +7,6 @@ pub mod Spans
 pub mod Undoing
 pub mod Gathering
 pub mod Settling
+pub mod Leaving
 pub mod Changing
 pub mod Memory

@@ -47,6 +47,7 @@ pub(crate) fn read_page<F: Bytes>(
 ) -> io::Result<()>
     ensures falls { (s : List ℕ) → IsTrue (F.is_honest s file.new) → IsTrue (F.is_honest s file.old) }
     ensures same { (s : List ℕ) → IsTrue (F.is_honest s file.new) → F.held s file.new ≡ F.held s file.old }
+    ensures power { (d s : List ℕ) → IsTrue (F.is_honest s file.new) → (c : List ℕ) → F.may_leave d s file.new c → F.may_leave d s file.old c }
     ensures page { OnOk result (length into.new.items ≤ 4096) }
     ensures read { OnOk result ((s : List ℕ) → IsTrue (F.is_honest s file.new) → AreAt (F.held s file.old) at count into.new.items) }
 {

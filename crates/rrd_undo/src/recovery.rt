@@ -1,9 +1,10 @@
 //! Recovers a file after a change that was not ended.
-ghost use Rattle.std.specs.Prelude.{◌≡◌, ◌↔◌, ℕ, ◌%◌, ◌<◌, ◌≤◌, List, length, Option, Some, IfSome, IsSome, None, ◌+◌, IsTrue, IfOk, OnErr, OnOk};
+ghost use Rattle.std.specs.Prelude.{◌≡◌, ◌↔◌, ℕ, ◌%◌, ◌<◌, ◌≤◌, List, Bool, length, take, Option, Some, IfSome, IsSome, None, ◌+◌, IsTrue, IfOk, OnErr, OnOk};
 ghost use Rattle.rrd_tail.specs.Marks.{mark_of, shape_for, size_of};
 ghost use Rattle.rrd_tail.specs.Records.{if_shaped, last_record, record_at};
 ghost use Rattle.rrd_tail.specs.Settled.{settled};
 ghost use Rattle.rrd_tail.specs.declared.mark.Mark.{Mark};
+ghost use Rattle.rrd_undo.specs.Power.{AllStand, IsStored};
 ghost use Rattle.rrd_undo.specs.Settling.{IsFront, IsPutBack, IsSlotFound, IsUndone};
 ghost use Rattle.rrd_undo.specs.Undoing.{IsToCut};
 
@@ -43,6 +44,7 @@ pub(crate) fn read_record<F: Bytes>(
 ) -> io::Result<Option<Record>>
     ensures falls { (s : List ℕ) → IsTrue (F.is_honest s file.new) → IsTrue (F.is_honest s file.old) }
     ensures same { (s : List ℕ) → IsTrue (F.is_honest s file.new) → F.held s file.new ≡ F.held s file.old }
+    ensures power { (d s : List ℕ) → IsTrue (F.is_honest s file.new) → (c : List ℕ) → F.may_leave d s file.new c → F.may_leave d s file.old c }
     ensures ok { IfOk result (λ r. (s : List ℕ) → IsTrue (F.is_honest s file.new) → file_length ≡ length (F.held s file.new) → r ≡ record_at (F.held s file.new) at) }
 {
     let count = file_length.saturating_sub(at).min(RECORD_SIZE);
@@ -59,6 +61,7 @@ pub(crate) fn read_last<F: Bytes>(
 ) -> io::Result<Option<Record>>
     ensures falls { (s : List ℕ) → IsTrue (F.is_honest s file.new) → IsTrue (F.is_honest s file.old) }
     ensures same { (s : List ℕ) → IsTrue (F.is_honest s file.new) → F.held s file.new ≡ F.held s file.old }
+    ensures power { (d s : List ℕ) → IsTrue (F.is_honest s file.new) → (c : List ℕ) → F.may_leave d s file.new c → F.may_leave d s file.old c }
     ensures ok { IfOk result (λ r. (s : List ℕ) → IsTrue (F.is_honest s file.new) → file_length ≡ length (F.held s file.new) → r ≡ last_record shape (F.held s file.new)) }
 {
     if file_length % PAGE != shape.size() {
@@ -90,6 +93,9 @@ fn unmark<F: Bytes>(file: &mut F) -> io::Result<()>
         → settled (F.held s file.new) ≡ settled (F.held s file.old) }
     ensures ok { OnOk result ((s : List ℕ) → IsTrue (F.is_honest s file.new) → (shape : Shape) → mark_of (F.held s file.old) ≡ Some (Mark.Cut shape) → last_record shape (F.held s file.old) ≡ None
         → F.held s file.new ≡ settled (F.held s file.old)) }
+    ensures power { (d s : List ℕ) → IsTrue (F.is_honest s file.new) → (shape : Shape) → mark_of (F.held s file.old) ≡ Some (Mark.Cut shape) → last_record shape (F.held s file.old) ≡ None
+        → IsStored (F.held s file.old) (F.may_leave d s file.old) → AllStand (λ b. b ≡ settled (F.held s file.old)) (F.held s file.new) (F.may_leave d s file.new) }
+    ensures stored { OnOk result ((d s : List ℕ) → IsTrue (F.is_honest s file.new) → IsStored (F.held s file.new) (F.may_leave d s file.new)) }
 {
     put_and_sync(file, 0, &DATABASE_MARK, Syncs::Ordered)
 }
@@ -106,6 +112,9 @@ fn settle_cut<F: Bytes>(
         → settled (F.held s file.new) ≡ settled (F.held s file.old) }
     ensures ok { OnOk result ((s : List ℕ) → IsTrue (F.is_honest s file.new) → file_length ≡ length (F.held s file.old) → mark_of (F.held s file.old) ≡ Some (Mark.Cut shape)
         → F.held s file.new ≡ settled (F.held s file.old)) }
+    ensures power { (d s : List ℕ) → IsTrue (F.is_honest s file.new) → file_length ≡ length (F.held s file.old) → mark_of (F.held s file.old) ≡ Some (Mark.Cut shape)
+        → IsStored (F.held s file.old) (F.may_leave d s file.old) → AllStand (λ b. b ≡ settled (F.held s file.old)) (F.held s file.new) (F.may_leave d s file.new) }
+    ensures stored { OnOk result ((d s : List ℕ) → IsTrue (F.is_honest s file.new) → IsStored (F.held s file.new) (F.may_leave d s file.new)) }
 {
     match read_last(file, file_length, shape, buffer)? {
         None => unmark(file)?,
@@ -124,6 +133,7 @@ pub(crate) fn read_slot_at<F: Bytes>(
 ) -> io::Result<Option<SlotHeader>>
     ensures falls { (s : List ℕ) → IsTrue (F.is_honest s file.new) → IsTrue (F.is_honest s file.old) }
     ensures same { (s : List ℕ) → IsTrue (F.is_honest s file.new) → F.held s file.new ≡ F.held s file.old }
+    ensures power { (d s : List ℕ) → IsTrue (F.is_honest s file.new) → (c : List ℕ) → F.may_leave d s file.new c → F.may_leave d s file.old c }
     ensures few { IfOk result (λ found. IfSome found (λ header. 32 + header.count ≤ length buffer.new.items)) }
     ensures ok { IfOk result (λ found. (s : List ℕ) → IsTrue (F.is_honest s file.new) → file_length ≡ length (F.held s file.new) → IsSlotFound tail (F.held s file.new) number buffer.new.items found) }
 {
@@ -148,6 +158,9 @@ fn put_slots<F: Bytes>(
         → IsUndone old tail (F.held s file.new) }
     ensures ok { OnOk result ((s : List ℕ) → IsTrue (F.is_honest s file.new) → (old : List ℕ) → file_length ≡ length (F.held s file.old) → IsUndone old tail (F.held s file.old)
         → IsPutBack old (F.held s file.new)) }
+    ensures power { (d s : List ℕ) → IsTrue (F.is_honest s file.new) → (old : List ℕ) → file_length ≡ length (F.held s file.old) → IsUndone old tail (F.held s file.old)
+        → IsStored (F.held s file.old) (F.may_leave d s file.old) → (c : List ℕ) → F.may_leave d s file.new c → IsUndone old tail c }
+    ensures stored { OnOk result ((d s : List ℕ) → IsTrue (F.is_honest s file.new) → IsStored (F.held s file.new) (F.may_leave d s file.new)) }
 {
     for number in 0..usize::MAX {
         let Some(slot) = read_slot_at(file, file_length, tail, number, buffer)? else {
@@ -166,6 +179,9 @@ fn release<F: Bytes>(file: &mut F, tail: usize, first: &Record) -> io::Result<()
         → IsToCut old (F.held s file.new)) }
     ensures err { OnErr result ((s : List ℕ) → IsTrue (F.is_honest s file.new) → (old : List ℕ) → IsUndone old tail (F.held s file.old) → IsPutBack old (F.held s file.old) → record_at (F.held s file.old) tail ≡ Some first.now
         → settled (F.held s file.new) ≡ old) }
+    ensures power { (d s : List ℕ) → IsTrue (F.is_honest s file.new) → (old : List ℕ) → IsUndone old tail (F.held s file.old) → IsPutBack old (F.held s file.old) → record_at (F.held s file.old) tail ≡ Some first.now
+        → IsStored (F.held s file.old) (F.may_leave d s file.old) → AllStand (λ b. b ≡ old) (F.held s file.new) (F.may_leave d s file.new) }
+    ensures stored { OnOk result ((d s : List ℕ) → IsTrue (F.is_honest s file.new) → IsStored (F.held s file.new) (F.may_leave d s file.new)) }
 {
     let end = record_end(tail, first.length)?;
     set_len_and_sync(file, end, Syncs::Ordered)?;
@@ -195,6 +211,9 @@ fn undo<F: Bytes>(
         → settled (F.held s file.new) ≡ old }
     ensures ok { OnOk result ((s : List ℕ) → IsTrue (F.is_honest s file.new) → (old : List ℕ) → file_length ≡ length (F.held s file.old) → IsUndone old tail (F.held s file.old) → record_at (F.held s file.old) tail ≡ Some first.now
         → F.held s file.new ≡ old) }
+    ensures power { (d s : List ℕ) → IsTrue (F.is_honest s file.new) → (old : List ℕ) → file_length ≡ length (F.held s file.old) → IsUndone old tail (F.held s file.old) → record_at (F.held s file.old) tail ≡ Some first.now
+        → IsStored (F.held s file.old) (F.may_leave d s file.old) → AllStand (λ b. b ≡ old) (F.held s file.new) (F.may_leave d s file.new) }
+    ensures stored { OnOk result ((d s : List ℕ) → IsTrue (F.is_honest s file.new) → IsStored (F.held s file.new) (F.may_leave d s file.new)) }
 {
     put_slots(file, file_length, tail, buffer)?;
     release(file, tail, first)?;
@@ -213,6 +232,9 @@ fn settle_undo<F: Bytes>(
         → settled (F.held s file.new) ≡ settled (F.held s file.old) }
     ensures ok { OnOk result ((s : List ℕ) → IsTrue (F.is_honest s file.new) → file_length ≡ length (F.held s file.old) → mark_of (F.held s file.old) ≡ Some (Mark.Undo tail)
         → F.held s file.new ≡ settled (F.held s file.old)) }
+    ensures power { (d s : List ℕ) → IsTrue (F.is_honest s file.new) → file_length ≡ length (F.held s file.old) → mark_of (F.held s file.old) ≡ Some (Mark.Undo tail)
+        → IsStored (F.held s file.old) (F.may_leave d s file.old) → AllStand (λ b. b ≡ settled (F.held s file.old)) (F.held s file.new) (F.may_leave d s file.new) }
+    ensures stored { OnOk result ((d s : List ℕ) → IsTrue (F.is_honest s file.new) → IsStored (F.held s file.old) (F.may_leave d s file.old) → IsStored (F.held s file.new) (F.may_leave d s file.new)) }
 {
     let Some(first) = read_record(file, file_length, tail, buffer)? else {
         return Ok(Settled::AsItWas);
@@ -232,7 +254,9 @@ pub(crate) struct Start {
 pub(crate) fn read_start<F: Bytes>(file: &mut F, buffer: &mut Vec<u8>) -> io::Result<Start>
     ensures falls { (s : List ℕ) → IsTrue (F.is_honest s file.new) → IsTrue (F.is_honest s file.old) }
     ensures same { (s : List ℕ) → IsTrue (F.is_honest s file.new) → F.held s file.new ≡ F.held s file.old }
+    ensures power { (d s : List ℕ) → IsTrue (F.is_honest s file.new) → (c : List ℕ) → F.may_leave d s file.new c → F.may_leave d s file.old c }
     ensures front { OnOk result ((s : List ℕ) → IsTrue (F.is_honest s file.new) → IsFront (F.held s file.new) buffer.new.items) }
+    ensures sixteen { OnOk result ((s : List ℕ) → IsTrue (F.is_honest s file.new) → buffer.new.items ≡ take 16 (F.held s file.new)) }
     ensures few { OnOk result (length buffer.new.items ≤ 4096) }
     ensures length { IfOk result (λ start. (s : List ℕ) → IsTrue (F.is_honest s file.new) → start.length ≡ length (F.held s file.new)) }
     ensures mark { IfOk result (λ start. (s : List ℕ) → IsTrue (F.is_honest s file.new) → start.mark ≡ mark_of (F.held s file.new)) }
@@ -251,6 +275,7 @@ pub(crate) fn read_start<F: Bytes>(file: &mut F, buffer: &mut Vec<u8>) -> io::Re
 pub fn has_mark<F: Bytes>(file: &mut F, buffer: &mut Vec<u8>) -> io::Result<bool>
     ensures falls { (s : List ℕ) → IsTrue (F.is_honest s file.new) → IsTrue (F.is_honest s file.old) }
     ensures same { (s : List ℕ) → IsTrue (F.is_honest s file.new) → F.held s file.new ≡ F.held s file.old }
+    ensures power { (d s : List ℕ) → IsTrue (F.is_honest s file.new) → (c : List ℕ) → F.may_leave d s file.new c → F.may_leave d s file.old c }
     ensures ok { IfOk result (λ is. (s : List ℕ) → IsTrue (F.is_honest s file.new) → IsTrue is ↔ IsSome (mark_of (F.held s file.new))) }
 {
     let start = read_start(file, buffer)?;
@@ -265,6 +290,9 @@ fn store<F: Bytes>(file: &mut F, front: &[u8]) -> io::Result<()>
     requires { length front.now ≤ 4096 }
     ensures falls { (s : List ℕ) → IsTrue (F.is_honest s file.new) → IsTrue (F.is_honest s file.old) }
     ensures same { (s : List ℕ) → IsTrue (F.is_honest s file.new) → IsFront (F.held s file.old) front.now → F.held s file.new ≡ F.held s file.old }
+    ensures power { (d s : List ℕ) → IsTrue (F.is_honest s file.new) → (P : List ℕ → Bool) → front.now ≡ take 16 (F.held s file.old) → IsSome (mark_of (F.held s file.old))
+        → AllStand (λ b. IsTrue (P b)) (F.held s file.old) (F.may_leave d s file.old) → AllStand (λ b. IsTrue (P b)) (F.held s file.new) (F.may_leave d s file.new) }
+    ensures stored { OnOk result ((d s : List ℕ) → IsTrue (F.is_honest s file.new) → IsStored (F.held s file.new) (F.may_leave d s file.new)) }
 {
     put_and_sync(file, 0, front, Syncs::Ordered)
 }
@@ -281,6 +309,9 @@ pub fn settle<F: Bytes>(file: &mut F, buffer: &mut Vec<u8>) -> io::Result<Settle
     ensures falls { (s : List ℕ) → IsTrue (F.is_honest s file.new) → IsTrue (F.is_honest s file.old) }
     ensures stands { (s : List ℕ) → IsTrue (F.is_honest s file.new) → settled (F.held s file.new) ≡ settled (F.held s file.old) }
     ensures ok { OnOk result ((s : List ℕ) → IsTrue (F.is_honest s file.new) → F.held s file.new ≡ settled (F.held s file.old)) }
+    ensures power { (d s : List ℕ) → IsTrue (F.is_honest s file.new) → (P : List ℕ → Bool)
+        → AllStand (λ b. IsTrue (P b)) (F.held s file.old) (F.may_leave d s file.old) → AllStand (λ b. IsTrue (P b)) (F.held s file.new) (F.may_leave d s file.new) }
+    ensures stored { OnOk result ((d s : List ℕ) → IsTrue (F.is_honest s file.new) → IsSome (mark_of (F.held s file.old)) → IsStored (F.held s file.new) (F.may_leave d s file.new)) }
 {
     let start = read_start(file, buffer)?;
     let Some(mark) = start.mark else {

@@ -8,7 +8,10 @@ ghost use Rattle.rrd_tail.specs.Settled.{settled};
 ghost use Rattle.rrd_tail.specs.Slots.{slot_offset};
 ghost use Rattle.rrd_undo.specs.Calls.{AreAt, ArePut, AreWholeOrNot, IsSized};
 ghost use Rattle.rrd_undo.specs.Gathering.{AddsSpan, AreRecorded, ArePutIn, IsAppended, IsGathered, IsSaved, Paged, Turning, group_bytes, padded, slots_for};
+ghost use Rattle.rrd_undo.specs.Leaving.{IsDeciding, OrHeld};
+ghost use Rattle.rrd_undo.specs.Power.{AllStand, AreTorn, IsSizedOrNot, IsStored, Leaves};
 ghost use Rattle.rrd_undo.specs.Spans.{IsBeside};
+ghost use Rattle.rrd_undo.specs.declared.tail.Syncs.{Syncs};
 ghost use Rattle.rrd_undo.specs.Undoing.{IsOldPage, IsOldRecorded, IsReady, IsTail, IsToCut, Undoing, record_of, slot_of};
 ghost use Rattle.rrd_undo.specs.Databases.{IsDatabase};
 
@@ -42,6 +45,8 @@ pub enum Syncs {
 pub(crate) fn sync<F: Bytes>(file: &mut F, syncs: Syncs) -> io::Result<()>
     ensures falls { (s : List ℕ) → IsTrue (F.is_honest s file.new) → IsTrue (F.is_honest s file.old) }
     ensures same { (s : List ℕ) → IsTrue (F.is_honest s file.new) → F.held s file.new ≡ F.held s file.old }
+    ensures power { (d s : List ℕ) → IsTrue (F.is_honest s file.new) → (c : List ℕ) → F.may_leave d s file.new c → OrHeld (F.held s file.new) (F.may_leave d s file.old) c }
+    ensures stored { OnOk result ((d s : List ℕ) → IsTrue (F.is_honest s file.new) → syncs ≡ Syncs.Ordered → IsStored (F.held s file.new) (F.may_leave d s file.new)) }
 {
     match syncs {
         Syncs::Never => Ok(()),
@@ -60,6 +65,9 @@ pub(crate) fn put_and_sync<F: Bytes>(
     ensures falls { (s : List ℕ) → IsTrue (F.is_honest s file.new) → IsTrue (F.is_honest s file.old) }
     ensures ok { OnOk result ((s : List ℕ) → IsTrue (F.is_honest s file.new) → ArePut at bytes.now (F.held s file.old) (F.held s file.new)) }
     ensures either { (s : List ℕ) → IsTrue (F.is_honest s file.new) → AreWholeOrNot at bytes.now (F.held s file.old) (F.held s file.new) }
+    ensures power { (d s : List ℕ) → IsTrue (F.is_honest s file.new) → (c : List ℕ) → F.may_leave d s file.new c
+        → Leaves (AreTorn at bytes.now) (OrHeld (F.held s file.old) (F.may_leave d s file.old)) c }
+    ensures stored { OnOk result ((d s : List ℕ) → IsTrue (F.is_honest s file.new) → syncs ≡ Syncs.Ordered → IsStored (F.held s file.new) (F.may_leave d s file.new)) }
 {
     file.put_whole(at, bytes)?;
     sync(file, syncs)
@@ -70,6 +78,9 @@ pub(crate) fn set_len_and_sync<F: Bytes>(file: &mut F, count: usize, syncs: Sync
     ensures falls { (s : List ℕ) → IsTrue (F.is_honest s file.new) → IsTrue (F.is_honest s file.old) }
     ensures ok { OnOk result ((s : List ℕ) → IsTrue (F.is_honest s file.new) → IsSized count (F.held s file.old) (F.held s file.new)) }
     ensures either { (s : List ℕ) → IsTrue (F.is_honest s file.new) → (F.held s file.new ≡ F.held s file.old) ⊎ IsSized count (F.held s file.old) (F.held s file.new) }
+    ensures power { (d s : List ℕ) → IsTrue (F.is_honest s file.new) → (c : List ℕ) → F.may_leave d s file.new c
+        → Leaves (IsSizedOrNot count) (OrHeld (F.held s file.old) (F.may_leave d s file.old)) c }
+    ensures stored { OnOk result ((d s : List ℕ) → IsTrue (F.is_honest s file.new) → syncs ≡ Syncs.Ordered → IsStored (F.held s file.new) (F.may_leave d s file.new)) }
 {
     file.set_len(count)?;
     sync(file, syncs)
@@ -91,6 +102,9 @@ fn put_shaped<F: Bytes>(file: &mut F, shape: Shape, entry: &Record, syncs: Syncs
     ensures falls { (s : List ℕ) → IsTrue (F.is_honest s file.new) → IsTrue (F.is_honest s file.old) }
     ensures ok { OnOk result ((s : List ℕ) → IsTrue (F.is_honest s file.new) → ArePut entry.now.offset (shaped_bytes shape entry.now) (F.held s file.old) (F.held s file.new)) }
     ensures either { (s : List ℕ) → IsTrue (F.is_honest s file.new) → AreWholeOrNot entry.now.offset (shaped_bytes shape entry.now) (F.held s file.old) (F.held s file.new) }
+    ensures power { (d s : List ℕ) → IsTrue (F.is_honest s file.new) → (c : List ℕ) → F.may_leave d s file.new c
+        → Leaves (AreTorn entry.now.offset (shaped_bytes shape entry.now)) (OrHeld (F.held s file.old) (F.may_leave d s file.old)) c }
+    ensures stored { OnOk result ((d s : List ℕ) → IsTrue (F.is_honest s file.new) → syncs ≡ Syncs.Ordered → IsStored (F.held s file.new) (F.may_leave d s file.new)) }
 {
     match shape {
         Shape::Short => put_and_sync(file, entry.offset, &entry.bytes(), syncs),
@@ -117,6 +131,10 @@ fn put_record<F: Bytes>(
         → ArePut offset (shaped_bytes (shape_for (length bytes)) (record_of offset bytes)) (F.held s file.old) (F.held s file.new)) }
     ensures either { (s : List ℕ) → IsTrue (F.is_honest s file.new) → (bytes : List ℕ) → IsDatabase bytes → count ≡ length bytes → AreAt bytes 0 (min 4096 (length bytes)) first.now
         → AreWholeOrNot offset (shaped_bytes (shape_for (length bytes)) (record_of offset bytes)) (F.held s file.old) (F.held s file.new) }
+    ensures power { (d s : List ℕ) → IsTrue (F.is_honest s file.new) → (bytes : List ℕ) → IsDatabase bytes → count ≡ length bytes → AreAt bytes 0 (min 4096 (length bytes)) first.now
+        → (c : List ℕ) → F.may_leave d s file.new c
+        → Leaves (AreTorn offset (shaped_bytes (shape_for (length bytes)) (record_of offset bytes))) (OrHeld (F.held s file.old) (F.may_leave d s file.old)) c }
+    ensures stored { OnOk result ((d s : List ℕ) → IsTrue (F.is_honest s file.new) → syncs ≡ Syncs.Ordered → IsStored (F.held s file.new) (F.may_leave d s file.new)) }
 {
     let record = Record {
         offset,
@@ -153,6 +171,10 @@ pub(crate) fn put_front<F: Bytes>(
     ensures again { (s : List ℕ) → IsTrue (F.is_honest s file.new) → (old new : List ℕ) (tail : ℕ) → IsDatabase old → IsDatabase new → count ≡ length new
         → take 16 first.now ≡ take 16 new → IsReady old new tail (F.held s file.old)
         → (f : List ℕ) → ArePut 0 (undo_mark tail) (F.held s file.new) f → settled f ≡ old }
+    ensures power { (d s : List ℕ) → IsTrue (F.is_honest s file.new) → (old new : List ℕ) (tail : ℕ) → IsDatabase old → IsDatabase new → count ≡ length new
+        → take 16 first.now ≡ take 16 new → IsReady old new tail (F.held s file.old) → IsStored (F.held s file.old) (F.may_leave d s file.old)
+        → IsDeciding old new tail (F.held s file.new) (F.may_leave d s file.new) }
+    ensures stored { OnOk result ((d s : List ℕ) → IsTrue (F.is_honest s file.new) → syncs ≡ Syncs.Ordered → IsStored (F.held s file.new) (F.may_leave d s file.new)) }
 {
     put_and_sync(file, 0, &cut_front(Shape::for_length(count), first), syncs)
 }
@@ -162,6 +184,9 @@ pub(crate) fn finish<F: Bytes>(file: &mut F, new_length: usize, syncs: Syncs) ->
     ensures falls { (s : List ℕ) → IsTrue (F.is_honest s file.new) → IsTrue (F.is_honest s file.old) }
     ensures stands { (s : List ℕ) → IsTrue (F.is_honest s file.new) → (bytes : List ℕ) → new_length ≡ length bytes → IsToCut bytes (F.held s file.old) → settled (F.held s file.new) ≡ bytes }
     ensures ok { OnOk result ((s : List ℕ) → IsTrue (F.is_honest s file.new) → (bytes : List ℕ) → new_length ≡ length bytes → IsToCut bytes (F.held s file.old) → F.held s file.new ≡ bytes) }
+    ensures power { (d s : List ℕ) → IsTrue (F.is_honest s file.new) → (bytes : List ℕ) → new_length ≡ length bytes → IsToCut bytes (F.held s file.old) → syncs ≡ Syncs.Ordered
+        → IsStored (F.held s file.old) (F.may_leave d s file.old) → AllStand (λ b. b ≡ bytes) (F.held s file.new) (F.may_leave d s file.new) }
+    ensures stored { OnOk result ((d s : List ℕ) → IsTrue (F.is_honest s file.new) → syncs ≡ Syncs.Ordered → IsStored (F.held s file.new) (F.may_leave d s file.new)) }
 {
     set_len_and_sync(file, new_length, syncs)?;
     put_and_sync(file, 0, &DATABASE_MARK, syncs)

@@ -45,6 +45,8 @@ impl Bytes for Counted {
 
     ghost is_honest = { λ _ _. false };
 
+    ghost may_leave = { λ _ _ _ _. ⊥ };
+
     fn len(&mut self) -> io::Result<usize> {
         self.memory.len()
     }

@@ -74,6 +74,8 @@ impl Bytes for Failing {
 
     ghost is_honest = { λ _ _. false };
 
+    ghost may_leave = { λ _ _ _ _. ⊥ };
+
     fn len(&mut self) -> io::Result<usize> {
         self.before.spend()?;
         let count = self.memory.len()?;

@@ -15,3 +15,9 @@ returns-clause-either g c s f bytes is counts are =
     let shape = c.for_length.ensures ∙ ap shape_for counts in
     let entry = record_is bytes c.args.first.now c.sixteen.result c.args.offset c.args.count is.enough are counts c.sixteen.ensures in
     rw (shape, entry) at (c.put_shaped.ensures.either s (search rules))
+
+pub returns-clause-power : goal.returns-clause-power
+returns-clause-power g c d s f bytes is counts are left leaves =
+    let shape = c.for_length.ensures ∙ ap shape_for counts in
+    let entry = record_is bytes c.args.first.now c.sixteen.result c.args.offset c.args.count is.enough are counts c.sixteen.ensures in
+    rw (shape, entry) at (c.put_shaped.ensures.power d s f left leaves)
