@@ -3,12 +3,9 @@ use Rattle.std.proofs.Common.{◌≡◌, ◌⊎◌, ℕ, ◌+◌, ◌≤◌, inl
 use Rattle.rrd_undo.specs.Calls.{AreAny, ArePut, AreWholeOrNot, IsSized}
 use Rattle.rrd_undo.specs.Power.{AreTorn, IsInSector, IsSizedOrNot, Leaves}
 use Rattle.rrd_disk.specs.Events.{Event, Put, PutFailed, Sized, SizeFailed, Synced, SyncFailed}
-use Rattle.rrd_undo.specs.declared.tail.Syncs.{Syncs}
-use Rattle.rrd_disk.specs.Asked.{bytes_in, is_honest_in, world_of}
 use Rattle.rrd_disk.specs.Calls.{Falls}
 use Rattle.rrd_disk.specs.Replayed.{World, bytes_after, bytes_of, is_honest_after}
-use Rattle.rrd_disk.specs.Power.{IsOnDisk, KeepsDisk, LeavesOnDisk, MayLeave, MayLeaveIn, StoresOrNot}
-use Rattle.rrd_disk.proofs.Asked.{honest_in}
+use Rattle.rrd_disk.specs.Power.{IsOnDisk, KeepsDisk, LeavesOnDisk, MayLeave, StoresOrNot}
 use Rattle.rrd_disk.proofs.Parts.{put_over, sized_twice}
 use Rattle.rrd_disk.proofs.Replaying.{honest_before, sync_failed_keeps, synced_keeps}
 
@@ -148,23 +145,3 @@ sync_ended (Ok x) old mid new stores ok err = λ d w honest c left. inr (synced_
 pub sync_stored : {T E : Type 0} (r : Result T E) (mid new : List Event) → OnOk r (new ≡ Synced ∷ mid) → OnOk r (IsOnDisk new)
 sync_stored (Err e) mid new ok = tt
 sync_stored (Ok x) mid new ok = synced_stores mid new ok
-
--- ---- what rrd_undo is told
-
-module _ (before after : Syncs) (old new : List Event) where
-  pub keeps_in : after ≡ before → KeepsDisk old new
-      → (d s : List ℕ) → IsTrue (is_honest_in s new) → (c : List ℕ) → MayLeaveIn after d s new c → MayLeaveIn before d s old c
-  keeps_in same keeps d s honest c left = (sym same ∙ left.0, keeps d (world_of s) (honest_in s new honest) c left.1)
-
-  pub leaves_in : (Does : List ℕ → List ℕ → Type 0) → after ≡ before → LeavesOnDisk Does old new
-      → (d s : List ℕ) → IsTrue (is_honest_in s new) → (c : List ℕ) → MayLeaveIn after d s new c → Leaves Does (MayLeaveIn before d s old) c
-  leaves_in Does same leaves d s honest c left =
-      let l = leaves d (world_of s) (honest_in s new honest) c left.1 in
-      (l.0, (sym same ∙ left.0, l.1), l.2)
-
-  pub stores_in : after ≡ before → StoresOrNot old new
-      → (d s : List ℕ) → IsTrue (is_honest_in s new) → (c : List ℕ) → MayLeaveIn after d s new c → MayLeaveIn before d s old c ⊎ (c ≡ bytes_in s new)
-  stores_in same stores d s honest c left = elim (stores d (world_of s) (honest_in s new honest) c left.1) as (λ _. MayLeaveIn before d s old c ⊎ (c ≡ bytes_in s new)) [
-    | inl first ↦ inl (sym same ∙ left.0, first)
-    | inr file ↦ inr file
-  ]

@@ -1,6 +1,6 @@
 -- Definition: the bytes that the disk may have of a file if the power fails after the calls of a record (own).
 use Rattle.std.specs.Prelude.{◌≡◌, ◌⊎◌, ℕ, IsTrue, List, [], ◌∷◌}
-use Rattle.rrd_disk.specs.Asked.{world_of}
+use Rattle.rrd_disk.specs.Asked.{file_of, world_of}
 use Rattle.rrd_disk.specs.Events.{Event, Put, PutFailed, Sized, SizeFailed, Synced, SyncFailed}
 use Rattle.rrd_disk.specs.Replayed.{World, bytes_after, is_honest_after}
 use Rattle.rrd_undo.specs.Power.{AreTorn, IsSizedOrNot, Leaves}
@@ -21,7 +21,7 @@ MayLeave d w (_ ∷ earlier) c = MayLeave d w earlier c
 
 -- the same for what is assumed of the file as a list; a run that never syncs names no bytes
 abbrev pub MayLeaveIn : Syncs → List ℕ → List ℕ → List Event → List ℕ → Type 0
-MayLeaveIn syncs d s events c = (syncs ≡ Ordered) × MayLeave d (world_of s) events c
+MayLeaveIn syncs d s events c = (syncs ≡ Ordered) × MayLeave d (world_of (file_of s)) events c
 
 -- ---- what some calls leave on the disk
 

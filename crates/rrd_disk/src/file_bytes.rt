@@ -431,12 +431,12 @@ impl<D: Disk> FileBytes<D> {
 }
 
 impl<D: Disk> Bytes for FileBytes<D> {
-    ghost use Rattle.rrd_disk.specs.Asked.{bytes_in, is_honest_in};
+    ghost use Rattle.rrd_disk.specs.Asked.{bytes_asked, is_honest_asked};
     ghost use Rattle.rrd_disk.specs.Power.{MayLeaveIn};
 
-    ghost held = { λ s f. bytes_in s (D.Disk.events f.disk) };
+    ghost held = { λ s f. bytes_asked s (D.Disk.events f.disk) };
 
-    ghost is_honest = { λ s f. is_honest_in s (D.Disk.events f.disk) };
+    ghost is_honest = { λ s f. is_honest_asked s f.syncs (D.Disk.events f.disk) };
 
     ghost may_leave = { λ d s f c. MayLeaveIn f.syncs d s (D.Disk.events f.disk) c };
 
