@@ -1,9 +1,10 @@
 -- What the answers to rrd_undo, one for each list of numbers, say of each file.
-use Rattle.std.proofs.Common.{◌≡◌, ◌↔◌, ℕ, Bool, false, inl, inr, List, Result, Ok, Err, IfOk, IsSome, IsTrue, refl, sym, ◌∙◌, ap, subst}
+use Rattle.std.proofs.Common.{◌≡◌, ◌↔◌, ℕ, Bool, false, inl, inr, List, ◌∷◌, Result, Ok, Err, IfOk, IsSome, IsTrue, refl, sym, ◌∙◌, ap, subst}
 use Rattle.std.proofs.lemmas.Bool.{cases_Bool, false≢true}
 use Rattle.rrd_tail.specs.Marks.{mark_of}
 use Rattle.rrd_store.specs.Storages.{Held, Missing, Bytes}
-use Rattle.rrd_disk.specs.Asked.{FallsAsked, bytes_in, is_honest_in}
+use Rattle.rrd_undo.specs.declared.tail.Syncs.{Syncs}
+use Rattle.rrd_disk.specs.Asked.{FallsAsked, bytes_asked, bytes_in, is_honest_asked, is_honest_in}
 use Rattle.rrd_disk.specs.Calls.{Falls}
 use Rattle.rrd_disk.specs.Events.{Event}
 use Rattle.rrd_disk.specs.Loading.{KeepsHonest}
@@ -65,7 +66,7 @@ keeps_twice old mid new falls first second s honest was =
     second s honest (subst (λ (h : Held). h ≡ Bytes (bytes_of h)) (sym same) was) ∙ same
 
 -- what the look for a mark says of each list, it says of each start
-pub told_start : {E : Type 0} (r : Result Bool E) (new : List Event)
-    → IfOk r (λ is. (s : List ℕ) → IsTrue (is_honest_in s new) → IsTrue is ↔ IsSome (mark_of (bytes_in s new))) → IfOk r (λ is. TellsMark is new)
-told_start (Ok is) new told = of_start (λ (o n : List ℕ). IsTrue is ↔ IsSome (mark_of n)) new new told
-told_start (Err e) new told = tt
+pub told_start : {E : Type 0} (r : Result Bool E) (syncs : Syncs) (new : List Event)
+    → IfOk r (λ is. (s : List ℕ) → IsTrue (is_honest_asked s syncs new) → IsTrue is ↔ IsSome (mark_of (bytes_asked s new))) → IfOk r (λ is. TellsMark is new)
+told_start (Ok is) syncs new told = of_start (λ (o n : List ℕ). IsTrue is ↔ IsSome (mark_of n)) new new (λ s. told (0 ∷ s))
+told_start (Err e) syncs new told = tt

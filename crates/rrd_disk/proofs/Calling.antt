@@ -1,13 +1,18 @@
 -- What the calls of the module once say, by the events that they note.
-use Rattle.std.proofs.Common.{◌≡◌, ℕ, ◌+◌, ◌-◌, ◌<◌, ◌≤◌, inl, inr, List, ◌∷◌, ◌++◌, length, take, slice_index, IsTrue, Result, Ok, Err, IfOk, OnOk, sym, ◌∙◌, ap, subst, arith, length-append, length-take, get_or-take}
+use Rattle.std.proofs.Common.{◌≡◌, ℕ, ◌+◌, ◌-◌, ◌<◌, ◌≤◌, inl, inr, List, ◌∷◌, ◌++◌, length, take, slice_index, IsTrue, Result, Ok, Err, IfOk, OnErr, OnOk, sym, ◌∙◌, ap, subst, arith, length-append, length-take, get_or-take}
 use Rattle.std.specs.Io.{ReadsAtMost}
 use Rattle.std.proofs.lemmas.List.{get_or_append_left, get_or-append_right}
 use Rattle.std.proofs.lemmas.Bool.{cases_lt}
-use Rattle.rrd_disk.specs.Calls.{Falls, IsGotAtOnce, IsPartPut, IsSizedOrNot, LeavesPart, LeavesSized, PlaceStays}
+use Rattle.rrd_disk.specs.Calls.{Falls, IsGotAtOnce, IsPartPut, LeavesPart, LeavesSized, PlaceStays}
 use Rattle.rrd_disk.specs.Events.{Event, Got, Put, PutFailed, SizeFailed, Sized}
-use Rattle.rrd_disk.specs.Replayed.{World, bytes_after, held_after, is_honest_after, is_honest_read, is_there}
-use Rattle.rrd_undo.specs.Calls.{AreAt, ArePut, IsSized}
-use Rattle.rrd_disk.proofs.Parts.{part_put, part_twice, sized_over, sized_twice}
+use Rattle.rrd_disk.specs.Replayed.{World, bytes_after, bytes_of, held_after, is_honest_after, is_honest_read, is_there}
+use Rattle.rrd_store.specs.Storages.{Held}
+use Rattle.rrd_undo.specs.Calls.{AreAt, ArePut, IsFrontPut, IsSized}
+use Rattle.rrd_undo.specs.Power.{IsSizedOrNot}
+use Rattle.rrd_undo.specs.declared.tail.Syncs.{Syncs}
+use Rattle.rrd_disk.specs.Asked.{bytes_asked, file_of, is_honest_asked, world_of}
+use Rattle.rrd_disk.proofs.Asked.{honest_asked}
+use Rattle.rrd_disk.proofs.Parts.{part_front, part_put, part_twice, sized_over, sized_twice}
 use Rattle.rrd_disk.proofs.Replaying.{honest_before, put_failed_is, put_failed_keeps_place, put_is, read-AreAt, read_ends, read_is, read_within, size_failed_is, size_failed_keeps_place, sized_is}
 
 -- ---- reading
@@ -124,3 +129,20 @@ sized_again_falls old mid new count falls err = λ s honest.
 pub sized_again_place : (old mid new : List Event) (count : ℕ) → PlaceStays old mid → new ≡ SizeFailed count ∷ mid → PlaceStays old new
 sized_again_place old mid new count stays err = λ s.
     ap (λ (events : List Event). is_there (held_after s events)) err ∙ size_failed_keeps_place s mid count ∙ stays s
+
+-- ---- an append that failed, as rrd_undo is told
+
+pub append_unmended : {T E : Type 0} (r : Result T E) (syncs : Syncs) (old new : List Event) (at : ℕ) (bytes : List ℕ)
+    → ((s : World) → IsTrue (is_honest_after s new) → held_after s new ≡ held_after s old)
+    → OnErr r ((s : List ℕ) → IsTrue (is_honest_asked s syncs new) → length (bytes_asked s old) ≤ at → IsFrontPut at bytes (bytes_asked s old) (bytes_asked s new))
+append_unmended (Ok x) syncs old new at bytes same = tt
+append_unmended (Err e) syncs old new at bytes same = λ s honest long. inl (ap bytes_of (same (world_of (file_of s)) (honest_asked s syncs new honest)))
+
+pub append_failed : {T E : Type 0} (r : Result T E) (syncs : Syncs) (old mid new : List Event) (at : ℕ) (bytes : List ℕ) → Falls mid new
+    → ((s : World) → IsTrue (is_honest_after s mid) → held_after s mid ≡ held_after s old) → OnErr r (LeavesPart at bytes mid new)
+    → OnErr r ((s : List ℕ) → IsTrue (is_honest_asked s syncs new) → length (bytes_asked s old) ≤ at → IsFrontPut at bytes (bytes_asked s old) (bytes_asked s new))
+append_failed (Ok x) syncs old mid new at bytes falls same leaves = tt
+append_failed (Err e) syncs old mid new at bytes falls same leaves = λ s honest long.
+    let w = world_of (file_of s) in
+    let now = honest_asked s syncs new honest in
+    subst (λ (h : Held). IsFrontPut at bytes (bytes_of h) (bytes_after w new)) (same w (falls w now)) (part_front at bytes (bytes_after w mid) (bytes_after w new) (leaves w now))

@@ -10,6 +10,7 @@ pub mod Loaded
 pub mod OpenRuns
 pub mod Overlays
 pub mod Parts
+pub mod Powering
 pub mod Replaying
 pub mod Storing
 pub mod Spans

@@ -3,7 +3,8 @@ use Rattle.std.proofs.Common.{◌≡◌, ℕ, zero, suc, ◌+◌, ◌%◌, ◌<�
 use Rattle.std.proofs.lemmas.Bool.{cases_lt, eqb-true, le-leb, leb-true, not-true, or_cases, true≢false}
 use Rattle.std.proofs.lemmas.List.{take_all, take_min}
 use Rattle.rrd_undo.specs.Calls.{AreAny, ArePut, AreWholeOrNot, IsFrontPut, IsSized}
-use Rattle.rrd_disk.specs.Calls.{IsPartPut, IsSizedOrNot}
+use Rattle.rrd_undo.specs.Power.{IsSizedOrNot}
+use Rattle.rrd_disk.specs.Calls.{IsPartPut}
 use Rattle.rrd_disk.specs.Replayed.{is_honest_failure, overlaid, padded_or_not}
 use Rattle.rrd_disk.proofs.Overlays.{overlaid-ArePut, padded-IsSized}
 
@@ -11,7 +12,7 @@ use Rattle.rrd_disk.proofs.Overlays.{overlaid-ArePut, padded-IsSized}
 
 module _ (at : ℕ) where
   -- bytes over fewer bytes
-  put_over : (xs ys f g h : List ℕ) → length xs ≤ length ys → ArePut at xs f g → ArePut at ys g h → ArePut at ys f h
+  pub put_over : (xs ys f g h : List ℕ) → length xs ≤ length ys → ArePut at xs f g → ArePut at ys g h → ArePut at ys f h
   put_over xs ys f g h few first second = record {
     len = omega (arith, first.len, second.len);
     inside = second.inside;

@@ -3,8 +3,9 @@ use Rattle.std.proofs.Common.{◌≡◌, ℕ, ◌+◌, ◌<◌, ◌≤◌, inl, 
 use Rattle.std.proofs.lemmas.Bool.{and_parts, or_cases, eqb-true, leb-true, true≢false}
 use Rattle.std.proofs.lemmas.Slice.Eq.{bytes_eq-Decides}
 use Rattle.rrd_undo.specs.Calls.{AreAt, ArePut, IsSized}
+use Rattle.rrd_undo.specs.Power.{IsSizedOrNot}
 use Rattle.rrd_store.specs.Storages.{Held, Missing, Bytes}
-use Rattle.rrd_disk.specs.Calls.{IsPartPut, IsSizedOrNot}
+use Rattle.rrd_disk.specs.Calls.{IsPartPut}
 use Rattle.rrd_disk.specs.Events.{Event, Found, Made, Measured, Got, Put, PutFailed, Sized, SizeFailed, Synced, SyncFailed, Streamed}
 use Rattle.rrd_disk.specs.Events.{Missing as NotFound}
 use Rattle.rrd_disk.specs.Replayed.{World, bytes_after, bytes_of, held_after, is_honest_after, is_honest_of, is_honest_read, is_there, left, part_after}

@@ -6,7 +6,8 @@ use Rattle.rrd_store.specs.Storages.{Missing as NoFile, Bytes}
 use Rattle.rrd_disk.specs.declared.disk.Facts.{Facts}
 use Rattle.rrd_disk.specs.declared.disk.Opening.{Opening}
 use Rattle.rrd_disk.specs.declared.disk.Opening.TheVariants.{Read, Write, Make}
-use Rattle.rrd_undo.specs.Calls.{AreAt, ArePut, IsSized}
+use Rattle.rrd_undo.specs.Calls.{AreAt, ArePut}
+use Rattle.rrd_undo.specs.Power.{IsSizedOrNot}
 
 -- a file was opened for this purpose
 abbrev pub opened_for : Opening → Event
@@ -40,10 +41,6 @@ pub record IsGot (file : List ℕ) (at n : ℕ) (bytes : List ℕ) : Type 0 wher
 abbrev pub IsPartPut : ℕ → List ℕ → List ℕ → List ℕ → Type 0
 IsPartPut at bytes old new =
     (new ≡ old) ⊎ ((n : ℕ) × (n ≤ length bytes) × (at % 4096 + length bytes ≤ 4096 → n ≡ length bytes) × ArePut at (take n bytes) old new)
-
--- a change of the length that failed
-abbrev pub IsSizedOrNot : ℕ → List ℕ → List ℕ → Type 0
-IsSizedOrNot count old new = (new ≡ old) ⊎ IsSized count old new
 
 -- a record that is honest after some calls was honest before them
 abbrev pub Falls : List Event → List Event → Type 0

@@ -11,6 +11,7 @@ pub mod Loading
 pub mod Noting
 pub mod OpenRuns
 pub mod Openings
+pub mod Power
 pub mod Replayed
 pub mod Runs
 pub mod Storing

@@ -3,6 +3,7 @@ ghost use Rattle.std.specs.Prelude.{◌≡◌, ◌≤◌, ℕ, IfOk, IsTrue, Lis
 ghost use Rattle.rrd_disk.specs.Calls.{Falls, KeepsHeld, KeepsHeldFor, LeavesPart, PlaceStays};
 ghost use Rattle.rrd_disk.specs.Known.{AreAll, Measures, Owes, ShowsBytes};
 ghost use Rattle.rrd_disk.specs.Openings.{HasLength};
+ghost use Rattle.rrd_disk.specs.Power.{KeepsDisk, LeavesOnDisk};
 ghost use Rattle.rrd_disk.specs.Replayed.{World, bytes_after, held_after, is_honest_after};
 
 use crate::front::Front;
@@ -92,10 +93,12 @@ impl<D: Disk> FileBytes<D> {
     ghost use Rattle.std.specs.Prelude.{OnErr};
     ghost use Rattle.rrd_disk.specs.Entries.{SaysEntry};
     ghost use Rattle.rrd_undo.specs.Calls.{ArePut};
+    ghost use Rattle.rrd_undo.specs.Power.{AreTorn};
 
     /// Creates the file of a run, which has opened nothing so far.
     pub(crate) fn new(disk: D, syncs: Syncs) -> FileBytes<D>
-        ensures { result.disk ≡ disk }
+        ensures disk { result.disk ≡ disk }
+        ensures syncs { result.syncs ≡ syncs }
     {
         let front = Front::new(disk.alloc());
         FileBytes {
@@ -124,7 +127,8 @@ impl<D: Disk> FileBytes<D> {
 
     /// Closes the file, and releases its lock.
     pub(crate) fn close(&mut self)
-        ensures { self.new.disk ≡ self.old.disk }
+        ensures disk { self.new.disk ≡ self.old.disk }
+        ensures syncs { self.new.syncs ≡ self.old.syncs }
     {
         self.file = None;
         self.length = None;
@@ -144,6 +148,8 @@ impl<D: Disk> FileBytes<D> {
         wait: u64,
     ) -> io::Result<Entry<D::File>>
         ensures falls { Falls (D.events self.old.disk) (D.events self.new.disk) }
+        ensures power { KeepsDisk (D.events self.old.disk) (D.events self.new.disk) }
+        ensures syncs { self.new.syncs ≡ self.old.syncs }
         ensures same { KeepsHeldFor opening (D.events self.old.disk) (D.events self.new.disk) }
         ensures says { IfOk result (λ entry. SaysEntry entry (D.events self.new.disk)) }
     {
@@ -164,6 +170,8 @@ impl<D: Disk> FileBytes<D> {
     /// Checks whether this run may open the file at `path` for writing.
     pub(crate) fn may_write(&mut self, path: &str) -> bool
         ensures falls { Falls (D.events self.old.disk) (D.events self.new.disk) }
+        ensures power { KeepsDisk (D.events self.old.disk) (D.events self.new.disk) }
+        ensures syncs { self.new.syncs ≡ self.old.syncs }
         ensures same { KeepsHeld (D.events self.old.disk) (D.events self.new.disk) }
     {
         matches!(open(&mut self.disk, path, Opening::Write), Ok(Some(_)))
@@ -172,6 +180,8 @@ impl<D: Disk> FileBytes<D> {
     // Returns the length of the file in bytes.
     fn file_length(&mut self) -> io::Result<u64>
         ensures falls { Falls (D.events self.old.disk) (D.events self.new.disk) }
+        ensures power { KeepsDisk (D.events self.old.disk) (D.events self.new.disk) }
+        ensures syncs { self.new.syncs ≡ self.old.syncs }
         ensures same { (s : World) → IsTrue (is_honest_after s (D.events self.new.disk)) → held_after s (D.events self.new.disk) ≡ held_after s (D.events self.old.disk) }
         ensures place { PlaceStays (D.events self.old.disk) (D.events self.new.disk) }
         ensures ok { IfOk result (λ n. (s : World) → IsTrue (is_honest_after s (D.events self.new.disk)) → n ≡ length (bytes_after s (D.events self.new.disk))) }
@@ -224,6 +234,7 @@ impl<D: Disk> FileBytes<D> {
     // Takes the bytes in memory.
     fn take_front(&mut self) -> Vec<u8>
         ensures disk { self.new.disk ≡ self.old.disk }
+        ensures syncs { self.new.syncs ≡ self.old.syncs }
         ensures length { self.new.length ≡ self.old.length }
         ensures bytes { result.items ≡ self.old.front.bytes.items }
         ensures shown { ShowsBytes result.items (D.events self.old.disk) }
@@ -238,6 +249,8 @@ impl<D: Disk> FileBytes<D> {
         requires more { length bytes.old.items ≤ count }
         requires shown { ShowsBytes bytes.old.items (D.events self.old.disk) }
         ensures falls { Falls (D.events self.old.disk) (D.events self.new.disk) }
+        ensures power { KeepsDisk (D.events self.old.disk) (D.events self.new.disk) }
+        ensures syncs { self.new.syncs ≡ self.old.syncs }
         ensures same { KeepsHeld (D.events self.old.disk) (D.events self.new.disk) }
         ensures shown { OnOk result (ShowsBytes bytes.new.items (D.events self.new.disk)) }
     {
@@ -257,6 +270,8 @@ impl<D: Disk> FileBytes<D> {
     // Reads the first `count` bytes of the file into memory.
     fn read_to(&mut self, count: u64) -> io::Result<()>
         ensures falls { Falls (D.events self.old.disk) (D.events self.new.disk) }
+        ensures power { KeepsDisk (D.events self.old.disk) (D.events self.new.disk) }
+        ensures syncs { self.new.syncs ≡ self.old.syncs }
         ensures same { KeepsHeld (D.events self.old.disk) (D.events self.new.disk) }
     {
         let mut bytes = self.take_front();
@@ -274,6 +289,8 @@ impl<D: Disk> FileBytes<D> {
     /// A call failed, or memory ran out.
     pub(crate) fn read_more(&mut self) -> io::Result<()>
         ensures falls { Falls (D.events self.old.disk) (D.events self.new.disk) }
+        ensures power { KeepsDisk (D.events self.old.disk) (D.events self.new.disk) }
+        ensures syncs { self.new.syncs ≡ self.old.syncs }
         ensures same { (s : World) → IsTrue (is_honest_after s (D.events self.new.disk)) → held_after s (D.events self.new.disk) ≡ held_after s (D.events self.old.disk) }
     {
         let length = self.file_length()?;
@@ -289,6 +306,8 @@ impl<D: Disk> FileBytes<D> {
     /// A read failed, or memory ran out.
     pub(crate) fn read_pipe(&mut self, pipe: &mut D::File, bytes: &mut Vec<u8>) -> io::Result<bool>
         ensures falls { Falls (D.events self.old.disk) (D.events self.new.disk) }
+        ensures power { KeepsDisk (D.events self.old.disk) (D.events self.new.disk) }
+        ensures syncs { self.new.syncs ≡ self.old.syncs }
         ensures same { KeepsHeld (D.events self.old.disk) (D.events self.new.disk) }
         ensures none { OnOk result ((s : World) → IsTrue (is_honest_after s (D.events self.new.disk)) → ⊥) }
     {
@@ -305,6 +324,7 @@ impl<D: Disk> FileBytes<D> {
     fn put_back(&mut self, owed: Owed) -> io::Result<()>
         requires { (s : World) → IsTrue (is_honest_after s (D.events self.old.disk)) → ⊥ }
         ensures falls { Falls (D.events self.old.disk) (D.events self.new.disk) }
+        ensures syncs { self.new.syncs ≡ self.old.syncs }
         ensures place { PlaceStays (D.events self.old.disk) (D.events self.new.disk) }
     {
         let Some(file) = &self.file else {
@@ -334,6 +354,8 @@ impl<D: Disk> FileBytes<D> {
     /// A call failed. The write is then still to be taken back.
     pub(crate) fn mend(&mut self) -> io::Result<()>
         ensures falls { Falls (D.events self.old.disk) (D.events self.new.disk) }
+        ensures power { KeepsDisk (D.events self.old.disk) (D.events self.new.disk) }
+        ensures syncs { self.new.syncs ≡ self.old.syncs }
         ensures same { (s : World) → IsTrue (is_honest_after s (D.events self.new.disk)) → held_after s (D.events self.new.disk) ≡ held_after s (D.events self.old.disk) }
         ensures place { PlaceStays (D.events self.old.disk) (D.events self.new.disk) }
     {
@@ -354,6 +376,8 @@ impl<D: Disk> FileBytes<D> {
     // the write can be taken back if it is cut short. A write behind the end has no old bytes.
     fn keep(&mut self, at: usize, count: usize, length: u64) -> io::Result<()>
         ensures falls { Falls (D.events self.old.disk) (D.events self.new.disk) }
+        ensures power { KeepsDisk (D.events self.old.disk) (D.events self.new.disk) }
+        ensures syncs { self.new.syncs ≡ self.old.syncs }
         ensures same { KeepsHeld (D.events self.old.disk) (D.events self.new.disk) }
     {
         if length <= at as u64 {
@@ -365,6 +389,8 @@ impl<D: Disk> FileBytes<D> {
     // Writes bytes from byte `at` on. If the write is cut short, `owed` says how to take it back, if it is to be.
     fn write(&mut self, at: usize, bytes: &[u8], owed: Option<Owed>) -> io::Result<()>
         ensures falls { Falls (D.events self.old.disk) (D.events self.new.disk) }
+        ensures power { LeavesOnDisk (AreTorn at bytes.now) (D.events self.old.disk) (D.events self.new.disk) }
+        ensures syncs { self.new.syncs ≡ self.old.syncs }
         ensures place { PlaceStays (D.events self.old.disk) (D.events self.new.disk) }
         ensures ok { OnOk result ((s : World) → IsTrue (is_honest_after s (D.events self.new.disk))
             → ArePut at bytes.now (bytes_after s (D.events self.old.disk)) (bytes_after s (D.events self.new.disk))) }
@@ -405,11 +431,14 @@ impl<D: Disk> FileBytes<D> {
 }
 
 impl<D: Disk> Bytes for FileBytes<D> {
-    ghost use Rattle.rrd_disk.specs.Asked.{bytes_in, is_honest_in};
+    ghost use Rattle.rrd_disk.specs.Asked.{bytes_asked, is_honest_asked};
+    ghost use Rattle.rrd_disk.specs.Power.{MayLeaveIn};
 
-    ghost held = { λ s f. bytes_in s (D.Disk.events f.disk) };
+    ghost held = { λ s f. bytes_asked s (D.Disk.events f.disk) };
 
-    ghost is_honest = { λ s f. is_honest_in s (D.Disk.events f.disk) };
+    ghost is_honest = { λ s f. is_honest_asked s f.syncs (D.Disk.events f.disk) };
+
+    ghost may_leave = { λ d s f c. MayLeaveIn f.syncs d s (D.Disk.events f.disk) c };
 
     fn len(&mut self) -> io::Result<usize> {
         Ok(self.file_length()? as usize)

@@ -3,8 +3,10 @@ ghost use Rattle.std.specs.Prelude.{◌≡◌, ◌+◌, ◌<◌, ◌≤◌, ◌�
 ghost use Rattle.rrd_disk.specs.Fronts.{Begins};
 ghost use Rattle.std.specs.Io.{ReadsAtMost};
 ghost use Rattle.rrd_disk.specs.Calls.{Falls, IsGot, IsGotAtOnce, KeepsHeld, LeavesPart, LeavesSized, PlaceStays, opened};
+ghost use Rattle.rrd_disk.specs.Power.{IsOnDisk, KeepsDisk, LeavesOnDisk, StoresOrNot};
 ghost use Rattle.rrd_disk.specs.Replayed.{World, bytes_after, held_after, is_honest_after};
 ghost use Rattle.rrd_undo.specs.Calls.{ArePut, IsSized};
+ghost use Rattle.rrd_undo.specs.Power.{AreTorn, IsSizedOrNot};
 
 use crate::{Disk, Opening};
 use rrd_fixed::TRIES;
@@ -31,6 +33,7 @@ pub(crate) fn open<D: Disk>(
 // Writes bytes from byte `at` on by one call, and returns the number of bytes that were written.
 fn put_some<D: Disk>(disk: &mut D, file: &D::File, bytes: &[u8], at: u64) -> io::Result<usize>
     ensures falls { Falls (D.events disk.old) (D.events disk.new) }
+    ensures power { LeavesOnDisk (AreTorn at bytes.now) (D.events disk.old) (D.events disk.new) }
     ensures whole { IfOk result (λ n. (s : World) → IsTrue (is_honest_after s (D.events disk.new)) → n ≡ length bytes.now) }
     ensures ok { OnOk result ((s : World) → IsTrue (is_honest_after s (D.events disk.new)) → 0 < length bytes.now
         → ArePut at bytes.now (bytes_after s (D.events disk.old)) (bytes_after s (D.events disk.new))) }
@@ -81,6 +84,7 @@ pub(crate) fn put<D: Disk>(
 ) -> Result<(), PutError>
     requires { 0 < length bytes.now }
     ensures falls { Falls (D.events disk.old) (D.events disk.new) }
+    ensures power { LeavesOnDisk (AreTorn at bytes.now) (D.events disk.old) (D.events disk.new) }
     ensures ok { OnOk result ((s : World) → IsTrue (is_honest_after s (D.events disk.new))
         → ArePut at bytes.now (bytes_after s (D.events disk.old)) (bytes_after s (D.events disk.new))) }
     ensures err { OnErr result (LeavesPart at bytes.now (D.events disk.old) (D.events disk.new)) }
@@ -111,6 +115,7 @@ pub(crate) fn put<D: Disk>(
 fn get_some<D: Disk>(disk: &mut D, file: &D::File, bytes: &mut [u8], at: u64) -> io::Result<usize>
     ensures bound { ReadsAtMost result bytes.new }
     ensures falls { Falls (D.events disk.old) (D.events disk.new) }
+    ensures power { KeepsDisk (D.events disk.old) (D.events disk.new) }
     ensures same { KeepsHeld (D.events disk.old) (D.events disk.new) }
     ensures ok { IfOk result (λ n. (s : World) → IsTrue (is_honest_after s (D.events disk.new))
         → IsGotAtOnce (bytes_after s (D.events disk.old)) at n bytes.new) }
@@ -135,6 +140,7 @@ pub(crate) fn get<D: Disk>(
 ) -> io::Result<usize>
     ensures bound { ReadsAtMost result bytes.new }
     ensures falls { Falls (D.events disk.old) (D.events disk.new) }
+    ensures power { KeepsDisk (D.events disk.old) (D.events disk.new) }
     ensures same { KeepsHeld (D.events disk.old) (D.events disk.new) }
     ensures ok { IfOk result (λ n. (s : World) → IsTrue (is_honest_after s (D.events disk.new))
         → IsGot (bytes_after s (D.events disk.old)) at n bytes.new) }
@@ -167,6 +173,7 @@ pub(crate) fn get_behind<D: Disk>(
     ensures bound { IfOk result (λ n. had + n ≤ length bytes.new) }
     ensures length { length bytes.new ≡ length bytes.old }
     ensures falls { Falls (D.events disk.old) (D.events disk.new) }
+    ensures power { KeepsDisk (D.events disk.old) (D.events disk.new) }
     ensures same { KeepsHeld (D.events disk.old) (D.events disk.new) }
     ensures shown { IfOk result (λ n. (s : World) → IsTrue (is_honest_after s (D.events disk.new))
         → Begins (bytes_after s (D.events disk.old)) (take had bytes.old) → Begins (bytes_after s (D.events disk.old)) (take (had + n) bytes.new)) }
@@ -180,6 +187,7 @@ pub(crate) fn get_behind<D: Disk>(
 fn get_some_next<D: Disk>(disk: &mut D, file: &mut D::File, bytes: &mut [u8]) -> io::Result<usize>
     ensures bound { ReadsAtMost result bytes.new }
     ensures falls { Falls (D.events disk.old) (D.events disk.new) }
+    ensures power { KeepsDisk (D.events disk.old) (D.events disk.new) }
     ensures same { KeepsHeld (D.events disk.old) (D.events disk.new) }
     ensures none { OnOk result ((s : World) → IsTrue (is_honest_after s (D.events disk.new)) → ⊥) }
 {
@@ -202,6 +210,7 @@ pub(crate) fn get_next<D: Disk>(
 ) -> io::Result<usize>
     ensures bound { ReadsAtMost result bytes.new }
     ensures falls { Falls (D.events disk.old) (D.events disk.new) }
+    ensures power { KeepsDisk (D.events disk.old) (D.events disk.new) }
     ensures same { KeepsHeld (D.events disk.old) (D.events disk.new) }
     ensures none { OnOk result (0 < length bytes.old → (s : World) → IsTrue (is_honest_after s (D.events disk.new)) → ⊥) }
 {
@@ -220,6 +229,7 @@ pub(crate) fn get_next<D: Disk>(
 /// Returns the length of the file in bytes.
 pub(crate) fn measure<D: Disk>(disk: &mut D, file: &D::File) -> io::Result<u64>
     ensures falls { Falls (D.events disk.old) (D.events disk.new) }
+    ensures power { KeepsDisk (D.events disk.old) (D.events disk.new) }
     ensures same { KeepsHeld (D.events disk.old) (D.events disk.new) }
     ensures ok { IfOk result (λ n. (s : World) → IsTrue (is_honest_after s (D.events disk.new)) → n ≡ length (bytes_after s (D.events disk.old))) }
 {
@@ -229,6 +239,7 @@ pub(crate) fn measure<D: Disk>(disk: &mut D, file: &D::File) -> io::Result<u64>
 /// Sets the length of the file.
 pub(crate) fn set_length<D: Disk>(disk: &mut D, file: &D::File, length: u64) -> io::Result<()>
     ensures falls { Falls (D.events disk.old) (D.events disk.new) }
+    ensures power { LeavesOnDisk (IsSizedOrNot length) (D.events disk.old) (D.events disk.new) }
     ensures ok { OnOk result ((s : World) → IsTrue (is_honest_after s (D.events disk.new))
         → IsSized length (bytes_after s (D.events disk.old)) (bytes_after s (D.events disk.new))) }
     ensures err { OnErr result (LeavesSized length (D.events disk.old) (D.events disk.new)) }
@@ -246,7 +257,9 @@ pub(crate) fn set_length<D: Disk>(disk: &mut D, file: &D::File, length: u64) -> 
 /// Returns after the disk has stored all bytes that were written.
 pub(crate) fn sync<D: Disk>(disk: &mut D, file: &D::File) -> io::Result<()>
     ensures falls { Falls (D.events disk.old) (D.events disk.new) }
+    ensures power { StoresOrNot (D.events disk.old) (D.events disk.new) }
     ensures same { KeepsHeld (D.events disk.old) (D.events disk.new) }
+    ensures stored { OnOk result (IsOnDisk (D.events disk.new)) }
 {
     for _ in 0..TRIES {
         match disk.sync(file) {

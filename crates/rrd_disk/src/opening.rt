@@ -2,6 +2,7 @@
 ghost use Rattle.std.specs.Prelude.{◌≡◌, IfOk, None};
 ghost use Rattle.rrd_disk.specs.Calls.{Falls, KeepsHeld, KeepsHeldFor};
 ghost use Rattle.rrd_disk.specs.Openings.{IsNone, IsThere, Says, SaysIf};
+ghost use Rattle.rrd_disk.specs.Power.{KeepsDisk};
 
 use crate::locks::{LockedFile, Pauses, lock};
 use crate::once::open;
@@ -54,6 +55,7 @@ fn openable_kind(facts: &Facts, opening: Opening) -> io::Result<Kind> {
 // asked before the file is opened: to open a pipe with a name would wait for a program at the pipe's other end.
 fn kind_at<D: Disk>(disk: &mut D, path: &str, opening: Opening) -> io::Result<Option<Kind>>
     ensures falls { Falls (D.events disk.old) (D.events disk.new) }
+    ensures power { KeepsDisk (D.events disk.old) (D.events disk.new) }
     ensures same { KeepsHeld (D.events disk.old) (D.events disk.new) }
     ensures none { IfOk result (λ kind. kind ≡ None → IsNone (D.events disk.new)) }
 {
@@ -68,6 +70,7 @@ fn kind_at<D: Disk>(disk: &mut D, path: &str, opening: Opening) -> io::Result<Op
 // Checks whether a path names the regular file with these facts.
 fn names<D: Disk>(disk: &mut D, path: &str, facts: &Facts) -> io::Result<bool>
     ensures falls { Falls (D.events disk.old) (D.events disk.new) }
+    ensures power { KeepsDisk (D.events disk.old) (D.events disk.new) }
     ensures same { KeepsHeld (D.events disk.old) (D.events disk.new) }
 {
     match disk.facts_at(path)? {
@@ -89,6 +92,7 @@ fn lock_named<D: Disk>(
     pauses: &mut Pauses,
 ) -> io::Result<Option<Opened<D::File>>>
     ensures falls { Falls (D.events disk.old) (D.events disk.new) }
+    ensures power { KeepsDisk (D.events disk.old) (D.events disk.new) }
     ensures same { KeepsHeld (D.events disk.old) (D.events disk.new) }
     ensures says { IfOk result (λ opened. IsThere (D.events disk.old) → SaysIf opened (D.events disk.new)) }
 {
@@ -108,6 +112,7 @@ fn open_once<D: Disk>(
     pauses: &mut Pauses,
 ) -> io::Result<Option<Opened<D::File>>>
     ensures falls { Falls (D.events disk.old) (D.events disk.new) }
+    ensures power { KeepsDisk (D.events disk.old) (D.events disk.new) }
     ensures same { KeepsHeldFor opening (D.events disk.old) (D.events disk.new) }
     ensures says { IfOk result (λ opened. SaysIf opened (D.events disk.new)) }
 {
@@ -144,6 +149,7 @@ pub(crate) fn open_locked<D: Disk>(
     wait: u64,
 ) -> io::Result<Opened<D::File>>
     ensures falls { Falls (D.events disk.old) (D.events disk.new) }
+    ensures power { KeepsDisk (D.events disk.old) (D.events disk.new) }
     ensures same { KeepsHeldFor opening (D.events disk.old) (D.events disk.new) }
     ensures says { IfOk result (λ opened. Says opened (D.events disk.new)) }
 {

@@ -44,6 +44,7 @@ fn lay_slots<F: Bytes>(
 ) -> io::Result<()>
     ensures falls { (s : List ℕ) → IsTrue (F.is_honest s file.new) → IsTrue (F.is_honest s file.old) }
     ensures same { (s : List ℕ) → IsTrue (F.is_honest s file.new) → F.held s file.new ≡ F.held s file.old }
+    ensures power { (d s : List ℕ) → IsTrue (F.is_honest s file.new) → (c : List ℕ) → F.may_leave d s file.new c → F.may_leave d s file.old c }
     ensures len { length front.new.items ≡ length front.old.items }
     ensures ok { OnOk result ((s : List ℕ) → IsTrue (F.is_honest s file.new) → file_length ≡ length (F.held s file.new) → AreLaid tail (F.held s file.new) front.old.items front.new.items) }
 {
@@ -66,6 +67,7 @@ fn read_own<F: Bytes>(
 ) -> io::Result<SettledFront>
     ensures falls { (s : List ℕ) → IsTrue (F.is_honest s file.new) → IsTrue (F.is_honest s file.old) }
     ensures same { (s : List ℕ) → IsTrue (F.is_honest s file.new) → F.held s file.new ≡ F.held s file.old }
+    ensures power { (d s : List ℕ) → IsTrue (F.is_honest s file.new) → (c : List ℕ) → F.may_leave d s file.new c → F.may_leave d s file.old c }
     ensures ok { IfOk result (λ front. (s : List ℕ) → IsTrue (F.is_honest s file.new) → file_length ≡ length (F.held s file.new) → StandsForItself (F.held s file.new)
         → unrecorded_by (mark_of (F.held s file.new)) (F.held s file.new) ≡ None → IsSettledFront (F.held s file.new) count front) }
 {
@@ -88,6 +90,7 @@ fn read_unmarked<F: Bytes>(
 ) -> io::Result<SettledFront>
     ensures falls { (s : List ℕ) → IsTrue (F.is_honest s file.new) → IsTrue (F.is_honest s file.old) }
     ensures same { (s : List ℕ) → IsTrue (F.is_honest s file.new) → F.held s file.new ≡ F.held s file.old }
+    ensures power { (d s : List ℕ) → IsTrue (F.is_honest s file.new) → (c : List ℕ) → F.may_leave d s file.new c → F.may_leave d s file.old c }
     ensures length { IfOk result (λ front. front.length ≡ length) }
     ensures unrecorded { IfOk result (λ front. front.unrecorded ≡ unrecorded) }
     ensures ok { IfOk result (λ front. (s : List ℕ) → IsTrue (F.is_honest s file.new) → IsUnmarkedFront (F.held s file.new) length count front) }
@@ -113,6 +116,7 @@ fn read_cut<F: Bytes>(
 ) -> io::Result<SettledFront>
     ensures falls { (s : List ℕ) → IsTrue (F.is_honest s file.new) → IsTrue (F.is_honest s file.old) }
     ensures same { (s : List ℕ) → IsTrue (F.is_honest s file.new) → F.held s file.new ≡ F.held s file.old }
+    ensures power { (d s : List ℕ) → IsTrue (F.is_honest s file.new) → (c : List ℕ) → F.may_leave d s file.new c → F.may_leave d s file.old c }
     ensures ok { IfOk result (λ front. (s : List ℕ) → IsTrue (F.is_honest s file.new) → file_length ≡ length (F.held s file.new) → mark_of (F.held s file.new) ≡ Some (Mark.Cut shape)
         → IsSettledFront (F.held s file.new) count front) }
 {
@@ -133,6 +137,7 @@ fn read_undone<F: Bytes>(
 ) -> io::Result<SettledFront>
     ensures falls { (s : List ℕ) → IsTrue (F.is_honest s file.new) → IsTrue (F.is_honest s file.old) }
     ensures same { (s : List ℕ) → IsTrue (F.is_honest s file.new) → F.held s file.new ≡ F.held s file.old }
+    ensures power { (d s : List ℕ) → IsTrue (F.is_honest s file.new) → (c : List ℕ) → F.may_leave d s file.new c → F.may_leave d s file.old c }
     ensures ok { IfOk result (λ front. (s : List ℕ) → IsTrue (F.is_honest s file.new) → file_length ≡ length (F.held s file.new) → mark_of (F.held s file.new) ≡ Some (Mark.Undo tail)
         → IsSettledFront (F.held s file.new) count front) }
 {
@@ -164,6 +169,7 @@ pub fn settled_front<F: Bytes>(
 ) -> io::Result<SettledFront>
     ensures falls { (s : List ℕ) → IsTrue (F.is_honest s file.new) → IsTrue (F.is_honest s file.old) }
     ensures same { (s : List ℕ) → IsTrue (F.is_honest s file.new) → F.held s file.new ≡ F.held s file.old }
+    ensures power { (d s : List ℕ) → IsTrue (F.is_honest s file.new) → (c : List ℕ) → F.may_leave d s file.new c → F.may_leave d s file.old c }
     ensures ok { IfOk result (λ front. (s : List ℕ) → IsTrue (F.is_honest s file.new) → IsSettledFront (F.held s file.new) count front) }
 {
     let mut buffer = Vec::new(alloc);

@@ -1,4 +1,5 @@
 use Rattle.rrd_disk.proofs.Calling.{sized_again, sized_again_falls, sized_again_place, sized_once}
+use Rattle.rrd_disk.proofs.Powering.{size_ended, size_failed_again}
 use Rattle.rrd_disk.proofs.once.set_length.Goals as goal
 
 pub returns-in_default-2-clause-ok : goal.returns-in_default-2-clause-ok
@@ -16,4 +17,11 @@ loop-preserved g c =
       falls = sized_again_falls old mid new c.args.length c.loop.invariant.falls c.in-Err.ensures.err;
       leaves = sized_again old mid new c.args.length c.loop.invariant.leaves c.in-Err.ensures.err;
       place = sized_again_place old mid new c.args.length c.loop.invariant.place c.in-Err.ensures.err;
+      power = size_failed_again old mid new c.args.length c.loop.invariant.power c.in-Err.ensures.err;
     }
+
+pub returns-in_default-clause-power : goal.returns-in_default-clause-power
+returns-in_default-clause-power g c = size_ended c.set_length.result (g.D.Disk.events c.args.disk.now) (g.D.Disk.events c.loop.disk) (g.D.Disk.events c.set_length.new.self) c.args.length c.loop.invariant.power c.set_length.ensures.ok c.set_length.ensures.err
+
+pub returns-in_default-2-clause-power : goal.returns-in_default-2-clause-power
+returns-in_default-2-clause-power g c = size_ended c.set_length.result (g.D.Disk.events c.args.disk.now) (g.D.Disk.events c.loop.disk) (g.D.Disk.events c.set_length.new.self) c.args.length c.loop.invariant.power c.set_length.ensures.ok c.set_length.ensures.err

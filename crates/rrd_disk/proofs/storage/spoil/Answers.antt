@@ -8,7 +8,7 @@ use Rattle.rrd_disk.proofs.Storing.{on_err, on_ok, prepared_spoilt}
 use Rattle.rrd_disk.proofs.storage.spoil.Goals as goal
 
 pub returns-clause-falls : goal.returns-clause-falls
-returns-clause-falls g c = falls_asked (g.D.Disk.events c.args.file.now.disk) (g.D.Disk.events c.put_whole.new.self.disk) c.put_whole.ensures.falls
+returns-clause-falls g c = falls_asked (g.D.Disk.events c.args.file.now.disk) (g.D.Disk.events c.put_whole.new.self.disk) (λ q. c.put_whole.ensures.falls (0 ∷ q))
 
 pub returns-clause-spoilt : goal.returns-clause-spoilt
 returns-clause-spoilt g c = λ s honest is none missing.
@@ -17,6 +17,6 @@ returns-clause-spoilt g c = λ s honest is none missing.
     let new = g.D.Disk.events c.put_whole.new.self.disk in
     let zeros : List ℕ = 0 ∷ 0 ∷ 0 ∷ 0 ∷ [] in
     prepared_spoilt laws c.put_whole.result zeros (held_after s old) (held_after s new) (lit< tt) refl is none missing
-    (still_there old new c.put_whole.ensures.falls s honest (there_bytes (held_after s old) is))
-    (on_ok c.put_whole.result _ _ (λ put. of_start (λ (o n : List ℕ). ArePut 0 zeros o n) old new put s honest) c.put_whole.ensures.ok)
-    (on_err c.put_whole.result _ _ (λ put. of_start (λ (o n : List ℕ). AreWholeOrNot 0 zeros o n) old new put s honest) c.put_whole.ensures.err)
+    (still_there old new (λ q. c.put_whole.ensures.falls (0 ∷ q)) s honest (there_bytes (held_after s old) is))
+    (on_ok c.put_whole.result _ _ (λ put. of_start (λ (o n : List ℕ). ArePut 0 zeros o n) old new (λ q. put (0 ∷ q)) s honest) c.put_whole.ensures.ok)
+    (on_err c.put_whole.result _ _ (λ put. of_start (λ (o n : List ℕ). AreWholeOrNot 0 zeros o n) old new (λ q. put (0 ∷ q)) s honest) c.put_whole.ensures.err)

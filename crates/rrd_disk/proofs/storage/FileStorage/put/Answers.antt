@@ -1,8 +1,9 @@
-use Rattle.std.proofs.Common.{◌≡◌, ◌⊎◌, ℕ, List, None, subst, sym}
+use Rattle.std.proofs.Common.{◌∷◌, ◌≡◌, ◌⊎◌, ℕ, List, None, subst, sym}
 use Rattle.rrd_file.specs.Faults.{IsFile}
 use Rattle.rrd_tail.specs.Marks.{mark_of}
 use Rattle.rrd_tail.specs.Settled.{settled}
 use Rattle.rrd_undo.specs.Databases.{IsDatabase, IsNoDatabase}
+use Rattle.rrd_disk.specs.Asked.{FallsAsked}
 use Rattle.rrd_disk.specs.Replayed.{held_after}
 use Rattle.rrd_disk.proofs.Asked.{falls_asked, still_there}
 use Rattle.rrd_disk.proofs.Asking.{falls_twice, of_start, there_bytes}
@@ -15,7 +16,7 @@ returns-clause-falls g c =
     let old = g.D.Disk.events c.args.self.now.bytes.disk in
     let mid = g.D.Disk.events c.open_to_write.new.self.bytes.disk in
     let new = g.D.Disk.events c.replace.new.file.disk in
-    falls_twice old mid new c.open_to_write.ensures.falls (falls_asked mid new c.replace.ensures.falls)
+    falls_twice old mid new c.open_to_write.ensures.falls (falls_asked mid new (λ q. c.replace.ensures.falls (0 ∷ q)))
 
 pub returns-clause-writes : goal.returns-clause-writes
 returns-clause-writes g c = λ s honest sound.
@@ -24,14 +25,14 @@ returns-clause-writes g c = λ s honest sound.
     let mid = g.D.Disk.events c.open_to_write.new.self.bytes.disk in
     let new = g.D.Disk.events c.replace.new.file.disk in
     let bytes : List ℕ = c.args.bytes.now in
-    let falls = c.replace.ensures.falls in
+    let falls : FallsAsked mid new = λ q. c.replace.ensures.falls (0 ∷ q) in
     let before = falls_asked mid new falls s honest in
     let prepared = c.in_ok-open_to_write.ensures.prepared s before sound in
     after_replacing laws bytes (held_after s old) (held_after s mid) (held_after s new) c.requires prepared.1 prepared.2
     (still_there mid new falls s honest (there_bytes (held_after s mid) prepared.2.there)) c.replace.result
-    (on_ok c.replace.result _ _ (λ ok. (of_start (λ (o n : List ℕ). (settled n ≡ bytes) × IsDatabase bytes) mid new ok s honest).0) c.replace.ensures.ok)
-    (of_start (λ (o n : List ℕ). IsDatabase o → (settled n ≡ o) ⊎ (settled n ≡ bytes)) mid new c.replace.ensures.stands s honest)
-    (on_err c.replace.result _ _ (λ spoilt. of_start (λ (o n : List ℕ). (IsDatabase o → ⊥) → mark_of o ≡ None → (n ≡ o) ⊎ (n ≡ bytes) ⊎ IsNoDatabase n) mid new spoilt s honest) c.replace.ensures.spoilt)
+    (on_ok c.replace.result _ _ (λ ok. (of_start (λ (o n : List ℕ). (settled n ≡ bytes) × IsDatabase bytes) mid new (λ q. ok (0 ∷ q)) s honest).0) c.replace.ensures.ok)
+    (of_start (λ (o n : List ℕ). IsDatabase o → (settled n ≡ o) ⊎ (settled n ≡ bytes)) mid new (λ q. c.replace.ensures.stands (0 ∷ q)) s honest)
+    (on_err c.replace.result _ _ (λ spoilt. of_start (λ (o n : List ℕ). (IsDatabase o → ⊥) → mark_of o ≡ None → (n ≡ o) ⊎ (n ≡ bytes) ⊎ IsNoDatabase n) mid new (λ q. spoilt (0 ∷ q)) s honest) c.replace.ensures.spoilt)
 
 -- the bytes are those of a database
 pub returns-clause-has : goal.returns-clause-has
@@ -40,5 +41,5 @@ returns-clause-has g c =
     let new = g.D.Disk.events c.replace.new.file.disk in
     let bytes : List ℕ = c.args.bytes.now in
     on_ok c.replace.result _ _ (λ ok s honest denied.
-    let same = (of_start (λ (o n : List ℕ). (settled n ≡ bytes) × IsDatabase bytes) mid new ok s honest).0 in
+    let same = (of_start (λ (o n : List ℕ). (settled n ≡ bytes) × IsDatabase bytes) mid new (λ q. ok (0 ∷ q)) s honest).0 in
     denied c.requires.0 (subst (λ (b : List ℕ). IsFile b c.requires.0) (sym same) c.requires.1)) c.replace.ensures.ok

@@ -1,9 +1,10 @@
-use Rattle.std.proofs.Common.{◌≡◌, ◌∙◌, ◌⊎◌, ℕ, List, None, inl, refl, sym}
+use Rattle.std.proofs.Common.{◌∷◌, ◌≡◌, ◌∙◌, ◌⊎◌, ℕ, List, None, inl, refl, sym}
 use Rattle.rrd_store.specs.Storages.{IsNoFile}
 use Rattle.rrd_tail.specs.Marks.{mark_of}
 use Rattle.rrd_tail.specs.Settled.{settled}
 use Rattle.rrd_undo.specs.Databases.{IsDatabase, IsNoDatabase}
 use Rattle.rrd_undo.specs.Spans.{AgreesOutside}
+use Rattle.rrd_disk.specs.Asked.{FallsAsked}
 use Rattle.rrd_disk.specs.Contents.{represented}
 use Rattle.rrd_disk.specs.Replayed.{bytes_after, bytes_of, held_after}
 use Rattle.rrd_disk.specs.Storing.{IsReady}
@@ -16,13 +17,13 @@ use Rattle.rrd_disk.proofs.storage.FileStorage.put_where.Goals as goal
 
 pub returns-clause-falls : goal.returns-clause-falls
 returns-clause-falls g c =
-    falls_asked (g.D.Disk.events c.args.self.now.bytes.disk) (g.D.Disk.events c.replace_where.new.file.disk) c.replace_where.ensures.falls
+    falls_asked (g.D.Disk.events c.args.self.now.bytes.disk) (g.D.Disk.events c.replace_where.new.file.disk) (λ q. c.replace_where.ensures.falls (0 ∷ q))
 
 pub returns-clause-there : goal.returns-clause-there
 returns-clause-there g c = λ s honest.
     let old = g.D.Disk.events c.args.self.now.bytes.disk in
     let new = g.D.Disk.events c.replace_where.new.file.disk in
-    let falls = c.replace_where.ensures.falls in
+    let falls : FallsAsked old new = λ q. c.replace_where.ensures.falls (0 ∷ q) in
     bytes_there (held_after s new) (still_there old new falls s honest (there_bytes (held_after s old) (c.requires.there s (falls_asked old new falls s honest))))
 
 pub returns-clause-writes : goal.returns-clause-writes
@@ -31,7 +32,7 @@ returns-clause-writes g c = λ s honest sound differs.
     let old = g.D.Disk.events c.args.self.now.bytes.disk in
     let new = g.D.Disk.events c.replace_where.new.file.disk in
     let bytes : List ℕ = c.args.bytes.now in
-    let falls = c.replace_where.ensures.falls in
+    let falls : FallsAsked old new = λ q. c.replace_where.ensures.falls (0 ∷ q) in
     let before = falls_asked old new falls s honest in
     let there = c.requires.there s before in
     let none = c.requires.unmarked s before in
@@ -43,6 +44,6 @@ returns-clause-writes g c = λ s honest sound differs.
     let ready : IsReady (held_after s old) = record { there = there; unmarked = none; is = λ begins. some } in
     after_replacing laws bytes (held_after s old) (held_after s old) (held_after s new) c.requires.file (inl refl) ready
     (still_there old new falls s honest (there_bytes (held_after s old) there)) c.replace_where.result
-    (on_ok c.replace_where.result _ _ (λ ok. (of_start (λ (o n : List ℕ). AgreesOutside spans o bytes → (settled n ≡ bytes) × IsDatabase bytes) old new ok s honest agrees).0) c.replace_where.ensures.ok)
-    (of_start (λ (o n : List ℕ). AgreesOutside spans o bytes → IsDatabase o → (settled n ≡ o) ⊎ (settled n ≡ bytes)) old new c.replace_where.ensures.stands s honest agrees)
-    (on_err c.replace_where.result _ _ (λ spoilt. of_start (λ (o n : List ℕ). AgreesOutside spans o bytes → (IsDatabase o → ⊥) → mark_of o ≡ None → (n ≡ o) ⊎ (n ≡ bytes) ⊎ IsNoDatabase n) old new spoilt s honest agrees) c.replace_where.ensures.spoilt)
+    (on_ok c.replace_where.result _ _ (λ ok. (of_start (λ (o n : List ℕ). AgreesOutside spans o bytes → (settled n ≡ bytes) × IsDatabase bytes) old new (λ q. ok (0 ∷ q)) s honest agrees).0) c.replace_where.ensures.ok)
+    (of_start (λ (o n : List ℕ). AgreesOutside spans o bytes → IsDatabase o → (settled n ≡ o) ⊎ (settled n ≡ bytes)) old new (λ q. c.replace_where.ensures.stands (0 ∷ q)) s honest agrees)
+    (on_err c.replace_where.result _ _ (λ spoilt. of_start (λ (o n : List ℕ). AgreesOutside spans o bytes → (IsDatabase o → ⊥) → mark_of o ≡ None → (n ≡ o) ⊎ (n ≡ bytes) ⊎ IsNoDatabase n) old new (λ q. spoilt (0 ∷ q)) s honest agrees) c.replace_where.ensures.spoilt)

@@ -1,0 +1,42 @@
+-- Definition: the bytes that the disk may have of a file if the power fails after the calls of a record (own).
+use Rattle.std.specs.Prelude.{◌≡◌, ◌⊎◌, ℕ, IsTrue, List, [], ◌∷◌}
+use Rattle.rrd_disk.specs.Asked.{file_of, world_of}
+use Rattle.rrd_disk.specs.Events.{Event, Put, PutFailed, Sized, SizeFailed, Synced, SyncFailed}
+use Rattle.rrd_disk.specs.Replayed.{World, bytes_after, is_honest_after}
+use Rattle.rrd_undo.specs.Power.{AreTorn, IsSizedOrNot, Leaves}
+use Rattle.rrd_undo.specs.declared.tail.Syncs.{Syncs}
+use Rattle.rrd_undo.specs.declared.tail.Syncs.TheVariants.{Ordered}
+
+-- The disk had the bytes `d` before the first call, and the file what the world says. Of each call since the last sync that
+-- ended well the disk has all, nothing, or a part; and after a sync that failed, perhaps the file's bytes
+abbrev pub MayLeave : List ℕ → World → List Event → List ℕ → Type 0
+MayLeave d w [] c = c ≡ d
+MayLeave d w (Put at bytes taken ∷ earlier) c = Leaves (AreTorn at bytes) (MayLeave d w earlier) c
+MayLeave d w (PutFailed at bytes ∷ earlier) c = Leaves (AreTorn at bytes) (MayLeave d w earlier) c
+MayLeave d w (Sized count ∷ earlier) c = Leaves (IsSizedOrNot count) (MayLeave d w earlier) c
+MayLeave d w (SizeFailed count ∷ earlier) c = Leaves (IsSizedOrNot count) (MayLeave d w earlier) c
+MayLeave d w (Synced ∷ earlier) c = c ≡ bytes_after w earlier
+MayLeave d w (SyncFailed ∷ earlier) c = MayLeave d w earlier c ⊎ (c ≡ bytes_after w earlier)
+MayLeave d w (_ ∷ earlier) c = MayLeave d w earlier c
+
+-- the same for what is assumed of the file as a list; a run that never syncs names no bytes
+abbrev pub MayLeaveIn : Syncs → List ℕ → List ℕ → List Event → List ℕ → Type 0
+MayLeaveIn syncs d s events c = (syncs ≡ Ordered) × MayLeave d (world_of (file_of s)) events c
+
+-- ---- what some calls leave on the disk
+
+-- no other bytes than before
+abbrev pub KeepsDisk : List Event → List Event → Type 0
+KeepsDisk old new = (d : List ℕ) (w : World) → IsTrue (is_honest_after w new) → (c : List ℕ) → MayLeave d w new c → MayLeave d w old c
+
+-- what such a call leaves of the bytes before
+abbrev pub LeavesOnDisk : (List ℕ → List ℕ → Type 0) → List Event → List Event → Type 0
+LeavesOnDisk Does old new = (d : List ℕ) (w : World) → IsTrue (is_honest_after w new) → (c : List ℕ) → MayLeave d w new c → Leaves Does (MayLeave d w old) c
+
+-- the bytes before, or the file's
+abbrev pub StoresOrNot : List Event → List Event → Type 0
+StoresOrNot old new = (d : List ℕ) (w : World) → IsTrue (is_honest_after w new) → (c : List ℕ) → MayLeave d w new c → MayLeave d w old c ⊎ (c ≡ bytes_after w new)
+
+-- the file's bytes
+abbrev pub IsOnDisk : List Event → Type 0
+IsOnDisk events = (d : List ℕ) (w : World) → IsTrue (is_honest_after w events) → (c : List ℕ) → MayLeave d w events c → c ≡ bytes_after w events
