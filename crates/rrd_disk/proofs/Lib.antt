@@ -13,4 +13,5 @@ pub mod Parts
 pub mod Powering
 pub mod Replaying
 pub mod Storing
+pub mod Surviving
 pub mod Spans

@@ -1,9 +1,12 @@
 -- Definition: the bytes that the disk may have of a file if the power fails after the calls of a record (own).
-use Rattle.std.specs.Prelude.{◌≡◌, ◌⊎◌, ℕ, IsTrue, List, [], ◌∷◌}
+use Rattle.std.specs.Prelude.{◌≡◌, ◌⊎◌, ℕ, Bool, IsTrue, List, [], ◌∷◌, None}
 use Rattle.rrd_disk.specs.Asked.{file_of, world_of}
 use Rattle.rrd_disk.specs.Events.{Event, Put, PutFailed, Sized, SizeFailed, Synced, SyncFailed}
 use Rattle.rrd_disk.specs.Replayed.{World, bytes_after, is_honest_after}
-use Rattle.rrd_undo.specs.Power.{AreTorn, IsSizedOrNot, Leaves}
+use Rattle.rrd_store.specs.Storages.{IsNoFile}
+use Rattle.rrd_tail.specs.Marks.{mark_of}
+use Rattle.rrd_tail.specs.Settled.{settled}
+use Rattle.rrd_undo.specs.Power.{AllStand, AreTorn, IsSizedOrNot, Leaves}
 use Rattle.rrd_undo.specs.declared.tail.Syncs.{Syncs}
 use Rattle.rrd_undo.specs.declared.tail.Syncs.TheVariants.{Ordered}
 
@@ -40,3 +43,41 @@ StoresOrNot old new = (d : List ℕ) (w : World) → IsTrue (is_honest_after w n
 -- the file's bytes
 abbrev pub IsOnDisk : List Event → Type 0
 IsOnDisk events = (d : List ℕ) (w : World) → IsTrue (is_honest_after w events) → (c : List ℕ) → MayLeave d w events c → c ≡ bytes_after w events
+
+-- ---- what survives a failure of the power
+
+-- the file after these calls represents bytes of which `P` holds, and so does whatever the power may leave of it
+abbrev pub Survives : (List ℕ → Type 0) → List ℕ → World → List Event → Type 0
+Survives P d w events = AllStand P (bytes_after w events) (MayLeave d w events)
+
+-- in a run that syncs, what survives before some calls survives after them
+abbrev pub KeepsSurviving : Syncs → List Event → List Event → Type 0
+KeepsSurviving syncs old new = syncs ≡ Ordered → (d : List ℕ) (w : World) → IsTrue (is_honest_after w new) → (P : List ℕ → Bool)
+    → Survives (λ b. IsTrue (P b)) d w old → Survives (λ b. IsTrue (P b)) d w new
+
+-- the same of a file whose bytes are such
+abbrev pub KeepsSurvivingIf : (List ℕ → Type 0) → Syncs → List Event → List Event → Type 0
+KeepsSurvivingIf Are syncs old new = syncs ≡ Ordered → (d : List ℕ) (w : World) → IsTrue (is_honest_after w new) → Are (bytes_after w old) → (P : List ℕ → Bool)
+    → Survives (λ b. IsTrue (P b)) d w old → Survives (λ b. IsTrue (P b)) d w new
+
+-- the bytes represent a database
+abbrev pub RepresentDatabase : List ℕ → Type 0
+RepresentDatabase bytes = ¬ IsNoFile (settled bytes)
+
+-- the bytes have no mark, and are a database
+abbrev pub AreUnmarkedDatabase : List ℕ → Type 0
+AreUnmarkedDatabase bytes = (mark_of bytes ≡ None) × ¬ IsNoFile bytes
+
+-- in a run that syncs, a database becomes these bytes, so that the power leaves what represents the old bytes or the new ones
+abbrev pub ChangesTo : List ℕ → Syncs → List Event → List Event → Type 0
+ChangesTo bytes syncs old new = syncs ≡ Ordered → (d : List ℕ) (w : World) → IsTrue (is_honest_after w new) → RepresentDatabase (bytes_after w old) → (P : List ℕ → Bool)
+    → IsTrue (P bytes) → Survives (λ b. IsTrue (P b)) d w old → Survives (λ b. IsTrue (P b)) d w new
+
+-- the database became these bytes: whatever the power leaves represents them
+abbrev pub BecameTo : List ℕ → Syncs → List Event → List Event → Type 0
+BecameTo bytes syncs old new = syncs ≡ Ordered → (d : List ℕ) (w : World) → IsTrue (is_honest_after w new) → RepresentDatabase (bytes_after w old) → (P : List ℕ → Bool)
+    → Survives (λ b. IsTrue (P b)) d w old → Survives (λ b. b ≡ bytes) d w new
+
+-- whether the run syncs stays
+abbrev pub KeepsSyncs : Syncs → Syncs → List Event → Type 0
+KeepsSyncs before after events = (w : World) → IsTrue (is_honest_after w events) → after ≡ before

@@ -5,6 +5,7 @@ ghost use Rattle.rrd_disk.specs.Calls.{Falls, KeepsHeld, KeepsHeldFor};
 ghost use Rattle.rrd_disk.specs.Entries.{SaysEntry};
 ghost use Rattle.rrd_disk.specs.Loading.{IsStillThere, IsValidStanding, KeepsHonest, StandsSo};
 ghost use Rattle.rrd_disk.specs.Openings.{IsThere, IsUnmarked};
+ghost use Rattle.rrd_disk.specs.Power.{AreUnmarkedDatabase, BecameTo, ChangesTo, KeepsDisk, KeepsSurviving, KeepsSurvivingIf, KeepsSyncs, RepresentDatabase};
 ghost use Rattle.rrd_disk.specs.Storing.{AreOf, IsEmpty, IsReadable, IsRepaired, IsStanding, KeepsBytes, KeepsOpen, KeepsSettled, Loads, LoadsMarked, LoadsOpen, Prepares, PreparesMarked, PreparesOpen, PreparesUnmarked, ReadsSome, RepresentsSome, Spoils, TellsMark, TellsNoDatabase, Writes, WritesWhere};
 ghost use Rattle.rrd_disk.specs.declared.storage.Found.TheVariants.{Unopened};
 ghost use Rattle.rrd_file.specs.Faults.{IsOfFile};
@@ -105,6 +106,8 @@ fn page_spans(alloc: Global, changed: &[Span]) -> Result<Vec<PageSpan>, AllocErr
 // Checks whether a file begins like a database.
 fn begins_like_database<D: Disk>(alloc: Global, file: &mut FileBytes<D>) -> io::Result<bool>
     ensures falls { Falls (D.events file.old.disk) (D.events file.new.disk) }
+    ensures power { KeepsSurviving file.old.syncs (D.events file.old.disk) (D.events file.new.disk) }
+    ensures syncs { KeepsSyncs file.old.syncs file.new.syncs (D.events file.new.disk) }
     ensures same { KeepsOpen (D.events file.old.disk) (D.events file.new.disk) }
     ensures ok { IfOk result (λ is. TellsNoDatabase is (D.events file.new.disk)) }
 {
@@ -119,6 +122,8 @@ fn begins_like_database<D: Disk>(alloc: Global, file: &mut FileBytes<D>) -> io::
 // Checks whether an open file has a mark.
 fn is_marked<D: Disk>(alloc: Global, file: &mut FileBytes<D>) -> io::Result<bool>
     ensures falls { Falls (D.events file.old.disk) (D.events file.new.disk) }
+    ensures power { KeepsSurviving file.old.syncs (D.events file.old.disk) (D.events file.new.disk) }
+    ensures syncs { KeepsSyncs file.old.syncs file.new.syncs (D.events file.new.disk) }
     ensures same { KeepsOpen (D.events file.old.disk) (D.events file.new.disk) }
     ensures bytes { KeepsBytes (D.events file.old.disk) (D.events file.new.disk) }
     ensures ok { IfOk result (λ is. TellsMark is (D.events file.new.disk)) }
@@ -130,6 +135,8 @@ fn is_marked<D: Disk>(alloc: Global, file: &mut FileBytes<D>) -> io::Result<bool
 // Prepares a file with a mark, whose database is to be replaced: repairs the file, if it is an interrupted change.
 fn prepare_marked<D: Disk>(alloc: Global, file: &mut FileBytes<D>, cause: &Cause) -> io::Result<()>
     ensures falls { Falls (D.events file.old.disk) (D.events file.new.disk) }
+    ensures power { KeepsSurvivingIf RepresentDatabase file.old.syncs (D.events file.old.disk) (D.events file.new.disk) }
+    ensures syncs { KeepsSyncs file.old.syncs file.new.syncs (D.events file.new.disk) }
     ensures prepared { PreparesMarked (D.events file.old.disk) (D.events file.new.disk) result }
 {
     file_begins();
@@ -143,6 +150,7 @@ fn prepare_marked<D: Disk>(alloc: Global, file: &mut FileBytes<D>, cause: &Cause
 // Overwrites the first bytes of a file that begins like a database, and has none.
 fn spoil<D: Disk>(file: &mut FileBytes<D>) -> io::Result<()>
     ensures falls { Falls (D.events file.old.disk) (D.events file.new.disk) }
+    ensures syncs { KeepsSyncs file.old.syncs file.new.syncs (D.events file.new.disk) }
     ensures spoilt { Spoils (D.events file.old.disk) (D.events file.new.disk) result }
 {
     file_begins();
@@ -158,6 +166,8 @@ fn prepare_unmarked<D: Disk>(
     cause: &Cause,
 ) -> io::Result<()>
     ensures falls { Falls (D.events file.old.disk) (D.events file.new.disk) }
+    ensures power { KeepsSurvivingIf AreUnmarkedDatabase file.old.syncs (D.events file.old.disk) (D.events file.new.disk) }
+    ensures syncs { KeepsSyncs file.old.syncs file.new.syncs (D.events file.new.disk) }
     ensures prepared { PreparesUnmarked (D.events file.old.disk) (D.events file.new.disk) result }
 {
     one_answer();
@@ -176,6 +186,8 @@ fn prepare_unmarked<D: Disk>(
 // Prepares an open file, whose database was not loaded, to be replaced.
 fn prepare<D: Disk>(alloc: Global, file: &mut FileBytes<D>, cause: &Cause) -> io::Result<()>
     ensures falls { Falls (D.events file.old.disk) (D.events file.new.disk) }
+    ensures power { KeepsSurvivingIf RepresentDatabase file.old.syncs (D.events file.old.disk) (D.events file.new.disk) }
+    ensures syncs { KeepsSyncs file.old.syncs file.new.syncs (D.events file.new.disk) }
     ensures prepared { PreparesOpen (D.events file.old.disk) (D.events file.new.disk) result }
 {
     if is_marked(alloc, file)? {
@@ -251,6 +263,8 @@ impl<D: Disk, L: Location> FileStorage<D, L> {
     // Opens and locks the file, and reads its first part.
     fn open(&mut self, opening: Opening) -> io::Result<Entry<D::File>>
         ensures falls { Falls (D.events self.old.bytes.disk) (D.events self.new.bytes.disk) }
+        ensures power { KeepsDisk (D.events self.old.bytes.disk) (D.events self.new.bytes.disk) }
+        ensures syncs { self.new.bytes.syncs ≡ self.old.bytes.syncs }
         ensures same { KeepsHeldFor opening (D.events self.old.bytes.disk) (D.events self.new.bytes.disk) }
         ensures says { IfOk result (λ entry. SaysEntry entry (D.events self.new.bytes.disk)) }
         ensures found { self.new.found ≡ Unopened }
@@ -498,6 +512,8 @@ impl<D: Disk, L: Location> FileStorage<D, L> {
     // file that a symbolic link names.
     fn make(&mut self) -> io::Result<()>
         ensures falls { Falls (D.events self.old.bytes.disk) (D.events self.new.bytes.disk) }
+        ensures power { KeepsDisk (D.events self.old.bytes.disk) (D.events self.new.bytes.disk) }
+        ensures syncs { self.new.bytes.syncs ≡ self.old.bytes.syncs }
         ensures same { KeepsHeldFor Make (D.events self.old.bytes.disk) (D.events self.new.bytes.disk) }
         ensures there { OnOk result (IsThere (D.events self.new.bytes.disk)) }
         ensures found { self.new.found ≡ Unopened }
@@ -513,6 +529,8 @@ impl<D: Disk, L: Location> FileStorage<D, L> {
     // Creates the file. If another program has created and written the file meanwhile, the other program's file stays.
     fn create(&mut self) -> io::Result<()>
         ensures falls { Falls (D.events self.old.bytes.disk) (D.events self.new.bytes.disk) }
+        ensures power { KeepsDisk (D.events self.old.bytes.disk) (D.events self.new.bytes.disk) }
+        ensures syncs { self.new.bytes.syncs ≡ self.old.bytes.syncs }
         ensures same { KeepsHeldFor Make (D.events self.old.bytes.disk) (D.events self.new.bytes.disk) }
         ensures empty { OnOk result (IsEmpty (D.events self.new.bytes.disk)) }
         ensures found { self.new.found ≡ Unopened }
@@ -530,6 +548,8 @@ impl<D: Disk, L: Location> FileStorage<D, L> {
     // Opens the file for writing, if it is not open, so that its bytes can be replaced.
     fn open_to_write(&mut self, alloc: Global) -> io::Result<()>
         ensures falls { Falls (D.events self.old.bytes.disk) (D.events self.new.bytes.disk) }
+        ensures power { KeepsSurvivingIf RepresentDatabase self.old.bytes.syncs (D.events self.old.bytes.disk) (D.events self.new.bytes.disk) }
+        ensures syncs { KeepsSyncs self.old.bytes.syncs self.new.bytes.syncs (D.events self.new.bytes.disk) }
         ensures prepared { Prepares (D.events self.old.bytes.disk) (D.events self.new.bytes.disk) result }
         ensures found { self.new.found ≡ Unopened }
     {
@@ -551,6 +571,9 @@ impl<D: Disk, L: Location> FileStorage<D, L> {
     fn put(&mut self, alloc: Global, bytes: &[u8]) -> io::Result<()>
         requires { IsAnyFile bytes.now }
         ensures falls { Falls (D.events self.old.bytes.disk) (D.events self.new.bytes.disk) }
+        ensures power { ChangesTo bytes.now self.old.bytes.syncs (D.events self.old.bytes.disk) (D.events self.new.bytes.disk) }
+        ensures stored { OnOk result (BecameTo bytes.now self.old.bytes.syncs (D.events self.old.bytes.disk) (D.events self.new.bytes.disk)) }
+        ensures syncs { KeepsSyncs self.old.bytes.syncs self.new.bytes.syncs (D.events self.new.bytes.disk) }
         ensures writes { Writes bytes.now (D.events self.old.bytes.disk) (D.events self.new.bytes.disk) result }
         ensures has { OnOk result (RepresentsSome (D.events self.new.bytes.disk)) }
         ensures found { self.new.found ≡ Unopened }
@@ -558,7 +581,7 @@ impl<D: Disk, L: Location> FileStorage<D, L> {
         file_begins();
         files_without_marks_stand_for_themselves();
         self.open_to_write(alloc)?;
-        let syncs = self.place.settings().syncs;
+        let syncs = self.bytes.syncs();
         replace(alloc, &mut self.bytes, bytes, syncs)
     }
 
@@ -568,6 +591,8 @@ impl<D: Disk, L: Location> FileStorage<D, L> {
         requires found { self.old.found ≡ Unopened }
         requires has { RepresentsSome (D.events self.old.bytes.disk) }
         ensures falls { Falls (D.events self.old.bytes.disk) (D.events self.new.bytes.disk) }
+        ensures power { KeepsSurviving self.old.bytes.syncs (D.events self.old.bytes.disk) (D.events self.new.bytes.disk) }
+        ensures syncs { KeepsSyncs self.old.bytes.syncs self.new.bytes.syncs (D.events self.new.bytes.disk) }
         ensures same { KeepsOpen (D.events self.old.bytes.disk) (D.events self.new.bytes.disk) }
         ensures stays { self.new.found ≡ Unopened → ⊥ }
     {
@@ -583,6 +608,9 @@ impl<D: Disk, L: Location> FileStorage<D, L> {
     fn write(&mut self, bytes: &[u8]) -> io::Result<()>
         requires { IsAnyFile bytes.now }
         ensures falls { Falls (D.events self.old.bytes.disk) (D.events self.new.bytes.disk) }
+        ensures power { ChangesTo bytes.now self.old.bytes.syncs (D.events self.old.bytes.disk) (D.events self.new.bytes.disk) }
+        ensures stored { OnOk result (BecameTo bytes.now self.old.bytes.syncs (D.events self.old.bytes.disk) (D.events self.new.bytes.disk)) }
+        ensures syncs { KeepsSyncs self.old.bytes.syncs self.new.bytes.syncs (D.events self.new.bytes.disk) }
         ensures writes { Writes bytes.now (D.events self.old.bytes.disk) (D.events self.new.bytes.disk) result }
     {
         file_begins();
@@ -610,7 +638,7 @@ impl<D: Disk, L: Location> FileStorage<D, L> {
         files_without_marks_stand_for_themselves();
         self.found = Found::Unopened;
         let changed = page_spans(alloc, changed)?;
-        let syncs = self.place.settings().syncs;
+        let syncs = self.bytes.syncs();
         replace_where(alloc, &mut self.bytes, bytes, &changed, syncs)
     }
 

@@ -3,11 +3,11 @@ use Rattle.rrd_disk.proofs.loading.repair.Goals as goal
 
 pub returns-in_err-truncate-in-Unrecorded-clause-falls : goal.returns-in_err-truncate-in-Unrecorded-clause-falls
 returns-in_err-truncate-in-Unrecorded-clause-falls g c =
-    falls_asked (g.D.Disk.events c.args.file.now.disk) (g.D.Disk.events c.truncate.new.file.disk) c.truncate.ensures
+    falls_asked (g.D.Disk.events c.args.file.now.disk) (g.D.Disk.events c.truncate.new.file.disk) c.truncate.ensures.falls
 
 pub returns-in_err-truncate-in-Unrecorded-clause-place : goal.returns-in_err-truncate-in-Unrecorded-clause-place
 returns-in_err-truncate-in-Unrecorded-clause-place g c =
-    still_there (g.D.Disk.events c.args.file.now.disk) (g.D.Disk.events c.truncate.new.file.disk) c.truncate.ensures
+    still_there (g.D.Disk.events c.args.file.now.disk) (g.D.Disk.events c.truncate.new.file.disk) c.truncate.ensures.falls
 
 pub returns-in-Database-clause-falls : goal.returns-in-Database-clause-falls
 returns-in-Database-clause-falls g c =
@@ -19,8 +19,8 @@ returns-in-Database-clause-place g c =
 
 pub returns-in_ok-truncate-in-Unrecorded-clause-falls : goal.returns-in_ok-truncate-in-Unrecorded-clause-falls
 returns-in_ok-truncate-in-Unrecorded-clause-falls g c =
-    falls_asked (g.D.Disk.events c.args.file.now.disk) (g.D.Disk.events c.settle_file-in-Unrecorded.new.file.disk) (λ s h. c.truncate.ensures s (c.settle_file-in-Unrecorded.ensures.falls s h))
+    falls_asked (g.D.Disk.events c.args.file.now.disk) (g.D.Disk.events c.settle_file-in-Unrecorded.new.file.disk) (λ s h. c.truncate.ensures.falls s (c.settle_file-in-Unrecorded.ensures.falls s h))
 
 pub returns-in_ok-truncate-in-Unrecorded-clause-place : goal.returns-in_ok-truncate-in-Unrecorded-clause-place
 returns-in_ok-truncate-in-Unrecorded-clause-place g c =
-    still_there (g.D.Disk.events c.args.file.now.disk) (g.D.Disk.events c.settle_file-in-Unrecorded.new.file.disk) (λ s h. c.truncate.ensures s (c.settle_file-in-Unrecorded.ensures.falls s h))
+    still_there (g.D.Disk.events c.args.file.now.disk) (g.D.Disk.events c.settle_file-in-Unrecorded.new.file.disk) (λ s h. c.truncate.ensures.falls s (c.settle_file-in-Unrecorded.ensures.falls s h))

@@ -8,6 +8,7 @@ loop-number-preserved g c =
     record {
       falls = λ s f. c.loop-number.invariant.falls s (before s f);
       same = λ s f. c.read_slot_at.ensures.same s f ∙ c.loop-number.invariant.same s (before s f);
+      power = λ d s f b left. c.loop-number.invariant.power d s (before s f) b (c.read_slot_at.ensures.power d s f b left);
       len = c.lay.ensures.len ∙ c.loop-number.invariant.len;
       laid = λ s f len.
           let same = c.read_slot_at.ensures.same s f in
