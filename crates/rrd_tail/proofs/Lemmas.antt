@@ -69,6 +69,9 @@ last_record_stands shape r file = backs.last_stands shape r file
 
 -- ---- slots
 
+pub slot_is_read : (tail i : ℕ) (s : Slot) (file : List ℕ) → laws.SlotIsRead tail i s file
+slot_is_read tail i s file = offsets.slot_reads tail i s file
+
 pub slot_stands : (tail i : ℕ) (s : Slot) (file : List ℕ) → laws.SlotStands tail i s file
 slot_stands tail i s file = offsets.slot_stands tail i s file
 

@@ -1,5 +1,6 @@
 -- Slots that are appended, many at once, and the record of the new bytes behind them.
-use Rattle.std.proofs.Common.{◌≡◌, ℕ, ◌+◌, ◌-◌, ◌*◌, ◌<◌, ◌≤◌, List, [], ◌∷◌, ◌++◌, length, take, slice_index, replicate, refl, sym, ◌∙◌, ap, inl, inr, arith, append-nil, append_assoc, length-append, length-take, get_or-take}
+use Rattle.std.proofs.Common.{◌≡◌, ℕ, ◌+◌, ◌-◌, ◌*◌, ◌<◌, ◌≤◌, List, [], ◌∷◌, ◌++◌, length, take, slice_index, replicate, refl, sym, ◌∙◌, ap, subst, inl, inr, arith, append-nil, append_assoc, length-append, length-take, get_or-take}
+use Rattle.std.proofs.Math.Seq.{take-length}
 use Rattle.std.proofs.lemmas.Bool.{cases_lt}
 use Rattle.std.proofs.lemmas.List.{get_or-append-add, get_or_append_left, get_or_past, length-replicate}
 use Rattle.std.proofs.lemmas.List.Elements.{All-cons, All-head, All-nil, All-tail}
@@ -10,6 +11,7 @@ use Rattle.rrd_tail.specs.Settled.{settled}
 use Rattle.rrd_tail.specs.Slots.{IsRightSlot, Slot, all_laid, slot_bytes, slot_offset, slots_in}
 use Rattle.rrd_undo.specs.Calls.{ArePut, IsFrontPut}
 use Rattle.rrd_undo.specs.Databases.{IsDatabase}
+use Rattle.rrd_undo.specs.Failing.{IsGrown}
 use Rattle.rrd_undo.specs.Gathering.{IsAppended, IsOldSlot, group_bytes, padded}
 use Rattle.rrd_undo.specs.Undoing.{IsTail, Restores, Undoing, record_of}
 use Rattle.rrd_undo.proofs.Cutting.{stands_same}
@@ -54,6 +56,10 @@ front_extends at bytes f g low either = elim either as (λ _. IsExtended at byte
         omega (arith, put.len, len, front.1),
       )
 ]
+
+-- all of the bytes are their first part, too
+pub put_front : (at : ℕ) (bytes f g : List ℕ) → ArePut at bytes f g → IsFrontPut at bytes f g
+put_front at bytes f g put = inr (length bytes, omega arith, subst (λ (b : List ℕ). ArePut at b f g) (sym (take-length bytes)) put)
 
 -- a first part of an extended file
 pub extended_front : (n at : ℕ) (bytes f g : List ℕ) → length f ≤ n → n ≤ length g → IsExtended at bytes f g → IsExtended at bytes f (take n g)
@@ -108,7 +114,7 @@ group_rest old tail s more rest is i =
 module _ (old : List ℕ) (tail : ℕ) (is : IsDatabase old) (is_tail : IsTail old tail) where
   -- ---- files that go on behind a file with an undo mark
 
-  extended_restores : (slots : ℕ) (f g : List ℕ) (more : List Slot) → Undoing old tail slots f → length f ≤ length g
+  pub extended_restores : (slots : ℕ) (f g : List ℕ) (more : List Slot) → Undoing old tail slots f → length f ≤ length g
       → ((k : ℕ) → k < length f → slice_index g k ≡ slice_index f k) → All (IsOldSlot old) more → slots_in tail g ≡ slots_in tail f ++ more → Restores old tail g
   extended_restores slots f g more undoing longer same olds are = record {
     reaches = omega (arith, undoing.restores.reaches);
@@ -141,8 +147,8 @@ module _ (old : List ℕ) (tail : ℕ) (is : IsDatabase old) (is_tail : IsTail o
     below = omega (arith, old_slot.page.within old_slot.some, is_tail.below);
   }
 
-  -- zeros, or nothing, behind the slots
-  zeros_more : (slots : ℕ) (f g : List ℕ) → Undoing old tail slots f → length f ≤ length g → ((k : ℕ) → k < length f → slice_index g k ≡ slice_index f k)
+  -- zeros, or nothing, behind the slots, whatever follows
+  pub zeros_more : (slots : ℕ) (f g : List ℕ) → Undoing old tail slots f → length f ≤ length g → ((k : ℕ) → k < length f → slice_index g k ≡ slice_index f k)
       → ((i : ℕ) → i < 32 → slice_index g (slot_offset tail slots + i) ≡ 0) → slots_in tail g ≡ slots_in tail f
   zeros_more slots f g undoing longer same zeros =
       zeros_end_slots tail f g longer (omega (arith, next_is slots f undoing, undoing.room)) same
@@ -256,16 +262,19 @@ module _ (old : List ℕ) (tail : ℕ) (is : IsDatabase old) (is_tail : IsTail o
         same = λ k low. then.same k low ∙ first.same k low;
       }
 
+  -- no slot is complete
+  group_none : (f g : List ℕ) → slots_in tail g ≡ slots_in tail f → IsGrown old tail f g
+  group_none f g none = record { more = []; olds = All-nil (IsOldSlot old); slots_are = none ∙ sym (append-nil (slots_in tail f)) }
+
   -- a group that was cut short
-  pub group_front : (more : List Slot) (slots total : ℕ) (f g rest : List ℕ) → total ≡ slots + length more → All (IsOldSlot old) more → Undoing old tail slots f
-      → IsExtended (slot_offset tail slots) (group_bytes tail more ++ rest) f g → length g ≤ slot_offset tail total → settled g ≡ old
-  group_front [] slots total f g rest counts olds undoing ext ends =
-      let none : slots_in tail g ≡ slots_in tail f = nothing_more slots f g undoing ext.longer ext.same (omega (arith, counts)) in
-      undone_settled old tail g is_tail (extended_marked slots f g undoing ext.longer ext.same) (none_restores slots f g undoing ext.longer ext.same none)
-  group_front (s ∷ more) slots total f g rest counts olds undoing ext ends =
+  pub group_grown : (more : List Slot) (slots total : ℕ) (f g rest : List ℕ) → total ≡ slots + length more → All (IsOldSlot old) more → Undoing old tail slots f
+      → IsExtended (slot_offset tail slots) (group_bytes tail more ++ rest) f g → length g ≤ slot_offset tail total → IsGrown old tail f g
+  group_grown [] slots total f g rest counts olds undoing ext ends =
+      group_none f g (nothing_more slots f g undoing ext.longer ext.same (omega (arith, counts)))
+  group_grown (s ∷ more) slots total f g rest counts olds undoing ext ends =
       let n : ℕ = slot_offset tail (slots + 1) in
       let old_slot : IsOldSlot old s = All-head (IsOldSlot old) s more olds in
-      elim (cases_lt n (length g)) as (λ _. settled g ≡ old) [
+      elim (cases_lt n (length g)) as (λ _. IsGrown old tail f g) [
         | inl behind ↦
             let reaches : n ≤ length g = omega arith in
             let mid_len : length (take n g) ≡ n = omega (arith, length-take n g, reaches) in
@@ -273,24 +282,28 @@ module _ (old : List ℕ) (tail : ℕ) (is : IsDatabase old) (is_tail : IsTail o
             one_more slots f (take n g) s more rest undoing old_slot
             (extended_front n (slot_offset tail slots) (group_bytes tail (s ∷ more) ++ rest) f g (omega (arith, undoing.room)) reaches ext)
             (omega (arith, mid_len, old_slot.page.few)) (omega (arith, mid_len)) in
-            group_front more (slots + 1) total (take n g) g rest (omega (arith, counts)) (All-tail (IsOldSlot old) s more olds) first.undoing
-            (rest_extends slots f g s more rest old_slot reaches ext) ends
-        | inr within ↦ elim (cases_lt (length g) (slot_offset tail slots + (32 + length s.bytes))) as (λ _. settled g ≡ old) [
-          | inl short ↦
-              let none : slots_in tail g ≡ slots_in tail f = cut_more slots f g s more rest undoing old_slot ext short in
-              undone_settled old tail g is_tail (extended_marked slots f g undoing ext.longer ext.same) (none_restores slots f g undoing ext.longer ext.same none)
+            let grown : IsGrown old tail (take n g) g =
+            group_grown more (slots + 1) total (take n g) g rest (omega (arith, counts)) (All-tail (IsOldSlot old) s more olds) first.undoing
+            (rest_extends slots f g s more rest old_slot reaches ext) ends in
+            record {
+              more = s ∷ grown.more;
+              olds = All-cons (IsOldSlot old) s grown.more old_slot grown.olds;
+              slots_are = grown.slots_are ∙ ap (λ (xs : List Slot). xs ++ grown.more) first.slots_are ∙ append_assoc (slots_in tail f) (s ∷ []) grown.more;
+            }
+        | inr within ↦ elim (cases_lt (length g) (slot_offset tail slots + (32 + length s.bytes))) as (λ _. IsGrown old tail f g) [
+          | inl short ↦ group_none f g (cut_more slots f g s more rest undoing old_slot ext short)
           | inr whole ↦
               let one : IsAppended old tail (slots + 1) (s ∷ []) f g = one_more slots f g s more rest undoing old_slot ext whole within in
-              undone_settled old tail g is_tail one.undoing.marked one.undoing.restores
+              record { more = s ∷ []; olds = All-cons (IsOldSlot old) s [] old_slot (All-nil (IsOldSlot old)); slots_are = one.slots_are }
         ]
       ]
 
+  -- such a file represents the old bytes
+  pub grown_settled : (slots : ℕ) (f g : List ℕ) → Undoing old tail slots f → length f ≤ length g → ((k : ℕ) → k < length f → slice_index g k ≡ slice_index f k)
+      → IsGrown old tail f g → settled g ≡ old
+  grown_settled slots f g undoing longer same grown =
+      undone_settled old tail g is_tail (extended_marked slots f g undoing longer same)
+      (extended_restores slots f g grown.more undoing longer same grown.olds grown.slots_are)
+
   pub appended_settled : (slots : ℕ) (more : List Slot) (f g : List ℕ) → IsAppended old tail slots more f g → settled g ≡ old
   appended_settled slots more f g appended = undone_settled old tail g is_tail appended.undoing.marked appended.undoing.restores
-
-  -- zeros behind the slots, whatever follows
-  pub group_goes_on : (slots : ℕ) (f g : List ℕ) → Undoing old tail slots f → length f ≤ length g → ((k : ℕ) → k < length f → slice_index g k ≡ slice_index f k)
-      → ((i : ℕ) → i < 32 → slice_index g (slot_offset tail slots + i) ≡ 0) → settled g ≡ old
-  group_goes_on slots f g undoing longer same zeros =
-      let none : slots_in tail g ≡ slots_in tail f = zeros_more slots f g undoing longer same zeros in
-      undone_settled old tail g is_tail (extended_marked slots f g undoing longer same) (none_restores slots f g undoing longer same none)

@@ -10,11 +10,12 @@ use Rattle.rrd_tail.specs.Settled.{settled}
 use Rattle.rrd_tail.specs.Slots.{Slot, all_laid, slot_offset, slots_in}
 use Rattle.rrd_undo.specs.Calls.{ArePut, IsFrontPut}
 use Rattle.rrd_undo.specs.Databases.{IsDatabase}
+use Rattle.rrd_undo.specs.Failing.{IsGrown}
 use Rattle.rrd_undo.specs.Gathering.{AddsSpan, AreRecorded, IsAppended, IsCovered, IsGathered, IsOldSlot, IsSaved, group_bytes, padded, slots_for}
 use Rattle.rrd_undo.specs.Spans.{IsBeside}
 use Rattle.rrd_undo.specs.Undoing.{EndsBelow, IsOldPage, IsTail, Undoing, record_of, slot_of}
 use Rattle.rrd_undo.specs.declared.span.Span.{Span}
-use Rattle.rrd_undo.proofs.Appended.{IsExtended, extended_front, front_extends, group_appended, group_front, group_goes_on, group_length, put_extends}
+use Rattle.rrd_undo.proofs.Appended.{IsExtended, extended_front, front_extends, group_appended, group_grown, group_length, grown_settled, put_extends, zeros_more}
 use Rattle.rrd_undo.proofs.Laid.{all_laid_both, laid_in, laid_old}
 use Rattle.rrd_undo.proofs.Turned.{new_recorded}
 use Rattle.rrd_undo.proofs.Undone.{length-sixteen, shaped_length}
@@ -193,12 +194,18 @@ module _ (old : List ℕ) (tail slots low done : ℕ) (buffer : List ℕ) (spans
       group_appended old tail is_old is_tail gathered.slots slots total f g [] (omega (arith, counts, buffer_length)) gathered.olds undoing
       (rw (starts, takes, whole) at ext) (omega (arith, put.len, len, room, starts, counts, buffer_length))
 
-  pub group_cut : (taken g : List ℕ) → taken ≡ buffer → IsFrontPut start taken f g → settled g ≡ old
-  group_cut taken g takes front =
+  -- a part of them was appended
+  pub group_part : (taken g : List ℕ) → taken ≡ buffer → IsFrontPut start taken f g → IsGrown old tail f g
+  group_part taken g takes front =
       let len : length taken ≡ length buffer = ap length takes in
       let ext = front_extends start taken f g room front in
-      group_front old tail is_old is_tail gathered.slots slots (slots + length gathered.slots) f g [] refl gathered.olds undoing
+      group_grown old tail is_old is_tail gathered.slots slots (slots + length gathered.slots) f g [] refl gathered.olds undoing
       (rw (starts, takes, whole) at ext.0) (omega (arith, ext.1, len, starts, buffer_length))
+
+  pub group_cut : (taken g : List ℕ) → taken ≡ buffer → IsFrontPut start taken f g → settled g ≡ old
+  group_cut taken g takes front =
+      let ext = front_extends start taken f g room front in
+      grown_settled old tail is_old is_tail slots f g undoing ext.0.longer ext.0.same (group_part taken g takes front)
 
   -- ---- the last group, with the record of the new bytes
 
@@ -298,19 +305,27 @@ module _ (old : List ℕ) (tail slots low done : ℕ) (buffer : List ℕ) (spans
           λ k inside. ext.same k (omega (arith, undoing.restores.reaches)),
         )
 
-    pub last_cut : (g : List ℕ) → IsFrontPut start bytes f g → settled g ≡ old
-    last_cut g front =
+    -- a part of them was appended
+    pub last_part : (g : List ℕ) → IsFrontPut start bytes f g → IsGrown old tail f g
+    last_part g front =
         let ext = front_extends start bytes f g room front in
-        elim (cases_lt (length g) (slot_offset tail total)) as (λ _. settled g ≡ old) [
-          | inl short ↦ group_front old tail is_old is_tail gathered.slots slots total f g (replicate zeros 0 ++ shaped) refl gathered.olds undoing
+        elim (cases_lt (length g) (slot_offset tail total)) as (λ _. IsGrown old tail f g) [
+          | inl short ↦ group_grown old tail is_old is_tail gathered.slots slots total f g (replicate zeros 0 ++ shaped) refl gathered.olds undoing
               (rw (starts, parts) at ext.0) (omega (arith, short))
           | inr reaches ↦
               let appended : IsAppended old tail total gathered.slots f (take (slot_offset tail total) g) = group_in g ext.0 reaches in
-              group_goes_on old tail is_old is_tail total (take (slot_offset tail total) g) g appended.undoing
+              let same : slots_in tail g ≡ slots_in tail (take (slot_offset tail total) g) =
+              zeros_more old tail is_old is_tail total (take (slot_offset tail total) g) g appended.undoing
               (omega (arith, length-take (slot_offset tail total) g))
               (λ k inside. sym (get_or-take (slot_offset tail total) g k 0 (omega (arith, length-take (slot_offset tail total) g))))
-              (λ i low. behind_zero g ext.0 i (omega (arith, zeros_are, behind)))
+              (λ i low. behind_zero g ext.0 i (omega (arith, zeros_are, behind))) in
+              record { more = gathered.slots; olds = gathered.olds; slots_are = same ∙ appended.slots_are }
         ]
+
+    pub last_cut : (g : List ℕ) → IsFrontPut start bytes f g → settled g ≡ old
+    last_cut g front =
+        let ext = front_extends start bytes f g room front in
+        grown_settled old tail is_old is_tail slots f g undoing ext.0.longer ext.0.same (last_part g front)
 
 -- ---- as the calls say it
 

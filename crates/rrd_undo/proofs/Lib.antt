@@ -8,4 +8,7 @@ pub mod Gathered
 pub mod Stages
 pub mod Recovering
 pub mod Powered
+pub mod Torn
+pub mod Begun
+pub mod Caught
 pub mod Fronted

@@ -324,15 +324,15 @@ module _ (old new : List ℕ) (tail : ℕ) (f : List ℕ) (is_old : IsDatabase o
   front_of_length = omega (arith, length-append (cut_mark (shape_for (length new))) (drop 4 (take 16 new)), cut_mark_length (shape_for (length new)),
     length-drop 4 (take 16 new), length-sixteen new is_new.enough)
 
-  decided_length : (g : List ℕ) → AreWholeOrNot 0 (front_of new) f g → length g ≡ length f
+  pub decided_length : (g : List ℕ) → AreWholeOrNot 0 (front_of new) f g → length g ≡ length f
   decided_length g (inl same) = ap length same
   decided_length g (inr put) = omega (arith, put.len, front_of_length, ready.restores.reaches, is_old.enough, ready.is_tail.below)
 
-  decided_behind : (g : List ℕ) → AreWholeOrNot 0 (front_of new) f g → (k : ℕ) → 16 ≤ k → slice_index g k ≡ slice_index f k
+  pub decided_behind : (g : List ℕ) → AreWholeOrNot 0 (front_of new) f g → (k : ℕ) → 16 ≤ k → slice_index g k ≡ slice_index f k
   decided_behind g (inl same) k high = ap (λ (b : List ℕ). slice_index b k) same
   decided_behind g (inr put) k high = put.outside k (inr (omega (arith, front_of_length, high)))
 
-  decided_has_mark : (g : List ℕ) → AreWholeOrNot 0 (front_of new) f g → mark_of g ≡ None → ⊥
+  pub decided_has_mark : (g : List ℕ) → AreWholeOrNot 0 (front_of new) f g → mark_of g ≡ None → ⊥
   decided_has_mark g (inl same) none = is_marked f (Undo tail) (undo_mark_is_read tail f ready.is_tail.fits ready.marked) (ap mark_of (sym same) ∙ none)
   decided_has_mark g (inr put) none = cut_has_mark new g (committed old new tail f new (front_of new) is_old is_new refl refl ready g put).marked none
 

@@ -578,9 +578,36 @@ not_true false e t = cc
 
 -- ---- changes
 
+-- a change that has begun to write
+pub started_written : (s : Stage) → IsStarted s → s ≡ Untouched → ⊥
+started_written s started untouched = (rw untouched at started)
+
+pub marked_written : (s : Stage) → s ≡ Marked → s ≡ Untouched → ⊥
+marked_written s marked untouched =
+    let e : Marked ≡ Untouched = sym marked ∙ untouched in
+    cc
+
+pub committing_written : Committing ≡ Untouched → ⊥
+committing_written untouched = cc
+
+pub committed_written : Committed ≡ Untouched → ⊥
+committed_written untouched = cc
+
+pub unkept_written : Unkept ≡ Untouched → ⊥
+unkept_written untouched = cc
+
+holds_unwritten : (s : Stage) (old new : List ℕ) (t : Tail) (file : List ℕ) (at : ℕ) → s ≡ Untouched → Holds s old new t file at → file ≡ old
+holds_unwritten s old new t file at untouched holds =
+    let agree : Agreeing old new file at = (rw untouched at holds) in
+    agree.same
+
 pub at_left : (old new : List ℕ) (done : ℕ) (c : Change) (f : List ℕ) → IsAt old new done c f → IsBroken old c f × StandsForOld old f
 at_left old new done c f is_at = (
-  record { knows = is_at.knows; left = holds_left c.stage old new c.tail c.length f done is_at.knows.tail is_at.holds },
+  record {
+    knows = is_at.knows;
+    left = holds_left c.stage old new c.tail c.length f done is_at.knows.tail is_at.holds;
+    unwritten = λ untouched ordered. holds_unwritten c.stage old new c.tail f done untouched is_at.holds;
+  },
   holds_stands c.stage old new c.tail f done is_at.knows.tail is_at.holds,
 )
 

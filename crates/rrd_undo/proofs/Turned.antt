@@ -33,7 +33,7 @@ saved_settled old tail low spans f is_tail saved = undone_settled old tail f is_
 part_at : (l : List ℕ) (a b i : ℕ) → a ≤ b → a + i < b → slice_index (slice_range l a b) i ≡ slice_index l (a + i)
 part_at l a b i ordered low = get_or-take (b - a) (drop a l) i 0 (omega arith) ∙ get_or-drop a l i 0
 
-part_length : (l : List ℕ) (a b : ℕ) → a ≤ b → b ≤ length l → length (slice_range l a b) ≡ b - a
+pub part_length : (l : List ℕ) (a b : ℕ) → a ≤ b → b ≤ length l → length (slice_range l a b) ≡ b - a
 part_length l a b ordered within = omega (arith, length-take (b - a) (drop a l), length-drop a l)
 
 -- a byte of the tail is in no span
@@ -46,13 +46,13 @@ pub beside_front : (old : List ℕ) (tail low : ℕ) (slots : List Slot) (spans 
 beside_front old tail low slots spans k front all =
     All-weaker (IsCovered old tail low slots) (IsBeside k) (λ span covered. inl (omega (arith, covered.from))) spans all
 
-covered_same : (old : List ℕ) (tail low : ℕ) (slots others : List Slot) (spans : List Span) → others ≡ slots → All (IsCovered old tail low slots) spans
+pub covered_same : (old : List ℕ) (tail low : ℕ) (slots others : List Slot) (spans : List Span) → others ≡ slots → All (IsCovered old tail low slots) spans
     → All (IsCovered old tail low others) spans
 covered_same old tail low slots others spans same all = rw same all
 
 module _ (old : List ℕ) (tail low : ℕ) (spans : List Span) (f : List ℕ) (is_tail : IsTail old tail) (high : 16 ≤ low) (saved : IsSaved old tail low spans f)
     (span : Span) (covered : IsCovered old tail low (slots_in tail f) span) (count : ℕ) (ends : span.start + count ≤ span.end) where
-  any_length : (g : List ℕ) → AreAny span.start count f g → length g ≡ length f
+  pub any_length : (g : List ℕ) → AreAny span.start count f g → length g ≡ length f
   any_length g any = omega (arith, any.longer, any.bound, saved.restores.reaches, covered.within)
 
   any_slots : (g : List ℕ) → AreAny span.start count f g → slots_in tail g ≡ slots_in tail f
@@ -80,9 +80,6 @@ module _ (old : List ℕ) (tail low : ℕ) (spans : List Span) (f : List ℕ) (i
     covered = covered_same old tail low (slots_in tail f) (slots_in tail g) spans (any_slots g any) saved.covered;
   }
 
-  pub any_settled : (g : List ℕ) → AreAny span.start count f g → settled g ≡ old
-  any_settled g any = saved_settled old tail low spans g is_tail (any_saved g any)
-
 -- ---- spans are put, one after another
 
 pub put_begun : (old : List ℕ) (tail low : ℕ) (spans : List Span) (new f : List ℕ) → IsSaved old tail low spans f → IsPutTo old tail low spans new 0 f f
@@ -100,8 +97,11 @@ module _ (old : List ℕ) (tail low : ℕ) (spans : List Span) (new : List ℕ) 
   size : length (slice_range new span.start span.end) ≡ span.end - span.start
   size = part_length new span.start span.end ordered few
 
+  pub span_saved : (g : List ℕ) → AreAny span.start (length (slice_range new span.start span.end)) f g → IsSaved old tail low spans g
+  span_saved g any = any_saved old tail low spans f is_tail high so_far.saved span this_covered (span.end - span.start) there g (rw size at any)
+
   pub span_failed : (g : List ℕ) → AreAny span.start (length (slice_range new span.start span.end)) f g → settled g ≡ old
-  span_failed g any = any_settled old tail low spans f is_tail high so_far.saved span this_covered (span.end - span.start) there g (rw size at any)
+  span_failed g any = saved_settled old tail low spans g is_tail (span_saved g any)
 
   pub span_put : (g : List ℕ) → ArePut span.start (slice_range new span.start span.end) f g → IsPutTo old tail low spans new (number + 1) file g
   span_put g put =

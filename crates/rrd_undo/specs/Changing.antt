@@ -9,6 +9,7 @@ use Rattle.rrd_undo.specs.Undoing.{IsTail}
 use Rattle.rrd_undo.specs.declared.change.Change.{Change}
 use Rattle.rrd_undo.specs.declared.change.Stage.{Stage}
 use Rattle.rrd_undo.specs.declared.change.Stage.TheVariants.{Untouched, Marked, Committing, Committed, Unkept, Invalid}
+use Rattle.rrd_undo.specs.declared.tail.Syncs.TheVariants.{Ordered}
 use Rattle.rrd_undo.specs.declared.tail.Tail.{Tail}
 
 -- the bytes of a new page
@@ -96,6 +97,7 @@ pub record IsAt (old new : List ℕ) (done : ℕ) (c : Change) (file : List ℕ)
 pub record IsBroken (old : List ℕ) (c : Change) (file : List ℕ) : Type 0 where
   pub knows : Knows old c
   pub left : IsLeft c.stage old c.tail.offset c.length file
+  pub unwritten : c.stage ≡ Untouched → c.tail.syncs ≡ Ordered → file ≡ old
 
 -- if the old bytes are a database, the file represents the old bytes; if they are none, the file is none
 pub record StandsForOld (old file : List ℕ) : Type 0 where

@@ -9,4 +9,5 @@ pub mod Gathering
 pub mod Settling
 pub mod Leaving
 pub mod Changing
+pub mod Failing
 pub mod Memory

@@ -86,11 +86,18 @@ fn reported(finished: io::Result<()>, syncs: Syncs) -> io::Result<()> {
 }
 
 impl Change {
+    ghost use Rattle.rrd_undo.specs.Failing.{AreTornBelow, IsCaught, IsEither, IsSafe};
+    ghost use Rattle.rrd_undo.specs.Leaving.{OrHeld};
+    ghost use Rattle.rrd_undo.specs.Power.{AllStand, AreTorn, IsStored, Leaves, RestsOn};
+    ghost use Rattle.rrd_undo.specs.declared.tail.Syncs.{Syncs};
+    ghost use Rattle.rrd_undo.specs.declared.change.Stage.{Stage};
     ghost use Rattle.rrd_undo.specs.Changing.{Agreeing, ArePutBelow, CanRestore, IsAt, IsBroken, IsFirstPut, IsInvalid, IsKept, IsPage, IsStarted, Knows, StandsForEither, StandsForOld, StaysBehind};
     ghost use Rattle.rrd_undo.specs.Gathering.{Paged, Turning};
 
     /// Creates a change of a file to a length of `count` bytes. `begin` starts the change.
-    pub(crate) fn new(alloc: Global, count: usize, syncs: Syncs) -> Change {
+    pub(crate) fn new(alloc: Global, count: usize, syncs: Syncs) -> Change
+        ensures { result.tail.syncs ≡ syncs }
+    {
         Change {
             stage: Stage::Untouched,
             tail: Tail {
@@ -112,6 +119,9 @@ impl Change {
         ensures falls { (s : List ℕ) → IsTrue (F.is_honest s file.new) → IsTrue (F.is_honest s file.old) }
         ensures same { (s : List ℕ) → IsTrue (F.is_honest s file.new) → F.held s file.new ≡ F.held s file.old }
         ensures ok { OnOk result ((s : List ℕ) → IsTrue (F.is_honest s file.new) → (new : List ℕ) → IsAt (F.held s file.old) new 4096 self.new (F.held s file.new)) }
+        ensures power { (d s : List ℕ) → IsTrue (F.is_honest s file.new) → (c : List ℕ) → F.may_leave d s file.new c → F.may_leave d s file.old c }
+        ensures safe { OnOk result ((d s : List ℕ) → IsTrue (F.is_honest s file.new) → IsDatabase (F.held s file.old) → self.old.tail.syncs ≡ Syncs.Ordered
+            → RestsOn (F.held s file.old) (F.may_leave d s file.old) → IsSafe (F.held s file.old) self.new (F.held s file.new) (F.may_leave d s file.new)) }
     {
         self.stage = Stage::Untouched;
         self.old_length = file.len()?;
@@ -125,6 +135,7 @@ impl Change {
         ensures falls { (s : List ℕ) → IsTrue (F.is_honest s file.new) → IsTrue (F.is_honest s file.old) }
         ensures frame { self.new ≡ record self.old { old_page = self.new.old_page } }
         ensures same { (s : List ℕ) → IsTrue (F.is_honest s file.new) → F.held s file.new ≡ F.held s file.old }
+        ensures power { (d s : List ℕ) → IsTrue (F.is_honest s file.new) → (c : List ℕ) → F.may_leave d s file.new c → F.may_leave d s file.old c }
         ensures few { OnOk result (length self.new.old_page.items ≤ 4096) }
         ensures read { OnOk result ((s : List ℕ) → IsTrue (F.is_honest s file.new) → AreAt (F.held s file.old) at (min (self.old.old_length - at) (length page.now)) self.new.old_page.items) }
         ensures yes { IfOk result (λ b. IsTrue b → page.now ≡ self.new.old_page.items) }
@@ -175,6 +186,12 @@ impl Change {
             → Agreeing old new (F.held s file.old) done → IsAt old new done self.new (F.held s file.new)) }
         ensures err { OnErr result ((s : List ℕ) → IsTrue (F.is_honest s file.new) → (old new : List ℕ) (done : ℕ) → IsDatabase old → Knows old self.old
             → Agreeing old new (F.held s file.old) done → IsBroken old self.new (F.held s file.new) × (settled (F.held s file.new) ≡ old)) }
+        ensures safe { OnOk result ((d s : List ℕ) → IsTrue (F.is_honest s file.new) → (old new : List ℕ) (done : ℕ) → Knows old self.old
+            → Agreeing old new (F.held s file.old) done → self.old.stage ≡ Stage.Untouched
+            → IsSafe old self.old (F.held s file.old) (F.may_leave d s file.old) → IsSafe old self.new (F.held s file.new) (F.may_leave d s file.new)) }
+        ensures caught { OnErr result ((d s : List ℕ) → IsTrue (F.is_honest s file.new) → (old new : List ℕ) (done : ℕ) → Knows old self.old
+            → Agreeing old new (F.held s file.old) done → self.old.stage ≡ Stage.Untouched
+            → IsSafe old self.old (F.held s file.old) (F.may_leave d s file.old) → IsCaught old new self.new (F.held s file.new) (F.may_leave d s file.new)) }
     {
         self.stage = Stage::Marked;
         self.tail.mark(file, self.old_length, &self.old_first)
@@ -198,6 +215,10 @@ impl Change {
             → IsAt old new done self.new (F.held s file.new)) }
         ensures err { OnErr result ((s : List ℕ) → IsTrue (F.is_honest s file.new) → (old new : List ℕ) (done : ℕ) → IsAt old new done self.old (F.held s file.old)
             → IsBroken old self.new (F.held s file.new) × StandsForOld old (F.held s file.new)) }
+        ensures safe { OnOk result ((d s : List ℕ) → IsTrue (F.is_honest s file.new) → (old new : List ℕ) (done : ℕ) → IsAt old new done self.old (F.held s file.old)
+            → IsSafe old self.old (F.held s file.old) (F.may_leave d s file.old) → IsSafe old self.new (F.held s file.new) (F.may_leave d s file.new)) }
+        ensures caught { OnErr result ((d s : List ℕ) → IsTrue (F.is_honest s file.new) → (old new : List ℕ) (done : ℕ) → IsAt old new done self.old (F.held s file.old)
+            → IsSafe old self.old (F.held s file.old) (F.may_leave d s file.old) → IsCaught old new self.new (F.held s file.new) (F.may_leave d s file.new)) }
     {
         match self.stage {
             Stage::Marked | Stage::Invalid => Ok(()),
@@ -222,6 +243,16 @@ impl Change {
         ensures err { OnErr result ((s : List ℕ) → IsTrue (F.is_honest s file.new) → (old : List ℕ) → IsDatabase old → Knows old self.old → length new.now ≤ self.old.length
             → AreAt old at (min (length old - at) (min 4096 (length new.now - at))) self.old.old_page.items
             → Turning old new.now self.old.tail (F.held s file.old) at → settled (F.held s file.new) ≡ old) }
+        ensures torn { OnOk result ((d s : List ℕ) → IsTrue (F.is_honest s file.new) → (old : List ℕ) → IsDatabase old → Knows old self.old → length new.now ≤ self.old.length
+            → AreAt old at (min (length old - at) (min 4096 (length new.now - at))) self.old.old_page.items
+            → Turning old new.now self.old.tail (F.held s file.old) at → self.old.tail.syncs ≡ Syncs.Ordered
+            → AreTornBelow old self.old.tail.offset (F.held s file.old) (F.may_leave d s file.old)
+            → AreTornBelow old self.old.tail.offset (F.held s file.new) (F.may_leave d s file.new)) }
+        ensures failed { OnErr result ((d s : List ℕ) → IsTrue (F.is_honest s file.new) → (old : List ℕ) → IsDatabase old → Knows old self.old → length new.now ≤ self.old.length
+            → AreAt old at (min (length old - at) (min 4096 (length new.now - at))) self.old.old_page.items
+            → Turning old new.now self.old.tail (F.held s file.old) at → self.old.tail.syncs ≡ Syncs.Ordered
+            → AreTornBelow old self.old.tail.offset (F.held s file.old) (F.may_leave d s file.old)
+            → AllStand (λ b. b ≡ old) (F.held s file.new) (F.may_leave d s file.new)) }
     {
         let page = page_at(new, at);
         let Some(changed) = find_difference(&self.old_page, page, 0) else {
@@ -246,6 +277,14 @@ impl Change {
         ensures err { OnErr result ((s : List ℕ) → IsTrue (F.is_honest s file.new) → (old : List ℕ) → length new.now ≤ self.old.length → IsStarted self.old.stage
             → (IsDatabase old → AreAt old at (min (length old - at) (min 4096 (length new.now - at))) self.old.old_page.items)
             → IsAt old new.now at self.old (F.held s file.old) → IsBroken old self.new (F.held s file.new) × StandsForOld old (F.held s file.new)) }
+        ensures safe { OnOk result ((d s : List ℕ) → IsTrue (F.is_honest s file.new) → (old : List ℕ) → length new.now ≤ self.old.length → IsStarted self.old.stage
+            → (IsDatabase old → AreAt old at (min (length old - at) (min 4096 (length new.now - at))) self.old.old_page.items)
+            → IsAt old new.now at self.old (F.held s file.old)
+            → IsSafe old self.old (F.held s file.old) (F.may_leave d s file.old) → IsSafe old self.new (F.held s file.new) (F.may_leave d s file.new)) }
+        ensures caught { OnErr result ((d s : List ℕ) → IsTrue (F.is_honest s file.new) → (old : List ℕ) → length new.now ≤ self.old.length → IsStarted self.old.stage
+            → (IsDatabase old → AreAt old at (min (length old - at) (min 4096 (length new.now - at))) self.old.old_page.items)
+            → IsAt old new.now at self.old (F.held s file.old)
+            → IsSafe old self.old (F.held s file.old) (F.may_leave d s file.old) → IsCaught old new.now self.new (F.held s file.new) (F.may_leave d s file.new)) }
     {
         match self.stage {
             Stage::Marked => self.gather(file, new, at),
@@ -263,6 +302,10 @@ impl Change {
             → IsAt old new.now at self.old (F.held s file.old) → IsAt old new.now (at + 4096) self.new (F.held s file.new)) }
         ensures err { OnErr result ((s : List ℕ) → IsTrue (F.is_honest s file.new) → (old : List ℕ)
             → IsAt old new.now at self.old (F.held s file.old) → IsBroken old self.new (F.held s file.new) × StandsForOld old (F.held s file.new)) }
+        ensures safe { OnOk result ((d s : List ℕ) → IsTrue (F.is_honest s file.new) → (old : List ℕ) → IsAt old new.now at self.old (F.held s file.old)
+            → IsSafe old self.old (F.held s file.old) (F.may_leave d s file.old) → IsSafe old self.new (F.held s file.new) (F.may_leave d s file.new)) }
+        ensures caught { OnErr result ((d s : List ℕ) → IsTrue (F.is_honest s file.new) → (old : List ℕ) → IsAt old new.now at self.old (F.held s file.old)
+            → IsSafe old self.old (F.held s file.old) (F.may_leave d s file.old) → IsCaught old new.now self.new (F.held s file.new) (F.may_leave d s file.new)) }
     {
         if self.length < new.len() {
             return Err(Error::from(ErrorKind::InvalidInput));
@@ -276,7 +319,8 @@ impl Change {
 
     // Checks whether one call may write the first page, if no other page differs.
     fn is_alone(&self, first: &[u8]) -> bool
-        ensures { IsTrue result → self.now.old_length ≤ self.now.length }
+        ensures longer { IsTrue result → self.now.old_length ≤ self.now.length }
+        ensures same { IsTrue result → self.now.tail.syncs ≡ Syncs.Ordered → (self.now.old_length ≡ self.now.length) × (first.now ≡ self.now.old_first.items) }
     {
         match self.tail.syncs {
             Syncs::Never => self.old_length <= self.length,
@@ -293,6 +337,7 @@ impl Change {
         ensures err { OnErr result ((s : List ℕ) → IsTrue (F.is_honest s file.new) → (old new : List ℕ) (done : ℕ) → self.now.length ≡ length new → length old ≤ length new → length new ≤ done → 4096 ≤ done
             → AreAt new 0 (min 4096 (length new)) first.now → Knows old self.now → Agreeing old new (F.held s file.old) done
             → (F.held s file.new ≡ old) ⊎ (F.held s file.new ≡ new)) }
+        ensures same { self.now.old_length ≡ self.now.length → first.now ≡ self.now.old_first.items → file.new ≡ file.old }
     {
         if self.old_length == self.length && first == self.old_first.as_slice() {
             return Ok(());
@@ -325,6 +370,14 @@ impl Change {
         ensures err { self.old.stage ≡ Stage.Marked → OnErr result ((s : List ℕ) → IsTrue (F.is_honest s file.new) → (old : List ℕ) (done : ℕ) → IsDatabase old → IsDatabase new.now → Knows old self.old
             → self.old.length ≡ length new.now → length new.now ≤ done → 4096 ≤ done → Turning old new.now self.old.tail (F.held s file.old) done
             → IsBroken old self.new (F.held s file.new) × StandsForEither old new.now (F.held s file.new)) }
+        ensures there { OnOk result ((d s : List ℕ) → IsTrue (F.is_honest s file.new) → (old : List ℕ) (done : ℕ) → IsDatabase old → IsDatabase new.now → Knows old self.old → self.old.length ≡ length new.now
+            → length new.now ≤ done → 4096 ≤ done → Turning old new.now self.old.tail (F.held s file.old) done → self.old.stage ≡ Stage.Marked
+            → IsSafe old self.old (F.held s file.old) (F.may_leave d s file.old)
+            → AllStand (λ b. b ≡ new.now) (F.held s file.new) (F.may_leave d s file.new)) }
+        ensures caught { OnErr result ((d s : List ℕ) → IsTrue (F.is_honest s file.new) → (old : List ℕ) (done : ℕ) → IsDatabase old → IsDatabase new.now → Knows old self.old → self.old.length ≡ length new.now
+            → length new.now ≤ done → 4096 ≤ done → Turning old new.now self.old.tail (F.held s file.old) done → self.old.stage ≡ Stage.Marked
+            → IsSafe old self.old (F.held s file.old) (F.may_leave d s file.old)
+            → IsCaught old new.now self.new (F.held s file.new) (F.may_leave d s file.new)) }
     {
         self.gather_first(front_page(new))?;
         self.tail.turn_last(file, new)?;
@@ -365,6 +418,12 @@ impl Change {
         ensures err { OnErr result ((s : List ℕ) → IsTrue (F.is_honest s file.new) → (old : List ℕ) (done : ℕ) → IsDatabase new.now → self.old.length ≡ length new.now → length new.now ≤ done → 4096 ≤ done
             → IsAt old new.now done self.old (F.held s file.old)
             → IsBroken old self.new (F.held s file.new) × StandsForEither old new.now (F.held s file.new)) }
+        ensures there { OnOk result ((d s : List ℕ) → IsTrue (F.is_honest s file.new) → (old : List ℕ) (done : ℕ) → IsDatabase new.now → self.old.length ≡ length new.now → length new.now ≤ done → 4096 ≤ done
+            → IsAt old new.now done self.old (F.held s file.old) → IsSafe old self.old (F.held s file.old) (F.may_leave d s file.old)
+            → AllStand (λ b. b ≡ new.now) (F.held s file.new) (F.may_leave d s file.new)) }
+        ensures caught { OnErr result ((d s : List ℕ) → IsTrue (F.is_honest s file.new) → (old : List ℕ) (done : ℕ) → IsDatabase new.now → self.old.length ≡ length new.now → length new.now ≤ done → 4096 ≤ done
+            → IsAt old new.now done self.old (F.held s file.old) → IsSafe old self.old (F.held s file.old) (F.may_leave d s file.old)
+            → IsCaught old new.now self.new (F.held s file.new) (F.may_leave d s file.new)) }
     {
         self.start(file)?;
         match self.stage {
@@ -382,6 +441,12 @@ impl Change {
         ensures err { OnErr result ((s : List ℕ) → IsTrue (F.is_honest s file.new) → (old : List ℕ) (done : ℕ) → length new.now ≤ done → 4096 ≤ done
             → IsAt old new.now done self.old (F.held s file.old)
             → IsBroken old self.new (F.held s file.new) × StandsForEither old new.now (F.held s file.new)) }
+        ensures there { OnOk result ((d s : List ℕ) → IsTrue (F.is_honest s file.new) → (old : List ℕ) (done : ℕ) → length new.now ≤ done → 4096 ≤ done
+            → IsAt old new.now done self.old (F.held s file.old) → IsSafe old self.old (F.held s file.old) (F.may_leave d s file.old)
+            → AllStand (λ b. b ≡ new.now) (F.held s file.new) (F.may_leave d s file.new)) }
+        ensures caught { OnErr result ((d s : List ℕ) → IsTrue (F.is_honest s file.new) → (old : List ℕ) (done : ℕ) → length new.now ≤ done → 4096 ≤ done
+            → IsAt old new.now done self.old (F.held s file.old) → IsSafe old self.old (F.held s file.old) (F.may_leave d s file.old)
+            → IsCaught old new.now self.new (F.held s file.new) (F.may_leave d s file.new)) }
     {
         if new.len() != self.length || !is_database(new) {
             return Err(Error::from(ErrorKind::InvalidInput));
@@ -393,14 +458,19 @@ impl Change {
         }
     }
 
-    // Restores the old first page. If the new length is not the old one, the file's length shows whether the page was
-    // written.
+    // Restores the old first page, which was written only if no syncs are requested. If the new length is not the old one,
+    // the file's length shows whether the page was written.
     fn restore_first<F: Bytes>(&self, file: &mut F) -> io::Result<()>
         ensures falls { (s : List ℕ) → IsTrue (F.is_honest s file.new) → IsTrue (F.is_honest s file.old) }
-        ensures ok { OnOk result ((s : List ℕ) → IsTrue (F.is_honest s file.new) → (old : List ℕ) → Knows old self.now → IsFirstPut old self.now.length (F.held s file.old) → F.held s file.new ≡ old) }
+        ensures ok { OnOk result ((s : List ℕ) → IsTrue (F.is_honest s file.new) → (old : List ℕ) → Knows old self.now → IsFirstPut old self.now.length (F.held s file.old)
+            → (self.now.tail.syncs ≡ Syncs.Ordered → F.held s file.old ≡ old) → F.held s file.new ≡ old) }
         ensures err { OnErr result ((s : List ℕ) → IsTrue (F.is_honest s file.new) → (old : List ℕ) → Knows old self.now → IsFirstPut old self.now.length (F.held s file.old)
-            → (F.held s file.new ≡ F.held s file.old) ⊎ (F.held s file.new ≡ old)) }
+            → (self.now.tail.syncs ≡ Syncs.Ordered → F.held s file.old ≡ old) → (F.held s file.new ≡ F.held s file.old) ⊎ (F.held s file.new ≡ old)) }
+        ensures ordered { self.now.tail.syncs ≡ Syncs.Ordered → file.new ≡ file.old }
     {
+        if let Syncs::Ordered = self.tail.syncs {
+            return Ok(());
+        }
         if self.old_length == self.length {
             return file.put_whole(0, front_page(&self.old_first));
         }
@@ -430,6 +500,8 @@ impl Change {
         ensures falls { (s : List ℕ) → IsTrue (F.is_honest s file.new) → IsTrue (F.is_honest s file.old) }
         ensures ok { OnOk result ((s : List ℕ) → IsTrue (F.is_honest s file.new) → ArePut 0 (undo_mark self.now.tail.offset) (F.held s file.old) (F.held s file.new)) }
         ensures err { OnErr result ((s : List ℕ) → IsTrue (F.is_honest s file.new) → AreWholeOrNot 0 (undo_mark self.now.tail.offset) (F.held s file.old) (F.held s file.new)) }
+        ensures power { (d s : List ℕ) → IsTrue (F.is_honest s file.new) → (c : List ℕ) → F.may_leave d s file.new c
+            → Leaves (AreTorn 0 (undo_mark self.now.tail.offset)) (OrHeld (F.held s file.old) (F.may_leave d s file.old)) c }
     {
         put_and_sync(file, 0, &undo_mark(self.tail.offset), self.tail.syncs)
     }
@@ -445,6 +517,8 @@ impl Change {
             → (F.held s file.new ≡ F.held s file.old) ⊎ (settled (F.held s file.new) ≡ settled (F.held s file.old)) ⊎ (settled (F.held s file.new) ≡ old) }
         ensures none { (s : List ℕ) → IsTrue (F.is_honest s file.new) → (old : List ℕ) → IsNoDatabase old → IsBroken old self.old (F.held s file.old)
             → (F.held s file.new ≡ F.held s file.old) ⊎ IsNoDatabase (F.held s file.new) }
+        ensures power { (d s : List ℕ) → IsTrue (F.is_honest s file.new) → (old new : List ℕ) → IsBroken old self.old (F.held s file.old) → IsCaught old new self.old (F.held s file.old) (F.may_leave d s file.old)
+            → AllStand (IsEither old new) (F.held s file.new) (F.may_leave d s file.new) }
     {
         match self.stage {
             Stage::Untouched => self.restore_first(file),

@@ -4,7 +4,10 @@ ghost use Rattle.rrd_tail.specs.Marks.{mark_of};
 ghost use Rattle.rrd_tail.specs.Settled.{settled};
 ghost use Rattle.rrd_undo.specs.Changing.{IsAt, IsBroken, StandsForEither};
 ghost use Rattle.rrd_undo.specs.Databases.{IsDatabase, IsNoDatabase};
+ghost use Rattle.rrd_undo.specs.Failing.{IsCaught, IsEither, IsSafe};
+ghost use Rattle.rrd_undo.specs.Power.{AllStand, RestsOn};
 ghost use Rattle.rrd_undo.specs.Spans.{AgreesOutside};
+ghost use Rattle.rrd_undo.specs.declared.tail.Syncs.{Syncs};
 
 use crate::change::Change;
 use crate::page::next_page;
@@ -28,6 +31,12 @@ pub fn replace<F: Bytes>(alloc: Global, file: &mut F, new: &[u8], syncs: Syncs) 
         → (settled (F.held s file.new) ≡ F.held s file.old) ⊎ (settled (F.held s file.new) ≡ new.now) }
     ensures spoilt { OnErr result ((s : List ℕ) → IsTrue (F.is_honest s file.new) → (IsDatabase (F.held s file.old) → ⊥) → mark_of (F.held s file.old) ≡ None
         → (F.held s file.new ≡ F.held s file.old) ⊎ (F.held s file.new ≡ new.now) ⊎ IsNoDatabase (F.held s file.new)) }
+    ensures power { (d s : List ℕ) → IsTrue (F.is_honest s file.new) → syncs ≡ Syncs.Ordered → IsDatabase (F.held s file.old)
+        → RestsOn (F.held s file.old) (F.may_leave d s file.old)
+        → AllStand (IsEither (F.held s file.old) new.now) (F.held s file.new) (F.may_leave d s file.new) }
+    ensures there { OnOk result ((d s : List ℕ) → IsTrue (F.is_honest s file.new) → syncs ≡ Syncs.Ordered → IsDatabase (F.held s file.old)
+        → RestsOn (F.held s file.old) (F.may_leave d s file.old)
+        → AllStand (λ b. b ≡ new.now) (F.held s file.new) (F.may_leave d s file.new)) }
 {
     let all = [Span {
         start: 0,
@@ -61,6 +70,12 @@ pub fn replace_where<F: Bytes>(
         → (settled (F.held s file.new) ≡ F.held s file.old) ⊎ (settled (F.held s file.new) ≡ new.now) }
     ensures spoilt { OnErr result ((s : List ℕ) → IsTrue (F.is_honest s file.new) → AgreesOutside changed.now (F.held s file.old) new.now → (IsDatabase (F.held s file.old) → ⊥)
         → mark_of (F.held s file.old) ≡ None → (F.held s file.new ≡ F.held s file.old) ⊎ (F.held s file.new ≡ new.now) ⊎ IsNoDatabase (F.held s file.new)) }
+    ensures power { (d s : List ℕ) → IsTrue (F.is_honest s file.new) → syncs ≡ Syncs.Ordered → IsDatabase (F.held s file.old) → AgreesOutside changed.now (F.held s file.old) new.now
+        → RestsOn (F.held s file.old) (F.may_leave d s file.old)
+        → AllStand (IsEither (F.held s file.old) new.now) (F.held s file.new) (F.may_leave d s file.new) }
+    ensures there { OnOk result ((d s : List ℕ) → IsTrue (F.is_honest s file.new) → syncs ≡ Syncs.Ordered → IsDatabase (F.held s file.old) → AgreesOutside changed.now (F.held s file.old) new.now
+        → RestsOn (F.held s file.old) (F.may_leave d s file.old)
+        → AllStand (λ b. b ≡ new.now) (F.held s file.new) (F.may_leave d s file.new)) }
 {
     let mut change = Change::new(alloc, new.len(), syncs);
     change.begin(file)?;
@@ -79,6 +94,12 @@ fn put_or_take_back<F: Bytes>(
         → IsAt old new.now 4096 change.old (F.held s file.old) → (settled (F.held s file.new) ≡ new.now) × IsDatabase new.now) }
     ensures err { OnErr result ((s : List ℕ) → IsTrue (F.is_honest s file.new) → (old : List ℕ) → AgreesOutside changed.now old new.now
         → IsAt old new.now 4096 change.old (F.held s file.old) → StandsForEither old new.now (F.held s file.new)) }
+    ensures there { OnOk result ((d s : List ℕ) → IsTrue (F.is_honest s file.new) → (old : List ℕ) → AgreesOutside changed.now old new.now
+        → IsAt old new.now 4096 change.old (F.held s file.old) → IsSafe old change.old (F.held s file.old) (F.may_leave d s file.old)
+        → AllStand (λ b. b ≡ new.now) (F.held s file.new) (F.may_leave d s file.new)) }
+    ensures caught { OnErr result ((d s : List ℕ) → IsTrue (F.is_honest s file.new) → (old : List ℕ) → AgreesOutside changed.now old new.now
+        → IsAt old new.now 4096 change.old (F.held s file.old) → IsSafe old change.old (F.held s file.old) (F.may_leave d s file.old)
+        → AllStand (IsEither old new.now) (F.held s file.new) (F.may_leave d s file.new)) }
 {
     match put_pages(change, file, new, changed) {
         Ok(()) => Ok(()),
@@ -101,6 +122,12 @@ fn put_pages<F: Bytes>(
         → IsAt old new.now 4096 change.old (F.held s file.old) → (settled (F.held s file.new) ≡ new.now) × IsDatabase new.now) }
     ensures err { OnErr result ((s : List ℕ) → IsTrue (F.is_honest s file.new) → (old : List ℕ) → AgreesOutside changed.now old new.now
         → IsAt old new.now 4096 change.old (F.held s file.old) → IsBroken old change.new (F.held s file.new) × StandsForEither old new.now (F.held s file.new)) }
+    ensures there { OnOk result ((d s : List ℕ) → IsTrue (F.is_honest s file.new) → (old : List ℕ) → AgreesOutside changed.now old new.now
+        → IsAt old new.now 4096 change.old (F.held s file.old) → IsSafe old change.old (F.held s file.old) (F.may_leave d s file.old)
+        → AllStand (λ b. b ≡ new.now) (F.held s file.new) (F.may_leave d s file.new)) }
+    ensures caught { OnErr result ((d s : List ℕ) → IsTrue (F.is_honest s file.new) → (old : List ℕ) → AgreesOutside changed.now old new.now
+        → IsAt old new.now 4096 change.old (F.held s file.old) → IsSafe old change.old (F.held s file.old) (F.may_leave d s file.old)
+        → IsCaught old new.now change.new (F.held s file.new) (F.may_leave d s file.new)) }
 {
     let mut at = next_touched(changed, PAGE, new.len());
     while at < new.len() {

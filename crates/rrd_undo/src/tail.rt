@@ -7,9 +7,10 @@ ghost use Rattle.rrd_tail.specs.Records.{shaped_bytes};
 ghost use Rattle.rrd_tail.specs.Settled.{settled};
 ghost use Rattle.rrd_tail.specs.Slots.{slot_offset};
 ghost use Rattle.rrd_undo.specs.Calls.{AreAt, ArePut, AreWholeOrNot, IsSized};
+ghost use Rattle.rrd_undo.specs.Failing.{AreTornBelow};
 ghost use Rattle.rrd_undo.specs.Gathering.{AddsSpan, AreRecorded, ArePutIn, IsAppended, IsGathered, IsSaved, Paged, Turning, group_bytes, padded, slots_for};
 ghost use Rattle.rrd_undo.specs.Leaving.{IsDeciding, OrHeld};
-ghost use Rattle.rrd_undo.specs.Power.{AllStand, AreTorn, IsSizedOrNot, IsStored, Leaves};
+ghost use Rattle.rrd_undo.specs.Power.{AllStand, AreTorn, IsSizedOrNot, IsStored, Leaves, RestsOn};
 ghost use Rattle.rrd_undo.specs.Spans.{IsBeside};
 ghost use Rattle.rrd_undo.specs.declared.tail.Syncs.{Syncs};
 ghost use Rattle.rrd_undo.specs.Undoing.{IsOldPage, IsOldRecorded, IsReady, IsTail, IsToCut, Undoing, record_of, slot_of};
@@ -278,6 +279,11 @@ fn put_spans<F: Bytes>(file: &mut F, new: &[u8], spans: &[Span]) -> io::Result<(
         → IsSaved old tail low spans.now (F.held s file.new) × ArePutIn spans.now new.now (F.held s file.old) (F.held s file.new)) }
     ensures err { OnErr result ((s : List ℕ) → IsTrue (F.is_honest s file.new) → (old : List ℕ) (tail low : ℕ) → IsTail old tail → 16 ≤ low
         → IsSaved old tail low spans.now (F.held s file.old) → settled (F.held s file.new) ≡ old) }
+    ensures saved { (s : List ℕ) → IsTrue (F.is_honest s file.new) → (old : List ℕ) (tail low : ℕ) → IsTail old tail → 16 ≤ low
+        → IsSaved old tail low spans.now (F.held s file.old) → IsSaved old tail low spans.now (F.held s file.new) }
+    ensures torn { (d s : List ℕ) → IsTrue (F.is_honest s file.new) → (old : List ℕ) (tail low : ℕ) → IsTail old tail → 16 ≤ low
+        → IsSaved old tail low spans.now (F.held s file.old) → AreTornBelow old tail (F.held s file.old) (F.may_leave d s file.old)
+        → AreTornBelow old tail (F.held s file.new) (F.may_leave d s file.new) }
 {
     for number in 0..spans.len() {
         let span = spans[number];
@@ -324,6 +330,10 @@ impl Tail {
             → AreAt old 0 (min 4096 (length old)) first.now → F.held s file.old ≡ old → Undoing old self.old.offset 0 (F.held s file.new)) }
         ensures err { OnErr result ((s : List ℕ) → IsTrue (F.is_honest s file.new) → (old : List ℕ) → IsDatabase old → IsTail old self.old.offset → old_length ≡ length old
             → AreAt old 0 (min 4096 (length old)) first.now → F.held s file.old ≡ old → settled (F.held s file.new) ≡ old) }
+        ensures stored { OnOk result ((d s : List ℕ) → IsTrue (F.is_honest s file.new) → self.old.syncs ≡ Syncs.Ordered → IsStored (F.held s file.new) (F.may_leave d s file.new)) }
+        ensures power { (d s : List ℕ) → IsTrue (F.is_honest s file.new) → (old : List ℕ) → IsDatabase old → IsTail old self.old.offset → old_length ≡ length old
+            → AreAt old 0 (min 4096 (length old)) first.now → F.held s file.old ≡ old → self.old.syncs ≡ Syncs.Ordered → RestsOn old (F.may_leave d s file.old)
+            → AllStand (λ b. b ≡ old) (F.held s file.new) (F.may_leave d s file.new) }
     {
         self.slots = 0;
         self.buffer.clear();
@@ -341,6 +351,10 @@ impl Tail {
             → AreAt old 0 (min 4096 (length old)) first.now → F.held s file.old ≡ old → settled (F.held s file.new) ≡ old }
         ensures ok { OnOk result ((s : List ℕ) → IsTrue (F.is_honest s file.new) → (old : List ℕ) → IsDatabase old → IsTail old self.now.offset → old_length ≡ length old
             → AreAt old 0 (min 4096 (length old)) first.now → F.held s file.old ≡ old → IsOldRecorded old self.now.offset (F.held s file.new)) }
+        ensures stored { OnOk result ((d s : List ℕ) → IsTrue (F.is_honest s file.new) → self.now.syncs ≡ Syncs.Ordered → IsStored (F.held s file.new) (F.may_leave d s file.new)) }
+        ensures power { (d s : List ℕ) → IsTrue (F.is_honest s file.new) → (old : List ℕ) → IsDatabase old → IsTail old self.now.offset → old_length ≡ length old
+            → AreAt old 0 (min 4096 (length old)) first.now → F.held s file.old ≡ old → self.now.syncs ≡ Syncs.Ordered → RestsOn old (F.may_leave d s file.old)
+            → AllStand (λ b. b ≡ old) (F.held s file.new) (F.may_leave d s file.new) }
     {
         let mark = Shape::for_length(old_length).cut_mark();
         put_and_sync(file, 0, &mark, self.syncs)?;
@@ -380,6 +394,11 @@ impl Tail {
         ensures err { OnErr result ((s : List ℕ) → IsTrue (F.is_honest s file.new) → (old : List ℕ) (low done : ℕ) → IsDatabase old → IsTail old self.old.offset
             → Undoing old self.old.offset self.old.slots (F.held s file.old)
             → IsGathered old self.old.offset low done self.old.buffer.items self.old.spans.items → settled (F.held s file.new) ≡ old) }
+        ensures stored { OnOk result ((d s : List ℕ) → IsTrue (F.is_honest s file.new) → self.old.syncs ≡ Syncs.Ordered → IsStored (F.held s file.new) (F.may_leave d s file.new)) }
+        ensures failed { OnErr result ((d s : List ℕ) → IsTrue (F.is_honest s file.new) → (old : List ℕ) (low done : ℕ) → IsDatabase old → IsTail old self.old.offset
+            → Undoing old self.old.offset self.old.slots (F.held s file.old)
+            → IsGathered old self.old.offset low done self.old.buffer.items self.old.spans.items
+            → AreTornBelow old self.old.offset (F.held s file.old) (F.may_leave d s file.old) → AllStand (λ b. b ≡ old) (F.held s file.new) (F.may_leave d s file.new)) }
     {
         let offset = offset_of_slot(self.offset, self.slots)?;
         file.append(offset, &self.buffer)?;
@@ -395,6 +414,14 @@ impl Tail {
             → length new.now ≤ self.old.offset → Turning old new.now self.old (F.held s file.old) done → Turning old new.now self.new (F.held s file.new) done) }
         ensures err { OnErr result ((s : List ℕ) → IsTrue (F.is_honest s file.new) → (old : List ℕ) (done : ℕ) → IsDatabase old → IsTail old self.old.offset
             → length new.now ≤ self.old.offset → Turning old new.now self.old (F.held s file.old) done → settled (F.held s file.new) ≡ old) }
+        ensures torn { OnOk result ((d s : List ℕ) → IsTrue (F.is_honest s file.new) → (old : List ℕ) (done : ℕ) → IsDatabase old → IsTail old self.old.offset
+            → length new.now ≤ self.old.offset → Turning old new.now self.old (F.held s file.old) done → self.old.syncs ≡ Syncs.Ordered
+            → AreTornBelow old self.old.offset (F.held s file.old) (F.may_leave d s file.old)
+            → AreTornBelow old self.old.offset (F.held s file.new) (F.may_leave d s file.new)) }
+        ensures failed { OnErr result ((d s : List ℕ) → IsTrue (F.is_honest s file.new) → (old : List ℕ) (done : ℕ) → IsDatabase old → IsTail old self.old.offset
+            → length new.now ≤ self.old.offset → Turning old new.now self.old (F.held s file.old) done → self.old.syncs ≡ Syncs.Ordered
+            → AreTornBelow old self.old.offset (F.held s file.old) (F.may_leave d s file.old)
+            → AllStand (λ b. b ≡ old) (F.held s file.new) (F.may_leave d s file.new)) }
     {
         self.append(file)?;
         put_spans(file, new, &self.spans)?;
@@ -416,6 +443,11 @@ impl Tail {
         ensures err { OnErr result ((s : List ℕ) → IsTrue (F.is_honest s file.new) → (old : List ℕ) (low done : ℕ) → IsDatabase old → IsDatabase new.now
             → IsTail old self.old.offset → length new.now ≤ self.old.offset → Undoing old self.old.offset self.old.slots (F.held s file.old)
             → IsGathered old self.old.offset low done self.old.buffer.items self.old.spans.items → settled (F.held s file.new) ≡ old) }
+        ensures stored { OnOk result ((d s : List ℕ) → IsTrue (F.is_honest s file.new) → self.old.syncs ≡ Syncs.Ordered → IsStored (F.held s file.new) (F.may_leave d s file.new)) }
+        ensures failed { OnErr result ((d s : List ℕ) → IsTrue (F.is_honest s file.new) → (old : List ℕ) (low done : ℕ) → IsDatabase old → IsDatabase new.now
+            → IsTail old self.old.offset → length new.now ≤ self.old.offset → Undoing old self.old.offset self.old.slots (F.held s file.old)
+            → IsGathered old self.old.offset low done self.old.buffer.items self.old.spans.items
+            → AreTornBelow old self.old.offset (F.held s file.old) (F.may_leave d s file.old) → AllStand (λ b. b ≡ old) (F.held s file.new) (F.may_leave d s file.new)) }
     {
         let start = offset_of_slot(self.offset, self.slots)?;
         let offset = record_offset(start, self.buffer.len())?;
@@ -441,6 +473,10 @@ impl Tail {
             → length new.now ≤ self.old.offset → Paged old new.now self.old (F.held s file.old) → IsReady old new.now self.old.offset (F.held s file.new)) }
         ensures err { OnErr result ((s : List ℕ) → IsTrue (F.is_honest s file.new) → (old : List ℕ) → IsDatabase old → IsDatabase new.now → IsTail old self.old.offset
             → length new.now ≤ self.old.offset → Paged old new.now self.old (F.held s file.old) → settled (F.held s file.new) ≡ old) }
+        ensures stored { OnOk result ((d s : List ℕ) → IsTrue (F.is_honest s file.new) → self.old.syncs ≡ Syncs.Ordered → IsStored (F.held s file.new) (F.may_leave d s file.new)) }
+        ensures failed { OnErr result ((d s : List ℕ) → IsTrue (F.is_honest s file.new) → (old : List ℕ) → IsDatabase old → IsDatabase new.now → IsTail old self.old.offset
+            → length new.now ≤ self.old.offset → Paged old new.now self.old (F.held s file.old) → self.old.syncs ≡ Syncs.Ordered
+            → AreTornBelow old self.old.offset (F.held s file.old) (F.may_leave d s file.old) → AllStand (λ b. b ≡ old) (F.held s file.new) (F.may_leave d s file.new)) }
     {
         self.append_last(file, new)?;
         put_spans(file, new, &self.spans)?;

@@ -1,8 +1,10 @@
-use Rattle.std.proofs.Common.{rules, ◌≡◌, ◌⊎◌, ◌∙◌, ap, inl, inr}
+use Rattle.std.proofs.Common.{rules, ◌≡◌, ◌⊎◌, ◌∙◌, ap, refl, inl, inr}
 use Rattle.rrd_tail.specs.Settled.{settled}
 use Rattle.rrd_undo.specs.Databases.{IsNoDatabase}
+use Rattle.rrd_undo.proofs.Caught.{either_new, either_old, resting}
 use Rattle.rrd_undo.proofs.Cutting.{settled_plain}
 use Rattle.rrd_undo.proofs.Laid.{always_err, on_both, on_err, on_ok}
+use Rattle.rrd_undo.proofs.Powered.{stand_less}
 use Rattle.rrd_undo.proofs.replacing.replace_where.Goals as goal
 
 pub returns-in_err-begin-clause-stands : goal.returns-in_err-begin-clause-stands
@@ -28,3 +30,21 @@ returns-clause-spoilt g c = on_err c.put_or_take_back.result _ _ (λ err s f agr
       | inl put ↦ inr (inl put)
       | inr none ↦ inr (inr none)
     ]) c.put_or_take_back.ensures.err
+
+pub returns-in_err-begin-clause-power : goal.returns-in_err-begin-clause-power
+returns-in_err-begin-clause-power g c d s f ordered is agrees rests =
+    either_old _ c.args.new.now _ _ (stand_less _ _ _ _ _ (c.begin.ensures.same s (search rules)) (c.begin.ensures.power d s (search rules))
+    (resting (g.F.Bytes.held s c.args.file.now) _ _ is refl rests))
+
+pub returns-clause-power : goal.returns-clause-power
+returns-clause-power g c d s f ordered is agrees rests =
+    let begun = c.in_ok-begin.ensures.ok s (search rules) c.args.new.now in
+    let safe = c.in_ok-begin.ensures.safe d s (search rules) is (c.new-change.ensures ∙ ordered) rests in
+    on_both c.put_or_take_back.result _ _ _ c.put_or_take_back.ensures.there c.put_or_take_back.ensures.caught
+    (λ there. either_new _ c.args.new.now _ _ (there d s f (g.F.Bytes.held s c.args.file.now) agrees begun safe))
+    (λ caught. caught d s f (g.F.Bytes.held s c.args.file.now) agrees begun safe)
+
+pub returns-clause-there : goal.returns-clause-there
+returns-clause-there g c = on_ok c.put_or_take_back.result _ _ (λ there d s f ordered is agrees rests.
+    there d s f _ agrees (c.in_ok-begin.ensures.ok s (search rules) c.args.new.now)
+    (c.in_ok-begin.ensures.safe d s (search rules) is (c.new-change.ensures ∙ ordered) rests)) c.put_or_take_back.ensures.there

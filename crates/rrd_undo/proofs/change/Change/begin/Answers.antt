@@ -1,5 +1,5 @@
 use Rattle.std.proofs.Common.{rules, ◌∙◌, arith}
-use Rattle.rrd_undo.proofs.Laid.{on_ok}
+use Rattle.rrd_undo.proofs.Laid.{always_ok, on_ok}
 use Rattle.rrd_undo.proofs.Stages.{begun, first_read}
 use Rattle.rrd_undo.proofs.change.Change.begin.Goals as goal
 
@@ -17,3 +17,10 @@ returns-clause-ok g c = on_ok c.read_page.result _ _ (λ read s f new. record {
   };
   holds = begun _ new _ (c.read_page.ensures.same s (search rules) ∙ (c.len.ensures.same s (search rules)));
 }) c.read_page.ensures.read
+
+pub returns-clause-safe : goal.returns-clause-safe
+returns-clause-safe g c = always_ok c.read_page.result _ (λ d s f is ordered rests. record {
+  is = is;
+  ordered = ordered;
+  each = λ x was. rests x (c.len.ensures.power d s (search rules) x (c.read_page.ensures.power d s f x was));
+})
