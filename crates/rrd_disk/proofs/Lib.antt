@@ -2,6 +2,7 @@ pub mod Asked
 pub mod Asking
 pub mod Calling
 pub mod Contents
+pub mod Failures
 pub mod FileRuns
 pub mod Fronts
 pub mod Kills

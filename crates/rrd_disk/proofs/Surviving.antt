@@ -1,8 +1,12 @@
 -- What survives a failure of the power.
-use Rattle.std.proofs.Common.{◌≡◌, ◌∙◌, ◌∷◌, ℕ, Bool, List, Result, Ok, Err, IsTrue, OnOk, refl, sym, ap, subst, inl, inr}
-use Rattle.rrd_store.specs.Storages.{Bytes, Held, IsNoFile, Missing}
+use Rattle.std.proofs.Common.{◌≡◌, ◌∙◌, ◌∷◌, [], ℕ, Bool, List, Option, None, Result, Ok, Err, IsTrue, OnOk, refl, sym, ap, subst, inl, inr}
+use Rattle.std.proofs.lemmas.Slice.Eq.{bytes_eq-Decides}
+use Rattle.std.specs.Str.{bytes_eq}
+use Rattle.rrd_file.specs.declared.span.Span.{Span}
+use Rattle.rrd_store.specs.Storages.{Bytes, HasNone, Held, IsNoFile, Missing}
 use Rattle.rrd_tail.specs.Marks.{mark_of}
-use Rattle.rrd_tail.specs.Settled.{settled}
+use Rattle.rrd_tail.specs.Settled.{settled, settled_by}
+use Rattle.rrd_tail.specs.declared.mark.Mark.{Mark}
 use Rattle.rrd_undo.specs.Databases.{IsDatabase}
 use Rattle.rrd_undo.specs.Power.{AllStand, RestsOn}
 use Rattle.rrd_undo.specs.declared.tail.Syncs.{Syncs}
@@ -12,14 +16,14 @@ use Rattle.rrd_disk.specs.Asked.{bytes_asked, bytes_in, is_honest_asked, is_hone
 use Rattle.rrd_disk.specs.Calls.{Falls, KeepsHeldFor}
 use Rattle.rrd_disk.specs.Contents.{IsSound, represented}
 use Rattle.rrd_disk.specs.Events.{Event}
-use Rattle.rrd_disk.specs.Power.{BecameTo, ChangesTo, KeepsDisk, KeepsSurviving, KeepsSurvivingIf, KeepsSyncs, MayLeave, MayLeaveIn, RepresentDatabase, Survives}
+use Rattle.rrd_disk.specs.Power.{AreUnmarkedDatabase, BecameIf, ChangesIf, DiffersIn, HasDatabase, KeepsDisk, KeepsSurviving, KeepsSurvivingIf, KeepsSyncs, MayLeave, MayLeaveIn, RepresentDatabase, Survives}
 use Rattle.rrd_disk.specs.Replayed.{World, bytes_after, bytes_of, held_after, is_honest_after}
-use Rattle.rrd_disk.specs.Storing.{IsNearly}
+use Rattle.rrd_disk.specs.Storing.{IsNearly, IsReady}
 use Rattle.rrd_disk.specs.declared.disk.Opening.{Opening}
 use Rattle.rrd_disk.specs.declared.disk.Opening.TheVariants.{Read, Write, Make}
 use Rattle.rrd_disk.proofs.Asked.{for_each, syncs_stay}
-use Rattle.rrd_disk.proofs.Contents.{Laws, none_by_start, some_unmarked}
-use Rattle.rrd_disk.proofs.Storing.{database_or_not}
+use Rattle.rrd_disk.proofs.Contents.{Laws, itself, none_by_start, some_unmarked}
+use Rattle.rrd_disk.proofs.Storing.{database_or_not, there_standing}
 
 -- ---- whether the run syncs
 
@@ -120,17 +124,69 @@ module _ (before mid_syncs : Syncs) (old mid new : List Event) (falls : Falls mi
       second (kept w was ∙ ordered) d w honest (still w was are) P (first ordered d w was P all)
 
   -- a change, and then a step that changes nothing
-  pub changes_then : (bytes : List ℕ) → KeepsSyncs before mid_syncs mid → ChangesTo bytes before old mid → KeepsSurviving mid_syncs mid new → ChangesTo bytes before old new
-  changes_then bytes kept first second ordered d w honest some P holds all =
+  pub changes_then : (Is : Held → Type 0) (bytes : List ℕ) → KeepsSyncs before mid_syncs mid → ChangesIf Is bytes before old mid → KeepsSurviving mid_syncs mid new → ChangesIf Is bytes before old new
+  changes_then Is bytes kept first second ordered d w honest is P holds all =
       let was = falls w honest in
-      second (kept w was ∙ ordered) d w honest P (first ordered d w was some P holds all)
+      second (kept w was ∙ ordered) d w honest P (first ordered d w was is P holds all)
+
+  -- the same of bytes that are known
+  survives_same : (bytes : List ℕ) → KeepsSurviving mid_syncs mid new → mid_syncs ≡ Ordered → (d : List ℕ) (w : World) → IsTrue (is_honest_after w new)
+      → Survives (λ b. b ≡ bytes) d w mid → Survives (λ b. b ≡ bytes) d w new
+  survives_same bytes keeps ordered d w honest all =
+      let there = keeps ordered d w honest (λ b. bytes_eq b bytes)
+          (stand_more (λ b. b ≡ bytes) (λ b. IsTrue (bytes_eq b bytes)) (bytes_after w mid) (MayLeave d w mid) (λ b same. (bytes_eq-Decides b bytes).1 same) all) in
+      stand_more (λ b. IsTrue (bytes_eq b bytes)) (λ b. b ≡ bytes) (bytes_after w new) (MayLeave d w new) (λ b same. (bytes_eq-Decides b bytes).0 same) there
+
+  pub became_then : {T E : Type 0} (r : Result T E) (Is : Held → Type 0) (bytes : List ℕ) → KeepsSyncs before mid_syncs mid
+      → OnOk r (BecameIf Is bytes before old mid) → KeepsSurviving mid_syncs mid new → OnOk r (BecameIf Is bytes before old new)
+  became_then (Err e) Is bytes kept first second = tt
+  became_then (Ok x) Is bytes kept first second = λ ordered d w honest is P all.
+      let was = falls w honest in
+      survives_same bytes second (kept w was ∙ ordered) d w honest (first ordered d w was is P all)
 
 -- ---- the file that was prepared
 
-represented_bytes : Held → List ℕ
-represented_bytes Missing = bytes_of Missing
-represented_bytes (Bytes b) = b
-
-pub database_sound : (h : Held) → ¬ IsNoFile (settled (bytes_of h)) → IsSound h
+pub database_sound : (h : Held) → HasDatabase h → IsSound h
 database_sound Missing some = tt
 database_sound (Bytes file) some = λ marked. some
+
+pub unmarked_itself : (bytes : List ℕ) → mark_of bytes ≡ None → settled bytes ≡ bytes
+unfolding settled
+unmarked_itself bytes none = ap (λ (m : Option Mark). settled_by m bytes) none
+
+-- a database without a mark
+pub unmarked_database : (bytes : List ℕ) → mark_of bytes ≡ None → RepresentDatabase bytes → AreUnmarkedDatabase bytes
+unmarked_database bytes none some = (none, subst (λ (b : List ℕ). ¬ IsNoFile b) (unmarked_itself bytes none) some)
+
+bytes_within : Held → List ℕ
+bytes_within Missing = []
+bytes_within (Bytes bytes) = bytes
+
+module _ (laws : Laws) where
+  -- what a file represents, if that is a database, it represents after it was prepared
+  near_database : (old mid : Held) → IsNearly old mid → IsReady mid → HasDatabase old → ¬ IsNoFile (bytes_of mid)
+  near_database old mid (inl same) ready some =
+      let was : represented old ≡ Bytes (settled (bytes_of old)) = ap represented (there_standing laws old some) in
+      let now : represented mid ≡ Bytes (bytes_of mid) = itself laws mid (bytes_of mid) ready.there ready.unmarked in
+      subst (λ (b : List ℕ). ¬ IsNoFile b) (ap bytes_within (sym was ∙ sym same ∙ now)) some
+  near_database old mid (inr (none, bytes, is, denied)) ready some =
+      absurd (some (subst HasNone (ap represented (there_standing laws old some)) none))
+
+  -- a file with a database that was prepared has the database
+  pub prepared_database : (old mid : Held) → IsNearly old mid → IsReady mid → HasDatabase old → ¬ IsNoFile (bytes_of mid)
+  prepared_database = near_database
+
+-- a database that differs within some spans
+pub differs_database : (changed : List Span) (bytes : List ℕ) (h : Held) → DiffersIn changed bytes h → HasDatabase h
+differs_database changed bytes Missing differs = absurd differs
+differs_database changed bytes (Bytes file) ((d, is), agrees) = λ denied. denied d is
+
+pub changes_where : (changed : List Span) (bytes : List ℕ) (syncs : Syncs) (old new : List Event) → ChangesIf HasDatabase bytes syncs old new → ChangesIf (DiffersIn changed bytes) bytes syncs old new
+changes_where changed bytes syncs old new changes ordered d w honest differs P holds all =
+    changes ordered d w honest (differs_database changed bytes (held_after w old) differs) P holds all
+
+pub became_where : {T E : Type 0} (r : Result T E) (changed : List Span) (bytes : List ℕ) (syncs : Syncs) (old new : List Event)
+    → OnOk r (BecameIf HasDatabase bytes syncs old new) → OnOk r (BecameIf (DiffersIn changed bytes) bytes syncs old new)
+became_where (Err e) changed bytes syncs old new became = tt
+became_where (Ok x) changed bytes syncs old new became = λ ordered d w honest differs P all.
+    became ordered d w honest (differs_database changed bytes (held_after w old) differs) P all

@@ -5,7 +5,7 @@ ghost use Rattle.rrd_disk.specs.Calls.{Falls, KeepsHeld, KeepsHeldFor};
 ghost use Rattle.rrd_disk.specs.Entries.{SaysEntry};
 ghost use Rattle.rrd_disk.specs.Loading.{IsStillThere, IsValidStanding, KeepsHonest, StandsSo};
 ghost use Rattle.rrd_disk.specs.Openings.{IsThere, IsUnmarked};
-ghost use Rattle.rrd_disk.specs.Power.{AreUnmarkedDatabase, BecameTo, ChangesTo, KeepsDisk, KeepsSurviving, KeepsSurvivingIf, KeepsSyncs, RepresentDatabase};
+ghost use Rattle.rrd_disk.specs.Power.{AreUnmarkedDatabase, BecameIf, ChangesIf, DiffersIn, HasDatabase, KeepsDisk, KeepsSurviving, KeepsSurvivingIf, KeepsSyncs, RepresentDatabase};
 ghost use Rattle.rrd_disk.specs.Storing.{AreOf, IsEmpty, IsReadable, IsRepaired, IsStanding, KeepsBytes, KeepsOpen, KeepsSettled, Loads, LoadsMarked, LoadsOpen, Prepares, PreparesMarked, PreparesOpen, PreparesUnmarked, ReadsSome, RepresentsSome, Spoils, TellsMark, TellsNoDatabase, Writes, WritesWhere};
 ghost use Rattle.rrd_disk.specs.declared.storage.Found.TheVariants.{Unopened};
 ghost use Rattle.rrd_file.specs.Faults.{IsOfFile};
@@ -200,7 +200,8 @@ fn prepare<D: Disk>(alloc: Global, file: &mut FileBytes<D>, cause: &Cause) -> io
 impl<D: Disk, L: Location> FileStorage<D, L> {
     // Creates the storage for the file at a place.
     fn at(disk: D, place: L, afterwards: Afterwards) -> FileStorage<D, L>
-        ensures { result.bytes.disk ≡ disk }
+        ensures disk { result.bytes.disk ≡ disk }
+        ensures syncs { result.bytes.syncs ≡ L.syncs place }
     {
         FileStorage {
             bytes: FileBytes::new(disk, place.settings().syncs),
@@ -214,7 +215,8 @@ impl<D: Disk, L: Location> FileStorage<D, L> {
     ///
     /// Makes no call of the system: [`Storage::load`] and [`Storage::replace`] do.
     pub fn new(disk: D, place: L) -> FileStorage<D, L>
-        ensures { result.bytes.disk ≡ disk }
+        ensures disk { result.bytes.disk ≡ disk }
+        ensures syncs { result.bytes.syncs ≡ L.syncs place }
     {
         FileStorage::at(disk, place, Afterwards::Closed)
     }
@@ -225,7 +227,8 @@ impl<D: Disk, L: Location> FileStorage<D, L> {
     /// these calls fails. A file that is missing, or cannot be locked, written or repaired, is not loaded: nobody could
     /// promise that it stays as it is.
     pub fn staying_open(disk: D, place: L) -> FileStorage<D, L>
-        ensures { result.bytes.disk ≡ disk }
+        ensures disk { result.bytes.disk ≡ disk }
+        ensures syncs { result.bytes.syncs ≡ L.syncs place }
     {
         FileStorage::at(disk, place, Afterwards::Open)
     }
@@ -571,8 +574,8 @@ impl<D: Disk, L: Location> FileStorage<D, L> {
     fn put(&mut self, alloc: Global, bytes: &[u8]) -> io::Result<()>
         requires { IsAnyFile bytes.now }
         ensures falls { Falls (D.events self.old.bytes.disk) (D.events self.new.bytes.disk) }
-        ensures power { ChangesTo bytes.now self.old.bytes.syncs (D.events self.old.bytes.disk) (D.events self.new.bytes.disk) }
-        ensures stored { OnOk result (BecameTo bytes.now self.old.bytes.syncs (D.events self.old.bytes.disk) (D.events self.new.bytes.disk)) }
+        ensures power { ChangesIf HasDatabase bytes.now self.old.bytes.syncs (D.events self.old.bytes.disk) (D.events self.new.bytes.disk) }
+        ensures stored { OnOk result (BecameIf HasDatabase bytes.now self.old.bytes.syncs (D.events self.old.bytes.disk) (D.events self.new.bytes.disk)) }
         ensures syncs { KeepsSyncs self.old.bytes.syncs self.new.bytes.syncs (D.events self.new.bytes.disk) }
         ensures writes { Writes bytes.now (D.events self.old.bytes.disk) (D.events self.new.bytes.disk) result }
         ensures has { OnOk result (RepresentsSome (D.events self.new.bytes.disk)) }
@@ -604,12 +607,12 @@ impl<D: Disk, L: Location> FileStorage<D, L> {
         }
     }
 
-    // Replaces the bytes of the file. Then keeps the file open, or closes it.
-    fn write(&mut self, bytes: &[u8]) -> io::Result<()>
+    /// Replaces the bytes of the file. Then keeps the file open, or closes it.
+    pub(crate) fn write(&mut self, bytes: &[u8]) -> io::Result<()>
         requires { IsAnyFile bytes.now }
         ensures falls { Falls (D.events self.old.bytes.disk) (D.events self.new.bytes.disk) }
-        ensures power { ChangesTo bytes.now self.old.bytes.syncs (D.events self.old.bytes.disk) (D.events self.new.bytes.disk) }
-        ensures stored { OnOk result (BecameTo bytes.now self.old.bytes.syncs (D.events self.old.bytes.disk) (D.events self.new.bytes.disk)) }
+        ensures power { ChangesIf HasDatabase bytes.now self.old.bytes.syncs (D.events self.old.bytes.disk) (D.events self.new.bytes.disk) }
+        ensures stored { OnOk result (BecameIf HasDatabase bytes.now self.old.bytes.syncs (D.events self.old.bytes.disk) (D.events self.new.bytes.disk)) }
         ensures syncs { KeepsSyncs self.old.bytes.syncs self.new.bytes.syncs (D.events self.new.bytes.disk) }
         ensures writes { Writes bytes.now (D.events self.old.bytes.disk) (D.events self.new.bytes.disk) result }
     {
@@ -630,6 +633,9 @@ impl<D: Disk, L: Location> FileStorage<D, L> {
         requires there { IsThere (D.events self.old.bytes.disk) }
         requires unmarked { IsUnmarked (D.events self.old.bytes.disk) }
         ensures falls { Falls (D.events self.old.bytes.disk) (D.events self.new.bytes.disk) }
+        ensures power { ChangesIf (DiffersIn changed.now bytes.now) bytes.now self.old.bytes.syncs (D.events self.old.bytes.disk) (D.events self.new.bytes.disk) }
+        ensures stored { OnOk result (BecameIf (DiffersIn changed.now bytes.now) bytes.now self.old.bytes.syncs (D.events self.old.bytes.disk) (D.events self.new.bytes.disk)) }
+        ensures syncs { KeepsSyncs self.old.bytes.syncs self.new.bytes.syncs (D.events self.new.bytes.disk) }
         ensures writes { WritesWhere changed.now bytes.now (D.events self.old.bytes.disk) (D.events self.new.bytes.disk) result }
         ensures there { IsThere (D.events self.new.bytes.disk) }
         ensures found { self.new.found ≡ Unopened }
@@ -649,6 +655,9 @@ impl<D: Disk, L: Location> FileStorage<D, L> {
         requires there { IsThere (D.events self.old.bytes.disk) }
         requires unmarked { IsUnmarked (D.events self.old.bytes.disk) }
         ensures falls { Falls (D.events self.old.bytes.disk) (D.events self.new.bytes.disk) }
+        ensures power { ChangesIf (DiffersIn changed.now bytes.now) bytes.now self.old.bytes.syncs (D.events self.old.bytes.disk) (D.events self.new.bytes.disk) }
+        ensures stored { OnOk result (BecameIf (DiffersIn changed.now bytes.now) bytes.now self.old.bytes.syncs (D.events self.old.bytes.disk) (D.events self.new.bytes.disk)) }
+        ensures syncs { KeepsSyncs self.old.bytes.syncs self.new.bytes.syncs (D.events self.new.bytes.disk) }
         ensures writes { WritesWhere changed.now bytes.now (D.events self.old.bytes.disk) (D.events self.new.bytes.disk) result }
     {
         let ended = self.put_where(alloc, bytes, changed);
@@ -664,6 +673,9 @@ impl<D: Disk, L: Location> FileStorage<D, L> {
     fn write_where(&mut self, bytes: &[u8], changed: &[Span]) -> io::Result<()>
         requires { IsAnyFile bytes.now }
         ensures falls { Falls (D.events self.old.bytes.disk) (D.events self.new.bytes.disk) }
+        ensures power { ChangesIf (DiffersIn changed.now bytes.now) bytes.now self.old.bytes.syncs (D.events self.old.bytes.disk) (D.events self.new.bytes.disk) }
+        ensures stored { OnOk result (BecameIf (DiffersIn changed.now bytes.now) bytes.now self.old.bytes.syncs (D.events self.old.bytes.disk) (D.events self.new.bytes.disk)) }
+        ensures syncs { KeepsSyncs self.old.bytes.syncs self.new.bytes.syncs (D.events self.new.bytes.disk) }
         ensures writes { WritesWhere changed.now bytes.now (D.events self.old.bytes.disk) (D.events self.new.bytes.disk) result }
     {
         file_begins();

@@ -1,4 +1,6 @@
 use Rattle.rrd_disk.proofs.Asked.{falls_asked, still_there}
+use Rattle.std.proofs.Common.{subst}
+use Rattle.rrd_disk.specs.Loading.{IsDatabaseStanding}
 use Rattle.rrd_disk.proofs.loading.repair.Goals as goal
 
 pub returns-in_err-truncate-in-Unrecorded-clause-falls : goal.returns-in_err-truncate-in-Unrecorded-clause-falls
@@ -24,3 +26,15 @@ returns-in_ok-truncate-in-Unrecorded-clause-falls g c =
 pub returns-in_ok-truncate-in-Unrecorded-clause-place : goal.returns-in_ok-truncate-in-Unrecorded-clause-place
 returns-in_ok-truncate-in-Unrecorded-clause-place g c =
     still_there (g.D.Disk.events c.args.file.now.disk) (g.D.Disk.events c.settle_file-in-Unrecorded.new.file.disk) (λ s h. c.truncate.ensures.falls s (c.settle_file-in-Unrecorded.ensures.falls s h))
+
+pub returns-in-Database-clause-power : goal.returns-in-Database-clause-power
+returns-in-Database-clause-power g c = λ is. c.settle_file.ensures.power
+
+pub returns-in_err-truncate-in-Unrecorded-clause-power : goal.returns-in_err-truncate-in-Unrecorded-clause-power
+returns-in_err-truncate-in-Unrecorded-clause-power g c = λ is. absurd (subst IsDatabaseStanding c.in-Unrecorded.is is)
+
+pub returns-in_ok-truncate-in-Unrecorded-clause-power : goal.returns-in_ok-truncate-in-Unrecorded-clause-power
+returns-in_ok-truncate-in-Unrecorded-clause-power g c = λ is. absurd (subst IsDatabaseStanding c.in-Unrecorded.is is)
+
+pub returns-in-Nothing-clause-power : goal.returns-in-Nothing-clause-power
+returns-in-Nothing-clause-power g c = λ is. absurd (subst IsDatabaseStanding c.in-Nothing.is is)
