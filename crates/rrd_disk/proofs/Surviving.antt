@@ -1,5 +1,5 @@
 -- What survives a failure of the power.
-use Rattle.std.proofs.Common.{◌≡◌, ◌∙◌, ◌∷◌, [], ℕ, Bool, List, Option, None, Result, Ok, Err, IsTrue, OnOk, refl, sym, ap, subst, inl, inr}
+use Rattle.std.proofs.Common.{◌≡◌, ◌⊎◌, ◌∙◌, ◌∷◌, [], ℕ, Bool, List, Option, None, Result, Ok, Err, IsTrue, OnOk, refl, sym, ap, subst, inl, inr}
 use Rattle.std.proofs.lemmas.Slice.Eq.{bytes_eq-Decides}
 use Rattle.std.specs.Str.{bytes_eq}
 use Rattle.rrd_file.specs.declared.span.Span.{Span}
@@ -129,6 +129,20 @@ module _ (before mid_syncs : Syncs) (old mid new : List Event) (falls : Falls mi
       let was = falls w honest in
       second (kept w was ∙ ordered) d w honest P (first ordered d w was is P holds all)
 
+  -- a step that changes nothing, and then a change
+  module _ (Is : Held → Type 0) (kept : KeepsSyncs before mid_syncs mid) (first : KeepsSurviving before old mid)
+      (still : (w : World) → IsTrue (is_honest_after w mid) → Is (held_after w old) → Is (held_after w mid)) (bytes : List ℕ) where
+    pub changes_after : ChangesIf Is bytes mid_syncs mid new → ChangesIf Is bytes before old new
+    changes_after second ordered d w honest is P holds all =
+        let was = falls w honest in
+        second (kept w was ∙ ordered) d w honest (still w was is) P holds (first ordered d w was P all)
+
+    pub became_after : {T E : Type 0} (r : Result T E) → OnOk r (BecameIf Is bytes mid_syncs mid new) → OnOk r (BecameIf Is bytes before old new)
+    became_after (Err e) second = tt
+    became_after (Ok x) second = λ ordered d w honest is P all.
+        let was = falls w honest in
+        second (kept w was ∙ ordered) d w honest (still w was is) P (first ordered d w was P all)
+
   -- the same of bytes that are known
   survives_same : (bytes : List ℕ) → KeepsSurviving mid_syncs mid new → mid_syncs ≡ Ordered → (d : List ℕ) (w : World) → IsTrue (is_honest_after w new)
       → Survives (λ b. b ≡ bytes) d w mid → Survives (λ b. b ≡ bytes) d w new
@@ -158,23 +172,19 @@ unmarked_itself bytes none = ap (λ (m : Option Mark). settled_by m bytes) none
 pub unmarked_database : (bytes : List ℕ) → mark_of bytes ≡ None → RepresentDatabase bytes → AreUnmarkedDatabase bytes
 unmarked_database bytes none some = (none, subst (λ (b : List ℕ). ¬ IsNoFile b) (unmarked_itself bytes none) some)
 
-bytes_within : Held → List ℕ
+abbrev bytes_within : Held → List ℕ
 bytes_within Missing = []
 bytes_within (Bytes bytes) = bytes
 
 module _ (laws : Laws) where
   -- what a file represents, if that is a database, it represents after it was prepared
-  near_database : (old mid : Held) → IsNearly old mid → IsReady mid → HasDatabase old → ¬ IsNoFile (bytes_of mid)
-  near_database old mid (inl same) ready some =
+  pub prepared_database : (old mid : Held) → IsNearly old mid → IsReady mid → HasDatabase old → ¬ IsNoFile (bytes_of mid)
+  prepared_database old mid (inl same) ready some =
       let was : represented old ≡ Bytes (settled (bytes_of old)) = ap represented (there_standing laws old some) in
       let now : represented mid ≡ Bytes (bytes_of mid) = itself laws mid (bytes_of mid) ready.there ready.unmarked in
       subst (λ (b : List ℕ). ¬ IsNoFile b) (ap bytes_within (sym was ∙ sym same ∙ now)) some
-  near_database old mid (inr (none, bytes, is, denied)) ready some =
+  prepared_database old mid (inr (none, bytes, is, denied)) ready some =
       absurd (some (subst HasNone (ap represented (there_standing laws old some)) none))
-
-  -- a file with a database that was prepared has the database
-  pub prepared_database : (old mid : Held) → IsNearly old mid → IsReady mid → HasDatabase old → ¬ IsNoFile (bytes_of mid)
-  prepared_database = near_database
 
 -- a database that differs within some spans
 pub differs_database : (changed : List Span) (bytes : List ℕ) (h : Held) → DiffersIn changed bytes h → HasDatabase h
@@ -190,3 +200,7 @@ pub became_where : {T E : Type 0} (r : Result T E) (changed : List Span) (bytes 
 became_where (Err e) changed bytes syncs old new became = tt
 became_where (Ok x) changed bytes syncs old new became = λ ordered d w honest differs P all.
     became ordered d w honest (differs_database changed bytes (held_after w old) differs) P all
+
+pub differs_there : (changed : List Span) (bytes : List ℕ) (h : Held) → DiffersIn changed bytes h → h ≡ Bytes (bytes_of h)
+differs_there changed bytes Missing differs = absurd differs
+differs_there changed bytes (Bytes file) differs = refl

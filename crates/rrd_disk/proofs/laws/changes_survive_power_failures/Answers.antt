@@ -21,10 +21,10 @@ returns g c =
     ∙ ap (λ (l : List Event). l ++ g.D.Disk.events c.new-killed.result.system) c.new-killed.ensures.missed
     ∙ ap g.D.Disk.events c.new-killed.ensures.system ∙ none in
     let change : g.D.Disk.events c.args.disk ≡ [] → g.L.Location.syncs c.args.place ≡ Ordered → IsChange bytes (missed ++ events) = λ none ordered.
-    change_begun bytes c.new-storage.result.bytes.syncs old (missed ++ events) (begun none) (c.new-storage.ensures.syncs ∙ ordered) (rw c.into_disk.ensures c.write.ensures.power) in
+    change_begun bytes c.new-storage.result.bytes.syncs old (missed ++ events) (begun none) (c.new-storage.ensures.syncs ∙ ordered) (rw c.into_disk.ensures c.write-end.ensures.power) in
     record {
       between = λ none ordered. cut_change laws bytes missed events killed.failed (change none ordered);
       within = λ none ordered. interrupted_change laws bytes missed events killed.failed (change none ordered);
-      stored = on_ok c.write.result _ _ (λ became none ordered.
-          changed_begun bytes c.new-storage.result.bytes.syncs old (missed ++ events) (begun none) (c.new-storage.ensures.syncs ∙ ordered) (rw c.into_disk.ensures became)) c.write.ensures.stored;
+      stored = on_ok c.write-end.result _ _ (λ became none ordered.
+          changed_begun bytes c.new-storage.result.bytes.syncs old (missed ++ events) (begun none) (c.new-storage.ensures.syncs ∙ ordered) (rw c.into_disk.ensures became)) c.write-end.ensures.stored;
     }

@@ -1,6 +1,7 @@
 use Rattle.rrd_disk.proofs.Asked.{falls_asked, still_there}
 use Rattle.std.proofs.Common.{subst}
 use Rattle.rrd_disk.specs.Loading.{IsDatabaseStanding}
+use Rattle.rrd_disk.proofs.Surviving.{syncs_twice}
 use Rattle.rrd_disk.proofs.loading.repair.Goals as goal
 
 pub returns-in_err-truncate-in-Unrecorded-clause-falls : goal.returns-in_err-truncate-in-Unrecorded-clause-falls
@@ -38,3 +39,10 @@ returns-in_ok-truncate-in-Unrecorded-clause-power g c = λ is. absurd (subst IsD
 
 pub returns-in-Nothing-clause-power : goal.returns-in-Nothing-clause-power
 returns-in-Nothing-clause-power g c = λ is. absurd (subst IsDatabaseStanding c.in-Nothing.is is)
+
+pub returns-in_ok-truncate-in-Unrecorded-clause-syncs : goal.returns-in_ok-truncate-in-Unrecorded-clause-syncs
+returns-in_ok-truncate-in-Unrecorded-clause-syncs g c =
+    let mid = g.D.Disk.events c.truncate.new.file.disk in
+    let new = g.D.Disk.events c.settle_file-in-Unrecorded.new.file.disk in
+    syncs_twice c.args.file.now.syncs c.truncate.new.file.syncs c.settle_file-in-Unrecorded.new.file.syncs mid new (falls_asked mid new c.settle_file-in-Unrecorded.ensures.falls)
+    c.truncate.ensures.syncs c.settle_file-in-Unrecorded.ensures.syncs

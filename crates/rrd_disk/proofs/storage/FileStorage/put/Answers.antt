@@ -1,4 +1,5 @@
-use Rattle.std.proofs.Common.{◌∷◌, ◌≡◌, ◌⊎◌, ℕ, List, None, subst, sym, ◌∙◌, ⊤}
+use Rattle.std.specs.Prelude.{⊤}
+use Rattle.std.proofs.Common.{◌∷◌, ◌≡◌, ◌⊎◌, ℕ, List, None, subst, sym, ◌∙◌}
 use Rattle.rrd_file.specs.Faults.{IsFile}
 use Rattle.rrd_tail.specs.Marks.{mark_of}
 use Rattle.rrd_tail.specs.Settled.{settled}
@@ -54,8 +55,8 @@ returns-clause-power g c = λ ordered d w honest some P holds all.
     let before = falls_asked mid new (λ q. c.replace.ensures.falls (0 ∷ q)) w honest in
     let prepared = c.in_ok-open_to_write.ensures.prepared w before (database_sound (held_after w old) some) in
     let now = c.open_to_write.ensures.syncs w before ∙ ordered in
-    change_survives c.open_to_write.new.self.bytes.syncs c.replace.new.file.syncs mid new c.replace.ensures.falls laws c.syncs.result (λ _. ⊤) c.args.bytes.now
-    (λ d s h is database are rests. c.replace.ensures.power d s h is database rests) now (c.syncs.ensures ∙ now) d w honest
+    change_survives c.open_to_write.new.self.bytes.syncs c.replace.new.file.syncs mid new c.replace.ensures.falls laws c.syncs-syncs.result (λ _. ⊤) c.args.bytes.now
+    (λ d s h is database are rests. c.replace.ensures.power d s h is database rests) now (c.syncs-syncs.ensures ∙ now) d w honest
     (prepared_database laws (held_after w old) (held_after w mid) prepared.1 prepared.2 some) tt P holds (c.open_to_write.ensures.power ordered d w before some P all)
 
 pub returns-clause-stored : goal.returns-clause-stored
@@ -67,8 +68,8 @@ returns-clause-stored g c = on_ok c.replace.result _ _ (λ there ordered d w hon
     let before = falls_asked mid new (λ q. c.replace.ensures.falls (0 ∷ q)) w honest in
     let prepared = c.in_ok-open_to_write.ensures.prepared w before (database_sound (held_after w old) some) in
     let now = c.open_to_write.ensures.syncs w before ∙ ordered in
-    change_stored c.open_to_write.new.self.bytes.syncs c.replace.new.file.syncs mid new c.replace.ensures.falls laws c.syncs.result (λ _. ⊤) c.args.bytes.now
-    (λ d s h is database are rests. there d s h is database rests) now (c.syncs.ensures ∙ now) d w honest
+    change_stored c.open_to_write.new.self.bytes.syncs c.replace.new.file.syncs mid new c.replace.ensures.falls laws c.syncs-syncs.result (λ _. ⊤) c.args.bytes.now
+    (λ d s h is database are rests. there d s h is database rests) now (c.syncs-syncs.ensures ∙ now) d w honest
     (prepared_database laws (held_after w old) (held_after w mid) prepared.1 prepared.2 some) tt P (c.open_to_write.ensures.power ordered d w before some P all)) c.replace.ensures.there
 
 pub returns-clause-syncs : goal.returns-clause-syncs
@@ -77,3 +78,6 @@ returns-clause-syncs g c =
     let new = g.D.Disk.events c.replace.new.file.disk in
     syncs_twice c.args.self.now.bytes.syncs c.open_to_write.new.self.bytes.syncs c.replace.new.file.syncs mid new (falls_asked mid new (λ q. c.replace.ensures.falls (0 ∷ q)))
     c.open_to_write.ensures.syncs (syncs_stay c.open_to_write.new.self.bytes.syncs c.replace.new.file.syncs mid new c.replace.ensures.falls)
+
+pub returns-in_err-open_to_write-clause-power : goal.returns-in_err-open_to_write-clause-power
+returns-in_err-open_to_write-clause-power g c = λ ordered d w honest is P holds all. c.open_to_write.ensures.power ordered d w honest is P all

@@ -64,8 +64,8 @@ returns-clause-power g c = λ ordered d w honest differs P holds all.
     let spans = c.deref.result.now in
     let agrees : AgreesOutside spans file bytes = agrees_there c.args.changed.now spans file bytes (c.deref.ensures.value ∙ c.in_ok-changed.ensures) differ.1 in
     let some : ¬ IsNoFile file = λ denied. denied differ.0.0 differ.0.1 in
-    change_survives c.args.self.now.bytes.syncs c.replace_where.new.file.syncs old new c.replace_where.ensures.falls laws c.syncs.result (λ file. AgreesOutside spans file bytes) bytes
-    (λ d s h is database are rests. c.replace_where.ensures.power d s h is database are rests) ordered (c.syncs.ensures ∙ ordered) d w honest some agrees P holds all
+    change_survives c.args.self.now.bytes.syncs c.replace_where.new.file.syncs old new c.replace_where.ensures.falls laws c.syncs-syncs.result (λ file. AgreesOutside spans file bytes) bytes
+    (λ d s h is database are rests. c.replace_where.ensures.power d s h is database are rests) ordered (c.syncs-syncs.ensures ∙ ordered) d w honest some agrees P holds all
 
 pub returns-clause-stored : goal.returns-clause-stored
 returns-clause-stored g c = on_ok c.replace_where.result _ _ (λ safe ordered d w honest differs P all.
@@ -82,8 +82,8 @@ returns-clause-stored g c = on_ok c.replace_where.result _ _ (λ safe ordered d 
     let spans = c.deref.result.now in
     let agrees : AgreesOutside spans file bytes = agrees_there c.args.changed.now spans file bytes (c.deref.ensures.value ∙ c.in_ok-changed.ensures) differ.1 in
     let some : ¬ IsNoFile file = λ denied. denied differ.0.0 differ.0.1 in
-    change_stored c.args.self.now.bytes.syncs c.replace_where.new.file.syncs old new c.replace_where.ensures.falls laws c.syncs.result (λ file. AgreesOutside spans file bytes) bytes
-    (λ d s h is database are rests. safe d s h is database are rests) ordered (c.syncs.ensures ∙ ordered) d w honest some agrees P all) c.replace_where.ensures.there
+    change_stored c.args.self.now.bytes.syncs c.replace_where.new.file.syncs old new c.replace_where.ensures.falls laws c.syncs-syncs.result (λ file. AgreesOutside spans file bytes) bytes
+    (λ d s h is database are rests. safe d s h is database are rests) ordered (c.syncs-syncs.ensures ∙ ordered) d w honest some agrees P all) c.replace_where.ensures.there
 
 pub returns-clause-syncs : goal.returns-clause-syncs
 returns-clause-syncs g c =
