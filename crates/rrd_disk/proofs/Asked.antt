@@ -77,7 +77,7 @@ left_there : (h : Held) (part : ℕ) (e : Event) → IsTrue (is_there h) → IsT
 left_there Missing part e is = absurd (true≢false (sym is))
 left_there (Bytes file) part e is = refl
 
-stays_there : (w : World) (events : List Event) → IsTrue (is_there w.start) → IsTrue (is_there (held_after w events))
+pub stays_there : (w : World) (events : List Event) → IsTrue (is_there w.start) → IsTrue (is_there (held_after w events))
 stays_there w [] is = is
 stays_there w (e ∷ earlier) is = left_there (held_after w earlier) (part_after w earlier) e (stays_there w earlier is)
 

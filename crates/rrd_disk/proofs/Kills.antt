@@ -51,7 +51,7 @@ counted_more (PutFailed at bytes) earlier is = refl
 counted_more (SizeFailed count) earlier is = refl
 counted_more _ earlier is = absurd (true≢false (sym is))
 
-failures_grow : (e : Event) (earlier : List Event) → failures earlier ≤ failures (e ∷ earlier)
+pub failures_grow : (e : Event) (earlier : List Event) → failures earlier ≤ failures (e ∷ earlier)
 failures_grow (PutFailed at bytes) earlier = omega arith
 failures_grow (SizeFailed count) earlier = omega arith
 failures_grow _ earlier = omega arith
@@ -74,20 +74,20 @@ same_honest (Bytes file) p q _ is = refl
 -- ---- a world in which the first `m` calls that fail leave what they leave, and the others nothing
 
 module _ (w : World) (m : ℕ) where
-  abbrev cut : World
+  abbrev pub cut : World
   cut = record { start = w.start; parts = take m w.parts }
 
   same_part : (e : Event) (earlier : List Event) → failures (e ∷ earlier) ≤ m → IsTrue (is_counted e) → part_after cut earlier ≡ part_after w earlier
   same_part e earlier few is = let more = counted_more e earlier is in get_or-take m w.parts (failures earlier) 0 (omega (arith, more))
 
-  cut_held : (events : List Event) → failures events ≤ m → held_after cut events ≡ held_after w events
+  pub cut_held : (events : List Event) → failures events ≤ m → held_after cut events ≡ held_after w events
   cut_held [] few = refl
   cut_held (e ∷ earlier) few =
       let grow = failures_grow e earlier in
       ap (λ (h : Held). left h (part_after cut earlier) e) (cut_held earlier (omega (arith, grow)))
       ∙ same_left (held_after w earlier) (part_after cut earlier) (part_after w earlier) e (same_part e earlier few)
 
-  cut_honest : (events : List Event) → failures events ≤ m → is_honest_after cut events ≡ is_honest_after w events
+  pub cut_honest : (events : List Event) → failures events ≤ m → is_honest_after cut events ≡ is_honest_after w events
   cut_honest [] few = refl
   cut_honest (e ∷ earlier) few =
       let grow = failures_grow e earlier in
@@ -105,7 +105,7 @@ module _ (w : World) (m : ℕ) where
     many [] = omega (arith, all)
     many (e ∷ more) = let grow = failures_grow e (more ++ events) in let before = many more in omega (arith, grow, before)
 
-    missed_held : (missed : List Event) → IsTrue (are_failed missed) → held_after cut (missed ++ events) ≡ held_after cut events
+    pub missed_held : (missed : List Event) → IsTrue (are_failed missed) → held_after cut (missed ++ events) ≡ held_after cut events
     missed_held [] are = refl
     missed_held (e ∷ more) are =
         let both = and_parts (is_failed e) (are_failed more) are in
@@ -117,7 +117,7 @@ module _ (w : World) (m : ℕ) where
         subst (λ (n : ℕ). IsTrue (is_honest_of h n e)) (sym none)
         (subst (λ (g : Held). IsTrue (is_honest_of g 0 e)) (sym there) (failed_honest (bytes_of h) e is))
 
-    missed_honest : (missed : List Event) → IsTrue (are_failed missed) → held_after cut events ≡ Bytes (bytes_of (held_after cut events))
+    pub missed_honest : (missed : List Event) → IsTrue (are_failed missed) → held_after cut events ≡ Bytes (bytes_of (held_after cut events))
         → IsTrue (is_honest_after cut events) → IsTrue (is_honest_after cut (missed ++ events))
     missed_honest [] are there honest = honest
     missed_honest (e ∷ more) are there honest =
@@ -174,7 +174,7 @@ pub record Split (missed : List Event) : Type 0 where
   pub all : missed ≡ later ++ interrupted missed
   pub failed : IsTrue (are_failed later)
 
-split : (missed : List Event) → IsTrue (are_failed missed) → Split missed
+pub split : (missed : List Event) → IsTrue (are_failed missed) → Split missed
 split [] are = record { later = []; all = refl; failed = refl }
 split (e ∷ []) are = record { later = []; all = refl; failed = refl }
 split (e ∷ f ∷ more) are =

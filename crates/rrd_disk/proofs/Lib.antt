@@ -2,6 +2,7 @@ pub mod Asked
 pub mod Asking
 pub mod Calling
 pub mod Contents
+pub mod Failures
 pub mod FileRuns
 pub mod Fronts
 pub mod Kills
@@ -13,4 +14,5 @@ pub mod Parts
 pub mod Powering
 pub mod Replaying
 pub mod Storing
+pub mod Surviving
 pub mod Spans

@@ -125,6 +125,13 @@ impl<D: Disk> FileBytes<D> {
         &self.disk
     }
 
+    /// Returns when the run syncs the file.
+    pub(crate) fn syncs(&self) -> Syncs
+        ensures { result ≡ self.now.syncs }
+    {
+        self.syncs
+    }
+
     /// Closes the file, and releases its lock.
     pub(crate) fn close(&mut self)
         ensures disk { self.new.disk ≡ self.old.disk }

@@ -1,17 +1,22 @@
 //! Theorems about the runs on a file. Each is the contract of a function that does nothing.
 //!
 //! The module is public only for readers of the contracts: no other crate calls these functions.
-ghost use Rattle.std.specs.Prelude.{List, Option};
+ghost use Rattle.std.specs.Prelude.{◌≡◌, ◌++◌, ℕ, Bool, List, [], OnOk, Option};
 ghost use Rattle.rrd_disk.specs.Events.{Event};
+ghost use Rattle.rrd_disk.specs.Kills.{interrupted};
 ghost use Rattle.rrd_disk.specs.OpenRuns.{OpenFilesFollowSpecification, RecordedOpen};
+ghost use Rattle.rrd_disk.specs.Power.{IsChange, IsChanged, SurvivesFailure};
 ghost use Rattle.rrd_disk.specs.Replayed.{World};
 ghost use Rattle.rrd_disk.specs.Runs.{FilesFollowSpecification, Recorded};
 ghost use Rattle.rrd_spec.specs.Journal.Survivors.{Stored};
-ghost use Rattle.rrd_store.specs.Storages.{Held};
+ghost use Rattle.rrd_store.specs.Storages.{Held, IsAnyFile};
+ghost use Rattle.rrd_undo.specs.declared.tail.Syncs.TheVariants.{Ordered};
 
+use crate::{Disk, FileRun, FileStorage, Killed, Location};
 use rrd_file::laws::file_begins;
 use rrd_store::laws::runs_follow_specification;
 use rrd_undo::laws::files_without_marks_stand_for_themselves;
+use std::io;
 
 /// Theorem: after any list of runs on one file, the bytes that the file represents and all printed text are what the
 /// definitions compute.
@@ -42,4 +47,42 @@ pub fn open_files_follow_specification()
     file_begins();
     files_without_marks_stand_for_themselves();
     runs_follow_specification();
+}
+
+/// Theorem: power failures. If the power fails while a run that syncs replaces a database, whatever the disk then has
+/// represents the old bytes or the new ones; and a run that ended without an error has stored the new ones.
+///
+/// The power fails after `calls` calls on the file (`between`), or in the next one (`within`). The record is that of an honest
+/// file that nobody else wrote. Before the run the file represents a database, and the disk may have other bytes than the
+/// file, as after a kill: what holds of all that they represent, and of the new bytes, holds of all that the power may leave.
+/// The premises about the disk are those of `AreTorn`, `IsSizedOrNot` and `SlotsTell`, and that a sync that ends well stores
+/// the file's bytes.
+pub fn changes_survive_power_failures<D: Disk, L: Location>(
+    disk: D,
+    calls: u64,
+    place: L,
+    bytes: &[u8],
+) -> FileRun<Killed<D>, io::Result<()>>
+    requires { IsAnyFile bytes.now }
+    ensures between { D.events disk ≡ [] → L.syncs place ≡ Ordered → IsChange bytes.now (D.events result.disk.system) }
+    ensures within { D.events disk ≡ [] → L.syncs place ≡ Ordered → IsChange bytes.now (interrupted result.disk.missed.events ++ D.events result.disk.system) }
+    ensures stored { OnOk result.end (D.events disk ≡ [] → L.syncs place ≡ Ordered → IsChanged bytes.now (result.disk.missed.events ++ D.events result.disk.system)) }
+{
+    file_begins();
+    files_without_marks_stand_for_themselves();
+    let killed = Killed::new(disk, calls);
+    let mut storage = FileStorage::new(killed, place);
+    let end = storage.write(bytes);
+    FileRun {
+        end,
+        disk: storage.into_disk(),
+    }
+}
+
+/// Theorem: what survived until the power failed is what the next run finds.
+///
+/// After a failure the file has what the disk has, and nothing else is left to store.
+pub fn power_failures_are_survived()
+    ensures { (P : List ℕ → Bool) (d : List ℕ) (w : World) (events : List Event) → SurvivesFailure P d w events }
+{
 }

@@ -4,6 +4,7 @@ ghost use Rattle.rrd_disk.specs.Asked.{FallsAsked};
 ghost use Rattle.rrd_disk.specs.Calls.{Falls, KeepsHeld};
 ghost use Rattle.rrd_disk.specs.Fronts.{Begins};
 ghost use Rattle.rrd_disk.specs.Loading.{HasNoDatabase, IsDatabaseStanding, IsJudged, IsOfAny, IsStillThere, IsValidStanding, KeepsHonest, ReadsFile, StandsSo, is_of_bytes};
+ghost use Rattle.rrd_disk.specs.Power.{KeepsSurviving, KeepsSyncs};
 ghost use Rattle.rrd_disk.specs.Replayed.{World, bytes_after, is_honest_after};
 ghost use Rattle.rrd_tail.specs.Settled.{settled};
 ghost use Rattle.rrd_disk.specs.declared.loading.Standing.TheVariants.{Nothing};
@@ -75,6 +76,8 @@ pub(crate) fn load<D: Disk>(
     cause: &Cause,
 ) -> Result<Database, TaskFault>
     ensures falls { Falls (D.events file.old.disk) (D.events file.new.disk) }
+    ensures power { KeepsSurviving file.old.syncs (D.events file.old.disk) (D.events file.new.disk) }
+    ensures syncs { KeepsSyncs file.old.syncs file.new.syncs (D.events file.new.disk) }
     ensures same { KeepsHonest (D.events file.old.disk) (D.events file.new.disk) }
     ensures reads { ReadsFile (D.events file.new.disk) result }
     ensures valid { Decodes None result }
@@ -257,6 +260,8 @@ fn standing_within<D: Disk>(
     cause: &Cause,
 ) -> Result<Option<Standing>, TaskFault>
     ensures falls { Falls (D.events file.old.disk) (D.events file.new.disk) }
+    ensures power { KeepsSurviving file.old.syncs (D.events file.old.disk) (D.events file.new.disk) }
+    ensures syncs { KeepsSyncs file.old.syncs file.new.syncs (D.events file.new.disk) }
     ensures same { KeepsHonest (D.events file.old.disk) (D.events file.new.disk) }
     ensures stands { IfOk result (λ found. IfSome found (λ standing. (s : World) → IsTrue (is_honest_after s (D.events file.new.disk)) → StandsSo standing (bytes_after s (D.events file.new.disk)))) }
     ensures valid { IfOk result (λ found. IfSome found IsValidStanding) }
@@ -282,6 +287,8 @@ pub(crate) fn find_standing<D: Disk>(
     cause: &Cause,
 ) -> Result<Standing, TaskFault>
     ensures falls { Falls (D.events file.old.disk) (D.events file.new.disk) }
+    ensures power { KeepsSurviving file.old.syncs (D.events file.old.disk) (D.events file.new.disk) }
+    ensures syncs { KeepsSyncs file.old.syncs file.new.syncs (D.events file.new.disk) }
     ensures same { KeepsHonest (D.events file.old.disk) (D.events file.new.disk) }
     ensures stands { IfOk result (λ standing. (s : World) → IsTrue (is_honest_after s (D.events file.new.disk)) → StandsSo standing (bytes_after s (D.events file.new.disk))) }
     ensures valid { IfOk result IsValidStanding }
@@ -299,7 +306,8 @@ pub(crate) fn find_standing<D: Disk>(
 
 // Truncates a file to its first `end` bytes.
 fn truncate<D: Disk>(file: &mut FileBytes<D>, end: usize) -> io::Result<()>
-    ensures { FallsAsked (D.events file.old.disk) (D.events file.new.disk) }
+    ensures falls { FallsAsked (D.events file.old.disk) (D.events file.new.disk) }
+    ensures syncs { KeepsSyncs file.old.syncs file.new.syncs (D.events file.new.disk) }
 {
     file.set_len(end)?;
     file.sync()
@@ -308,6 +316,8 @@ fn truncate<D: Disk>(file: &mut FileBytes<D>, end: usize) -> io::Result<()>
 // Settles a file.
 fn settle_file<D: Disk>(alloc: Global, file: &mut FileBytes<D>) -> io::Result<()>
     ensures falls { FallsAsked (D.events file.old.disk) (D.events file.new.disk) }
+    ensures power { KeepsSurviving file.old.syncs (D.events file.old.disk) (D.events file.new.disk) }
+    ensures syncs { KeepsSyncs file.old.syncs file.new.syncs (D.events file.new.disk) }
     ensures stands { (s : World) → IsTrue (is_honest_after s (D.events file.new.disk))
         → settled (bytes_after s (D.events file.new.disk)) ≡ settled (bytes_after s (D.events file.old.disk)) }
     ensures ok { OnOk result ((s : World) → IsTrue (is_honest_after s (D.events file.new.disk))
@@ -329,6 +339,8 @@ pub(crate) fn repair<D: Disk>(
     standing: &Standing,
 ) -> io::Result<()>
     ensures falls { Falls (D.events file.old.disk) (D.events file.new.disk) }
+    ensures power { IsDatabaseStanding standing.now → KeepsSurviving file.old.syncs (D.events file.old.disk) (D.events file.new.disk) }
+    ensures syncs { KeepsSyncs file.old.syncs file.new.syncs (D.events file.new.disk) }
     ensures place { IsStillThere (D.events file.old.disk) (D.events file.new.disk) }
     ensures stands { (s : World) → IsTrue (is_honest_after s (D.events file.new.disk)) → IsDatabaseStanding standing.now
         → settled (bytes_after s (D.events file.new.disk)) ≡ settled (bytes_after s (D.events file.old.disk)) }

@@ -1,14 +1,21 @@
 //! The file of a storage: its path, and how runs use it.
+ghost use Rattle.std.specs.Prelude.{◌≡◌};
+ghost use Rattle.rrd_undo.specs.declared.tail.Syncs.{Syncs};
+
 use crate::{Cause, Settings};
 use std::alloc::{AllocError, Global};
 
 /// The file of a storage, and how runs use it.
 pub trait Location: Drop {
+    // When a run syncs the file.
+    ghost syncs: { Self → Syncs };
+
     /// Returns the path of the file.
     fn path(&self) -> &str;
 
     /// Returns the settings by which a run uses the file.
-    fn settings(&self) -> Settings;
+    fn settings(&self) -> Settings
+        ensures { result.syncs ≡ syncs self.now };
 
     /// Returns the place for the reason why a call on the file failed.
     fn cause(&self) -> &Cause;
@@ -26,6 +33,8 @@ pub struct Place<'a> {
 }
 
 impl<'a> Location for Place<'a> {
+    ghost syncs = { λ place. place.settings.syncs };
+
     fn path(&self) -> &str {
         self.path
     }
@@ -63,6 +72,8 @@ impl OwnPlace {
 }
 
 impl Location for OwnPlace {
+    ghost syncs = { λ place. place.settings.syncs };
+
     fn path(&self) -> &str {
         self.path.as_str()
     }

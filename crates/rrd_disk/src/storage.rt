@@ -5,6 +5,7 @@ ghost use Rattle.rrd_disk.specs.Calls.{Falls, KeepsHeld, KeepsHeldFor};
 ghost use Rattle.rrd_disk.specs.Entries.{SaysEntry};
 ghost use Rattle.rrd_disk.specs.Loading.{IsStillThere, IsValidStanding, KeepsHonest, StandsSo};
 ghost use Rattle.rrd_disk.specs.Openings.{IsThere, IsUnmarked};
+ghost use Rattle.rrd_disk.specs.Power.{AreUnmarkedDatabase, BecameIf, ChangesIf, DiffersIn, HasDatabase, KeepsDisk, KeepsSurviving, KeepsSurvivingIf, KeepsSyncs, RepresentDatabase};
 ghost use Rattle.rrd_disk.specs.Storing.{AreOf, IsEmpty, IsReadable, IsRepaired, IsStanding, KeepsBytes, KeepsOpen, KeepsSettled, Loads, LoadsMarked, LoadsOpen, Prepares, PreparesMarked, PreparesOpen, PreparesUnmarked, ReadsSome, RepresentsSome, Spoils, TellsMark, TellsNoDatabase, Writes, WritesWhere};
 ghost use Rattle.rrd_disk.specs.declared.storage.Found.TheVariants.{Unopened};
 ghost use Rattle.rrd_file.specs.Faults.{IsOfFile};
@@ -105,6 +106,8 @@ fn page_spans(alloc: Global, changed: &[Span]) -> Result<Vec<PageSpan>, AllocErr
 // Checks whether a file begins like a database.
 fn begins_like_database<D: Disk>(alloc: Global, file: &mut FileBytes<D>) -> io::Result<bool>
     ensures falls { Falls (D.events file.old.disk) (D.events file.new.disk) }
+    ensures power { KeepsSurviving file.old.syncs (D.events file.old.disk) (D.events file.new.disk) }
+    ensures syncs { KeepsSyncs file.old.syncs file.new.syncs (D.events file.new.disk) }
     ensures same { KeepsOpen (D.events file.old.disk) (D.events file.new.disk) }
     ensures ok { IfOk result (λ is. TellsNoDatabase is (D.events file.new.disk)) }
 {
@@ -119,6 +122,8 @@ fn begins_like_database<D: Disk>(alloc: Global, file: &mut FileBytes<D>) -> io::
 // Checks whether an open file has a mark.
 fn is_marked<D: Disk>(alloc: Global, file: &mut FileBytes<D>) -> io::Result<bool>
     ensures falls { Falls (D.events file.old.disk) (D.events file.new.disk) }
+    ensures power { KeepsSurviving file.old.syncs (D.events file.old.disk) (D.events file.new.disk) }
+    ensures syncs { KeepsSyncs file.old.syncs file.new.syncs (D.events file.new.disk) }
     ensures same { KeepsOpen (D.events file.old.disk) (D.events file.new.disk) }
     ensures bytes { KeepsBytes (D.events file.old.disk) (D.events file.new.disk) }
     ensures ok { IfOk result (λ is. TellsMark is (D.events file.new.disk)) }
@@ -130,6 +135,8 @@ fn is_marked<D: Disk>(alloc: Global, file: &mut FileBytes<D>) -> io::Result<bool
 // Prepares a file with a mark, whose database is to be replaced: repairs the file, if it is an interrupted change.
 fn prepare_marked<D: Disk>(alloc: Global, file: &mut FileBytes<D>, cause: &Cause) -> io::Result<()>
     ensures falls { Falls (D.events file.old.disk) (D.events file.new.disk) }
+    ensures power { KeepsSurvivingIf RepresentDatabase file.old.syncs (D.events file.old.disk) (D.events file.new.disk) }
+    ensures syncs { KeepsSyncs file.old.syncs file.new.syncs (D.events file.new.disk) }
     ensures prepared { PreparesMarked (D.events file.old.disk) (D.events file.new.disk) result }
 {
     file_begins();
@@ -143,6 +150,7 @@ fn prepare_marked<D: Disk>(alloc: Global, file: &mut FileBytes<D>, cause: &Cause
 // Overwrites the first bytes of a file that begins like a database, and has none.
 fn spoil<D: Disk>(file: &mut FileBytes<D>) -> io::Result<()>
     ensures falls { Falls (D.events file.old.disk) (D.events file.new.disk) }
+    ensures syncs { KeepsSyncs file.old.syncs file.new.syncs (D.events file.new.disk) }
     ensures spoilt { Spoils (D.events file.old.disk) (D.events file.new.disk) result }
 {
     file_begins();
@@ -158,6 +166,8 @@ fn prepare_unmarked<D: Disk>(
     cause: &Cause,
 ) -> io::Result<()>
     ensures falls { Falls (D.events file.old.disk) (D.events file.new.disk) }
+    ensures power { KeepsSurvivingIf AreUnmarkedDatabase file.old.syncs (D.events file.old.disk) (D.events file.new.disk) }
+    ensures syncs { KeepsSyncs file.old.syncs file.new.syncs (D.events file.new.disk) }
     ensures prepared { PreparesUnmarked (D.events file.old.disk) (D.events file.new.disk) result }
 {
     one_answer();
@@ -176,6 +186,8 @@ fn prepare_unmarked<D: Disk>(
 // Prepares an open file, whose database was not loaded, to be replaced.
 fn prepare<D: Disk>(alloc: Global, file: &mut FileBytes<D>, cause: &Cause) -> io::Result<()>
     ensures falls { Falls (D.events file.old.disk) (D.events file.new.disk) }
+    ensures power { KeepsSurvivingIf RepresentDatabase file.old.syncs (D.events file.old.disk) (D.events file.new.disk) }
+    ensures syncs { KeepsSyncs file.old.syncs file.new.syncs (D.events file.new.disk) }
     ensures prepared { PreparesOpen (D.events file.old.disk) (D.events file.new.disk) result }
 {
     if is_marked(alloc, file)? {
@@ -188,7 +200,8 @@ fn prepare<D: Disk>(alloc: Global, file: &mut FileBytes<D>, cause: &Cause) -> io
 impl<D: Disk, L: Location> FileStorage<D, L> {
     // Creates the storage for the file at a place.
     fn at(disk: D, place: L, afterwards: Afterwards) -> FileStorage<D, L>
-        ensures { result.bytes.disk ≡ disk }
+        ensures disk { result.bytes.disk ≡ disk }
+        ensures syncs { result.bytes.syncs ≡ L.syncs place }
     {
         FileStorage {
             bytes: FileBytes::new(disk, place.settings().syncs),
@@ -202,7 +215,8 @@ impl<D: Disk, L: Location> FileStorage<D, L> {
     ///
     /// Makes no call of the system: [`Storage::load`] and [`Storage::replace`] do.
     pub fn new(disk: D, place: L) -> FileStorage<D, L>
-        ensures { result.bytes.disk ≡ disk }
+        ensures disk { result.bytes.disk ≡ disk }
+        ensures syncs { result.bytes.syncs ≡ L.syncs place }
     {
         FileStorage::at(disk, place, Afterwards::Closed)
     }
@@ -213,7 +227,8 @@ impl<D: Disk, L: Location> FileStorage<D, L> {
     /// these calls fails. A file that is missing, or cannot be locked, written or repaired, is not loaded: nobody could
     /// promise that it stays as it is.
     pub fn staying_open(disk: D, place: L) -> FileStorage<D, L>
-        ensures { result.bytes.disk ≡ disk }
+        ensures disk { result.bytes.disk ≡ disk }
+        ensures syncs { result.bytes.syncs ≡ L.syncs place }
     {
         FileStorage::at(disk, place, Afterwards::Open)
     }
@@ -251,6 +266,8 @@ impl<D: Disk, L: Location> FileStorage<D, L> {
     // Opens and locks the file, and reads its first part.
     fn open(&mut self, opening: Opening) -> io::Result<Entry<D::File>>
         ensures falls { Falls (D.events self.old.bytes.disk) (D.events self.new.bytes.disk) }
+        ensures power { KeepsDisk (D.events self.old.bytes.disk) (D.events self.new.bytes.disk) }
+        ensures syncs { self.new.bytes.syncs ≡ self.old.bytes.syncs }
         ensures same { KeepsHeldFor opening (D.events self.old.bytes.disk) (D.events self.new.bytes.disk) }
         ensures says { IfOk result (λ entry. SaysEntry entry (D.events self.new.bytes.disk)) }
         ensures found { self.new.found ≡ Unopened }
@@ -498,6 +515,8 @@ impl<D: Disk, L: Location> FileStorage<D, L> {
     // file that a symbolic link names.
     fn make(&mut self) -> io::Result<()>
         ensures falls { Falls (D.events self.old.bytes.disk) (D.events self.new.bytes.disk) }
+        ensures power { KeepsDisk (D.events self.old.bytes.disk) (D.events self.new.bytes.disk) }
+        ensures syncs { self.new.bytes.syncs ≡ self.old.bytes.syncs }
         ensures same { KeepsHeldFor Make (D.events self.old.bytes.disk) (D.events self.new.bytes.disk) }
         ensures there { OnOk result (IsThere (D.events self.new.bytes.disk)) }
         ensures found { self.new.found ≡ Unopened }
@@ -513,6 +532,8 @@ impl<D: Disk, L: Location> FileStorage<D, L> {
     // Creates the file. If another program has created and written the file meanwhile, the other program's file stays.
     fn create(&mut self) -> io::Result<()>
         ensures falls { Falls (D.events self.old.bytes.disk) (D.events self.new.bytes.disk) }
+        ensures power { KeepsDisk (D.events self.old.bytes.disk) (D.events self.new.bytes.disk) }
+        ensures syncs { self.new.bytes.syncs ≡ self.old.bytes.syncs }
         ensures same { KeepsHeldFor Make (D.events self.old.bytes.disk) (D.events self.new.bytes.disk) }
         ensures empty { OnOk result (IsEmpty (D.events self.new.bytes.disk)) }
         ensures found { self.new.found ≡ Unopened }
@@ -530,6 +551,8 @@ impl<D: Disk, L: Location> FileStorage<D, L> {
     // Opens the file for writing, if it is not open, so that its bytes can be replaced.
     fn open_to_write(&mut self, alloc: Global) -> io::Result<()>
         ensures falls { Falls (D.events self.old.bytes.disk) (D.events self.new.bytes.disk) }
+        ensures power { KeepsSurvivingIf RepresentDatabase self.old.bytes.syncs (D.events self.old.bytes.disk) (D.events self.new.bytes.disk) }
+        ensures syncs { KeepsSyncs self.old.bytes.syncs self.new.bytes.syncs (D.events self.new.bytes.disk) }
         ensures prepared { Prepares (D.events self.old.bytes.disk) (D.events self.new.bytes.disk) result }
         ensures found { self.new.found ≡ Unopened }
     {
@@ -551,6 +574,9 @@ impl<D: Disk, L: Location> FileStorage<D, L> {
     fn put(&mut self, alloc: Global, bytes: &[u8]) -> io::Result<()>
         requires { IsAnyFile bytes.now }
         ensures falls { Falls (D.events self.old.bytes.disk) (D.events self.new.bytes.disk) }
+        ensures power { ChangesIf HasDatabase bytes.now self.old.bytes.syncs (D.events self.old.bytes.disk) (D.events self.new.bytes.disk) }
+        ensures stored { OnOk result (BecameIf HasDatabase bytes.now self.old.bytes.syncs (D.events self.old.bytes.disk) (D.events self.new.bytes.disk)) }
+        ensures syncs { KeepsSyncs self.old.bytes.syncs self.new.bytes.syncs (D.events self.new.bytes.disk) }
         ensures writes { Writes bytes.now (D.events self.old.bytes.disk) (D.events self.new.bytes.disk) result }
         ensures has { OnOk result (RepresentsSome (D.events self.new.bytes.disk)) }
         ensures found { self.new.found ≡ Unopened }
@@ -558,7 +584,7 @@ impl<D: Disk, L: Location> FileStorage<D, L> {
         file_begins();
         files_without_marks_stand_for_themselves();
         self.open_to_write(alloc)?;
-        let syncs = self.place.settings().syncs;
+        let syncs = self.bytes.syncs();
         replace(alloc, &mut self.bytes, bytes, syncs)
     }
 
@@ -568,6 +594,8 @@ impl<D: Disk, L: Location> FileStorage<D, L> {
         requires found { self.old.found ≡ Unopened }
         requires has { RepresentsSome (D.events self.old.bytes.disk) }
         ensures falls { Falls (D.events self.old.bytes.disk) (D.events self.new.bytes.disk) }
+        ensures power { KeepsSurviving self.old.bytes.syncs (D.events self.old.bytes.disk) (D.events self.new.bytes.disk) }
+        ensures syncs { KeepsSyncs self.old.bytes.syncs self.new.bytes.syncs (D.events self.new.bytes.disk) }
         ensures same { KeepsOpen (D.events self.old.bytes.disk) (D.events self.new.bytes.disk) }
         ensures stays { self.new.found ≡ Unopened → ⊥ }
     {
@@ -579,10 +607,13 @@ impl<D: Disk, L: Location> FileStorage<D, L> {
         }
     }
 
-    // Replaces the bytes of the file. Then keeps the file open, or closes it.
-    fn write(&mut self, bytes: &[u8]) -> io::Result<()>
+    /// Replaces the bytes of the file. Then keeps the file open, or closes it.
+    pub(crate) fn write(&mut self, bytes: &[u8]) -> io::Result<()>
         requires { IsAnyFile bytes.now }
         ensures falls { Falls (D.events self.old.bytes.disk) (D.events self.new.bytes.disk) }
+        ensures power { ChangesIf HasDatabase bytes.now self.old.bytes.syncs (D.events self.old.bytes.disk) (D.events self.new.bytes.disk) }
+        ensures stored { OnOk result (BecameIf HasDatabase bytes.now self.old.bytes.syncs (D.events self.old.bytes.disk) (D.events self.new.bytes.disk)) }
+        ensures syncs { KeepsSyncs self.old.bytes.syncs self.new.bytes.syncs (D.events self.new.bytes.disk) }
         ensures writes { Writes bytes.now (D.events self.old.bytes.disk) (D.events self.new.bytes.disk) result }
     {
         file_begins();
@@ -602,6 +633,9 @@ impl<D: Disk, L: Location> FileStorage<D, L> {
         requires there { IsThere (D.events self.old.bytes.disk) }
         requires unmarked { IsUnmarked (D.events self.old.bytes.disk) }
         ensures falls { Falls (D.events self.old.bytes.disk) (D.events self.new.bytes.disk) }
+        ensures power { ChangesIf (DiffersIn changed.now bytes.now) bytes.now self.old.bytes.syncs (D.events self.old.bytes.disk) (D.events self.new.bytes.disk) }
+        ensures stored { OnOk result (BecameIf (DiffersIn changed.now bytes.now) bytes.now self.old.bytes.syncs (D.events self.old.bytes.disk) (D.events self.new.bytes.disk)) }
+        ensures syncs { KeepsSyncs self.old.bytes.syncs self.new.bytes.syncs (D.events self.new.bytes.disk) }
         ensures writes { WritesWhere changed.now bytes.now (D.events self.old.bytes.disk) (D.events self.new.bytes.disk) result }
         ensures there { IsThere (D.events self.new.bytes.disk) }
         ensures found { self.new.found ≡ Unopened }
@@ -610,7 +644,7 @@ impl<D: Disk, L: Location> FileStorage<D, L> {
         files_without_marks_stand_for_themselves();
         self.found = Found::Unopened;
         let changed = page_spans(alloc, changed)?;
-        let syncs = self.place.settings().syncs;
+        let syncs = self.bytes.syncs();
         replace_where(alloc, &mut self.bytes, bytes, &changed, syncs)
     }
 
@@ -621,6 +655,9 @@ impl<D: Disk, L: Location> FileStorage<D, L> {
         requires there { IsThere (D.events self.old.bytes.disk) }
         requires unmarked { IsUnmarked (D.events self.old.bytes.disk) }
         ensures falls { Falls (D.events self.old.bytes.disk) (D.events self.new.bytes.disk) }
+        ensures power { ChangesIf (DiffersIn changed.now bytes.now) bytes.now self.old.bytes.syncs (D.events self.old.bytes.disk) (D.events self.new.bytes.disk) }
+        ensures stored { OnOk result (BecameIf (DiffersIn changed.now bytes.now) bytes.now self.old.bytes.syncs (D.events self.old.bytes.disk) (D.events self.new.bytes.disk)) }
+        ensures syncs { KeepsSyncs self.old.bytes.syncs self.new.bytes.syncs (D.events self.new.bytes.disk) }
         ensures writes { WritesWhere changed.now bytes.now (D.events self.old.bytes.disk) (D.events self.new.bytes.disk) result }
     {
         let ended = self.put_where(alloc, bytes, changed);
@@ -636,6 +673,9 @@ impl<D: Disk, L: Location> FileStorage<D, L> {
     fn write_where(&mut self, bytes: &[u8], changed: &[Span]) -> io::Result<()>
         requires { IsAnyFile bytes.now }
         ensures falls { Falls (D.events self.old.bytes.disk) (D.events self.new.bytes.disk) }
+        ensures power { ChangesIf (DiffersIn changed.now bytes.now) bytes.now self.old.bytes.syncs (D.events self.old.bytes.disk) (D.events self.new.bytes.disk) }
+        ensures stored { OnOk result (BecameIf (DiffersIn changed.now bytes.now) bytes.now self.old.bytes.syncs (D.events self.old.bytes.disk) (D.events self.new.bytes.disk)) }
+        ensures syncs { KeepsSyncs self.old.bytes.syncs self.new.bytes.syncs (D.events self.new.bytes.disk) }
         ensures writes { WritesWhere changed.now bytes.now (D.events self.old.bytes.disk) (D.events self.new.bytes.disk) result }
     {
         file_begins();

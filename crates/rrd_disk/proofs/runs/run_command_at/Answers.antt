@@ -16,7 +16,7 @@ returns g c = λ none.
       out_after = g.W.Write.contents c.run_file_command-end.new.out;
       end = c.run_file_command-end.result;
     }) in
-    let begun : before ≡ [] = ap g.D.Disk.events c.new-storage.ensures ∙ none in
+    let begun : before ≡ [] = ap g.D.Disk.events c.new-storage.ensures.disk ∙ none in
     let ended : g.D.Disk.events c.into_disk.result ≡ after = ap g.D.Disk.events c.into_disk.ensures in
     subst (λ (events : List Event). IsRun events run) (sym ended)
     (run_from before after run begun c.run_file_command-end.ensures.sound c.run_file_command-end.ensures.run)

@@ -1,9 +1,10 @@
 use Rattle.std.proofs.Common.{◌∷◌, ◌≡◌, ℕ, List, length, sym, ◌∙◌, ap, subst, arith}
 use Rattle.rrd_undo.specs.Calls.{AreAt}
 use Rattle.rrd_disk.specs.Replayed.{bytes_after}
-use Rattle.rrd_disk.proofs.Asked.{falls_asked}
+use Rattle.rrd_disk.proofs.Asked.{falls_asked, syncs_stay}
 use Rattle.rrd_disk.proofs.Asking.{falls_twice, keeps_open, keeps_twice, of_start}
 use Rattle.rrd_disk.proofs.Storing.{not_database, short_file}
+use Rattle.rrd_disk.proofs.Surviving.{survives_read, survives_twice, syncs_twice}
 use Rattle.rrd_disk.proofs.storage.begins_like_database.Goals as goal
 
 pub returns-in_err-len-clause-falls : goal.returns-in_err-len-clause-falls
@@ -63,3 +64,53 @@ returns-clause-ok g c = λ s honest told.
     let at = of_start (λ (o n : List ℕ). AreAt o 0 4 c.read.new.into.items) mid new (λ q. c.in_ok-read.ensures.read (0 ∷ q)) s honest in
     let at_start = subst (λ (b : List ℕ). AreAt (bytes_after s mid) 0 4 b) (sym c.deref.ensures.value) at in
     not_database _ start (subst (λ (b : List ℕ). AreAt b 0 4 start) (sym same) at_start) (sym c.starts_with.ensures.value ∙ told)
+
+pub returns-in_err-len-clause-power : goal.returns-in_err-len-clause-power
+returns-in_err-len-clause-power g c =
+    survives_read c.args.file.now.syncs c.len.new.self.syncs (g.D.Disk.events c.args.file.now.disk) (g.D.Disk.events c.len.new.self.disk) c.len.ensures.falls c.len.ensures.same c.len.ensures.power
+
+pub returns-in_err-len-clause-syncs : goal.returns-in_err-len-clause-syncs
+returns-in_err-len-clause-syncs g c = syncs_stay c.args.file.now.syncs c.len.new.self.syncs (g.D.Disk.events c.args.file.now.disk) (g.D.Disk.events c.len.new.self.disk) c.len.ensures.falls
+
+pub returns-then-branch-lt4-clause-power : goal.returns-then-branch-lt4-clause-power
+returns-then-branch-lt4-clause-power g c =
+    survives_read c.args.file.now.syncs c.len.new.self.syncs (g.D.Disk.events c.args.file.now.disk) (g.D.Disk.events c.len.new.self.disk) c.len.ensures.falls c.len.ensures.same c.len.ensures.power
+
+pub returns-then-branch-lt4-clause-syncs : goal.returns-then-branch-lt4-clause-syncs
+returns-then-branch-lt4-clause-syncs g c = syncs_stay c.args.file.now.syncs c.len.new.self.syncs (g.D.Disk.events c.args.file.now.disk) (g.D.Disk.events c.len.new.self.disk) c.len.ensures.falls
+
+pub returns-in_err-read-clause-power : goal.returns-in_err-read-clause-power
+returns-in_err-read-clause-power g c =
+    let old = g.D.Disk.events c.args.file.now.disk in
+    let mid = g.D.Disk.events c.len.new.self.disk in
+    let new = g.D.Disk.events c.read.new.self.disk in
+    survives_twice c.args.file.now.syncs c.len.new.self.syncs old mid new (falls_asked mid new (λ q. c.read.ensures.falls (0 ∷ q)))
+    (syncs_stay c.args.file.now.syncs c.len.new.self.syncs old mid c.len.ensures.falls)
+    (survives_read c.args.file.now.syncs c.len.new.self.syncs old mid c.len.ensures.falls c.len.ensures.same c.len.ensures.power)
+    (survives_read c.len.new.self.syncs c.read.new.self.syncs mid new c.read.ensures.falls c.read.ensures.same c.read.ensures.power)
+
+pub returns-in_err-read-clause-syncs : goal.returns-in_err-read-clause-syncs
+returns-in_err-read-clause-syncs g c =
+    let old = g.D.Disk.events c.args.file.now.disk in
+    let mid = g.D.Disk.events c.len.new.self.disk in
+    let new = g.D.Disk.events c.read.new.self.disk in
+    syncs_twice c.args.file.now.syncs c.len.new.self.syncs c.read.new.self.syncs mid new (falls_asked mid new (λ q. c.read.ensures.falls (0 ∷ q)))
+    (syncs_stay c.args.file.now.syncs c.len.new.self.syncs old mid c.len.ensures.falls) (syncs_stay c.len.new.self.syncs c.read.new.self.syncs mid new c.read.ensures.falls)
+
+pub returns-clause-power : goal.returns-clause-power
+returns-clause-power g c =
+    let old = g.D.Disk.events c.args.file.now.disk in
+    let mid = g.D.Disk.events c.len.new.self.disk in
+    let new = g.D.Disk.events c.read.new.self.disk in
+    survives_twice c.args.file.now.syncs c.len.new.self.syncs old mid new (falls_asked mid new (λ q. c.read.ensures.falls (0 ∷ q)))
+    (syncs_stay c.args.file.now.syncs c.len.new.self.syncs old mid c.len.ensures.falls)
+    (survives_read c.args.file.now.syncs c.len.new.self.syncs old mid c.len.ensures.falls c.len.ensures.same c.len.ensures.power)
+    (survives_read c.len.new.self.syncs c.read.new.self.syncs mid new c.read.ensures.falls c.read.ensures.same c.read.ensures.power)
+
+pub returns-clause-syncs : goal.returns-clause-syncs
+returns-clause-syncs g c =
+    let old = g.D.Disk.events c.args.file.now.disk in
+    let mid = g.D.Disk.events c.len.new.self.disk in
+    let new = g.D.Disk.events c.read.new.self.disk in
+    syncs_twice c.args.file.now.syncs c.len.new.self.syncs c.read.new.self.syncs mid new (falls_asked mid new (λ q. c.read.ensures.falls (0 ∷ q)))
+    (syncs_stay c.args.file.now.syncs c.len.new.self.syncs old mid c.len.ensures.falls) (syncs_stay c.len.new.self.syncs c.read.new.self.syncs mid new c.read.ensures.falls)

@@ -5,6 +5,7 @@ use Rattle.rrd_disk.proofs.Asked.{falls_asked, still_there}
 use Rattle.rrd_disk.proofs.Asking.{of_start, there_bytes}
 use Rattle.rrd_disk.proofs.Contents.{Laws}
 use Rattle.rrd_disk.proofs.Storing.{on_err, on_ok, prepared_spoilt}
+use Rattle.rrd_disk.proofs.Asked.{syncs_stay}
 use Rattle.rrd_disk.proofs.storage.spoil.Goals as goal
 
 pub returns-clause-falls : goal.returns-clause-falls
@@ -20,3 +21,6 @@ returns-clause-spoilt g c = λ s honest is none missing.
     (still_there old new (λ q. c.put_whole.ensures.falls (0 ∷ q)) s honest (there_bytes (held_after s old) is))
     (on_ok c.put_whole.result _ _ (λ put. of_start (λ (o n : List ℕ). ArePut 0 zeros o n) old new (λ q. put (0 ∷ q)) s honest) c.put_whole.ensures.ok)
     (on_err c.put_whole.result _ _ (λ put. of_start (λ (o n : List ℕ). AreWholeOrNot 0 zeros o n) old new (λ q. put (0 ∷ q)) s honest) c.put_whole.ensures.err)
+
+pub returns-clause-syncs : goal.returns-clause-syncs
+returns-clause-syncs g c = syncs_stay c.args.file.now.syncs c.put_whole.new.self.syncs (g.D.Disk.events c.args.file.now.disk) (g.D.Disk.events c.put_whole.new.self.disk) c.put_whole.ensures.falls

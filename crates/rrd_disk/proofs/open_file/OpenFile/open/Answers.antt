@@ -18,7 +18,7 @@ returns-in-Ok-clause-kept g c = λ w honest sound.
     let code = held_of w in
     let now : IsTrue (is_honest_after (world_in code) new) = subst (λ (v : World). IsTrue (is_honest_after v new)) (sym same) honest in
     let first : IsSound (world_in code).start = subst (λ (v : World). IsSound v.start) (sym same) sound in
-    let begun : events ≡ [] = rw (c.new-session.ensures.storage, c.staying_open.ensures) c.requires in
+    let begun : events ≡ [] = rw (c.new-session.ensures.storage, c.staying_open.ensures.disk) c.requires in
     let was : IsSound (held_after (world_in code) events) = subst (λ (e : List Event). IsSound (held_after (world_in code) e)) (sym begun) first in
     let none : IsInMemory (Some (represented (held_after (world_in code) events))) c.new-session.result.database c.new-session.result.encoded =
     rw (c.new-session.ensures.database, c.new-session.ensures.encoded) (record { read = tt; bytes = tt }) in
@@ -33,7 +33,7 @@ returns-in-Ok-clause-opened g c = λ w honest sound.
     let code = held_of w in
     let now : IsTrue (is_honest_after (world_in code) new) = subst (λ (v : World). IsTrue (is_honest_after v new)) (sym same) honest in
     let first : IsSound (world_in code).start = subst (λ (v : World). IsSound v.start) (sym same) sound in
-    let begun : events ≡ [] = rw (c.new-session.ensures.storage, c.staying_open.ensures) c.requires in
+    let begun : events ≡ [] = rw (c.new-session.ensures.storage, c.staying_open.ensures.disk) c.requires in
     let was : IsSound (held_after (world_in code) events) = subst (λ (e : List Event). IsSound (held_after (world_in code) e)) (sym begun) first in
     let stays = ap (held_or (world_in code).start) (c.load.ensures.stays (Some code) now was) ∙ ap (λ (e : List Event). represented (held_after (world_in code) e)) begun in
     subst (λ (v : World). represented (held_after v new) ≡ represented v.start) same stays

@@ -1,8 +1,11 @@
-use Rattle.std.proofs.Common.{◌≡◌, sym, ◌∙◌}
+use Rattle.std.proofs.Common.{◌≡◌, sym, ◌∙◌, subst}
 use Rattle.rrd_disk.specs.Replayed.{held_after}
 use Rattle.rrd_disk.specs.declared.storage.Found.TheVariants.{Open, Unsettled}
 use Rattle.rrd_disk.proofs.Contents.{Laws}
 use Rattle.rrd_disk.proofs.Storing.{made_near, made_sound, on_ok, prepared_made, prepared_readable, prepared_twice, unprepared}
+use Rattle.rrd_disk.specs.Power.{RepresentDatabase}
+use Rattle.rrd_disk.specs.declared.disk.Opening.TheVariants.{Make}
+use Rattle.rrd_disk.proofs.Surviving.{opened_bytes, survives_if, survives_reads, survives_twice_if}
 use Rattle.rrd_disk.proofs.storage.FileStorage.open_to_write.Goals as goal
 
 pub returns-in-Open-clause-prepared : goal.returns-in-Open-clause-prepared
@@ -46,3 +49,26 @@ returns-in-Missing-clause-prepared g c = λ s honest sound.
     let new = g.D.Disk.events c.create.new.self.bytes.disk in
     prepared_made laws c.create.result (held_after s old) (held_after s new) (c.create.ensures.same s) sound
     (on_ok c.create.result _ _ (λ empty. empty s honest) c.create.ensures.empty)
+
+pub returns-in_ok-make-in-Unopened-clause-power : goal.returns-in_ok-make-in-Unopened-clause-power
+returns-in_ok-make-in-Unopened-clause-power g c =
+    let old = g.D.Disk.events c.args.self.now.bytes.disk in
+    let mid = g.D.Disk.events c.make.new.self.bytes.disk in
+    let new = g.D.Disk.events c.prepare.new.file.disk in
+    let same = opened_bytes Make old mid c.make.ensures.same in
+    survives_twice_if c.args.self.now.bytes.syncs c.make.new.self.bytes.syncs old mid new c.prepare.ensures.falls RepresentDatabase RepresentDatabase (λ w honest. c.make.ensures.syncs)
+    (λ w honest some. subst RepresentDatabase (sym (same w)) some) (survives_reads c.args.self.now.bytes.syncs old mid (λ w honest. same w) c.make.ensures.power) c.prepare.ensures.power
+
+pub returns-in_err-make-in-Unopened-clause-power : goal.returns-in_err-make-in-Unopened-clause-power
+returns-in_err-make-in-Unopened-clause-power g c =
+    let old = g.D.Disk.events c.args.self.now.bytes.disk in
+    let new = g.D.Disk.events c.make.new.self.bytes.disk in
+    survives_if c.args.self.now.bytes.syncs old new RepresentDatabase
+    (survives_reads c.args.self.now.bytes.syncs old new (λ w honest. opened_bytes Make old new c.make.ensures.same w) c.make.ensures.power)
+
+pub returns-in-Missing-clause-power : goal.returns-in-Missing-clause-power
+returns-in-Missing-clause-power g c =
+    let old = g.D.Disk.events c.args.self.now.bytes.disk in
+    let new = g.D.Disk.events c.create.new.self.bytes.disk in
+    survives_if c.args.self.now.bytes.syncs old new RepresentDatabase
+    (survives_reads c.args.self.now.bytes.syncs old new (λ w honest. opened_bytes Make old new c.create.ensures.same w) c.create.ensures.power)

@@ -8,11 +8,12 @@ use Rattle.rrd_disk.specs.Asked.{FallsAsked}
 use Rattle.rrd_disk.specs.Contents.{represented}
 use Rattle.rrd_disk.specs.Replayed.{bytes_after, bytes_of, held_after}
 use Rattle.rrd_disk.specs.Storing.{IsReady}
-use Rattle.rrd_disk.proofs.Asked.{falls_asked, still_there}
+use Rattle.rrd_disk.proofs.Asked.{falls_asked, still_there, syncs_stay}
 use Rattle.rrd_disk.proofs.Asking.{bytes_there, of_start, there_bytes}
 use Rattle.rrd_disk.proofs.Contents.{Laws, itself}
 use Rattle.rrd_disk.proofs.Spans.{agrees_there, differs_there}
 use Rattle.rrd_disk.proofs.Storing.{after_replacing, on_err, on_ok}
+use Rattle.rrd_disk.proofs.Surviving.{change_stored, change_survives}
 use Rattle.rrd_disk.proofs.storage.FileStorage.put_where.Goals as goal
 
 pub returns-clause-falls : goal.returns-clause-falls
@@ -47,3 +48,43 @@ returns-clause-writes g c = λ s honest sound differs.
     (on_ok c.replace_where.result _ _ (λ ok. (of_start (λ (o n : List ℕ). AgreesOutside spans o bytes → (settled n ≡ bytes) × IsDatabase bytes) old new (λ q. ok (0 ∷ q)) s honest agrees).0) c.replace_where.ensures.ok)
     (of_start (λ (o n : List ℕ). AgreesOutside spans o bytes → IsDatabase o → (settled n ≡ o) ⊎ (settled n ≡ bytes)) old new (λ q. c.replace_where.ensures.stands (0 ∷ q)) s honest agrees)
     (on_err c.replace_where.result _ _ (λ spoilt. of_start (λ (o n : List ℕ). AgreesOutside spans o bytes → (IsDatabase o → ⊥) → mark_of o ≡ None → (n ≡ o) ⊎ (n ≡ bytes) ⊎ IsNoDatabase n) old new (λ q. spoilt (0 ∷ q)) s honest agrees) c.replace_where.ensures.spoilt)
+
+pub returns-clause-power : goal.returns-clause-power
+returns-clause-power g c = λ ordered d w honest differs P holds all.
+    let laws : Laws = record { begins = c.file_begins.ensures; database = c.files_without_marks_stand_for_themselves.ensures.database; unmarked = c.files_without_marks_stand_for_themselves.ensures.unmarked } in
+    let old = g.D.Disk.events c.args.self.now.bytes.disk in
+    let new = g.D.Disk.events c.replace_where.new.file.disk in
+    let bytes : List ℕ = c.args.bytes.now in
+    let falls : FallsAsked old new = λ q. c.replace_where.ensures.falls (0 ∷ q) in
+    let before = falls_asked old new falls w honest in
+    let there = c.requires.there w before in
+    let none = c.requires.unmarked w before in
+    let file = bytes_after w old in
+    let differ = differs_there c.args.changed.now (represented (held_after w old)) file bytes (itself laws (held_after w old) file there none) differs in
+    let spans = c.deref.result.now in
+    let agrees : AgreesOutside spans file bytes = agrees_there c.args.changed.now spans file bytes (c.deref.ensures.value ∙ c.in_ok-changed.ensures) differ.1 in
+    let some : ¬ IsNoFile file = λ denied. denied differ.0.0 differ.0.1 in
+    change_survives c.args.self.now.bytes.syncs c.replace_where.new.file.syncs old new c.replace_where.ensures.falls laws c.syncs-syncs.result (λ file. AgreesOutside spans file bytes) bytes
+    (λ d s h is database are rests. c.replace_where.ensures.power d s h is database are rests) ordered (c.syncs-syncs.ensures ∙ ordered) d w honest some agrees P holds all
+
+pub returns-clause-stored : goal.returns-clause-stored
+returns-clause-stored g c = on_ok c.replace_where.result _ _ (λ safe ordered d w honest differs P all.
+    let laws : Laws = record { begins = c.file_begins.ensures; database = c.files_without_marks_stand_for_themselves.ensures.database; unmarked = c.files_without_marks_stand_for_themselves.ensures.unmarked } in
+    let old = g.D.Disk.events c.args.self.now.bytes.disk in
+    let new = g.D.Disk.events c.replace_where.new.file.disk in
+    let bytes : List ℕ = c.args.bytes.now in
+    let falls : FallsAsked old new = λ q. c.replace_where.ensures.falls (0 ∷ q) in
+    let before = falls_asked old new falls w honest in
+    let there = c.requires.there w before in
+    let none = c.requires.unmarked w before in
+    let file = bytes_after w old in
+    let differ = differs_there c.args.changed.now (represented (held_after w old)) file bytes (itself laws (held_after w old) file there none) differs in
+    let spans = c.deref.result.now in
+    let agrees : AgreesOutside spans file bytes = agrees_there c.args.changed.now spans file bytes (c.deref.ensures.value ∙ c.in_ok-changed.ensures) differ.1 in
+    let some : ¬ IsNoFile file = λ denied. denied differ.0.0 differ.0.1 in
+    change_stored c.args.self.now.bytes.syncs c.replace_where.new.file.syncs old new c.replace_where.ensures.falls laws c.syncs-syncs.result (λ file. AgreesOutside spans file bytes) bytes
+    (λ d s h is database are rests. safe d s h is database are rests) ordered (c.syncs-syncs.ensures ∙ ordered) d w honest some agrees P all) c.replace_where.ensures.there
+
+pub returns-clause-syncs : goal.returns-clause-syncs
+returns-clause-syncs g c =
+    syncs_stay c.args.self.now.bytes.syncs c.replace_where.new.file.syncs (g.D.Disk.events c.args.self.now.bytes.disk) (g.D.Disk.events c.replace_where.new.file.disk) c.replace_where.ensures.falls
