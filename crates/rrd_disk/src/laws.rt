@@ -49,8 +49,8 @@ pub fn open_files_follow_specification()
     runs_follow_specification();
 }
 
-/// Theorem: power failures. If the power fails while a run that syncs replaces a database, whatever the disk then has
-/// represents the old bytes or the new ones; and a run that ended without an error has stored the new ones.
+/// Theorem: power failures. If the power fails while the database of a file is replaced, by a storage that syncs, whatever
+/// the disk then has represents the old bytes or the new ones; and a change that ended without an error is stored.
 ///
 /// The power fails after `calls` calls on the file (`between`), or in the next one (`within`). The record is that of an
 /// honest file that nobody else wrote. Before the run the file represents a database, and the disk may have other bytes
