@@ -1,22 +1,20 @@
 -- A failure of the power after any call of a change, or in the next one.
-use Rattle.std.proofs.Common.{◌≡◌, ◌∙◌, ℕ, ◌≤◌, Bool, true, IsTrue, List, [], ◌∷◌, ◌++◌, take, inl, inr, refl, sym, ap, subst, arith}
+use Rattle.std.proofs.Common.{◌≡◌, ◌∙◌, ℕ, ◌≤◌, Bool, IsTrue, List, [], ◌∷◌, ◌++◌, take, inl, inr, refl, sym, ap, subst, arith}
 use Rattle.std.proofs.lemmas.Bool.{and_parts, true≢false}
 use Rattle.std.proofs.lemmas.List.{append_assoc}
-use Rattle.rrd_store.specs.Storages.{Bytes, Held}
 use Rattle.rrd_tail.specs.Settled.{settled}
 use Rattle.rrd_undo.specs.Calls.{ArePut}
-use Rattle.rrd_undo.specs.Power.{AllStand}
 use Rattle.rrd_undo.specs.declared.tail.Syncs.{Syncs}
 use Rattle.rrd_undo.specs.declared.tail.Syncs.TheVariants.{Ordered}
 use Rattle.rrd_undo.proofs.Powered.{again_same, stand_less}
 use Rattle.rrd_disk.specs.Events.{Event, Put, PutFailed, Sized, SizeFailed, Synced, SyncFailed}
 use Rattle.rrd_disk.specs.Kills.{are_failed, interrupted, is_failed}
 use Rattle.rrd_disk.specs.Power.{BecameIf, ChangesIf, HasDatabase, IsChange, IsChanged, MayLeave, Survives, SurvivesFailure}
-use Rattle.rrd_disk.specs.Replayed.{World, bytes_after, bytes_of, failures, held_after, is_honest_after, is_there}
+use Rattle.rrd_disk.specs.Replayed.{World, bytes_after, bytes_of, failures, held_after, is_there}
 use Rattle.rrd_disk.proofs.Asked.{stays_there}
 use Rattle.rrd_disk.proofs.Asking.{bytes_there, there_bytes}
 use Rattle.rrd_disk.proofs.Contents.{Laws}
-use Rattle.rrd_disk.proofs.Kills.{cut, cut_held, cut_honest, failures_grow, missed_held, missed_honest, split}
+use Rattle.rrd_disk.proofs.Kills.{cut, cut_held, cut_honest, missed_held, missed_honest, split}
 use Rattle.rrd_disk.proofs.Powering.{torn_none}
 use Rattle.rrd_disk.proofs.Storing.{there_standing}
 

@@ -5,10 +5,10 @@ use Rattle.std.proofs.Math.Seq.{take-append-add, take-append_seam}
 use Rattle.std.proofs.lemmas.Bool.{cases_lt}
 use Rattle.std.proofs.lemmas.List.{get_or_append_left, get_or-append_right, length-take-le, take_all, take-take}
 use Rattle.rrd_disk.specs.Events.{Event}
-use Rattle.rrd_disk.specs.Calls.{Falls, IsGot, KeepsHeld}
+use Rattle.rrd_disk.specs.Calls.{Falls, IsGot}
 use Rattle.rrd_disk.specs.Fronts.{Begins}
-use Rattle.rrd_disk.specs.Known.{Measures, Owes, ShowsBytes}
-use Rattle.rrd_disk.specs.Replayed.{World, bytes_after, bytes_of, held_after, is_honest_after}
+use Rattle.rrd_disk.specs.Known.{Measures}
+use Rattle.rrd_disk.specs.Replayed.{World, bytes_after, is_honest_after}
 use Rattle.rrd_undo.specs.Calls.{ArePut}
 
 -- the length, if a known one became longer

@@ -1,10 +1,10 @@
 -- What calls leave on the disk, by the events that they note.
-use Rattle.std.proofs.Common.{◌≡◌, ◌⊎◌, ℕ, ◌+◌, ◌≤◌, inl, inr, List, ◌∷◌, length, IsTrue, Result, Ok, Err, IfOk, OnErr, OnOk, refl, sym, ◌∙◌, ap, subst, arith}
-use Rattle.rrd_undo.specs.Calls.{AreAny, ArePut, AreWholeOrNot, IsSized}
-use Rattle.rrd_undo.specs.Power.{AreTorn, IsInSector, IsSizedOrNot, Leaves}
+use Rattle.std.proofs.Common.{◌≡◌, ◌⊎◌, ℕ, inl, inr, List, ◌∷◌, length, IsTrue, Result, Ok, Err, IfOk, OnErr, OnOk, refl, sym, ◌∙◌, ap, subst, arith}
+use Rattle.rrd_undo.specs.Calls.{AreAny, AreWholeOrNot}
+use Rattle.rrd_undo.specs.Power.{AreTorn, IsSizedOrNot}
 use Rattle.rrd_disk.specs.Events.{Event, Put, PutFailed, Sized, SizeFailed, Synced, SyncFailed}
 use Rattle.rrd_disk.specs.Calls.{Falls}
-use Rattle.rrd_disk.specs.Replayed.{World, bytes_after, bytes_of, is_honest_after}
+use Rattle.rrd_disk.specs.Replayed.{bytes_after, bytes_of, is_honest_after}
 use Rattle.rrd_disk.specs.Power.{IsOnDisk, KeepsDisk, LeavesOnDisk, MayLeave, StoresOrNot}
 use Rattle.rrd_disk.proofs.Parts.{put_over, sized_twice}
 use Rattle.rrd_disk.proofs.Replaying.{honest_before, sync_failed_keeps, synced_keeps}

@@ -12,7 +12,7 @@ use Rattle.rrd_undo.specs.Power.{AllStand, RestsOn}
 use Rattle.rrd_undo.specs.declared.tail.Syncs.{Syncs}
 use Rattle.rrd_undo.specs.declared.tail.Syncs.TheVariants.{Ordered}
 use Rattle.rrd_undo.proofs.Powered.{stand_less, stand_more}
-use Rattle.rrd_disk.specs.Asked.{bytes_asked, bytes_in, is_honest_asked, is_honest_in, world_of}
+use Rattle.rrd_disk.specs.Asked.{bytes_asked, bytes_in, is_honest_asked, world_of}
 use Rattle.rrd_disk.specs.Calls.{Falls, KeepsHeldFor}
 use Rattle.rrd_disk.specs.Contents.{IsSound, represented}
 use Rattle.rrd_disk.specs.Events.{Event}
@@ -148,7 +148,7 @@ module _ (before mid_syncs : Syncs) (old mid new : List Event) (falls : Falls mi
       → Survives (λ b. b ≡ bytes) d w mid → Survives (λ b. b ≡ bytes) d w new
   survives_same bytes keeps ordered d w honest all =
       let there = keeps ordered d w honest (λ b. bytes_eq b bytes)
-          (stand_more (λ b. b ≡ bytes) (λ b. IsTrue (bytes_eq b bytes)) (bytes_after w mid) (MayLeave d w mid) (λ b same. (bytes_eq-Decides b bytes).1 same) all) in
+      (stand_more (λ b. b ≡ bytes) (λ b. IsTrue (bytes_eq b bytes)) (bytes_after w mid) (MayLeave d w mid) (λ b same. (bytes_eq-Decides b bytes).1 same) all) in
       stand_more (λ b. IsTrue (bytes_eq b bytes)) (λ b. b ≡ bytes) (bytes_after w new) (MayLeave d w new) (λ b same. (bytes_eq-Decides b bytes).0 same) there
 
   pub became_then : {T E : Type 0} (r : Result T E) (Is : Held → Type 0) (bytes : List ℕ) → KeepsSyncs before mid_syncs mid

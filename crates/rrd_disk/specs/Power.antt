@@ -95,8 +95,8 @@ KeepsSyncs before after events = (w : World) → IsTrue (is_honest_after w event
 
 -- ---- laws
 
--- these calls changed a database to these bytes, or began to: what holds of the new bytes, and of all that the file and the disk
--- represented before, holds of whatever the power may leave
+-- these calls changed a database to these bytes, or began to: what holds of the new bytes, and of all that the file and the
+-- disk represented before, holds of whatever the power may leave
 abbrev pub IsChange : List ℕ → List Event → Type 0
 IsChange bytes events = (d : List ℕ) (w : World) → IsTrue (is_honest_after w events) → HasDatabase w.start → (P : List ℕ → Bool)
     → IsTrue (P bytes) → Survives (λ b. IsTrue (P b)) d w [] → Survives (λ b. IsTrue (P b)) d w events

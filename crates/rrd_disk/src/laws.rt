@@ -49,14 +49,14 @@ pub fn open_files_follow_specification()
     runs_follow_specification();
 }
 
-/// Theorem: power failures. If the power fails while a run that syncs replaces a database, whatever the disk then has
-/// represents the old bytes or the new ones; and a run that ended without an error has stored the new ones.
+/// Theorem: power failures. If the power fails while the database of a file is replaced, by a storage that syncs, whatever
+/// the disk then has represents the old bytes or the new ones; and a change that ended without an error is stored.
 ///
-/// The power fails after `calls` calls on the file (`between`), or in the next one (`within`). The record is that of an honest
-/// file that nobody else wrote. Before the run the file represents a database, and the disk may have other bytes than the
-/// file, as after a kill: what holds of all that they represent, and of the new bytes, holds of all that the power may leave.
-/// The premises about the disk are those of `AreTorn`, `IsSizedOrNot` and `SlotsTell`, and that a sync that ends well stores
-/// the file's bytes.
+/// The power fails after `calls` calls on the file (`between`), or in the next one (`within`). The record is that of an
+/// honest file that nobody else wrote. Before the run the file represents a database, and the disk may have other bytes
+/// than the file, as after a kill: what holds of all that they represent, and of the new bytes, holds of all that the
+/// power may leave. The premises about the disk are those of `AreTorn`, `IsSizedOrNot` and `SlotsTell`, and that a sync
+/// that ends well stores the file's bytes.
 pub fn changes_survive_power_failures<D: Disk, L: Location>(
     disk: D,
     calls: u64,
@@ -84,5 +84,4 @@ pub fn changes_survive_power_failures<D: Disk, L: Location>(
 /// After a failure the file has what the disk has, and nothing else is left to store.
 pub fn power_failures_are_survived()
     ensures { (P : List ℕ → Bool) (d : List ℕ) (w : World) (events : List Event) → SurvivesFailure P d w events }
-{
-}
+{}

@@ -1,7 +1,6 @@
-use Rattle.std.proofs.Common.{◌≡◌, ◌∙◌, ◌++◌, Bool, IsTrue, List, ℕ, [], ap, subst, sym}
+use Rattle.std.proofs.Common.{◌≡◌, ◌∙◌, ◌++◌, List, ℕ, [], ap}
 use Rattle.rrd_disk.specs.Events.{Event}
-use Rattle.rrd_disk.specs.Power.{BecameIf, ChangesIf, HasDatabase, IsChange, IsChanged, Survives}
-use Rattle.rrd_disk.specs.Replayed.{held_after}
+use Rattle.rrd_disk.specs.Power.{IsChange}
 use Rattle.rrd_undo.specs.declared.tail.Syncs.TheVariants.{Ordered}
 use Rattle.rrd_disk.proofs.Contents.{Laws}
 use Rattle.rrd_disk.proofs.Failures.{change_begun, changed_begun, cut_change, interrupted_change}

@@ -1,4 +1,4 @@
-use Rattle.rrd_disk.proofs.Powering.{sync_ended, sync_failed_again, sync_stored}
+use Rattle.rrd_disk.proofs.Powering.{sync_ended, sync_stored}
 use Rattle.rrd_disk.proofs.once.sync.Goals as goal
 
 pub returns-in_default-clause-power : goal.returns-in_default-clause-power

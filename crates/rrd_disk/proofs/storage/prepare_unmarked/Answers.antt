@@ -35,7 +35,7 @@ returns-in-Err-File-clause-power g c = λ ordered d w honest are P all.
     let same : held_after w mid ≡ held_after w old = c.load.ensures.same w loaded ∙ c.begins_like_database.ensures.same w before (there_readable laws (held_after w old) are.1) in
     let decodes = subst (λ (r : Result Stored TaskFault). Decodes (Some (Bytes (bytes_after w mid))) r) c.in-Err-File.is (c.load.ensures.reads w loaded) in
     let none = no_file_by_fault (bytes_after w mid) c.in-Err-File.fault (c.one_answer.ensures (bytes_after w mid)) (c.is_of_bytes.ensures c.if-is_of_bytes.true)
-        (subst (λ (f : TaskFault). Finds (Some (Bytes (bytes_after w mid))) (Err f)) c.in-Err-File.field-0-is decodes) in
+    (subst (λ (f : TaskFault). Finds (Some (Bytes (bytes_after w mid))) (Err f)) c.in-Err-File.field-0-is decodes) in
     absurd (are.1 (subst (λ (h : Held). IsNoFile (bytes_of h)) same none))
 
 pub returns-in_err-begins_like_database-clause-power : goal.returns-in_err-begins_like_database-clause-power

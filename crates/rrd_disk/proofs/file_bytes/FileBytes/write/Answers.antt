@@ -1,4 +1,4 @@
-use Rattle.std.proofs.Common.{◌≡◌, ◌+◌, length, rules, arith}
+use Rattle.std.proofs.Common.{◌≡◌, ◌+◌, length, rules}
 use Rattle.rrd_disk.proofs.Knowing.{measures_longer}
 use Rattle.rrd_disk.specs.Replayed.{bytes_after}
 use Rattle.rrd_disk.proofs.file_bytes.FileBytes.write.Goals as goal

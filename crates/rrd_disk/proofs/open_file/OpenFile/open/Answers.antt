@@ -1,5 +1,4 @@
-use Rattle.std.proofs.Common.{◌≡◌, ◌∙◌, [], IsTrue, List, Option, Some, ap, sym, subst}
-use Rattle.rrd_spec.specs.Journal.Survivors.{Stored}
+use Rattle.std.proofs.Common.{◌≡◌, ◌∙◌, [], IsTrue, List, Some, ap, sym, subst}
 use Rattle.rrd_store.specs.Sessions.{IsInMemory}
 use Rattle.rrd_disk.specs.Asked.{held_of, world_in}
 use Rattle.rrd_disk.specs.Contents.{IsSound, represented}

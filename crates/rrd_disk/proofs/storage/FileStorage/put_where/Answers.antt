@@ -1,4 +1,4 @@
-use Rattle.std.proofs.Common.{◌∷◌, ◌≡◌, ◌∙◌, ◌⊎◌, ℕ, List, None, inl, refl, sym}
+use Rattle.std.proofs.Common.{◌∷◌, ◌≡◌, ◌∙◌, ◌⊎◌, ℕ, List, None, inl, refl}
 use Rattle.rrd_store.specs.Storages.{IsNoFile}
 use Rattle.rrd_tail.specs.Marks.{mark_of}
 use Rattle.rrd_tail.specs.Settled.{settled}
@@ -6,7 +6,7 @@ use Rattle.rrd_undo.specs.Databases.{IsDatabase, IsNoDatabase}
 use Rattle.rrd_undo.specs.Spans.{AgreesOutside}
 use Rattle.rrd_disk.specs.Asked.{FallsAsked}
 use Rattle.rrd_disk.specs.Contents.{represented}
-use Rattle.rrd_disk.specs.Replayed.{bytes_after, bytes_of, held_after}
+use Rattle.rrd_disk.specs.Replayed.{bytes_after, held_after}
 use Rattle.rrd_disk.specs.Storing.{IsReady}
 use Rattle.rrd_disk.proofs.Asked.{falls_asked, still_there, syncs_stay}
 use Rattle.rrd_disk.proofs.Asking.{bytes_there, of_start, there_bytes}
