@@ -1,5 +1,5 @@
 -- Glue: what the steps of loading and replacing the database of a file do.
-use Rattle.std.specs.Prelude.{◌≡◌, ◌⊎◌, ◌↔◌, Bool, false, IsSome, IsTrue, List, ℕ, map, Option, Some, None, Result, Ok, Err, []}
+use Rattle.std.specs.Prelude.{◌≡◌, ◌⊎◌, ◌↔◌, Bool, false, IsSome, IsTrue, List, ℕ, map, Option, Some, None, Result, Ok, Err, [], ⊤}
 use Rattle.rrd_disk.specs.Contents.{IsSound, represented}
 use Rattle.rrd_disk.specs.Events.{Event}
 use Rattle.rrd_disk.specs.Replayed.{World, bytes_after, bytes_of, held_after, is_honest_after}
@@ -9,7 +9,10 @@ use Rattle.rrd_disk.specs.declared.loading.Standing.{Standing}
 use Rattle.rrd_disk.specs.declared.storage.Found.{Found}
 use Rattle.rrd_disk.specs.declared.storage.Found.TheVariants.{Open, Unsettled}
 use Rattle.rrd_spec.specs.Journal.Survivors.{Stored}
+use Rattle.rrd_file.specs.Faults.{IsFile}
+use Rattle.rrd_file.specs.declared.encoded.Encoded.{Encoded}
 use Rattle.rrd_file.specs.declared.span.Span.{Span}
+use Rattle.rrd_store.specs.Sessions.{HasBytes}
 use Rattle.rrd_store.specs.Storages.{Bytes, DiffersWithin, Finds, HasNone, Held, IsAfterFailure, IsNoFile}
 use Rattle.rrd_store.specs.declared.faults.TaskFault.{TaskFault}
 use Rattle.rrd_tail.specs.Marks.{mark_of}
@@ -69,6 +72,16 @@ abbrev pub LoadsMarked : List Event → List Event → Result (Option Stored) Ta
 LoadsMarked old new result = (s : World) → IsTrue (is_honest_after s new) → IsSound (held_after s old)
     → held_after s old ≡ Bytes (bytes_after s old) → IsSome (mark_of (bytes_after s old))
     → IsLoaded result (held_after s old) (held_after s new)
+
+-- a database that was read from a file which the run may change is that of the bytes in memory
+abbrev pub HasDecoded : Found → List ℕ → Result (Option Stored) TaskFault → Type 0
+HasDecoded found front (Ok (Some database)) = found ≡ Open → IsFile front database
+HasDecoded found front (Ok None) = ⊤
+HasDecoded found front (Err fault) = ⊤
+
+-- the file represents these bytes, if there are any
+abbrev pub RepresentsBytes : Option Encoded → List Event → Type 0
+RepresentsBytes encoded events = (s : World) → IsTrue (is_honest_after s events) → HasBytes (Some (represented (held_after s events))) encoded
 
 -- a file that stands for a database still stands for it; and after a repair, the file is that database
 abbrev pub KeepsSettled : Standing → List Event → List Event → Type 0

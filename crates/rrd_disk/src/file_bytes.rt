@@ -238,8 +238,8 @@ impl<D: Disk> FileBytes<D> {
         self.front.bytes()
     }
 
-    // Takes the bytes in memory.
-    fn take_front(&mut self) -> Vec<u8>
+    /// Takes the bytes of the file that are in memory: the first part, or all bytes.
+    pub(crate) fn take_front(&mut self) -> Vec<u8>
         ensures disk { self.new.disk ≡ self.old.disk }
         ensures syncs { self.new.syncs ≡ self.old.syncs }
         ensures length { self.new.length ≡ self.old.length }

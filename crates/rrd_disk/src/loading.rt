@@ -8,6 +8,7 @@ ghost use Rattle.rrd_disk.specs.Power.{KeepsSurviving, KeepsSyncs};
 ghost use Rattle.rrd_disk.specs.Replayed.{World, bytes_after, is_honest_after};
 ghost use Rattle.rrd_tail.specs.Settled.{settled};
 ghost use Rattle.rrd_disk.specs.declared.loading.Standing.TheVariants.{Nothing};
+ghost use Rattle.rrd_file.specs.Faults.{IsFile};
 ghost use Rattle.rrd_store.specs.Storages.{Bytes, Decodes, Finds, IsNoFile};
 ghost use Rattle.rrd_undo.specs.Fronts.{IsSettledFront};
 
@@ -80,6 +81,7 @@ pub(crate) fn load<D: Disk>(
     ensures syncs { KeepsSyncs file.old.syncs file.new.syncs (D.events file.new.disk) }
     ensures same { KeepsHonest (D.events file.old.disk) (D.events file.new.disk) }
     ensures reads { ReadsFile (D.events file.new.disk) result }
+    ensures front { IfOk result (IsFile file.new.front.bytes.items) }
     ensures valid { Decodes None result }
 {
     for _ in 0..PARTS {

@@ -1,14 +1,14 @@
 //! A file as the storage of a database. A run opens the file once: the run reads and writes one file, under one lock,
 //! even if another file gets the name meanwhile.
-ghost use Rattle.std.specs.Prelude.{◌≡◌, Err, IfErr, IfOk, IsTrue, List, None, Ok, OnOk, Some, ℕ};
+ghost use Rattle.std.specs.Prelude.{◌≡◌, ◌≢◌, Err, IfErr, IfOk, IsTrue, List, None, Ok, OnOk, Some, ℕ};
 ghost use Rattle.rrd_disk.specs.Calls.{Falls, KeepsHeld, KeepsHeldFor};
 ghost use Rattle.rrd_disk.specs.Entries.{SaysEntry};
 ghost use Rattle.rrd_disk.specs.Loading.{IsStillThere, IsValidStanding, KeepsHonest, StandsSo};
 ghost use Rattle.rrd_disk.specs.Openings.{IsThere, IsUnmarked};
 ghost use Rattle.rrd_disk.specs.Power.{AreUnmarkedDatabase, BecameIf, ChangesIf, DiffersIn, HasDatabase, KeepsDisk, KeepsSurviving, KeepsSurvivingIf, KeepsSyncs, RepresentDatabase};
-ghost use Rattle.rrd_disk.specs.Storing.{AreOf, IsEmpty, IsReadable, IsRepaired, IsStanding, KeepsBytes, KeepsOpen, KeepsSettled, Loads, LoadsMarked, LoadsOpen, Prepares, PreparesMarked, PreparesOpen, PreparesUnmarked, ReadsSome, RepresentsSome, Spoils, TellsMark, TellsNoDatabase, Writes, WritesWhere};
-ghost use Rattle.rrd_disk.specs.declared.storage.Found.TheVariants.{Unopened};
-ghost use Rattle.rrd_file.specs.Faults.{IsOfFile};
+ghost use Rattle.rrd_disk.specs.Storing.{AreOf, HasDecoded, IsEmpty, IsReadable, IsRepaired, IsStanding, KeepsBytes, KeepsOpen, KeepsSettled, Loads, LoadsMarked, LoadsOpen, Prepares, PreparesMarked, PreparesOpen, PreparesUnmarked, ReadsSome, RepresentsBytes, RepresentsSome, Spoils, TellsMark, TellsNoDatabase, Writes, WritesWhere};
+ghost use Rattle.rrd_disk.specs.declared.storage.Found.TheVariants.{Open, Unopened};
+ghost use Rattle.rrd_file.specs.Faults.{IsFile, IsOfFile};
 ghost use Rattle.rrd_disk.specs.declared.disk.Opening.TheVariants.{Make};
 ghost use Rattle.rrd_store.specs.Storages.{Bytes, Finds, IsAnyFile, IsNoFile};
 ghost use Rattle.rrd_tail.specs.Settled.{settled};
@@ -21,7 +21,7 @@ use crate::{Cause, Disk, Location, Opening};
 use rrd_base::Database;
 use rrd_file::laws::{file_begins, one_answer};
 use rrd_file::{FileFault, Span};
-use rrd_store::{Access, Storage, TaskFault};
+use rrd_store::{Access, Loaded as LoadedDatabase, Storage, TaskFault};
 use rrd_tail::DATABASE_MARK;
 use rrd_undo::laws::files_without_marks_stand_for_themselves;
 use rrd_undo::{Bytes, Span as PageSpan, has_mark, replace, replace_where};
@@ -283,6 +283,7 @@ impl<D: Disk, L: Location> FileStorage<D, L> {
     // Notes that there is no file.
     fn miss(&mut self) -> Loaded
         ensures disk { self.new.bytes ≡ self.old.bytes }
+        ensures closed { self.new.found ≢ Open }
         ensures none { result ≡ Ok None }
     {
         self.found = Found::Missing;
@@ -307,6 +308,7 @@ impl<D: Disk, L: Location> FileStorage<D, L> {
         ensures falls { Falls (D.events self.old.bytes.disk) (D.events self.new.bytes.disk) }
         ensures same { KeepsHonest (D.events self.old.bytes.disk) (D.events self.new.bytes.disk) }
         ensures reads { ReadsSome (D.events self.new.bytes.disk) result }
+        ensures held { HasDecoded self.new.found self.new.bytes.front.bytes.items result }
         ensures valid { Finds None result }
     {
         let database = load(alloc, &mut self.bytes, self.place.cause())?;
@@ -318,6 +320,7 @@ impl<D: Disk, L: Location> FileStorage<D, L> {
     fn try_repair(&mut self, alloc: Global, standing: &Standing) -> bool
         requires { self.old.found ≡ Unopened }
         ensures falls { Falls (D.events self.old.bytes.disk) (D.events self.new.bytes.disk) }
+        ensures unwritable { self.new.found ≡ Open → IsTrue result }
         ensures place { IsStillThere (D.events self.old.bytes.disk) (D.events self.new.bytes.disk) }
         ensures stands { KeepsSettled standing.now (D.events self.old.bytes.disk) (D.events self.new.bytes.disk) }
         ensures ok { IsTrue result → IsRepaired standing.now (D.events self.old.bytes.disk) (D.events self.new.bytes.disk) }
@@ -335,6 +338,7 @@ impl<D: Disk, L: Location> FileStorage<D, L> {
     // that was cut short is taken back first. A file that is to stay open has to be repaired.
     fn unrepaired(&mut self, standing: Standing) -> Loaded
         ensures falls { Falls (D.events self.old.bytes.disk) (D.events self.new.bytes.disk) }
+        ensures found { self.new.found ≡ self.old.found }
         ensures same { KeepsHonest (D.events self.old.bytes.disk) (D.events self.new.bytes.disk) }
         ensures stands { (file : List ℕ) → StandsSo standing file → (IsNoFile (settled file) → ⊥) → Finds (Some (Bytes (settled file))) result }
         ensures valid { IsValidStanding standing → Finds None result }
@@ -355,6 +359,7 @@ impl<D: Disk, L: Location> FileStorage<D, L> {
     fn load_marked(&mut self, alloc: Global) -> Loaded
         ensures falls { Falls (D.events self.old.bytes.disk) (D.events self.new.bytes.disk) }
         ensures loads { LoadsMarked (D.events self.old.bytes.disk) (D.events self.new.bytes.disk) result }
+        ensures held { HasDecoded self.new.found self.new.bytes.front.bytes.items result }
         ensures valid { Finds None result }
     {
         file_begins();
@@ -393,6 +398,7 @@ impl<D: Disk, L: Location> FileStorage<D, L> {
     fn load_open(&mut self, alloc: Global) -> Loaded
         ensures falls { Falls (D.events self.old.bytes.disk) (D.events self.new.bytes.disk) }
         ensures loads { LoadsOpen (D.events self.old.bytes.disk) (D.events self.new.bytes.disk) result }
+        ensures held { HasDecoded self.new.found self.new.bytes.front.bytes.items result }
         ensures valid { Finds None result }
     {
         file_begins();
@@ -448,7 +454,8 @@ impl<D: Disk, L: Location> FileStorage<D, L> {
 
     // Closes a file that the run only reads. `unwritable` is the reason why the run cannot write the file.
     fn leave(&mut self, unwritable: Error)
-        ensures { self.new.bytes.disk ≡ self.old.bytes.disk }
+        ensures disk { self.new.bytes.disk ≡ self.old.bytes.disk }
+        ensures closed { self.new.found ≢ Open }
     {
         self.bytes.close();
         self.found = Found::Unwritable(unwritable);
@@ -458,6 +465,7 @@ impl<D: Disk, L: Location> FileStorage<D, L> {
     fn load_to_read(&mut self, alloc: Global, unwritable: Error) -> Loaded
         ensures falls { Falls (D.events self.old.bytes.disk) (D.events self.new.bytes.disk) }
         ensures loads { Loads (D.events self.old.bytes.disk) (D.events self.new.bytes.disk) result }
+        ensures closed { self.new.found ≢ Open }
         ensures valid { Finds None result }
     {
         match self.open(Opening::Read) {
@@ -497,6 +505,7 @@ impl<D: Disk, L: Location> FileStorage<D, L> {
     fn load_to_change(&mut self, alloc: Global) -> Loaded
         ensures falls { Falls (D.events self.old.bytes.disk) (D.events self.new.bytes.disk) }
         ensures loads { Loads (D.events self.old.bytes.disk) (D.events self.new.bytes.disk) result }
+        ensures held { HasDecoded self.new.found self.new.bytes.front.bytes.items result }
         ensures valid { Finds None result }
     {
         match self.open(Opening::Write) {
@@ -711,6 +720,7 @@ impl<D: Disk, L: Location> FileStorage<D, L> {
     fn load_for(&mut self, alloc: Global, access: Access) -> Loaded
         ensures falls { Falls (D.events self.old.bytes.disk) (D.events self.new.bytes.disk) }
         ensures loads { Loads (D.events self.old.bytes.disk) (D.events self.new.bytes.disk) result }
+        ensures held { HasDecoded self.new.found self.new.bytes.front.bytes.items result }
         ensures valid { Finds None result }
     {
         match access {
@@ -718,6 +728,23 @@ impl<D: Disk, L: Location> FileStorage<D, L> {
             Access::ReadWrite if self.is_open() => self.load_open(alloc),
             Access::ReadWrite => self.load_to_change(alloc),
         }
+    }
+
+    // Returns a database that was loaded, with the bytes of its file, if they are in memory and the run is over after one
+    // change. If the file stays open, the bytes stay here: a change reads the old bytes of its pages from them.
+    fn with_bytes(&mut self, database: Database) -> LoadedDatabase
+        requires { self.old.found ≡ Open → IsFile self.old.bytes.front.bytes.items database }
+        ensures disk { self.new.bytes.disk ≡ self.old.bytes.disk }
+        ensures database { result.database ≡ Some database }
+        ensures bytes { RepresentsBytes result.encoded (D.events self.new.bytes.disk) }
+    {
+        file_begins();
+        files_without_marks_stand_for_themselves();
+        let is_last = self.afterwards == Afterwards::Closed;
+        if is_last && matches!(self.found, Found::Open) && self.bytes.is_whole() {
+            return LoadedDatabase::with_bytes(database, self.bytes.take_front());
+        }
+        LoadedDatabase::without_bytes(Some(database))
     }
 }
 
@@ -736,6 +763,17 @@ impl<D: Disk, L: Location> Storage for FileStorage<D, L> {
             self.let_go();
         }
         loaded
+    }
+
+    fn load_to_update(&mut self, alloc: Global) -> Result<LoadedDatabase, TaskFault> {
+        match self.load_for(alloc, Access::ReadWrite) {
+            Ok(Some(database)) => Ok(self.with_bytes(database)),
+            Ok(None) => Ok(LoadedDatabase::without_bytes(None)),
+            Err(fault) => {
+                self.let_go();
+                Err(fault)
+            }
+        }
     }
 
     fn replace(&mut self, bytes: &[u8]) -> io::Result<()> {

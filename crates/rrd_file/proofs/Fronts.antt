@@ -5,11 +5,12 @@ use Rattle.std.proofs.lemmas.List.{take-append-le}
 use Rattle.std.proofs.lemmas.List.Concat.{flat_map-cons}
 use Rattle.rrd_spec.specs.Files.Filed.{Filed, filed}
 use Rattle.rrd_spec.specs.Journal.Survivors.{Stored}
+use Rattle.rrd_spec.specs.declared.version.Version.TheVariants.{One}
 use Rattle.rrd_file.specs.declared.fault.FileFault.{FileFault}
 use Rattle.rrd_file.specs.declared.fault.FileFault.TheVariants.{NotOurs, Version as WrongVersion, Truncated, BadBlock, BadEntry, Trailing, Read, OutOfMemory}
 use Rattle.rrd_file.specs.Faults.{Front, IsBad, IsTrailing}
 use Rattle.rrd_file.specs.Laws.{FileBegins, FrontHasTheFault}
-use Rattle.rrd_file.specs.Layout.{body_pieces, entry_pieces, pieces_filed, spelled}
+use Rattle.rrd_file.specs.Layout.{body_pieces, entry_pieces, layout_in, pieces_filed, spelled}
 use Rattle.rrd_file.specs.Layout.Pieces.{Piece, Mark, OfHeader, OfVersion, spell}
 use Rattle.rrd_file.specs.Stages.{Stage, size}
 use Rattle.rrd_file.proofs.Lengths.{header_length}
@@ -91,3 +92,10 @@ file_begins bytes d file =
     let same = file_is_layout bytes d file in
     let begins = filed_begins (filed file.version d) in
     (subst (λ (l : List ℕ). 16 ≤ length l) (sym same) begins.0, ap (take 4) same ∙ begins.1)
+
+-- the first bytes of a file of the first version
+pub first_begins : (d : Stored) → take 6 (layout_in One d) ≡ 82 ∷ 82 ∷ 68 ∷ 73 ∷ 0 ∷ 1 ∷ []
+unfolding spell
+first_begins d =
+    let f = filed One d in
+    ap (take 6) (begin_so (OfVersion One) (OfHeader f.header) (body_pieces f ++ flat_map entry_pieces f.entries))

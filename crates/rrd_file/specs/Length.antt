@@ -32,9 +32,12 @@ most_of_entry = 132000000000
 abbrev pub most_of_entries : ℕ
 most_of_entries = 13200000000000000
 
--- rows of all archives, and bytes of the records between the header and the entries
+-- rows of all archives, bytes of all cells, and bytes of what is before them
 abbrev pub max_rows_in_all : ℕ
 max_rows_in_all = 128000000
 
-abbrev pub most_of_body : ℕ
-most_of_body = 132000000000
+abbrev pub most_of_cells : ℕ
+most_of_cells = 132000000000
+
+abbrev pub most_of_front : ℕ
+most_of_front = 200000

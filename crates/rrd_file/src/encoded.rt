@@ -1,19 +1,22 @@
 //! The bytes of a file that stay in memory, and the few of them that an update changes.
-ghost use Rattle.std.specs.Prelude.{◌≡◌, ◌+◌, ◌<◌, ◌≤◌, ◌++◌, ◌^◌, IfSome, List, OnOk, Some, length, map, slice_get, slice_index, slice_range, ℕ};
+ghost use Rattle.std.specs.Prelude.{◌≡◌, ◌+◌, ◌<◌, ◌≤◌, ◌++◌, ◌^◌, IfSome, IsTrue, List, OnOk, Some, length, map, slice_get, slice_index, slice_range, ℕ};
 ghost use Rattle.std.specs.List.{All, AllByRecursion};
 ghost use Rattle.rrd_fixed.specs.Written.{Writes};
 ghost use Rattle.rrd_spec.specs.Files.Slots.{cells_by_slot};
 ghost use Rattle.rrd_spec.specs.History.{Rra};
+ghost use Rattle.rrd_spec.specs.Journal.Survivors.{Stored};
 ghost use Rattle.rrd_spec.specs.Laws.Slots.{HasOneEach};
-ghost use Rattle.rrd_spec.specs.Limits.{present};
+ghost use Rattle.rrd_spec.specs.Limits.{newest, present};
+ghost use Rattle.rrd_spec.specs.declared.version.Version.{Version};
 ghost use Rattle.rrd_file.specs.Encoded.{HoldsBeforeJournal, HoldsCells, HoldsRows, HoldsSlots, cell_bytes, front_bytes, journal_bytes, row_bytes};
-ghost use Rattle.rrd_file.specs.Layout.{spelled};
+ghost use Rattle.rrd_file.specs.Layout.{layout_in, spelled};
 ghost use Rattle.rrd_file.specs.Layout.Pieces.{OfCell};
 ghost use Rattle.rrd_file.specs.Spans.{IsBeside, IsWithin};
 
 use crate::cells::write_cells;
 use crate::journal::write_entries;
-use crate::layout::CELL_SIZE;
+use crate::layout::{CELL_SIZE, NEWEST};
+use crate::length::cells_span;
 use crate::writer::{PieceWriter, put_cells};
 use crate::{Span, encoded_length, write_front};
 use rrd_base::{Database, database_is_valid};
@@ -35,6 +38,13 @@ pub struct Encoded {
     cells_end: usize,
     // The last time of the database, in seconds since 1970.
     last: u64,
+}
+
+// Returns whether the file with these bytes has the newest version.
+fn is_newest(bytes: &[u8]) -> bool
+    ensures { IsTrue result → (version : Version) (d : Stored) → bytes.now ≡ layout_in version d → version ≡ newest }
+{
+    bytes.starts_with(&NEWEST)
 }
 
 // Writes the bytes before the cells.
@@ -198,9 +208,9 @@ pub struct Updated {
 
 impl Encoded {
     ghost use Rattle.rrd_file.specs.Encoded.{Encodes, Precedes, bytes_in};
+    ghost use Rattle.rrd_file.specs.Faults.{IsFile};
     ghost use Rattle.rrd_file.specs.Spans.{AgreesOutside};
     ghost use Rattle.rrd_file.specs.Layout.{layout};
-    ghost use Rattle.rrd_spec.specs.Journal.Survivors.{Stored};
 
     /// Encodes a database. Returns `None` if memory runs out.
     pub fn new(alloc: Global, database: &Database) -> Option<Encoded>
@@ -216,6 +226,24 @@ impl Encoded {
             bytes,
             cells_at,
             cells_end,
+            last: database.last(),
+        })
+    }
+
+    /// Takes the bytes that were decoded to a database, to change them. Returns `None` if the file has an earlier version.
+    pub fn of_file(bytes: Vec<u8>, database: &Database) -> Option<Encoded>
+        requires { IsFile bytes.items database.now }
+        ensures encodes { IfSome result (λ encoded. Encodes encoded database.now) }
+        ensures bytes { IfSome result (λ encoded. bytes_in encoded ≡ bytes.items) }
+    {
+        if !is_newest(&bytes) {
+            return None;
+        }
+        let cells = cells_span(database);
+        Some(Encoded {
+            bytes,
+            cells_at: cells.start,
+            cells_end: cells.end,
             last: database.last(),
         })
     }

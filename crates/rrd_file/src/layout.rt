@@ -21,6 +21,9 @@ pub(crate) const MARK_SIZE: usize = 4;
 /// The size of the version, in bytes.
 pub(crate) const VERSION_SIZE: usize = 2;
 
+/// The first bytes of a file of the newest version: the mark and the version.
+pub(crate) const NEWEST: [u8; MARK_SIZE + VERSION_SIZE] = *b"RRDI\x00\x02";
+
 /// The size of a header of version 1, in bytes.
 pub(crate) const FIRST_HEADER_SIZE: usize = 20;
 

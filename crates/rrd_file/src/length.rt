@@ -1,16 +1,17 @@
 //! The size of a database's file. The size follows from the numbers of data sources, archives, rows and entries, so no
 //! cell is read.
-ghost use Rattle.std.specs.Prelude.{ℕ, ◌≡◌, ◌≤◌, ◌*◌, length};
+ghost use Rattle.std.specs.Prelude.{ℕ, ◌≡◌, ◌≤◌, ◌+◌, ◌*◌, length};
 ghost use Rattle.std.specs.List.{AllByRecursion, flat_map, sum_by};
 ghost use Rattle.rrd_base.specs.Journal.{entry_of, update_of};
 ghost use Rattle.rrd_file.specs.Journal.{IsEntryOfSome};
-ghost use Rattle.rrd_file.specs.Layout.{body_pieces, entry_pieces, layout, saved_pieces, spelled};
-ghost use Rattle.rrd_file.specs.Length.{IsWide, most_of_all_saved, most_of_body, most_of_entries, most_of_entry, most_of_rows, most_of_saved, max_rows_in_all, rows_of};
+ghost use Rattle.rrd_file.specs.Encoded.{cell_bytes, front_bytes};
+ghost use Rattle.rrd_file.specs.Layout.{entry_pieces, layout, saved_pieces, spelled};
+ghost use Rattle.rrd_file.specs.Length.{IsWide, most_of_all_saved, most_of_cells, most_of_entries, most_of_entry, most_of_front, most_of_rows, most_of_saved, max_rows_in_all, rows_of};
 ghost use Rattle.rrd_ring.specs.Rows.{max_rows, max_sources};
-ghost use Rattle.rrd_spec.specs.Files.Filed.{filed};
 ghost use Rattle.rrd_spec.specs.Journal.Entries.{RemovedEntry, ResizeEntry, TuneEntry, UpdateEntry};
-ghost use Rattle.rrd_spec.specs.Limits.{newest, present};
+ghost use Rattle.rrd_spec.specs.Limits.{present};
 
+use crate::Span;
 use crate::layout::{
     ARCHIVE_SIZE, BEFORE_TUNE_SIZE, BEFORE_UPDATE_SIZE, CELL_SIZE, COUNT_SIZE, MARK_SIZE,
     NUMBER_SIZE, PREP_SIZE, ROWS_SIZE, SECOND_HEADER_SIZE, SOURCE_SIZE, TAG_SIZE, TIME_SIZE,
@@ -175,16 +176,37 @@ fn rows_in_all(database: &Database) -> u64
     rows
 }
 
-// Returns the size of the pieces between the header and the entries: data sources, archive headers, cells.
-fn body_length(database: &Database) -> u64
-    ensures count { result ≡ length (spelled (body_pieces (filed newest database.now))) }
-    ensures few { result ≤ most_of_body }
+// Returns the size of what is before the cells: the header, the data sources, and the headers of the archives.
+fn front_length(database: &Database) -> u64
+    ensures count { result ≡ length (front_bytes database.now) }
+    ensures few { result ≤ most_of_front }
+{
+    // The prover needs that each name is valid, and so fits its twenty bytes.
+    database_is_valid(database);
+    let sources = database.sources();
+    HEADER + SOURCE * sources + database.archives() * (ARCHIVE + PREP * sources)
+}
+
+// Returns the size of the cells of all archives.
+fn cells_length(database: &Database) -> u64
+    ensures count { result ≡ length (cell_bytes database.now.content) }
+    ensures few { result ≤ most_of_cells }
 {
     cells_stand_in_slots();
     database_is_valid(database);
-    let sources = database.sources();
-    let heads = database.archives() * (ARCHIVE + PREP * sources);
-    SOURCE * sources + heads + rows_in_all(database) * sources * CELL
+    rows_in_all(database) * database.sources() * CELL
+}
+
+/// Returns where the cells of a database's file are, in bytes. No cell is read.
+pub(crate) fn cells_span(database: &Database) -> Span
+    ensures start { result.start ≡ length (front_bytes database.now) }
+    ensures end { result.end ≡ result.start + length (cell_bytes database.now.content) }
+{
+    let start = front_length(database);
+    Span {
+        start: start as usize,
+        end: (start + cells_length(database)) as usize,
+    }
 }
 
 /// Returns the number of bytes that `encode` writes for a database.
@@ -194,5 +216,5 @@ fn body_length(database: &Database) -> u64
 pub fn encoded_length(database: &Database) -> u64
     ensures { result ≡ length (layout database.now) }
 {
-    HEADER + body_length(database) + entries_length(database)
+    front_length(database) + cells_length(database) + entries_length(database)
 }

@@ -1,21 +1,24 @@
 //! One command on a stored database.
-ghost use Rattle.std.specs.Prelude.{◌≡◌, IfSome, List, None, Option, Result, Some, false, ℕ};
+ghost use Rattle.std.specs.Prelude.{◌≡◌, Err, IfErr, IfOk, IfSome, List, None, Ok, Option, Result, Some, false, ℕ};
 ghost use Rattle.std.specs.Io.KnownBytes.{Keeps};
 ghost use Rattle.rrd_file.specs.Encoded.{Encodes};
 ghost use Rattle.rrd_tool.specs.Commands.{effect};
 ghost use Rattle.rrd_tool.specs.Execution.{database_left, fault_left, has_changed};
 ghost use Rattle.rrd_tool.specs.Lines.{is_empty};
 ghost use Rattle.rrd_store.specs.Runs.{ByCommand, IsComputed};
+ghost use Rattle.rrd_store.specs.Sessions.{HasBytes};
 ghost use Rattle.rrd_store.specs.Single.{Ends, IsSingle, StartsFrom, access_for};
 ghost use Rattle.rrd_store.specs.Encoding.{IsOf, MayReplace};
 ghost use Rattle.rrd_store.specs.Storages.{Held, Leaves};
 
-use crate::encoding::Encoding;
+use crate::encoding::{Encoding, encoded_after, reach_of, take_encoded};
 use crate::laws::storage_runs_follow_specification;
 use crate::stored::{store, store_encoded};
-use crate::{Access, Storage, TaskFault};
+use crate::{Access, Loaded, Storage, TaskFault};
 use rrd_base::Database;
+use rrd_file::laws::{encoded_is_layout, layout_is_file};
 use rrd_fixed::flush;
+use rrd_spec::laws::updates_keep_newest_rows;
 use rrd_tool::{Command, Fault, Outcome, Words, execute, read_command};
 use std::alloc::Global;
 use std::io::Write;
@@ -38,27 +41,33 @@ fn access_of(command: &Command) -> Access
     }
 }
 
-// Returns the database that a command runs on. A command that creates a database does not read the storage.
+// Reads the database that a command runs on. A command that creates a database does not read the storage.
 fn start<P: Storage>(
     alloc: Global,
     command: &Command,
     storage: &mut P,
-) -> Result<Option<Database>, TaskFault>
+) -> Result<Loaded, TaskFault>
     ensures falls { (s : Option Held) → P.is_honest s storage.new → P.is_honest s storage.old }
     ensures sound { (s : Option Held) → P.is_honest s storage.new → P.is_sound s storage.old
         → P.is_sound s storage.new }
-    ensures start { (s : Option Held) → P.is_honest s storage.new → P.is_sound s storage.old
-        → StartsFrom command.now (P.contents s storage.old) result }
+    ensures start { IfOk result (λ loaded. (s : Option Held) → P.is_honest s storage.new → P.is_sound s storage.old
+        → StartsFrom command.now (P.contents s storage.old) (Ok loaded.database)) }
+    ensures fault { IfErr result (λ fault. (s : Option Held) → P.is_honest s storage.new → P.is_sound s storage.old
+        → StartsFrom command.now (P.contents s storage.old) (Err fault)) }
     ensures stays { (s : Option Held) → P.is_honest s storage.new → P.is_sound s storage.old
         → P.contents s storage.new ≡ P.contents s storage.old }
+    ensures bytes { IfOk result (λ loaded. (s : Option Held) → P.is_honest s storage.new → P.is_sound s storage.old
+        → HasBytes (P.contents s storage.new) loaded.encoded) }
 {
-    if let Command::Create(_) = command {
-        return Ok(None);
+    let loaded = match command {
+        Command::Create(_) => return Ok(Loaded::without_bytes(None)),
+        Command::Update(_) => storage.load_to_update(alloc)?,
+        _ => Loaded::without_bytes(storage.load(alloc, access_of(command))?),
+    };
+    if loaded.database.is_none() {
+        return Err(TaskFault::CannotOpen);
     }
-    match storage.load(alloc, access_of(command))? {
-        Some(database) => Ok(Some(database)),
-        None => Err(TaskFault::CannotOpen),
-    }
+    Ok(loaded)
 }
 
 // Writes the database that a command changed.
@@ -129,9 +138,18 @@ fn run_words<P: Storage, W: Write>(
         (W.contents out.old) (W.contents out.new) result }
 {
     let command = read_command(alloc, words, now)?;
-    let database = start(alloc, &command, storage)?;
+    layout_is_file();
+    encoded_is_layout();
+    updates_keep_newest_rows();
+    let reach = reach_of(&command);
+    let Loaded {
+        database,
+        mut encoded,
+    } = start(alloc, &command, storage)?;
+    let before = take_encoded(&mut encoded, &database);
     let outcome = execute(alloc, database, command, out);
-    finish(alloc, &outcome, None, storage, out)
+    let encoding = encoded_after(alloc, before, reach, &outcome);
+    finish(alloc, &outcome, encoding.as_ref(), storage, out)
 }
 
 /// Runs one command on the database in `storage`, and writes the command's output to `out`.

@@ -1,8 +1,9 @@
 //! The storage of a database, which keeps the bytes of the database as a file does.
-ghost use Rattle.std.specs.Prelude.{◌≡◌, None, OnErr, OnOk, Option};
+ghost use Rattle.std.specs.Prelude.{◌≡◌, Err, IfErr, IfOk, None, Ok, OnErr, OnOk, Option};
+ghost use Rattle.rrd_store.specs.Sessions.{HasBytes};
 ghost use Rattle.rrd_store.specs.Storages.{Becomes, DiffersWithin, Finds, Held, IsAfterFailure, IsAnyFile};
 
-use crate::TaskFault;
+use crate::{Loaded, TaskFault};
 use rrd_base::Database;
 use rrd_file::Span;
 use std::alloc::Global;
@@ -52,6 +53,27 @@ pub trait Storage {
             → contents s self.new ≡ contents s self.old }
         ensures found { (s : Option Held) → is_honest s self.new → is_sound s self.old
             → Finds (contents s self.old) result };
+
+    /// Reads the database for an update, as [`Storage::load`] does for [`Access::ReadWrite`], with the bytes of its file,
+    /// if the storage has them in memory and needs them no more.
+    ///
+    /// # Errors
+    ///
+    /// As [`Storage::load`].
+    fn load_to_update(&mut self, alloc: Global) -> Result<Loaded, TaskFault>
+        ensures falls { (s : Option Held) → is_honest s self.new → is_honest s self.old }
+        ensures sound { (s : Option Held) → is_honest s self.new → is_sound s self.old → is_sound s self.new }
+        ensures stays { (s : Option Held) → is_honest s self.new → is_sound s self.old
+            → contents s self.new ≡ contents s self.old }
+        ensures found { IfOk result (λ loaded. (s : Option Held) → is_honest s self.new → is_sound s self.old
+            → Finds (contents s self.old) (Ok loaded.database)) }
+        ensures fault { IfErr result (λ fault. (s : Option Held) → is_honest s self.new → is_sound s self.old
+            → Finds (contents s self.old) (Err fault)) }
+        ensures bytes { IfOk result (λ loaded. (s : Option Held) → is_honest s self.new → is_sound s self.old
+            → HasBytes (contents s self.new) loaded.encoded) }
+    {
+        Ok(Loaded::without_bytes(self.load(alloc, Access::ReadWrite)?))
+    }
 
     /// Replaces the bytes by the bytes of a database. If nothing is stored, creates the storage.
     ///

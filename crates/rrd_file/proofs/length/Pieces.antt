@@ -17,11 +17,13 @@ use Rattle.rrd_spec.specs.Journal.Fitting.{IsSavedSource}
 use Rattle.rrd_spec.specs.Journal.Survivors.{Stored}
 use Rattle.rrd_spec.specs.Limits.{newest, present}
 use Rattle.rrd_spec.specs.Validity.{AreAccepted, IsSource, IsValidArchive}
-use Rattle.rrd_file.specs.Layout.{body_pieces, entry_pieces, head_pieces, layout, raws_and_parts, row_pieces, saved_pieces, spelled}
+use Rattle.rrd_file.specs.Encoded.{cell_bytes, front_bytes, journal_bytes}
+use Rattle.rrd_file.specs.Layout.{entry_pieces, head_pieces, layout, raws_and_parts, row_pieces, saved_pieces, spelled}
 use Rattle.rrd_file.specs.Layout.Pieces.{Piece, Mark, OfVersion, OfHeader, OfSource, OfArchive, OfPrep, OfCell, OfTag, OfTime, OfRawAndPart, OfRows, OfCount, OfSavedSource, OfNumber, AnUpdate, ATune, AResize, ARemoval, spell}
 use Rattle.rrd_file.specs.Layout.Values.{cell_number, part_bytes, raw_bytes, raw_number, source_bytes}
 use Rattle.rrd_file.specs.Length.{IsWide}
 use Rattle.rrd_file.proofs.Gathering.{flat_flat}
+use Rattle.rrd_file.proofs.Joined.{joined_layout}
 use Rattle.rrd_file.proofs.Lengths.{length_source, part_length, short_name, source_length}
 use Rattle.rrd_file.proofs.SignedBytes.{signed_length}
 
@@ -116,7 +118,7 @@ unfolding spell
 removed_has number sources archive is =
     omega (arith, joined (OfTag ARemoval ∷ OfNumber number ∷ OfArchive archive.def ∷ []) (map OfPrep archive.parts ++ row_pieces archive.rows), joined (map OfPrep archive.parts) (row_pieces archive.rows), preps_have archive.parts, rows_have sources archive.rows is)
 
--- ---- the body
+-- ---- what is before the cells
 
 pub sources_have : (defs : List DsDef) (raws : List Raw) (parts : List Part) → AllByRecursion IsSource defs → AreAccepted defs raws → length parts ≡ length defs → length (spelled (map OfSource (sources_of defs raws parts))) ≡ length defs * 97
 sources_have [] raws parts are taken same = refl
@@ -136,16 +138,16 @@ heads_have sources steps (archive ∷ archives) are =
     let first : flat_map head_pieces (map head_of (archive ∷ archives)) ≡ head_pieces (head_of archive) ++ flat_map head_pieces (map head_of archives) = flat_map-cons head_pieces (head_of archive) (map head_of archives) in
     omega (arith, ap (λ l. length (spelled l)) first, joined (head_pieces (head_of archive)) (flat_map head_pieces (map head_of archives)), head_has archive, are.0.parts_are.one_each, heads_have sources steps archives are.1, suc-mul (length archives) (13 + 20 * sources))
 
-pub body_has : (d : Stored) → let f = filed newest d in length (spelled (body_pieces f)) ≡ length (spelled (map OfSource f.sources)) + length (spelled (flat_map head_pieces f.heads)) + length f.cells * 16
-body_has d =
-    let f = filed newest d in
-    omega (arith, joined (map OfSource f.sources ++ flat_map head_pieces f.heads) (map OfCell f.cells), joined (map OfSource f.sources) (flat_map head_pieces f.heads), cells_have f.cells)
-
 -- ---- the whole
 
-pub layout_has : (d : Stored) → length (layout d) ≡ 30 + length (spelled (body_pieces (filed newest d))) + length (spelled (flat_map entry_pieces d.journal))
+pub front_has : (d : Stored) → let f = filed newest d in length (front_bytes d) ≡ 30 + length (spelled (map OfSource f.sources)) + length (spelled (flat_map head_pieces f.heads))
 unfolding spell
+front_has d =
+    let f = filed newest d in
+    let sources = spelled (map OfSource f.sources) in
+    let heads = spelled (flat_map head_pieces f.heads) in
+    omega (arith, length-append (spelled (Mark ∷ OfVersion newest ∷ OfHeader (header_of newest d) ∷ [])) (sources ++ heads), length-append sources heads)
+
+pub layout_has : (d : Stored) → length (layout d) ≡ length (front_bytes d) + length (cell_bytes d.content) + length (journal_bytes d)
 layout_has d =
-    let body = body_pieces (filed newest d) in
-    let entries = flat_map entry_pieces d.journal in
-    omega (arith, joined (Mark ∷ OfVersion newest ∷ OfHeader (header_of newest d) ∷ []) (body ++ entries), joined body entries)
+    omega (arith, ap length (joined_layout d), length-append (front_bytes d) (cell_bytes d.content ++ journal_bytes d), length-append (cell_bytes d.content) (journal_bytes d))
