@@ -1,9 +1,9 @@
 -- What the bytes of a file, and the first of them, say of the result of reading the file.
-use Rattle.std.proofs.Common.{◌≡◌, ◌++◌, ◌∙◌, ℕ, Bool, IfOk, IfSome, IsTrue, List, Option, length, drop, take, slice_index, true, Some, None, Result, Ok, Err, sym, ap, subst, arith, length-take, get_or-take}
+use Rattle.std.proofs.Common.{◌≡◌, ◌++◌, ◌∙◌, ℕ, Bool, IfOk, IfSome, IsTrue, List, Option, length, drop, take, slice_index, true, Some, None, Result, Ok, Err, refl, sym, ap, subst, arith, length-take, get_or-take}
 use Rattle.std.proofs.lemmas.List.Prefix.{front_from_reads}
 use Rattle.rrd_file.specs.declared.fault.FileFault.{FileFault}
 use Rattle.rrd_file.specs.declared.fault.FileFault.TheVariants.{NotOurs, Version as WrongVersion, Truncated, BadBlock, BadEntry, Trailing, Read, OutOfMemory}
-use Rattle.rrd_file.specs.Faults.{IsFault, IsOfFile}
+use Rattle.rrd_file.specs.Faults.{IsFault, IsFile, IsOfFile}
 use Rattle.rrd_file.specs.Laws.{FrontHasTheFault, HasOneAnswer}
 use Rattle.rrd_spec.specs.Journal.Survivors.{Stored}
 use Rattle.rrd_store.specs.Storages.{Bytes, Decodes, IsNoFile}
@@ -54,6 +54,14 @@ front_begins all front count is = record {
   within = omega (arith, ap length is, length-take count all);
   each = λ i low. ap (λ (b : List ℕ). slice_index b i) is ∙ get_or-take count all i 0 (omega (arith, low, ap length is, length-take count all));
 }
+
+pub begins_itself : (bytes : List ℕ) → Begins bytes bytes
+begins_itself bytes = record { within = omega arith; each = λ i low. refl }
+
+-- a database that was read from these bytes is theirs
+pub decodes_front : (read : Result Stored TaskFault) (bytes front : List ℕ) → bytes ≡ front → Decodes (Some (Bytes bytes)) read → IfOk read (IsFile front)
+decodes_front (Ok database) bytes front same known = subst (λ (b : List ℕ). IsFile b database) same known
+decodes_front (Err fault) bytes front same known = tt
 
 -- ---- bytes that have a fault are no database
 

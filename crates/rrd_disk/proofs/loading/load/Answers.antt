@@ -1,11 +1,15 @@
-use Rattle.std.proofs.Common.{◌∙◌, ap, rules}
+use Rattle.std.proofs.Common.{◌∙◌, ap, refl, rules}
 use Rattle.rrd_disk.specs.Replayed.{bytes_after, bytes_of}
+use Rattle.rrd_disk.proofs.Loaded.{begins_itself, decodes_front}
 use Rattle.rrd_disk.proofs.Surviving.{survives_reads, survives_twice, syncs_twice}
 use Rattle.rrd_disk.proofs.loading.load.Goals as goal
 
 pub returns-in-Some-clause-reads : goal.returns-in-Some-clause-reads
 returns-in-Some-clause-reads g c = λ s honest.
     c.in-Some.ensures.reads (bytes_after s (g.D.Disk.events c.loop.file.disk)) (c.front.ensures.shown s honest) (λ whole. c.front.ensures.items ∙ c.is_whole.ensures whole s honest)
+
+pub returns-in-Some-clause-front : goal.returns-in-Some-clause-front
+returns-in-Some-clause-front g c = decodes_front c.in-Some.read c.front.result.now c.loop.file.front.bytes.items c.front.ensures.items (c.in-Some.ensures.reads c.front.result.now (begins_itself c.front.result.now) (λ whole. refl))
 
 pub returns-in-Err-clause-reads : goal.returns-in-Err-clause-reads
 returns-in-Err-clause-reads g c = λ s honest. c.read_fault.ensures.known _
