@@ -9,7 +9,7 @@ use Rattle.rrd_file.proofs.journal.rows.read_saved_cells.Goals as goal
 
 pub returns-in_err-cell-clause-brings : goal.returns-in_err-cell-clause-brings
 returns-in_err-cell-clause-brings g c = λ bytes pieces later st.
-    let p = err_from_is_err_and c.from_residual.result c.from_residual.ensures.1 in
+    let p = err_from_is_err_and c.from_residual-in_err-cell.result c.from_residual-in_err-cell.ensures.1 in
     let n = c.args.count in
     let i = c.loop.counter in
     let more : i < n = search rules in

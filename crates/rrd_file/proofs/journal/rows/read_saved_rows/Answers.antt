@@ -13,7 +13,7 @@ pub returns-in_err-cells-clause-brings : goal.returns-in_err-cells-clause-brings
 returns-in_err-cells-clause-brings g c = λ bytes pieces later st.
     let p = err_from_is_err_and c.from_residual.result c.from_residual.ensures.1 in
     rw (p.1, p.2) (c.in_err-cells.ensures.brings bytes pieces later
-    (subst (λ (k : ℕ). Comes bytes c.args.build.now pieces (replicate (c.args.count * k) RowCellDue ++ later) c.args.input.now) (sym c.sources.ensures.count) st))
+    (subst (λ (k : ℕ). Comes bytes c.args.build.now pieces (replicate (c.args.count * k) RowCellDue ++ later) c.args.input.now) (sym c.sources-sources.ensures.count) st))
 
 pub returns-clause-brings : goal.returns-clause-brings
 returns-clause-brings g c = λ bytes pieces later st.
@@ -23,4 +23,4 @@ returns-clause-brings g c = λ bytes pieces later st.
     let same = ap (map OfCell) (sym c.from_cells.ensures.cells) ∙ pieces_of_cells rows in
     subst (λ (l : List Piece). Comes bytes f (pieces ++ l) later c.read_saved_cells.new.input) same
     (c.in_ok-cells.ensures.brings bytes pieces later
-    (subst (λ (k : ℕ). Comes bytes f pieces (replicate (c.args.count * k) RowCellDue ++ later) c.args.input.now) (sym c.sources.ensures.count) st))
+    (subst (λ (k : ℕ). Comes bytes f pieces (replicate (c.args.count * k) RowCellDue ++ later) c.args.input.now) (sym c.sources-sources.ensures.count) st))
