@@ -1,4 +1,4 @@
-use Rattle.std.proofs.Common.{◌≡◌, ap, arith, length}
+use Rattle.std.proofs.Common.{ap, arith, length}
 use Rattle.rrd_spec.specs.History.{Content}
 use Rattle.rrd_spec.specs.Lemmas.Validity.{length-accepted}
 use Rattle.rrd_base.proofs.content.Content.undo_update.Goals as goal

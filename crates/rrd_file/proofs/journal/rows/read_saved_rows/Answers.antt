@@ -1,8 +1,5 @@
-use Rattle.std.proofs.Common.{◌∙◌, ◌*◌, ◌++◌, ℕ, List, sym, ap, length, map, replicate, subst, arith}
+use Rattle.std.proofs.Common.{◌∙◌, ◌*◌, ◌++◌, ℕ, List, sym, ap, map, replicate, subst}
 use Rattle.std.proofs.lemmas.Result.{err_from_is_err_and}
-use Rattle.rrd_fixed.specs.declared.cell.Cell.{Cell}
-use Rattle.rrd_spec.specs.Files.Rebuilding.{outline_left}
-use Rattle.rrd_file.specs.Layout.{row_pieces}
 use Rattle.rrd_file.specs.Layout.Pieces.{OfCell, Piece}
 use Rattle.rrd_file.specs.Stages.{RowCellDue}
 use Rattle.rrd_file.specs.Progress.{Comes}
