@@ -75,6 +75,7 @@ can_put_back step sources steps from to archive old is fits =
     let wide : width archive.rows ≡ sources = width_is sources archive.rows (omega (arith, is.some_rows, is.rows_are)) is.each_row in
     record {
       same_function = fits.same_function;
+      as_many_parts = fits.one_part_each ∙ sym is.parts_are.one_each;
       few = omega (arith, fits.as_many, is.rows_are);
       one_width = rw wide fits.one_cell_each;
     }

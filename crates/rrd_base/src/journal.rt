@@ -13,8 +13,9 @@ use crate::rra::Rra;
 use arrayvec::ArrayVec;
 use rrd_fixed::Raw;
 use rrd_fold::StepPrep;
-use rrd_ring::Archive;
+use rrd_ring::{Archive, PLACES};
 use rrd_spec::limits::MAX_TUNED;
+use smallvec::SmallVec;
 
 mod put_back;
 mod saved_archive;
@@ -22,15 +23,18 @@ mod saved_archive;
 pub(crate) use put_back::put_back;
 pub use saved_archive::SavedArchive;
 
+/// A list with one element for each data source. Two elements fit without an allocation.
+pub type EachSource<T> = SmallVec<T, PLACES>;
+
 /// A database as it was before an update.
 #[derive(Drop)]
 pub struct BeforeUpdate {
     /// The time of the last sample before, or the start, in seconds since 1970.
     pub last: u64,
     /// The last raw value of each data source.
-    pub raws: Vec<Raw>,
+    pub raws: EachSource<Raw>,
     /// The partial step of each data source.
-    pub preps: Vec<StepPrep>,
+    pub preps: EachSource<StepPrep>,
     /// The values of each archive that the update replaced.
     pub archives: Vec<SavedArchive>,
 }

@@ -22,7 +22,7 @@ mod walk;
 
 pub use create::check_create;
 pub use database::{Database, database_is_valid};
-pub use journal::{BeforeUpdate, Entry, SavedArchive};
+pub use journal::{BeforeUpdate, EachSource, Entry, SavedArchive};
 pub use rebuild::{EntryValidator, Header, PieceFault, Rebuild, is_bounded};
 pub use rra::Rra;
 pub use rrd_spec::{

@@ -22,7 +22,7 @@ use crate::cell_run::CellRun;
 use crate::rows::{HasRows, rows_between};
 use crate::walk::Steps;
 use crate::walk::preparations::{add_steps, close_rows};
-use crate::{RraDef, SavedArchive};
+use crate::{EachSource, RraDef, SavedArchive};
 use rrd_fixed::{Cell, Meter};
 use rrd_fold::RowPrep;
 use rrd_ring::Archive;
@@ -290,7 +290,7 @@ impl Rra {
         ensures { IfOk result (λ s. s
             ≡ record { function = self.now.def.function; parts = self.now.parts; rows = first n self.now.rows }) }
     {
-        let preps = Vec::from_slice(alloc, &self.preps)?;
+        let preps = EachSource::from_slice(alloc, &self.preps)?;
         let rows = self.rows.oldest(alloc, n)?;
         Ok(SavedArchive::new(self.def.function, preps, rows))
     }
@@ -318,7 +318,7 @@ impl Rra {
         ensures { self.new ≡ after_put_back self.old saved }
     {
         let SavedArchive { preps, rows, .. } = saved;
-        self.preps = preps;
+        self.preps.copy_from_slice(preps.as_slice());
         self.rows.put_back(rows);
     }
 

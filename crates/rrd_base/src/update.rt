@@ -18,7 +18,7 @@ use crate::archives::{put_back_all, save_all};
 use crate::columns::Columns;
 use crate::content::Content;
 use crate::named::{has_double_name, has_source};
-use crate::{BeforeUpdate, DsDef, Given, List, Refusal, Sample, Update};
+use crate::{BeforeUpdate, DsDef, EachSource, Given, List, Refusal, Sample, Update};
 use rrd_fixed::{Name, Raw, admit};
 use rrd_spec::limits::MAX_TIME;
 use std::alloc::{AllocError, Global};
@@ -198,8 +198,8 @@ impl Content {
     {
         Ok(BeforeUpdate {
             last: self.last,
-            raws: Vec::from_slice(alloc, &self.raws)?,
-            preps: Vec::from_slice(alloc, &self.preps)?,
+            raws: EachSource::from_slice(alloc, &self.raws)?,
+            preps: EachSource::from_slice(alloc, &self.preps)?,
             archives: save_all(alloc, self.archives.as_slice(), self.step, self.last, end)?,
         })
     }
@@ -217,8 +217,8 @@ impl Content {
             archives,
         } = before;
         self.last = last;
-        self.raws = raws;
-        self.preps = preps;
+        self.raws.copy_from_slice(raws.as_slice());
+        self.preps.copy_from_slice(preps.as_slice());
         put_back_all(self.archives.as_mut_slice(), archives);
     }
 }

@@ -1,10 +1,11 @@
 -- Rows that come one after another into a table.
-use Rattle.std.proofs.Common.{◌≡◌, ◌∙◌, ◌+◌, ◌-◌, ◌<◌, ◌≤◌, ◌++◌, ℕ, zero, suc, List, [], ◌∷◌, sym, ap, subst, length, length-set, replicate, take, arith, append-nil, map}
+use Rattle.std.proofs.Common.{refl, ◌≡◌, ◌∙◌, ◌+◌, ◌-◌, ◌<◌, ◌≤◌, ◌++◌, ℕ, zero, suc, List, [], ◌∷◌, sym, ap, subst, length, length-set, replicate, take, arith, append-nil, map}
 use Rattle.std.specs.Prelude.{slice_set}
-use Rattle.std.proofs.lemmas.List.{length-replicate}
+use Rattle.std.proofs.lemmas.List.{length-replicate, map-append}
+use Rattle.std.proofs.lemmas.List.Concat.{flat_map-cons}
 use Rattle.rrd_fixed.specs.declared.cell.Cell.{Cell}
 use Rattle.rrd_fixed.specs.declared.cell.Cell.TheVariants.{Unknown}
-use Rattle.rrd_ring.specs.Rows.{HasWidth, nth_row, unknown_rows, with_row}
+use Rattle.rrd_ring.specs.Rows.{HasWidth, nth_row, row_cells, unknown_rows, with_row}
 use Rattle.rrd_spec.specs.Files.Filed.{Filed}
 use Rattle.rrd_spec.specs.Files.Rebuilding.{outline_left}
 use Rattle.rrd_file.specs.Reader.{Input}
@@ -59,6 +60,15 @@ rows_go_on f n i rows row old new first h more is wide brings =
           (brings bytes (pieces ++ row_pieces (take i rows)) (cells_due (n - (i + 1)) now ++ later)
           (subst (λ (l : List DueInEntry). Comes bytes f (pieces ++ row_pieces (take i rows)) l old) (row_less now n i later more) (h.2 bytes pieces later st))),
     )
+
+-- the cells of all rows are those of one row after another
+pub pieces_of_cells : (rows : List (List Cell)) → map OfCell (row_cells rows) ≡ row_pieces rows
+pieces_of_cells [] = refl
+pieces_of_cells (row ∷ rows) =
+    ap (map OfCell) (flat_map-cons (λ (r : List Cell). r) row rows)
+    ∙ map-append OfCell row (row_cells rows)
+    ∙ ap (λ (l : List Piece). map OfCell row ++ l) (pieces_of_cells rows)
+    ∙ sym (flat_map-cons (λ (r : List Cell). map OfCell r) row rows)
 
 -- ---- a table that rows are read into
 

@@ -1,10 +1,10 @@
 -- Bytes that are in none of some spans stay as they were.
-use Rattle.std.proofs.Common.{◌≡◌, ◌∙◌, ◌⊎◌, ◌+◌, ◌-◌, ◌*◌, ◌<◌, ◌≤◌, ◌++◌, ℕ, List, [], ◌∷◌, sym, ap, subst, inl, inr, arith, length, get_or, take, drop, length-append, length-take, refl, Some, Result, Ok, Err, OnOk}
+use Rattle.std.proofs.Common.{◌≡◌, ◌∙◌, ◌⊎◌, ◌+◌, ◌-◌, ◌<◌, ◌≤◌, ◌++◌, ℕ, List, [], ◌∷◌, sym, ap, subst, inl, inr, arith, length, get_or, take, drop, length-append, length-take, refl, Some, Result, Ok, Err, OnOk}
 use Rattle.std.specs.List.{All}
-use Rattle.std.proofs.lemmas.List.{get_or-append-add, get_or-append_right, get_or-drop, get_or-take, get_or_append_left, get_or_past}
+use Rattle.std.proofs.lemmas.List.{get_or-append_right, get_or-drop, get_or-take, get_or_append_left, get_or_past}
 use Rattle.std.proofs.lemmas.List.Elements.{All-pop}
 use Rattle.std.proofs.lemmas.Bool.{cases_lt}
-use Rattle.rrd_file.specs.Spans.{AgreesOutside, IsBeside, IsWithin}
+use Rattle.rrd_file.specs.Spans.{AgreesOutside, IsBeside}
 use Rattle.rrd_file.specs.declared.span.Span.{Span}
 
 -- ---- results

@@ -23,7 +23,7 @@ use crate::layout::{ARCHIVE_SIZE, PREP_SIZE};
 use crate::reader::PieceReader;
 use crate::values::{four_of, function_byte, function_of, part_of};
 use crate::writer::{BLOCK_SIZE, Block, PieceWriter};
-use rrd_base::{Database, Rebuild, RraDef, database_is_valid};
+use rrd_base::{Database, EachSource, Rebuild, RraDef, database_is_valid};
 use rrd_fixed::WriteFault;
 use rrd_fold::RowPrep;
 use std::alloc::Global;
@@ -228,7 +228,7 @@ pub(crate) fn read_row_preps<R: Read + Drop>(
     build: &Rebuild,
     last: u64,
     def: &RraDef,
-) -> Result<Vec<RowPrep>, FileFault>
+) -> Result<EachSource<RowPrep>, FileFault>
     requires is_due { due build.now ≡ EntryDue }
     requires some_steps { 0 < def.now.steps }
     requires few_steps { def.now.steps ≤ present.max_steps_per_row }
@@ -241,8 +241,9 @@ pub(crate) fn read_row_preps<R: Read + Drop>(
     ensures function { IfOk result (λ preps. AllOf def.now.function preps.items) }
     ensures shaped { IfOk result (λ preps. length preps.items ≡ length (outline_left build.now).sources) }
 {
-    let mut preps = Vec::new(alloc);
-    for _ in 0..build.sources() {
+    let sources = build.sources();
+    let mut preps = EachSource::with_capacity(alloc, sources as usize)?;
+    for _ in 0..sources {
         let prep = read_row_prep(input, build, last, def)?;
         preps.push(prep)?;
     }

@@ -1,4 +1,6 @@
 //! Rates and consolidated values.
+ghost use Rattle.std.specs.Prelude.{◌≡◌};
+ghost use Rattle.rrd_fixed.specs.declared.cell.Cell.TheVariants.{Unknown};
 
 /// A rate or a consolidated value, in millionths: known, or unknown.
 ///
@@ -9,4 +11,13 @@ pub enum Cell {
     Unknown,
     /// The value in millionths.
     Known(i128),
+}
+
+impl Default for Cell {
+    /// Returns the unknown value. Short lists hold it in places that are not in use.
+    fn default() -> Self
+        ensures { result ≡ Unknown }
+    {
+        Cell::Unknown
+    }
 }

@@ -4,6 +4,7 @@ ghost use Rattle.std.specs.List.{fold};
 ghost use Rattle.rrd_fixed.specs.Rate.{top};
 ghost use Rattle.rrd_fold.specs.Parts.{with_cell, row_cell, nothing};
 ghost use Rattle.rrd_fold.specs.Bounds.{IsBounded, counted, most_known, weight};
+ghost use Rattle.rrd_fold.specs.declared.function.Function.TheVariants.{Average};
 
 use crate::Function;
 use crate::summary::Summary;
@@ -27,6 +28,15 @@ impl Model for RowPrep {
     ghost view = { λ r. r.summary };
 
     ghost inverse = { λ s. record { summary = s } };
+}
+
+impl Default for RowPrep {
+    /// Returns a row without a step, of the average. Short lists hold it in places that are not in use.
+    fn default() -> Self
+        ensures { result ≡ record { function = Average; part = nothing } }
+    {
+        RowPrep::new(Function::Average)
+    }
 }
 
 impl RowPrep {

@@ -8,11 +8,11 @@ use Rattle.std.proofs.lemmas.List.{append_assoc, length-take-le, take-append-dro
 use Rattle.rrd_fixed.specs.declared.cell.Cell.{Cell}
 use Rattle.rrd_fixed.specs.declared.cell.Cell.TheVariants.{Unknown}
 use Rattle.rrd_ring.specs.Rows.{nth_row, width, with_row, with_rows}
-use Rattle.rrd_ring.specs.Ring.{row_of, rows_of, ring_rows, with_unwritten, AreParts, ArePartlyWritten, AreWhole, IsRing, IsPartlyWritten}
+use Rattle.rrd_ring.specs.Ring.{row_of, ring_rows, with_unwritten, AreParts, AreWhole, IsRing, IsPartlyWritten}
 use Rattle.std.specs.List.{refill, length_refill}
 use Rattle.std.specs.Vec.{with_items_from}
-use Rattle.rrd_ring.proofs.RingLemmas.{cells_le, length-row_of, length-ring_rows, length-with_cells, nth_row-ring_rows, nth_row-rows_of, parts_all, ring_fits, ring_written, rows_fit, rows_written, vec_written, with_cells}
-use Rattle.rrd_ring.proofs.WrittenLemmas.{AreFilled, IsFilled, dropped_count, same_ring, filled_further, filled_long, length-put, ring_le, row_count, row_width, row_written, still_ring, still_rows, whole_filled, written_over}
+use Rattle.rrd_ring.proofs.RingLemmas.{cells_le, length-row_of, length-ring_rows, length-with_cells, nth_row-ring_rows, parts_all, ring_fits, ring_written, vec_written, with_cells}
+use Rattle.rrd_ring.proofs.WrittenLemmas.{IsFilled, same_ring, filled_further, filled_long, length-put, ring_le, row_count, row_width, row_written, still_ring, whole_filled, written_over}
 
 -- the cells with those of so many rows in place of the ones from row k on
 abbrev pub with_block : ℕ → ℕ → ℕ → List Cell → List Cell → List Cell
@@ -324,36 +324,6 @@ row_lent {rows} {w} {index} {at} {i} {start} {v} {all} filled at_is within start
       rows_are = λ cells. let new = came w start v cells in
           ap (ring_rows rows w index) (back cells ∙ ap (λ (k : ℕ). with_cells w k ys new) at_is)
           ∙ ring_written rows w index i ys new filled.is.ring there (wide cells)
-          ∙ ap (λ (rs : List (List Cell)). set rs i new) filled.view
-          ∙ ap (λ (row : List Cell). set all i (refill (length row) row cells)) value;
-    }
-
--- and of rows that were dropped
-pub record AreLent (rows w i start : ℕ) (all : List (List Cell)) (v : Vec Cell Global) : Type 0 where
-  pub value : lent w start v ≡ nth_row all i
-  pub are : (cells : List Cell) → ArePartlyWritten rows w (with_items_from v start (came w start v cells))
-  pub rows_are : (cells : List Cell) → rows_of rows w (with_unwritten (rows * w) (with_items_from v start (came w start v cells)).items) ≡ with_row all i cells
-
-pub dropped_lent : {rows w i start : ℕ} {v : Vec Cell Global} {all : List (List Cell)} → AreFilled rows w (i + 1) all v → i < length all → start ≡ i * w → AreLent rows w i start all v
-dropped_lent {rows} {w} {i} {start} {v} {all} filled within start_is =
-    let xs = v.items in
-    let ys = with_unwritten (rows * w) xs in
-    let there : i < rows = omega (arith, dropped_count filled.are filled.view) in
-    let fits : i * w + w ≤ length xs = omega (arith, filled.long, one_more i w) in
-    let value : lent w start v ≡ nth_row all i = lent_is w i start v start_is
-    ∙ row_written (rows * w) (i * w) w xs fits
-    ∙ sym (nth_row-rows_of rows w ys i there)
-    ∙ ap (λ (rs : List (List Cell)). nth_row rs i) filled.view in
-    let wide : (cells : List Cell) → length (came w start v cells) ≡ w = λ cells. length-came w i start v cells start_is fits in
-    let back : (cells : List Cell) → with_unwritten (rows * w) (with_items_from v start (came w start v cells)).items ≡ with_cells w i ys (came w start v cells) = λ cells. came_back (rows * w) w i start v (came w start v cells) fits (wide cells) start_is in
-    let whole = rows_fit rows w i ys filled.are.rows_are there in
-    record {
-      value = value;
-      are = λ cells. let new = came w start v cells in
-          still_rows filled.are (ap length (back cells) ∙ length-with_cells w i ys new whole (wide cells)) (omega arith) (whole_back w i start v new filled.are.ends fits (wide cells) start_is);
-      rows_are = λ cells. let new = came w start v cells in
-          ap (rows_of rows w) (back cells)
-          ∙ rows_written rows w i ys new filled.are.rows_are there (wide cells)
           ∙ ap (λ (rs : List (List Cell)). set rs i new) filled.view
           ∙ ap (λ (row : List Cell). set all i (refill (length row) row cells)) value;
     }

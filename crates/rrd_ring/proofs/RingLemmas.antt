@@ -220,7 +220,7 @@ AreDropped-rows_of rows w xs are =
 -- ---- rows that lie together
 
 -- the cells of rows are those of the vector
-row_cells-rows_of : (n w : ℕ) (xs : List Cell) → length xs ≡ n * w → row_cells (rows_of n w xs) ≡ xs
+pub row_cells-rows_of : (n w : ℕ) (xs : List Cell) → length xs ≡ n * w → row_cells (rows_of n w xs) ≡ xs
 row_cells-rows_of zero w xs e = let none : length xs ≤ 0 = omega (arith, e) in sym (drop_all 0 xs none)
 row_cells-rows_of (suc n) w xs e =
     let one : 1 * w ≡ w = omega arith in
@@ -506,21 +506,6 @@ same_or_not j i =
     ⊎_elim (λ (less : j < i). inr (λ e. absurd (omega arith)))
     (λ (least : i ≤ j). ⊎_elim (λ (greater : i < j). inr (λ e. absurd (omega arith))) (λ (most : j ≤ i). inl (omega arith)) (cases_lt i j))
     (cases_lt j i)
-
-pub rows_written : (rows w i : ℕ) (xs row : List Cell) → AreRows rows w xs → i < rows → length row ≡ w → rows_of rows w (with_cells w i xs row) ≡ set (rows_of rows w xs) i row
-rows_written rows w i xs row are h e =
-    let fits = rows_fit rows w i xs are h in
-    let was = rows_of rows w xs in
-    let count = length-rows_of rows w xs in
-    sym (fill_by_all (λ j. row_of w (with_cells w i xs row) j) (set was i row) rows [] (length-set was i row ∙ count)
-    (λ j k. ⊎_elim (λ (same : j ≡ i).
-    ap (λ (n : ℕ). get_or (set was i row) n []) same
-    ∙ get_or-set_same was i row [] (omega arith)
-    ∙ sym (row_of-written w i xs row fits e)
-    ∙ ap (λ (n : ℕ). row_of w (with_cells w i xs row) n) (sym same))
-    (λ (other : j ≡ i → ⊥).
-    get_or-set_other was i j row [] other ∙ nth_row-rows_of rows w xs j k ∙ sym (row_of-others w i j xs row fits e other))
-    (same_or_not j i)))
 
 -- two rows at one index are one
 wrapped_same : (rows index i j : ℕ) → index < rows → i < rows → j < rows → (index + j) % rows ≡ (index + i) % rows → j ≡ i

@@ -7,7 +7,7 @@ use Rattle.std.proofs.lemmas.List.{append_assoc, append-nil, take-append-drop, r
 use Rattle.rrd_fixed.specs.declared.cell.Cell.{Cell}
 use Rattle.rrd_fixed.specs.declared.cell.Cell.TheVariants.{Unknown}
 use Rattle.rrd_ring.specs.Rows.{HasWidth, width, max_rows, newest_rows, unknown_rows}
-use Rattle.rrd_ring.specs.Ring.{cells_in, from_index, ring_rows, rows_of, with_unwritten, AreParts, AreRows, AreWhole, AreWritten, ArePartlyWritten, IsRing, IsPartlyWritten}
+use Rattle.rrd_ring.specs.Ring.{cells_in, from_index, ring_rows, rows_of, with_unwritten, AreParts, AreRows, AreWhole, AreWritten, IsRing, IsPartlyWritten}
 use Rattle.rrd_ring.proofs.RingLemmas.{cells_le, with_cells, length-parts, length-ring_rows, length-rows_of, length-with_cells, ring_at_front, ring_fits, ring_len, ring_push, ring_put_back, ring_take, ring_unknown, ring_width, rows_len, rows_of-append, rows_of-parts, rows_of_unknown, same_cells, same_rows}
 use Rattle.std.specs.Vec.{with_items}
 
@@ -164,9 +164,6 @@ row_count {rows} {w} {index} {v} {all} is view = ring_len rows w index (with_unw
 pub row_width : {rows w index : ℕ} {v : Vec Cell Global} {all : List (List Cell)} → IsPartlyWritten rows w index v → ring_rows rows w index (with_unwritten (rows * w) v.items) ≡ all → width all ≡ w
 row_width {rows} {w} {index} {v} {all} is view = ring_width rows w index (with_unwritten (rows * w) v.items) all is.ring view
 
-pub dropped_count : {rows w : ℕ} {v : Vec Cell Global} {all : List (List Cell)} → ArePartlyWritten rows w v → rows_of rows w (with_unwritten (rows * w) v.items) ≡ all → length all ≡ rows
-dropped_count {rows} {w} {v} {all} are view = rows_len rows w (with_unwritten (rows * w) v.items) all view
-
 pub ring_le : (rows w index : ℕ) (v : Vec Cell Global) → IsPartlyWritten rows w index v → length v.items ≤ rows * w
 ring_le rows w index v is = written_le (rows * w) v.items is.ring.whole
 
@@ -217,15 +214,6 @@ pub still_ring : {rows w index : ℕ} {v new : Vec Cell Global} → IsPartlyWrit
 still_ring {rows} {w} {index} {v} {new} is as_long room ends =
     let had : rows * w ≤ vec_capacity v = is.room in
     record { ring = same_ring rows w index (with_unwritten (rows * w) v.items) (with_unwritten (rows * w) new.items) is.ring as_long; room = omega (arith, had, room); ends = ends }
-
-pub still_rows : {rows w : ℕ} {v new : Vec Cell Global} → ArePartlyWritten rows w v → length (with_unwritten (rows * w) new.items) ≡ length (with_unwritten (rows * w) v.items) → vec_capacity v ≤ vec_capacity new → AreWhole w new.items → ArePartlyWritten rows w new
-still_rows {rows} {w} {v} {new} are as_long room ends =
-    let had : rows * w ≤ vec_capacity v = are.room in
-    record {
-      rows_are = record { few_rows = are.rows_are.few_rows; some_sources = are.rows_are.some_sources; few_sources = are.rows_are.few_sources; whole = as_long ∙ are.rows_are.whole };
-      room = omega (arith, had, room);
-      ends = ends;
-    }
 
 -- filled up as far as row k, it is the same ring
 pub record IsFilled (rows w index k : ℕ) (all : List (List Cell)) (new : Vec Cell Global) : Type 0 where
@@ -427,50 +415,22 @@ part_copied all s n xs fits h =
     ∙ ap (λ (zs : List Cell). take n back ++ zs) (take-replicate (n - length back) (all - length xs) Unknown (omega (arith, lb)))))
     (cases_lt (length xs) s)
 
--- ---- rows that fell out
-
--- filled up as far as row k, they are the same rows
-pub record AreFilled (rows w k : ℕ) (all : List (List Cell)) (new : Vec Cell Global) : Type 0 where
-  pub are : ArePartlyWritten rows w new
-  pub view : rows_of rows w (with_unwritten (rows * w) new.items) ≡ all
-  pub long : k * w ≤ length new.items
-
-pub rows_filled : {rows w k end : ℕ} {v new : Vec Cell Global} {all : List (List Cell)} → ArePartlyWritten rows w v → rows_of rows w (with_unwritten (rows * w) v.items) ≡ all → k ≤ rows → end ≡ k * w → new.items ≡ with_unwritten end v.items → vec_capacity v ≤ vec_capacity new
-    → AreFilled rows w k all new
-rows_filled {rows} {w} {k} {end} {v} {new} are view h end_is put room =
-    let items : new.items ≡ with_unwritten (k * w) v.items = put ∙ ap (λ (n : ℕ). with_unwritten n v.items) end_is in
-    let same : with_unwritten (rows * w) new.items ≡ with_unwritten (rows * w) v.items = ap (with_unwritten (rows * w)) items ∙ filled_further (rows * w) (k * w) v.items (cells_le k rows w h) in
-    record {
-      are = still_rows are (ap length same) room (subst (AreWhole w) (sym items) (whole_filled w k v.items are.ends));
-      view = ap (rows_of rows w) same ∙ view;
-      long = omega (arith, ap length items, filled_long (k * w) v.items);
-    }
-
--- all of them are written
-pub wholly_rows : (rows w : ℕ) (v : Vec Cell Global) → AreRows rows w v.items → ArePartlyWritten rows w v
-wholly_rows rows w v are = record {
-  rows_are = subst (AreRows rows w) (sym (all_written (rows * w) v.items are.whole)) are;
-  room = let within : vec_len v ≤ vec_capacity v = v.ok.1 in omega (arith, within, v.ok.0, are.whole);
-  ends = record { count = rows; whole = are.whole };
-}
-
 -- ---- rows are copied
 
-pub record AreCopied (n w : ℕ) (old : List (List Cell)) (new : Vec Cell Global) : Type 0 where
-  pub are : ArePartlyWritten n w new
-  pub rows_are : rows_of n w (with_unwritten (n * w) new.items) ≡ take n old
+pub record AreCopied (n w : ℕ) (old : List (List Cell)) (new : List Cell) : Type 0 where
+  pub are : AreRows n w new
+  pub rows_are : rows_of n w new ≡ take n old
 
 -- the oldest
-pub oldest_copied : {rows w index n start front rest : ℕ} {v new : Vec Cell Global} {all : List (List Cell)} → IsPartlyWritten rows w index v → ring_rows rows w index (with_unwritten (rows * w) v.items) ≡ all → AreParts rows w index 0 n start front rest → n ≤ length all
-    → new.items ≡ cells_in start front rest (with_unwritten (rows * w) v.items) → AreCopied n w all new
-oldest_copied {rows} {w} {index} {n} {v} {new} {all} is view parts few items =
+pub oldest_copied : {rows w index n start front rest : ℕ} {v : Vec Cell Global} {new : List Cell} {all : List (List Cell)} → IsPartlyWritten rows w index v → ring_rows rows w index (with_unwritten (rows * w) v.items) ≡ all → AreParts rows w index 0 n start front rest → n ≤ length all
+    → new ≡ cells_in start front rest (with_unwritten (rows * w) v.items) → AreCopied n w all new
+oldest_copied {rows} {w} {index} {n} {v = v} {new = new} is view parts few items =
     let xs = with_unwritten (rows * w) v.items in
     let fewer : n ≤ rows = omega (arith, row_count is view) in
     let few_rows : rows ≤ max_rows = is.ring.few_rows in
-    let long : length new.items ≡ n * w = ap length items ∙ length-parts xs parts is.ring fewer in
     record {
-      are = wholly_rows n w new (record { few_rows = omega arith; some_sources = is.ring.some_sources; few_sources = is.ring.few_sources; whole = long });
-      rows_are = ap (rows_of n w) (all_written (n * w) new.items long ∙ items) ∙ rows_of-parts xs parts is.ring (omega arith) ∙ ap (take n) view;
+      are = record { few_rows = omega arith; some_sources = is.ring.some_sources; few_sources = is.ring.few_sources; whole = ap length items ∙ length-parts xs parts is.ring fewer };
+      rows_are = ap (rows_of n w) items ∙ rows_of-parts xs parts is.ring (omega arith) ∙ ap (take n) view;
     }
 
 -- the newest, after unknown ones
@@ -517,20 +477,17 @@ pub record MayPutBack (rows w index n : ℕ) (all old : List (List Cell)) (xs ds
   pub cells : length ds ≡ n * w
   pub rows_are : rows_of n w ds ≡ old
 
-pub both_filled : {rows w index n u end last : ℕ} {v d : Vec Cell Global} {all old : List (List Cell)} {xs ds : List Cell} → IsPartlyWritten rows w index v → ring_rows rows w index (with_unwritten (rows * w) v.items) ≡ all → ArePartlyWritten n u d → rows_of n u (with_unwritten (n * u) d.items) ≡ old
-    → length old ≤ length all → HasWidth (width all) old → end ≡ rows * w → xs ≡ with_unwritten end v.items → last ≡ n * u → ds ≡ with_unwritten last d.items → MayPutBack rows w index n all old xs ds
-both_filled {rows} {w} {index} {n} {u} {v} {d} {all} {old} {xs} {ds} is view are dropped fits one_width end_is filled last_is filled_ds =
+pub ring_filled_up : {rows w index n u end : ℕ} {v : Vec Cell Global} {all old : List (List Cell)} {xs ds : List Cell} → IsPartlyWritten rows w index v → ring_rows rows w index (with_unwritten (rows * w) v.items) ≡ all → AreRows n u ds → rows_of n u ds ≡ old
+    → length old ≤ length all → HasWidth (width all) old → end ≡ rows * w → xs ≡ with_unwritten end v.items → MayPutBack rows w index n all old xs ds
+ring_filled_up {rows} {w} {index} {n} {u} {v = v} {old = old} {xs = xs} {ds = ds} is view are dropped fits one_width end_is filled =
     let items : xs ≡ with_unwritten (rows * w) v.items = filled ∙ ap (λ (m : ℕ). with_unwritten m v.items) end_is in
-    let items_ds : ds ≡ with_unwritten (n * u) d.items = filled_ds ∙ ap (λ (m : ℕ). with_unwritten m d.items) last_is in
-    let named : rows_of n u ds ≡ old = ap (rows_of n u) items_ds ∙ dropped in
-    let whole : length ds ≡ n * u = ap length items_ds ∙ are.rows_are.whole in
-    let wide : HasWidth w (rows_of n u ds) = subst (HasWidth w) (sym named) (subst (λ (m : ℕ). HasWidth m old) (row_width is view) one_width) in
+    let wide : HasWidth w (rows_of n u ds) = subst (HasWidth w) (sym dropped) (subst (λ (m : ℕ). HasWidth m old) (row_width is view) one_width) in
     record {
       is = subst (IsRing rows w index) (sym items) is.ring;
       view = ap (ring_rows rows w index) items ∙ view;
-      fewer = omega (arith, fits, row_count is view, dropped_count are dropped);
-      cells = same_cells n u w ds whole wide;
-      rows_are = sym (same_rows n u w ds whole wide) ∙ named;
+      fewer = omega (arith, fits, row_count is view, rows_len n u ds old dropped);
+      cells = same_cells n u w ds are.whole wide;
+      rows_are = sym (same_rows n u w ds are.whole wide) ∙ dropped;
     }
 
 pub record IsPutBack (rows w index : ℕ) (all old : List (List Cell)) (new : Vec Cell Global) : Type 0 where

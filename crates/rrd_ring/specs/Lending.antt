@@ -5,12 +5,7 @@ use Rattle.rrd_fixed.specs.declared.cell.Cell.{Cell}
 use Rattle.rrd_fixed.specs.contracts.cell.Cell.{the_row as cell_row}
 use Rattle.rrd_ring.specs.Rows.{with_row}
 use Rattle.rrd_ring.specs.contracts.archive.Archive.{the_row as archive_row}
-use Rattle.rrd_ring.specs.contracts.dropped.Dropped.{the_row as dropped_row}
 
 -- row i of the archive ends as the cells that were last written through the loan
 abbrev pub LendsRow : MutBor (List (List Cell)) → ℕ → MutBor (List Cell) → Fml
 LendsRow archive i row = Lends archive_row (Array cell_row 0) archive row (with_row archive.now i)
-
--- row i of dropped rows ends as the cells that were last written through the loan
-abbrev pub LendsDropped : MutBor (List (List Cell)) → ℕ → MutBor (List Cell) → Fml
-LendsDropped dropped i row = Lends dropped_row (Array cell_row 0) dropped row (with_row dropped.now i)

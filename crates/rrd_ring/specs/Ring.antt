@@ -66,12 +66,6 @@ pub record AreRows (rows sources : ℕ) (cells : List Cell) : Type 0 where
   pub few_sources : sources ≤ max_sources
   pub whole : length cells ≡ rows * sources
 
--- rows whose vector has whole written rows first, and capacity for the rest
-pub record ArePartlyWritten (rows sources : ℕ) (written : Vec Cell Global) : Type 0 where
-  pub rows_are : AreRows rows sources (with_unwritten (rows * sources) written.items)
-  pub room : rows * sources ≤ vec_capacity written
-  pub ends : AreWhole sources written.items
-
 -- how many of the newest rows of a ring may be written, if its vector has so many written cells: none if there is no
 -- written cell; the rows before the oldest row's index if the written cells end at this index or before; otherwise all
 pub record AreWritten (rows sources index cells written : ℕ) : Type 0 where

@@ -8,7 +8,7 @@ ghost use Rattle.rrd_ring.specs.Rows.{nth_row, row_cells, width, HasWidth, with_
 use crate::dropped::Dropped;
 use crate::ring::{
     are_unknown, cells_of, fill_up, forget, index_of, parts_of, push_parts, row_at, row_mut,
-    rows_written, run_from, unknown_cells, wrap, write_cells, write_from, write_row_at,
+    rows_written, run_from, save_parts, unknown_cells, wrap, write_cells, write_from, write_row_at,
 };
 use rrd_fixed::{Cell, Meter};
 use std::alloc::{AllocError, Global};
@@ -251,8 +251,7 @@ impl Archive {
     {
         let rows = n as usize;
         let parts = parts_of(0, rows, self.oldest, self.rows, self.sources);
-        let mut cells = Vec::with_capacity(alloc, cells_of(rows, self.sources))?;
-        push_parts(&mut cells, &self.cells, parts)?;
+        let cells = save_parts(alloc, &self.cells, parts)?;
         Ok(Dropped {
             cells,
             rows,
@@ -269,15 +268,14 @@ impl Archive {
         ensures { self.new ≡ dropped ++ take (length self.old - length dropped) self.old }
     {
         let Dropped {
-            cells: mut old,
+            cells: old,
             rows,
-            sources,
+            ..
         } = dropped;
-        fill_up(&mut old, cells_of(rows, sources));
         fill_up(&mut self.cells, cells_of(self.rows, self.sources));
         self.oldest = wrap(self.oldest + (self.rows - rows), self.rows);
         let start = cells_of(self.oldest, self.sources);
-        write_from(&mut self.cells, start, &old);
+        write_from(&mut self.cells, start, old.as_slice());
     }
 
     /// Copies the archive with `rows` rows (1 to 1,000,000): the newest ones (rrdresize).

@@ -10,6 +10,6 @@ mod ring;
 mod table;
 
 pub use archive::Archive;
-pub use dropped::Dropped;
+pub use dropped::{Dropped, DroppedCells, PLACES};
 pub use ring::are_unknown;
 pub use table::Table;

@@ -1,11 +1,13 @@
 //! Functions on rows of cells in one vector. A ring is such a vector whose oldest row may be any row in it.
 ghost use Rattle.std.specs.Prelude.{ℕ, ◌≡◌, ◌+◌, ◌*◌, ◌%◌, ◌-◌, ◌<◌, ◌≤◌, ◌^◌, ◌++◌, length, take, drop, replicate, slice_range, vec_len, vec_capacity, IfOk, IsTrue, OnOk};
 ghost use Rattle.std.specs.Borrow.{sem};
+ghost use Rattle.smallvec.specs.SmallVec.{small_vec_len};
 ghost use Rattle.rrd_fixed.specs.declared.cell.Cell.TheVariants.{Unknown};
 ghost use Rattle.rrd_ring.specs.Ring.Slices.{LendsPart, LendsAsMany};
 ghost use Rattle.rrd_ring.specs.Ring.{cells_in, from_index, row_of, with_unwritten, AreParts, AreWhole, AreWritten};
 ghost use Rattle.rrd_ring.specs.Rows.{max_rows, max_sources};
 
+use crate::dropped::DroppedCells;
 use rrd_fixed::{Cell, Meter};
 use std::alloc::{AllocError, Global};
 
@@ -174,6 +176,17 @@ pub(crate) fn run_from(
     (count, row_from(cells, start, cells_of(count, sources)))
 }
 
+// Returns the written ones of `count` cells of a ring's vector from cell `start` on, and how many unwritten ones follow.
+fn part_from(ring: &[Cell], start: usize, count: usize) -> (&[Cell], usize)
+    ensures count { length result.0.now + result.1 ≡ count }
+    ensures cells { (all : ℕ) → length ring.now ≤ all → start + count ≤ all
+        → result.0.now ++ replicate result.1 Unknown ≡ take count (drop start (with_unwritten all ring.now)) }
+{
+    let first = start.min(ring.len());
+    let written = count.min(ring.len() - first);
+    (&ring[first..first + written], count - written)
+}
+
 // Appends copies of `count` cells of a ring's vector from cell `start` on. Cells that are not written are unknown.
 fn push_part(
     copies: &mut Vec<Cell>,
@@ -187,10 +200,9 @@ fn push_part(
     ensures items { (all : ℕ) → length ring.now ≤ all → start + count ≤ all → OnOk result (copies.new.items
         ≡ copies.old.items ++ take count (drop start (with_unwritten all ring.now))) }
 {
-    let first = start.min(ring.len());
-    let written = count.min(ring.len() - first);
-    copies.extend_from_slice(&ring[first..first + written])?;
-    copies.resize(copies.len() + (count - written), Cell::Unknown)?;
+    let (written, unwritten) = part_from(ring, start, count);
+    copies.extend_from_slice(written)?;
+    copies.resize(copies.len() + unwritten, Cell::Unknown)?;
     Ok(())
 }
 
@@ -211,6 +223,43 @@ pub(crate) fn push_parts(
     push_part(copies, ring, parts.start, parts.front)?;
     push_part(copies, ring, 0, parts.rest)?;
     Ok(())
+}
+
+// Appends copies of `count` cells of a ring's vector to a short list, as `push_part` does.
+fn save_part(
+    copies: &mut DroppedCells,
+    ring: &[Cell],
+    start: usize,
+    count: usize,
+) -> Result<(), AllocError>
+    requires few { count ≤ max_rows * max_sources }
+    requires short { small_vec_len copies.old ≤ max_rows * max_sources }
+    ensures count { OnOk result (small_vec_len copies.new ≡ small_vec_len copies.old + count) }
+    ensures items { (all : ℕ) → length ring.now ≤ all → start + count ≤ all → OnOk result (copies.new.items
+        ≡ copies.old.items ++ take count (drop start (with_unwritten all ring.now))) }
+{
+    let (written, unwritten) = part_from(ring, start, count);
+    copies.extend_from_slice(written)?;
+    copies.resize(copies.len() + unwritten, Cell::Unknown)?;
+    Ok(())
+}
+
+// Copies some rows of a ring into a short list, as `push_parts` does.
+pub(crate) fn save_parts(
+    alloc: Global,
+    ring: &[Cell],
+    parts: Parts,
+) -> Result<DroppedCells, AllocError>
+    requires few_in_front { parts.front ≤ max_rows * max_sources }
+    requires few_others { parts.rest ≤ max_rows * max_sources }
+    ensures { (all : ℕ) → length ring.now ≤ all → parts.start + parts.front ≤ all → parts.rest ≤ all
+        → IfOk result (λ copies. copies.items
+        ≡ cells_in parts.start parts.front parts.rest (with_unwritten all ring.now)) }
+{
+    let mut copies = DroppedCells::with_capacity(alloc, parts.front + parts.rest)?;
+    save_part(&mut copies, ring, parts.start, parts.front)?;
+    save_part(&mut copies, ring, 0, parts.rest)?;
+    Ok(copies)
 }
 
 // Appends unknown cells to the written ones until there are at least `end` cells. Does not allocate.

@@ -1,10 +1,10 @@
 //! An archive of 3 rows and 1 source, each call of it once, and each call that takes memory also
 //! where a growth is refused: a run under `rt try --test --fail-alloc N` refuses the Nth one.
-ghost use Rattle.std.specs.Prelude.{◌≡◌, length, IfOk};
-ghost use Rattle.rrd_ring.specs.Rows.{width, HasWidth};
+ghost use Rattle.std.specs.Prelude.{◌≡◌, ◌≤◌, length, IfOk};
+ghost use Rattle.rrd_ring.specs.Rows.{width, HasWidth, max_rows};
 
 use rrd_fixed::{Cell, Meter};
-use rrd_ring::{Archive, Dropped, Table};
+use rrd_ring::{Archive, Dropped, DroppedCells, Table};
 use std::alloc::{AllocError, Global};
 use std::process::Abort;
 use std::test::Fail;
@@ -54,6 +54,15 @@ fn assert_dropped(rt: &impl Abort, dropped: &Dropped, cells: &[Cell])
     }
 }
 
+// Dropped rows of one cell each.
+fn dropped_rows(alloc: Global, cells: &[Cell]) -> Result<Dropped, AllocError>
+    requires { length cells.now ≤ max_rows }
+    ensures { IfOk result (λ dropped. (length dropped ≡ length cells.now) × HasWidth 1 dropped) }
+{
+    let rows = cells.len() as u64;
+    Ok(Dropped::from_cells(DroppedCells::from_slice(alloc, cells)?, rows, 1))
+}
+
 // Pushes a row of one cell, which is one turn.
 fn push(rt: &impl Abort, archive: &mut Archive, cell: Cell) {
     assert_eq!(rt; archive.sources(), 1);
@@ -85,7 +94,7 @@ fn archive_as_list(rt: HostRuntime) -> Result<(), Fail> {
         &archive.resized(alloc, 5)?,
         &[UNKNOWN, UNKNOWN, TWO, THREE, FOUR],
     );
-    assert_dropped(&rt, &Dropped::new(alloc, 2, 1)?, &[UNKNOWN, UNKNOWN]);
+    assert_dropped(&rt, &dropped_rows(alloc, &[UNKNOWN, TWO])?, &[UNKNOWN, TWO]);
     Ok(())
 }
 
@@ -98,9 +107,6 @@ fn rows_are_written_and_swapped(rt: HostRuntime) -> Result<(), Fail> {
     archive.swap(&mut other);
     assert_rows(&rt, &archive, &[UNKNOWN]);
     assert_rows(&rt, &other, &[UNKNOWN, ONE]);
-    let mut dropped = Dropped::new(alloc, 2, 1)?;
-    dropped.row_mut(0).copy_from_slice(&[TWO]);
-    assert_dropped(&rt, &dropped, &[TWO, UNKNOWN]);
     Ok(())
 }
 
@@ -121,10 +127,7 @@ fn pushed_to_ten(rt: &impl Abort, alloc: Global) -> Result<Archive, AllocError>
 fn all_rows_come_back(rt: HostRuntime) -> Result<(), Fail> {
     let alloc = rt.alloc();
     let mut archive = pushed_to_ten(&rt, alloc)?;
-    let mut dropped = Dropped::new(alloc, 3, 1)?;
-    dropped.row_mut(0).copy_from_slice(&[FIVE]);
-    dropped.row_mut(1).copy_from_slice(&[SIX]);
-    dropped.row_mut(2).copy_from_slice(&[SEVEN]);
+    let dropped = dropped_rows(alloc, &[FIVE, SIX, SEVEN])?;
     assert_dropped(&rt, &dropped, &[FIVE, SIX, SEVEN]);
     archive.put_back(dropped);
     assert_rows(&rt, &archive, &[FIVE, SIX, SEVEN]);
@@ -254,7 +257,22 @@ fn rows_are_lent_together(rt: HostRuntime) -> Result<(), Fail> {
     push(&rt, &mut archive, ONE);
     push(&rt, &mut archive, TWO);
     assert_runs(&rt, &archive, &[&[UNKNOWN], &[ONE, TWO]]);
-    assert_runs(&rt, &Dropped::new(alloc, 0, 1)?, &[]);
+    assert_runs(&rt, &dropped_rows(alloc, &[])?, &[]);
+    Ok(())
+}
+
+// The cells of a dropped row are those of one row after another.
+#[test]
+fn dropped_rows_are_wide(rt: HostRuntime) -> Result<(), Fail> {
+    let alloc = rt.alloc();
+    let cells = [ONE, TWO, THREE, FOUR, FIVE, SIX];
+    let dropped = Dropped::from_cells(DroppedCells::from_slice(alloc, &cells)?, 3, 2);
+    assert_eq!(&rt; dropped.len(), 3);
+    assert_eq!(&rt; dropped.row(0), [ONE, TWO].as_slice());
+    assert_eq!(&rt; dropped.row(2), [FIVE, SIX].as_slice());
+    let (count, lent) = dropped.contiguous_rows(1, 2);
+    assert_eq!(&rt; count, 2);
+    assert_eq!(&rt; lent, [THREE, FOUR, FIVE, SIX].as_slice());
     Ok(())
 }
 
@@ -282,32 +300,27 @@ fn wider_rows_are_lent_as_asked(rt: HostRuntime) -> Result<(), Fail> {
 #[test]
 fn refused_growth_changes_nothing(rt: HostRuntime) -> Result<(), Fail> {
     let alloc = rt.alloc();
-    let mut archive = match Archive::new(alloc, 2, 1) {
+    let mut archive = match Archive::new(alloc, 3, 1) {
         Ok(archive) => archive,
-        Err(AllocError) => Archive::new(alloc, 2, 1)?,
+        Err(AllocError) => Archive::new(alloc, 3, 1)?,
     };
     push(&rt, &mut archive, ONE);
-    assert_rows(&rt, &archive, &[UNKNOWN, ONE]);
-    let dropped = match archive.oldest(alloc, 2) {
+    assert_rows(&rt, &archive, &[UNKNOWN, UNKNOWN, ONE]);
+    let dropped = match archive.oldest(alloc, 3) {
         Ok(dropped) => dropped,
         Err(AllocError) => {
-            assert_rows(&rt, &archive, &[UNKNOWN, ONE]);
-            archive.oldest(alloc, 2)?
+            assert_rows(&rt, &archive, &[UNKNOWN, UNKNOWN, ONE]);
+            archive.oldest(alloc, 3)?
         }
     };
-    assert_dropped(&rt, &dropped, &[UNKNOWN, ONE]);
-    let grown = match archive.resized(alloc, 3) {
+    assert_dropped(&rt, &dropped, &[UNKNOWN, UNKNOWN, ONE]);
+    let grown = match archive.resized(alloc, 4) {
         Ok(grown) => grown,
         Err(AllocError) => {
-            assert_rows(&rt, &archive, &[UNKNOWN, ONE]);
-            archive.resized(alloc, 3)?
+            assert_rows(&rt, &archive, &[UNKNOWN, UNKNOWN, ONE]);
+            archive.resized(alloc, 4)?
         }
     };
-    assert_rows(&rt, &grown, &[UNKNOWN, UNKNOWN, ONE]);
-    let fresh = match Dropped::new(alloc, 1, 1) {
-        Ok(fresh) => fresh,
-        Err(AllocError) => Dropped::new(alloc, 1, 1)?,
-    };
-    assert_dropped(&rt, &fresh, &[UNKNOWN]);
+    assert_rows(&rt, &grown, &[UNKNOWN, UNKNOWN, UNKNOWN, ONE]);
     Ok(())
 }

@@ -2,6 +2,7 @@
 ghost use Rattle.std.specs.Prelude.{◌≡◌};
 ghost use Rattle.rrd_spec.specs.Preparations.{AllOf, parts_in};
 
+use crate::journal::EachSource;
 use rrd_fold::{Function, RowPrep};
 use rrd_ring::Dropped;
 use std::marker::Model;
@@ -13,7 +14,7 @@ use std::marker::Model;
 #[derive(Drop)]
 pub struct SavedArchive {
     pub(crate) function: Function,
-    pub(crate) preps: Vec<RowPrep>,
+    pub(crate) preps: EachSource<RowPrep>,
     pub(crate) rows: Dropped,
 }
 
@@ -30,7 +31,7 @@ impl Model for SavedArchive {
 
 impl SavedArchive {
     /// Creates the saved values of an archive with this function. The partial rows have the same function.
-    pub fn new(function: Function, preps: Vec<RowPrep>, rows: Dropped) -> SavedArchive
+    pub fn new(function: Function, preps: EachSource<RowPrep>, rows: Dropped) -> SavedArchive
         requires { AllOf function preps.items }
         ensures { result ≡ record { function = function; parts = parts_in preps.items; rows = rows } }
     {

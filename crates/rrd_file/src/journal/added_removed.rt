@@ -131,6 +131,7 @@ pub(super) fn read_removed<R: Read + Drop>(
     let def = read_removed_settings(input, build)?;
     let preps = read_row_preps(alloc, input, build, build.undone().last, &def)?;
     let rows = read_old_rows(alloc, input, build, def.rows)?;
+    let preps = Vec::from_slice(alloc, preps.as_slice())?;
     let old = Rra::from_parts(def, preps, rows);
     Ok(Entry::Removed { archive, old })
 }

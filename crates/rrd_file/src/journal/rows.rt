@@ -1,5 +1,6 @@
 //! The rows of entries: reading. The module `cells` writes them.
 ghost use Rattle.std.specs.Prelude.{◌<◌, ◌≤◌, ◌∷◌, [], ◌≡◌, ◌++◌, ℕ, IfOk, List, length, map, replicate};
+ghost use Rattle.smallvec.specs.SmallVec.{small_vec_len};
 ghost use Rattle.rrd_spec.specs.Limits.{present};
 ghost use Rattle.rrd_spec.specs.Files.Rebuilding.{due, outline_left};
 ghost use Rattle.rrd_spec.specs.declared.due.Due.TheVariants.{EntryDue};
@@ -16,7 +17,7 @@ use crate::layout::CELL_SIZE;
 use crate::reader::PieceReader;
 use rrd_base::{Rebuild, is_bounded};
 use rrd_fixed::Cell;
-use rrd_ring::{Archive, Dropped};
+use rrd_ring::{Archive, Dropped, DroppedCells};
 use std::alloc::Global;
 use std::io::Read;
 
@@ -55,6 +56,26 @@ fn read_row<R: Read + Drop>(
     Ok(())
 }
 
+// Reads `count` cells of rows that an update replaced.
+fn read_saved_cells<R: Read + Drop>(
+    alloc: Global,
+    input: &mut PieceReader<R>,
+    build: &Rebuild,
+    count: u64,
+) -> Result<DroppedCells, FileFault>
+    ensures brings { (bytes : List ℕ) (pieces : List Piece) (later : List DueInEntry)
+        → Comes bytes build.now pieces (replicate count RowCellDue ++ later) input.old
+        → Brings bytes build.now (λ cells. pieces ++ map OfCell cells.items) (λ cells. later) input.new result }
+    ensures all { IfOk result (λ cells. small_vec_len cells ≡ count) }
+{
+    let mut cells = DroppedCells::with_capacity(alloc, count as usize)?;
+    for _ in 0..count {
+        let cell = read_row_cell(input, build)?;
+        cells.push(cell)?;
+    }
+    Ok(cells)
+}
+
 /// Reads `count` rows that an update replaced, at most 1,000,000.
 pub(super) fn read_saved_rows<R: Read + Drop>(
     alloc: Global,
@@ -69,13 +90,9 @@ pub(super) fn read_saved_rows<R: Read + Drop>(
         → Brings bytes build.now (λ rows. pieces ++ row_pieces rows) (λ rows. later) input.new result }
     ensures shaped { IfOk result (λ rows. AreRows count (length (outline_left build.now).sources) rows) }
 {
-    let Ok(mut rows) = Dropped::new(alloc, count, build.sources()) else {
-        return Err(FileFault::OutOfMemory);
-    };
-    for i in 0..count {
-        read_row(input, build, rows.row_mut(i))?;
-    }
-    Ok(rows)
+    let sources = build.sources();
+    let cells = read_saved_cells(alloc, input, build, count * sources)?;
+    Ok(Dropped::from_cells(cells, count, sources))
 }
 
 /// Reads the `count` rows of an archive that was resized or removed, 1 to 1,000,000.

@@ -26,7 +26,7 @@ use crate::reader::PieceReader;
 use crate::source::before_of;
 use crate::values::{eight_of, four_of};
 use crate::writer::PieceWriter;
-use rrd_base::{BeforeUpdate, Entry, Rebuild, RraDef, SavedArchive};
+use rrd_base::{BeforeUpdate, EachSource, Entry, Rebuild, RraDef, SavedArchive};
 use rrd_fixed::{Raw, WriteFault};
 use rrd_fold::StepPrep;
 use std::alloc::Global;
@@ -177,7 +177,7 @@ fn read_raws_and_parts<R: Read + Drop>(
     input: &mut PieceReader<R>,
     build: &Rebuild,
     last: u64,
-) -> Result<(Vec<Raw>, Vec<StepPrep>), FileFault>
+) -> Result<(EachSource<Raw>, EachSource<StepPrep>), FileFault>
     ensures brings { (bytes : List ℕ) (pieces : List Piece) (later : List DueInEntry)
         → Comes bytes build.now pieces (map (BeforeDue last) (outline_left build.now).sources ++ later) input.old
         → Brings bytes build.now (λ both. pieces ++ raws_and_parts both.0.items both.1.items) (λ both. later)
@@ -185,9 +185,10 @@ fn read_raws_and_parts<R: Read + Drop>(
     ensures shaped { IfOk result (λ both. (length both.0.items ≡ length (outline_left build.now).sources)
         × (length both.1.items ≡ length (outline_left build.now).sources)) }
 {
-    let mut raws = Vec::new(alloc);
-    let mut preps = Vec::new(alloc);
-    for source in 0..build.undone().sources.len() {
+    let sources = build.undone().sources.len();
+    let mut raws = EachSource::with_capacity(alloc, sources)?;
+    let mut preps = EachSource::with_capacity(alloc, sources)?;
+    for source in 0..sources {
         let (raw, prep) = read_raw_and_part(input, build, last, source)?;
         raws.push(raw)?;
         preps.push(prep)?;
@@ -262,8 +263,9 @@ fn read_all_saved<R: Read + Drop>(
     ensures shaped { IfOk result (λ olds. AreSavedShaped (length (outline_left build.now).sources)
         (outline_left build.now).archives olds.items) }
 {
-    let mut olds = Vec::new(alloc);
-    for archive in 0..build.undone().archives.len() {
+    let archives = build.undone().archives.len();
+    let mut olds = Vec::with_capacity(alloc, archives)?;
+    for archive in 0..archives {
         let old = read_saved(alloc, input, build, last, archive)?;
         olds.push(old)?;
     }

@@ -3,12 +3,12 @@ use crate::shared::assert_bytes;
 use crate::shared::databases::NONE;
 use arrayvec::ArrayVec;
 use rrd_base::{
-    BeforeUpdate, Database, DsDef, Due, Entry, PieceFault, Rebuild, RraDef, SavedArchive,
+    BeforeUpdate, Database, DsDef, Due, EachSource, Entry, PieceFault, Rebuild, RraDef, SavedArchive,
     SavedSource, Version,
 };
 use rrd_fixed::{Cell, Kind, Name, Raw};
 use rrd_fold::{Function, RowPrep, StepPrep};
-use rrd_ring::Dropped;
+use rrd_ring::{Dropped, DroppedCells};
 use std::alloc::Global;
 use std::process::Abort;
 use std::test::Fail;
@@ -71,14 +71,15 @@ fn with_cells(alloc: Global) -> Result<Rebuild, Fail> {
 
 // What was before the sample, the last time being this one: of the archive one row fell out.
 fn before(alloc: Global, last: u64) -> Result<Entry, Fail> {
-    let preps = vec![in alloc; RowPrep::new(Function::Last); 1]?;
-    let saved = SavedArchive::new(Function::Last, preps, Dropped::new(alloc, 1, 1)?);
+    let preps = EachSource::from_slice(alloc, &[RowPrep::new(Function::Last)])?;
+    let cells = DroppedCells::from_slice(alloc, &[NONE])?;
+    let saved = SavedArchive::new(Function::Last, preps, Dropped::from_cells(cells, 1, 1));
     let mut archives = Vec::new(alloc);
     archives.push(saved)?;
     Ok(Entry::Update(BeforeUpdate {
         last,
-        raws: vec![in alloc; Raw::Unknown; 1]?,
-        preps: vec![in alloc; StepPrep::new(); 1]?,
+        raws: EachSource::from_slice(alloc, &[Raw::Unknown])?,
+        preps: EachSource::from_slice(alloc, &[StepPrep::new()])?,
         archives,
     }))
 }

@@ -11,7 +11,7 @@ use Rattle.rrd_file.proofs.archive.read_row_preps.Goals as goal
 
 pub returns-in_err-prep-clause-brings : goal.returns-in_err-prep-clause-brings
 returns-in_err-prep-clause-brings g c = λ bytes pieces later st.
-    let p = err_from_is_err_and c.from_residual.result c.from_residual.ensures.1 in
+    let p = err_from_is_err_and c.from_residual-in_err-prep.result c.from_residual-in_err-prep.ensures.1 in
     let wide = length (outline_left c.args.build.now).sources in
     let i = c.loop.counter in
     let more : i < wide = search rules in

@@ -1,5 +1,6 @@
-use Rattle.std.proofs.Common.{◌++◌, ◌∷◌, [], List, sym, subst, append_assoc, length, map, replicate}
+use Rattle.std.proofs.Common.{◌∙◌, ◌++◌, ◌∷◌, [], List, sym, subst, append_assoc, length, map, replicate}
 use Rattle.std.proofs.lemmas.Result.{err_from_is_err_and}
+use Rattle.rrd_fold.specs.Bounds.{Consolidating}
 use Rattle.rrd_spec.specs.declared.outline.Outline.{Outline}
 use Rattle.rrd_spec.specs.History.{Rra}
 use Rattle.rrd_spec.specs.Preparations.{parts_in}
@@ -68,4 +69,5 @@ returns-clause-closes g c = λ bytes st.
     let s5 = c.in_ok-preps.ensures.brings bytes first (cells ++ []) s4 in
     let s6 = c.in_ok-rows.ensures.brings bytes (first ++ parts) [] s5 in
     subst (λ (a : Rra). Comes bytes f (entry_pieces (RemovedEntry c.in_ok-archive.archive a)) [] c.read_old_rows.new.input) (sym c.from_parts-old.ensures)
-    (subst (λ (l : List Piece). Comes bytes f l [] c.read_old_rows.new.input) (append_assoc first parts (row_pieces rows)) s6)
+    (subst (λ (ps : List Consolidating). Comes bytes f (first ++ (map OfPrep (parts_in ps) ++ row_pieces rows)) [] c.read_old_rows.new.input) (sym (c.in_ok-preps-2.ensures.items ∙ c.as_slice.ensures))
+    (subst (λ (l : List Piece). Comes bytes f l [] c.read_old_rows.new.input) (append_assoc first parts (row_pieces rows)) s6))

@@ -1,39 +1,23 @@
-use Rattle.std.proofs.Common.{◌∙◌, ◌+◌, ◌-◌, ◌<◌, ◌++◌, ℕ, sym, ap, length, replicate, subst, take, arith}
+use Rattle.std.proofs.Common.{◌∙◌, ◌*◌, ◌++◌, ℕ, List, sym, ap, map, replicate, subst}
 use Rattle.std.proofs.lemmas.Result.{err_from_is_err_and}
-use Rattle.rrd_spec.specs.Files.Rebuilding.{outline_left}
-use Rattle.rrd_file.specs.Layout.{row_pieces}
-use Rattle.rrd_file.specs.Stages.{RowCellDue, cells_due}
+use Rattle.rrd_file.specs.Layout.Pieces.{OfCell, Piece}
+use Rattle.rrd_file.specs.Stages.{RowCellDue}
 use Rattle.rrd_file.specs.Progress.{Comes}
-use Rattle.rrd_file.proofs.Rowed.{next_due, next_width, rows_all, rows_go_on, rows_new}
+use Rattle.rrd_file.proofs.Rowed.{pieces_of_cells}
 use Rattle.rrd_file.proofs.journal.rows.read_saved_rows.Goals as goal
 
-pub loop-i-init : goal.loop-i-init
-loop-i-init g c = rows_new c.args.build.now c.args.count c.sources.result c.in-Ok.rows c.args.input.now c.sources.ensures.count c.in-Ok.ensures
-
-pub returns-in_err-read_row-clause-brings : goal.returns-in_err-read_row-clause-brings
-returns-in_err-read_row-clause-brings g c = λ bytes pieces later st.
+pub returns-in_err-cells-clause-brings : goal.returns-in_err-cells-clause-brings
+returns-in_err-cells-clause-brings g c = λ bytes pieces later st.
     let p = err_from_is_err_and c.from_residual.result c.from_residual.ensures.1 in
-    let f = c.args.build.now in
-    let n = c.args.count in
-    let i = c.loop-i.i in
-    let rows = c.loop-i.rows in
-    let more : i < n = omega arith in
-    let wide = next_width f n i rows c.args.input.now c.loop-i.input c.row_mut.result.now c.loop-i.invariant more c.row_mut.ensures.value in
-    rw (p.1, p.2) (c.in_err-read_row.ensures.brings bytes (pieces ++ row_pieces (take i rows)) (cells_due (n - (i + 1)) (outline_left f) ++ later)
-    (next_due f n i rows c.args.input.now c.loop-i.input (length c.row_mut.result.now) c.loop-i.invariant more wide bytes pieces later st))
-
-pub loop-i-preserved : goal.loop-i-preserved
-loop-i-preserved g c =
-    let f = c.args.build.now in
-    let n = c.args.count in
-    let i = c.loop-i.i in
-    let rows = c.loop-i.rows in
-    let row = c.read_row.new.row in
-    let more : i < n = omega arith in
-    let wide = next_width f n i rows c.args.input.now c.loop-i.input c.row_mut.result.now c.loop-i.invariant more c.row_mut.ensures.value in
-    rows_go_on f n i rows row c.loop-i.input c.read_row.new.input c.args.input.now c.loop-i.invariant more
-    (c.row_mut.ensures.same_width row (c.in_ok-read_row.ensures.same_width ∙ ap length c.row_mut.ensures.value)) (c.in_ok-read_row.ensures.same_width ∙ wide)
-    (λ bytes pieces later st. c.in_ok-read_row.ensures.brings bytes pieces later (subst (λ (k : ℕ). Comes bytes f pieces (replicate k RowCellDue ++ later) c.loop-i.input) (sym wide) st))
+    rw (p.1, p.2) (c.in_err-cells.ensures.brings bytes pieces later
+    (subst (λ (k : ℕ). Comes bytes c.args.build.now pieces (replicate (c.args.count * k) RowCellDue ++ later) c.args.input.now) (sym c.sources-sources.ensures.count) st))
 
 pub returns-clause-brings : goal.returns-clause-brings
-returns-clause-brings g c = rows_all c.args.build.now c.args.count c.loop-i.i c.loop-i.rows c.args.input.now c.loop-i.input c.loop-i.invariant (omega arith)
+returns-clause-brings g c = λ bytes pieces later st.
+    let f = c.args.build.now in
+    let rows = c.from_cells.result in
+    let cells = c.in_ok-cells.cells.items in
+    let same = ap (map OfCell) (sym c.from_cells.ensures.cells) ∙ pieces_of_cells rows in
+    subst (λ (l : List Piece). Comes bytes f (pieces ++ l) later c.read_saved_cells.new.input) same
+    (c.in_ok-cells.ensures.brings bytes pieces later
+    (subst (λ (k : ℕ). Comes bytes f pieces (replicate (c.args.count * k) RowCellDue ++ later) c.args.input.now) (sym c.sources-sources.ensures.count) st))

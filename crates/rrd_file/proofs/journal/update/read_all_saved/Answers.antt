@@ -15,7 +15,7 @@ use Rattle.rrd_file.proofs.journal.update.read_all_saved.Goals as goal
 
 pub returns-in_err-old-clause-brings : goal.returns-in_err-old-clause-brings
 returns-in_err-old-clause-brings g c = λ bytes pieces later st.
-    let p = err_from_is_err_and c.from_residual.result c.from_residual.ensures.1 in
+    let p = err_from_is_err_and c.from_residual-in_err-old.result c.from_residual-in_err-old.ensures.1 in
     let now = outline_left c.args.build.now in
     let i = c.loop-archive.archive in
     let more : i < length now.archives = search rules in

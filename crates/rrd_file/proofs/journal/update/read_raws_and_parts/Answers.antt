@@ -12,7 +12,7 @@ use Rattle.rrd_file.proofs.journal.update.read_raws_and_parts.Goals as goal
 
 pub returns-in_err-raw-clause-brings : goal.returns-in_err-raw-clause-brings
 returns-in_err-raw-clause-brings g c = λ bytes pieces later st.
-    let p = err_from_is_err_and c.from_residual.result c.from_residual.ensures.1 in
+    let p = err_from_is_err_and c.from_residual-in_err-raw.result c.from_residual-in_err-raw.ensures.1 in
     let now = outline_left c.args.build.now in
     let i = c.loop-source.source in
     let more : i < length now.sources = search rules in

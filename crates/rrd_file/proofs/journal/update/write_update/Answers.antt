@@ -18,9 +18,9 @@ pub returns-in_err-write_raws_and_parts : goal.returns-in_err-write_raws_and_par
 returns-in_err-write_raws_and_parts g c =
     let p = err_from_is_err_and c.from_residual-in_err-write_raws_and_parts.result c.from_residual-in_err-write_raws_and_parts.ensures.1 in
     let b = c.args.before.now in
-    rw p.1 (subst (Breaks _ _ _) (sym (joined_three (OfTag AnUpdate ∷ OfTime b.last ∷ []) (raws_and_parts b.raws.items b.preps.items) (flat_map saved_pieces b.archives.items))) (breaks_then (c.in_ok-write_time.ensures) (breaks_stop ((spelled (flat_map saved_pieces b.archives.items))) (rw (c.deref.ensures.value, c.deref-2.ensures.value) at c.in_err-write_raws_and_parts.ensures))))
+    rw p.1 (subst (Breaks _ _ _) (sym (joined_three (OfTag AnUpdate ∷ OfTime b.last ∷ []) (raws_and_parts b.raws.items b.preps.items) (flat_map saved_pieces b.archives.items))) (breaks_then (c.in_ok-write_time.ensures) (breaks_stop ((spelled (flat_map saved_pieces b.archives.items))) (rw (c.deref.ensures, c.deref-2.ensures) at c.in_err-write_raws_and_parts.ensures))))
 
 pub returns : goal.returns
 returns g c =
     let b = c.args.before.now in
-    subst (λ bs. Gathers g.W.Write.contents c.args.out.now c.write_all_saved.new.out bs c.write_all_saved.result) (sym (joined_three (OfTag AnUpdate ∷ OfTime b.last ∷ []) (raws_and_parts b.raws.items b.preps.items) (flat_map saved_pieces b.archives.items))) (gathers_then c.write_all_saved.new.out ((spelled (raws_and_parts b.raws.items b.preps.items)) ++ (spelled (flat_map saved_pieces b.archives.items))) c.write_all_saved.result (c.in_ok-write_time.ensures) (gathers_then c.write_all_saved.new.out ((spelled (flat_map saved_pieces b.archives.items))) c.write_all_saved.result (rw (c.deref.ensures.value, c.deref-2.ensures.value) at c.in_ok-write_raws_and_parts.ensures) (rw c.deref-3.ensures.value at c.write_all_saved.ensures)))
+    subst (λ bs. Gathers g.W.Write.contents c.args.out.now c.write_all_saved.new.out bs c.write_all_saved.result) (sym (joined_three (OfTag AnUpdate ∷ OfTime b.last ∷ []) (raws_and_parts b.raws.items b.preps.items) (flat_map saved_pieces b.archives.items))) (gathers_then c.write_all_saved.new.out ((spelled (raws_and_parts b.raws.items b.preps.items)) ++ (spelled (flat_map saved_pieces b.archives.items))) c.write_all_saved.result (c.in_ok-write_time.ensures) (gathers_then c.write_all_saved.new.out ((spelled (flat_map saved_pieces b.archives.items))) c.write_all_saved.result (rw (c.deref.ensures, c.deref-2.ensures) at c.in_ok-write_raws_and_parts.ensures) (rw c.deref-3.ensures.value at c.write_all_saved.ensures)))

@@ -1,38 +1,38 @@
 use Rattle.std.proofs.Common.{◌≤◌, ◌∙◌, ap, length, arith}
 use Rattle.std.specs.Vec.{with_items}
-use Rattle.rrd_ring.proofs.RingLemmas.{cells_le}
-use Rattle.rrd_ring.proofs.WrittenLemmas.{IsPutBack, MayPutBack, are_put_back, both_filled, dropped_count, row_count}
+use Rattle.rrd_ring.proofs.RingLemmas.{cells_le, rows_len}
+use Rattle.rrd_ring.proofs.WrittenLemmas.{IsPutBack, MayPutBack, are_put_back, ring_filled_up, row_count}
 use Rattle.rrd_ring.proofs.archive.Archive.put_back.Goals as goal
-use Rattle.rrd_ring.proofs.archive.Archive.put_back.Goals.{After-fill_up-2, After-write_from}
+use Rattle.rrd_ring.proofs.archive.Archive.put_back.Goals.{After-fill_up, After-write_from}
 
 pub overflow_sub-self-inside : goal.overflow_sub-self-inside
-overflow_sub-self-inside c = omega (arith, c.requires.fits, row_count c.self.invariant c.self.view_is, dropped_count c.dropped.invariant c.dropped.view_is)
+overflow_sub-self-inside c = omega (arith, c.requires.fits, row_count c.self.invariant c.self.view_is, rows_len _ _ _ _ c.dropped.view_is)
 
-filled : (c : After-fill_up-2) → MayPutBack c.self.inside.rows c.self.inside.sources c.self.inside.oldest c.dropped.inside.rows c.args.self.now c.args.dropped c.fill_up-2.new.cells.items c.fill_up.new.cells.items
-filled c = both_filled c.self.invariant c.self.view_is c.dropped.invariant c.dropped.view_is c.requires.fits c.requires.one_width c.cells_of-2.ensures.count c.fill_up-2.ensures.items c.cells_of.ensures.count c.fill_up.ensures.items
+filled : (c : After-fill_up) → MayPutBack c.self.inside.rows c.self.inside.sources c.self.inside.oldest c.dropped.inside.rows c.args.self.now c.args.dropped c.fill_up.new.cells.items c.dropped.inside.cells.items
+filled c = ring_filled_up c.self.invariant c.self.view_is c.dropped.invariant c.dropped.view_is c.requires.fits c.requires.one_width c.cells_of.ensures.count c.fill_up.ensures.items
 
 pub write_from-requires-clause-within : goal.write_from-requires-clause-within
 write_from-requires-clause-within c =
     let index = c.wrap-self-inside.result in
     let before : index ≤ c.self.inside.rows = omega (arith, c.wrap-self-inside.ensures.within) in
-    rw c.deref_mut.ensures.value (omega (arith, c.cells_of-start.ensures.count, (filled (goal.at.write_from-requires-clause-within c).After-fill_up-2).is.whole, cells_le index c.self.inside.rows c.self.inside.sources before))
+    rw c.deref_mut.ensures.value (omega (arith, c.cells_of-start.ensures.count, (filled (goal.at.write_from-requires-clause-within c).After-fill_up).is.whole, cells_le index c.self.inside.rows c.self.inside.sources before))
 
 pub write_from-requires-clause-few : goal.write_from-requires-clause-few
 write_from-requires-clause-few c =
-    let full = filled (goal.at.write_from-requires-clause-few c).After-fill_up-2 in
-    rw (c.deref.ensures.value, c.deref_mut.ensures.value) (omega (arith, full.cells, full.is.whole, cells_le c.dropped.inside.rows c.self.inside.rows c.self.inside.sources full.fewer))
+    let full = filled (goal.at.write_from-requires-clause-few c).After-fill_up in
+    rw (c.as_slice.ensures, c.deref_mut.ensures.value) (omega (arith, full.cells, full.is.whole, cells_le c.dropped.inside.rows c.self.inside.rows c.self.inside.sources full.fewer))
 
-written : (c : After-write_from) → MayPutBack c.self.inside.rows c.self.inside.sources c.self.inside.oldest c.dropped.inside.rows c.args.self.now c.args.dropped c.fill_up-2.new.cells.items c.fill_up.new.cells.items
-    → IsPutBack c.self.inside.rows c.self.inside.sources c.wrap-self-inside.result c.args.self.now c.args.dropped (with_items c.fill_up-2.new.cells c.write_from.new.ring)
+written : (c : After-write_from) → MayPutBack c.self.inside.rows c.self.inside.sources c.self.inside.oldest c.dropped.inside.rows c.args.self.now c.args.dropped c.fill_up.new.cells.items c.dropped.inside.cells.items
+    → IsPutBack c.self.inside.rows c.self.inside.sources c.wrap-self-inside.result c.args.self.now c.args.dropped (with_items c.fill_up.new.cells c.write_from.new.ring)
 written c full =
-    are_put_back c.fill_up-2.new.cells c.write_from.new.ring full c.wrap-self-inside.ensures.index c.cells_of-start.ensures.count (c.write_from.auto.ring ∙ ap length c.deref_mut.ensures.value) (rw (c.deref.ensures.value, c.deref_mut.ensures.value) at c.write_from.ensures)
+    are_put_back c.fill_up.new.cells c.write_from.new.ring full c.wrap-self-inside.ensures.index c.cells_of-start.ensures.count (c.write_from.auto.ring ∙ ap length c.deref_mut.ensures.value) (rw (c.as_slice.ensures, c.deref_mut.ensures.value) at c.write_from.ensures)
 
 pub invariant_of-self : goal.invariant_of-self
 invariant_of-self c =
     let steps = goal.at.invariant_of-self c in
-    (written steps.After-write_from (filled steps.After-fill_up-2)).is
+    (written steps.After-write_from (filled steps.After-fill_up)).is
 
 pub returns : goal.returns
 returns c =
     let steps = goal.at.returns c in
-    (written steps.After-write_from (filled steps.After-fill_up-2)).rows_are
+    (written steps.After-write_from (filled steps.After-fill_up)).rows_are

@@ -1,22 +1,32 @@
-use Rattle.std.proofs.Common.{◌+◌, ◌*◌, ◌≤◌, ◌∙◌, sym, ap, take, drop, arith}
+use Rattle.std.proofs.Common.{◌≡◌, ◌+◌, ◌-◌, ◌*◌, ◌≤◌, ◌∙◌, ℕ, sym, ap, length, take, drop, arith}
+use Rattle.std.proofs.Math.Nat.{add-mul}
 use Rattle.rrd_ring.specs.Rows.{row_cells}
-use Rattle.rrd_ring.specs.Ring.{with_unwritten}
-use Rattle.rrd_ring.proofs.RingLemmas.{rows_run}
-use Rattle.rrd_ring.proofs.WrittenLemmas.{dropped_count}
+use Rattle.rrd_ring.proofs.RingLemmas.{cells_le, rows_len, rows_run}
 use Rattle.rrd_ring.proofs.dropped.Dropped.contiguous_rows.Goals as goal
 
-pub run_from-count-requires-clause-within : goal.run_from-count-requires-clause-within
-run_from-count-requires-clause-within c = omega (arith, c.requires, dropped_count c.self.invariant c.self.view_is, c.self.invariant.rows_are.few_rows)
+pub cells_of-start-requires-clause-few_rows : goal.cells_of-start-requires-clause-few_rows
+cells_of-start-requires-clause-few_rows c = omega (arith, c.requires.there, c.self.invariant.few_rows, rows_len _ _ _ _ c.self.view_is)
 
-pub run_from-count-requires-clause-few : goal.run_from-count-requires-clause-few
-run_from-count-requires-clause-few c = omega (arith, c.requires.there, dropped_count c.self.invariant c.self.view_is, c.self.invariant.rows_are.few_rows)
+pub cells_of-requires-clause-few_rows : goal.cells_of-requires-clause-few_rows
+cells_of-requires-clause-few_rows c = omega (arith, c.requires.there, c.self.invariant.few_rows, rows_len _ _ _ _ c.self.view_is)
+
+pub slice_bounds-result-end : goal.slice_bounds-result-end
+slice_bounds-result-end c =
+    let a = c.self.inside in
+    let fits : c.args.first + c.args.most ≤ a.rows = omega (arith, c.requires.there, rows_len _ _ _ _ c.self.view_is) in
+    omega (arith, c.cells_of-start.ensures.count, c.cells_of.ensures.count, add-mul c.args.first c.args.most a.sources, cells_le (c.args.first + c.args.most) a.rows a.sources fits, c.self.invariant.whole, ap length c.as_slice.ensures)
 
 pub returns-clause-cells : goal.returns-clause-cells
 returns-clause-cells c =
     let a = c.self.inside in
-    let xs = with_unwritten (a.rows * a.sources) a.cells.items in
-    let n = c.run_from-count.result.0 in
-    let fits : c.args.first + n ≤ a.rows = omega (arith, c.requires.there, c.run_from-count.ensures.few, dropped_count c.self.invariant c.self.view_is) in
-    (rw c.deref.ensures.value at (c.run_from-count.ensures.cells a.rows fits))
-    ∙ sym (rows_run a.rows a.sources c.args.first n xs c.self.invariant.rows_are.whole fits)
-    ∙ ap (λ rs. row_cells (take n (drop c.args.first rs))) c.self.view_is
+    let xs = a.cells.items in
+    let start = c.cells_of-start.result in
+    let n = c.cells_of.result in
+    let fits : c.args.first + c.args.most ≤ a.rows = omega (arith, c.requires.there, rows_len _ _ _ _ c.self.view_is) in
+    let long : start + n - start ≡ n = omega arith in
+    ap (λ (k : ℕ). take k (drop start c.as_slice.result.now)) long
+    ∙ ap (λ ys. take n (drop start ys)) c.as_slice.ensures
+    ∙ ap (λ (k : ℕ). take k (drop start xs)) c.cells_of.ensures.count
+    ∙ ap (λ (k : ℕ). take (c.args.most * a.sources) (drop k xs)) c.cells_of-start.ensures.count
+    ∙ sym (rows_run a.rows a.sources c.args.first c.args.most xs c.self.invariant.whole fits)
+    ∙ ap (λ rs. row_cells (take c.args.most (drop c.args.first rs))) c.self.view_is

@@ -1,17 +1,27 @@
-use Rattle.std.proofs.Common.{◌*◌, ◌<◌, ◌∙◌, sym, ap, arith}
+use Rattle.std.proofs.Common.{◌≡◌, ◌+◌, ◌-◌, ◌<◌, ◌∙◌, ℕ, sym, ap, length, take, drop, arith}
 use Rattle.rrd_ring.specs.Rows.{nth_row}
-use Rattle.rrd_ring.specs.Ring.{with_unwritten}
-use Rattle.rrd_ring.proofs.RingLemmas.{nth_row-rows_of}
-use Rattle.rrd_ring.proofs.WrittenLemmas.{dropped_count}
+use Rattle.rrd_ring.proofs.RingLemmas.{nth_row-rows_of, rows_fit, rows_len}
 use Rattle.rrd_ring.proofs.dropped.Dropped.row.Goals as goal
+use Rattle.rrd_ring.proofs.dropped.Dropped.row.Goals.{After-as_slice}
 
-pub row_at-requires-clause-within : goal.row_at-requires-clause-within
-row_at-requires-clause-within c = omega (arith, c.requires, c.self.invariant.rows_are.few_rows, dropped_count c.self.invariant c.self.view_is)
+pub cells_of-start-requires-clause-few_rows : goal.cells_of-start-requires-clause-few_rows
+cells_of-start-requires-clause-few_rows c = omega (arith, c.requires, c.self.invariant.few_rows, rows_len _ _ _ _ c.self.view_is)
+
+pub slice_bounds-result-end : goal.slice_bounds-result-end
+slice_bounds-result-end c =
+    let a = c.self.inside in
+    let within : c.args.i < a.rows = omega (arith, c.requires, rows_len _ _ _ _ c.self.view_is) in
+    omega (arith, c.cells_of-start.ensures.count, ap length c.as_slice.ensures, rows_fit a.rows a.sources c.args.i a.cells.items c.self.invariant within)
 
 pub returns : goal.returns
 returns c =
     let a = c.self.inside in
-    let within : c.args.i < a.rows = omega (arith, c.requires, dropped_count c.self.invariant c.self.view_is) in
-    (rw c.deref.ensures.value at (c.row_at.ensures a.rows within))
-    ∙ sym (nth_row-rows_of a.rows a.sources (with_unwritten (a.rows * a.sources) a.cells.items) c.args.i within)
+    let xs = a.cells.items in
+    let start = c.cells_of-start.result in
+    let within : c.args.i < a.rows = omega (arith, c.requires, rows_len _ _ _ _ c.self.view_is) in
+    let long : start + a.sources - start ≡ a.sources = omega arith in
+    ap (λ (n : ℕ). take n (drop start c.as_slice.result.now)) long
+    ∙ ap (λ ys. take a.sources (drop start ys)) c.as_slice.ensures
+    ∙ ap (λ (n : ℕ). take a.sources (drop n xs)) c.cells_of-start.ensures.count
+    ∙ sym (nth_row-rows_of a.rows a.sources xs c.args.i within)
     ∙ ap (λ rows. nth_row rows c.args.i) c.self.view_is

@@ -1,0 +1,38 @@
+use Rattle.std.proofs.Common.{◌≡◌, ◌∙◌, ◌+◌, ◌-◌, ◌<◌, ◌≤◌, ◌++◌, ◌∷◌, [], List, sym, ap, arith, length-append, length, map, replicate, subst, rules}
+use Rattle.std.proofs.lemmas.Result.{err_from_is_err_and}
+use Rattle.rrd_fixed.specs.declared.cell.Cell.{Cell}
+use Rattle.rrd_file.specs.Layout.Pieces.{OfCell, Piece}
+use Rattle.rrd_file.specs.Stages.{DueInEntry, RowCellDue}
+use Rattle.rrd_file.specs.Progress.{Comes}
+use Rattle.rrd_file.proofs.Turns.{more_map, none_less, one_less}
+use Rattle.rrd_file.proofs.journal.rows.read_saved_cells.Goals as goal
+
+pub returns-in_err-cell-clause-brings : goal.returns-in_err-cell-clause-brings
+returns-in_err-cell-clause-brings g c = λ bytes pieces later st.
+    let p = err_from_is_err_and c.from_residual-in_err-cell.result c.from_residual-in_err-cell.ensures.1 in
+    let n = c.args.count in
+    let i = c.loop.counter in
+    let more : i < n = search rules in
+    rw (p.1, p.2) (c.in_err-cell.ensures bytes (pieces ++ map OfCell c.loop.cells.items) (replicate (n - (i + 1)) RowCellDue ++ later)
+    (subst (λ (l : List DueInEntry). Comes bytes c.args.build.now (pieces ++ map OfCell c.loop.cells.items) l c.loop.input) (one_less RowCellDue n i later more) (c.loop.invariant.1 bytes pieces later st)))
+
+pub loop-preserved : goal.loop-preserved
+loop-preserved g c =
+    let n = c.args.count in
+    let i = c.loop.counter in
+    let more : i < n = search rules in
+    let cells = c.loop.cells.items in
+    let cell = c.in_ok-cell.cell in
+    let items : c.push.new.self.items ≡ cells ++ cell ∷ [] = search rules in (
+      omega (arith, ap length items, length-append cells (cell ∷ []), c.loop.invariant.0),
+      λ bytes pieces later st.
+          subst (λ (l : List Piece). Comes bytes c.args.build.now l (replicate (n - (i + 1)) RowCellDue ++ later) c.read_row_cell.new.input) (more_map OfCell pieces cells cell ∙ ap (λ (l : List Cell). pieces ++ map OfCell l) (sym items))
+          (c.in_ok-cell.ensures bytes (pieces ++ map OfCell cells) (replicate (n - (i + 1)) RowCellDue ++ later)
+          (subst (λ (l : List DueInEntry). Comes bytes c.args.build.now (pieces ++ map OfCell cells) l c.loop.input) (one_less RowCellDue n i later more) (c.loop.invariant.1 bytes pieces later st))),
+    )
+
+pub returns-clause-brings : goal.returns-clause-brings
+returns-clause-brings g c = λ bytes pieces later st.
+    let n = c.args.count in
+    let past : n ≤ c.loop.counter = search rules in
+    subst (λ (l : List DueInEntry). Comes bytes c.args.build.now (pieces ++ map OfCell c.loop.cells.items) l c.loop.input) (none_less RowCellDue n c.loop.counter later past) (c.loop.invariant.1 bytes pieces later st)

@@ -1,0 +1,11 @@
+use Rattle.std.proofs.Common.{◌≡◌, ◌++◌, ◌-◌, ℕ, List, length, map, replicate}
+use Rattle.rrd_file.specs.Layout.Pieces.{OfCell, Piece}
+use Rattle.rrd_file.specs.Stages.{DueInEntry, RowCellDue}
+use Rattle.rrd_file.specs.Progress.{Comes}
+use Rattle.rrd_file.proofs.journal.rows.read_saved_cells.Given as goal
+
+abbrev pub invariant-loop : goal.invariant-loop
+invariant-loop g l =
+    (length l.cells.items ≡ l.counter)
+    × ((bytes : List ℕ) (pieces : List Piece) (later : List DueInEntry) → Comes bytes l.build pieces (replicate l.count RowCellDue ++ later) l.fn.input
+    → Comes bytes l.build (pieces ++ map OfCell l.cells.items) (replicate (l.count - l.counter) RowCellDue ++ later) l.input)

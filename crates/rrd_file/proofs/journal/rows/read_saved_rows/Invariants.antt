@@ -1,5 +1,0 @@
-use Rattle.rrd_file.proofs.Rowed.{Rowed}
-use Rattle.rrd_file.proofs.journal.rows.read_saved_rows.Given as goal
-
-abbrev pub invariant-loop-i : goal.invariant-loop-i
-invariant-loop-i g l = Rowed l.build l.count l.fn.input l.i l.rows l.input

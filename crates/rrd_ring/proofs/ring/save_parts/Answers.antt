@@ -1,0 +1,10 @@
+use Rattle.std.proofs.Common.{◌++◌, ◌∙◌, ap, take, drop, arith}
+use Rattle.rrd_ring.specs.Ring.{with_unwritten}
+use Rattle.rrd_ring.proofs.ring.save_parts.Goals as goal
+
+pub returns : goal.returns
+returns c = λ all written before_end others.
+    let xs = with_unwritten all c.args.ring.now in
+    let parts = c.args.parts in
+    c.in_ok-save_part-2.ensures.items all written (omega arith)
+    ∙ ap (λ zs. zs ++ take parts.rest xs) (c.in_ok-save_part.ensures.items all written before_end ∙ ap (λ zs. zs ++ take parts.front (drop parts.start xs)) c.in_ok-copies.ensures.items)
