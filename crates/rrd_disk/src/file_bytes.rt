@@ -265,6 +265,8 @@ impl<D: Disk> FileBytes<D> {
             return Err(not_open());
         };
         let had = bytes.len();
+        // An update that adds its entry to the bytes then needs no other memory for them.
+        bytes.reserve_exact((count - had).saturating_add(PAGE))?;
         bytes.resize(count, 0)?;
         let read = get_behind(&mut self.disk, file.file(), &mut bytes[..], had)?;
         bytes.truncate(had + read);

@@ -16,7 +16,7 @@ ghost use Rattle.rrd_file.specs.Spans.{IsBeside, IsWithin};
 use crate::cells::write_cells;
 use crate::journal::write_entries;
 use crate::layout::{CELL_SIZE, NEWEST};
-use crate::length::cells_span;
+use crate::length::{cells_span, newest_entry_length};
 use crate::writer::{PieceWriter, put_cells};
 use crate::{Span, encoded_length, write_front};
 use rrd_base::{Database, database_is_valid};
@@ -197,6 +197,17 @@ fn most_spans(database: &Database) -> usize {
         .saturating_add(2)
 }
 
+// Makes room behind the bytes for the entry of an update, and for some more, so that not each update has to make room.
+fn make_room(bytes: &mut Vec<u8>, database: &Database) -> Result<(), AllocError>
+    ensures { OnOk result (bytes.new.items ≡ bytes.old.items) }
+{
+    let more = newest_entry_length(database) as usize;
+    if bytes.capacity() - bytes.len() < more {
+        bytes.reserve_exact(more.saturating_add(bytes.len() / 16))?;
+    }
+    Ok(())
+}
+
 /// The bytes of a file after an update.
 #[derive(Drop)]
 pub struct Updated {
@@ -269,6 +280,7 @@ impl Encoded {
             return None;
         }
         let mut changed = Vec::with_capacity(alloc, most_spans(database)).ok()?;
+        make_room(&mut bytes, database).ok()?;
         bytes.truncate(cells_end);
         put_before_journal(&mut bytes, &front, database, last, &mut changed).ok()?;
         encode_journal(database, &mut bytes).ok()?;

@@ -148,6 +148,18 @@ fn entry_length(entry: &Entry) -> u64
     }
 }
 
+/// Returns the size of the newest entry; 0 if there is none.
+pub(crate) fn newest_entry_length(database: &Database) -> u64
+    ensures { result ≤ most_of_entry }
+{
+    // The prover needs that the entry is one of a valid content, so that its numbers are small.
+    database_is_valid(database);
+    if database.undoable() == 0 {
+        return 0;
+    }
+    entry_length(database.entry(0))
+}
+
 // Returns the size of all entries.
 fn entries_length(database: &Database) -> u64
     ensures count { result ≡ length (spelled (flat_map entry_pieces database.now.journal)) }

@@ -5,7 +5,7 @@ use Rattle.rrd_disk.proofs.Storing.{finds_there, loaded_same, open_kept, says_at
 use Rattle.rrd_disk.proofs.storage.FileStorage.load_to_read.Goals as goal
 
 pub returns-in-Ok-Pipe-clause-loads : goal.returns-in-Ok-Pipe-clause-loads
-returns-in-Ok-Pipe-clause-loads g c = rw c.leave-in-Ok-Pipe.ensures (λ s honest sound.
+returns-in-Ok-Pipe-clause-loads g c = rw c.leave-in-Ok-Pipe.ensures.disk (λ s honest sound.
     let old = g.D.Disk.events c.args.self.now.bytes.disk in
     let mid = g.D.Disk.events c.open.new.self.bytes.disk in
     let new = g.D.Disk.events c.load_pipe-loaded.new.file.disk in

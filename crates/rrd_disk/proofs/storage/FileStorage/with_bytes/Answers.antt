@@ -7,8 +7,8 @@ use Rattle.rrd_disk.proofs.Contents.{Laws, file_unmarked, itself}
 use Rattle.rrd_disk.proofs.Storing.{there_readable}
 use Rattle.rrd_disk.proofs.storage.FileStorage.with_bytes.Goals as goal
 
-pub returns-then-bool-clause-bytes : goal.returns-then-bool-clause-bytes
-returns-then-bool-clause-bytes g c = λ s honest.
+pub returns-then-is_whole-clause-bytes : goal.returns-then-is_whole-clause-bytes
+returns-then-is_whole-clause-bytes g c = λ s honest.
     let laws : Laws = record { begins = c.file_begins.ensures; database = c.files_without_marks_stand_for_themselves.ensures.database; unmarked = c.files_without_marks_stand_for_themselves.ensures.unmarked } in
     let held = held_after s (g.D.Disk.events c.args.self.now.bytes.disk) in
     let front = c.args.self.now.bytes.front.bytes.items in
@@ -19,4 +19,4 @@ returns-then-bool-clause-bytes g c = λ s honest.
     c.with_bytes.ensures.bytes (Some (represented held)) (ap (λ (h : Held). Some h) (same ∙ ap (λ (b : List ℕ). Bytes b) (sym (c.take_front.ensures.bytes ∙ all))))
 
 pub returns-clause-bytes : goal.returns-clause-bytes
-returns-clause-bytes g c = λ s honest. tt
+returns-clause-bytes g c = λ s honest. rw c.without_bytes.ensures.encoded tt

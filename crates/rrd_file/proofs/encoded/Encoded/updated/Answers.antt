@@ -9,6 +9,7 @@ use Rattle.rrd_file.proofs.encoded.Encoded.updated.Goals as goal
 
 pub put_before_journal-requires : goal.put_before_journal-requires
 put_before_journal-requires c =
+    let same : c.make_room.new.bytes.items ≡ c.args.self.bytes.items = search rules in
     let before = c.requires.before in
     let e = c.requires.encodes in
     let front = front_bytes before in
@@ -16,7 +17,7 @@ put_before_journal-requires c =
     let journal = journal_bytes before in
     let both : length (front ++ cells) ≡ c.args.self.cells_end = omega (arith, length-append front cells, e.cells_begin, e.cells_end) in
     let left : c.truncate.new.self.items ≡ front ++ cells =
-    c.truncate.ensures.items ∙ ap (take c.args.self.cells_end) (e.bytes_are ∙ sym (append_assoc front cells journal)) ∙ take_at (front ++ cells) journal c.args.self.cells_end both in
+    c.truncate.ensures.items ∙ ap (take c.args.self.cells_end) (same ∙ e.bytes_are ∙ sym (append_assoc front cells journal)) ∙ take_at (front ++ cells) journal c.args.self.cells_end both in
     record {
       old_front = front;
       cells = cells;
@@ -33,6 +34,7 @@ put_before_journal-requires c =
 
 pub returns-clause-encodes : goal.returns-clause-encodes
 returns-clause-encodes c =
+    let same : c.make_room.new.bytes.items ≡ c.args.self.bytes.items = search rules in
     let before = c.requires.before in
     let now = c.args.database.now in
     let e = c.requires.encodes in
@@ -51,7 +53,7 @@ returns-clause-encodes c =
     let old = cell_bytes before.content in
     let was : length (front ++ old) ≡ c.args.self.cells_end = omega (arith, length-append front old, e.cells_begin, e.cells_end) in
     let left : c.truncate.new.self.items ≡ front ++ old =
-    c.truncate.ensures.items ∙ ap (take c.args.self.cells_end) (e.bytes_are ∙ sym (append_assoc front old (journal_bytes before))) ∙ take_at (front ++ old) (journal_bytes before) c.args.self.cells_end was in
+    c.truncate.ensures.items ∙ ap (take c.args.self.cells_end) (same ∙ e.bytes_are ∙ sym (append_assoc front old (journal_bytes before))) ∙ take_at (front ++ old) (journal_bytes before) c.args.self.cells_end was in
     record {
       bytes_are = all ∙ ap (λ (l : List ℕ). l ++ journal) put ∙ append_assoc (front_bytes now) cells journal;
       cells_begin = front_long;
@@ -61,6 +63,7 @@ returns-clause-encodes c =
 
 pub returns-clause-agrees : goal.returns-clause-agrees
 returns-clause-agrees c =
+    let same : c.make_room.new.bytes.items ≡ c.args.self.bytes.items = search rules in
     let before = c.requires.before in
     let now = c.args.database.now in
     let e = c.requires.encodes in
@@ -72,7 +75,7 @@ returns-clause-agrees c =
     let long : length old ≡ end + length (journal_bytes before) =
     ap length e.bytes_are ∙ length-append (front_bytes before) (cell_bytes before.content ++ journal_bytes before)
     ∙ omega (arith, length-append (cell_bytes before.content) (journal_bytes before), e.cells_begin, e.cells_end) in
-    let cut : c.deref_mut.result.now ≡ take end old = c.deref_mut.ensures.value ∙ c.truncate.ensures.items in
+    let cut : c.deref_mut.result.now ≡ take end old = c.deref_mut.ensures.value ∙ c.truncate.ensures.items ∙ ap (take end) same in
     let cut_long : length put ≡ end = omega (arith, c.put_before_journal.auto.bytes, ap length cut, length-take end old, long) in
     let room : length put ≡ c.truncate.new.self.len = omega (arith, c.put_before_journal.auto.bytes, c.deref_mut.ensures.len) in
     let had : take c.truncate.new.self.len (put ++ drop (length put) c.truncate.new.self.items) ≡ put = take_at put (drop (length put) c.truncate.new.self.items) c.truncate.new.self.len room in
