@@ -85,8 +85,7 @@ impl Dropped {
     pub fn contiguous_rows(&self, first: u64, most: u64) -> (u64, &[Cell])
         requires some { 0 < most }
         requires there { first + most ≤ length self.now }
-        ensures some { 0 < result.0 }
-        ensures few { result.0 ≤ most }
+        ensures all { result.0 ≡ most }
         ensures cells { result.1.now ≡ row_cells (take result.0 (drop first self.now)) }
     {
         let start = cells_of(first as usize, self.sources);
