@@ -741,10 +741,12 @@ impl<D: Disk, L: Location> FileStorage<D, L> {
         file_begins();
         files_without_marks_stand_for_themselves();
         let is_last = self.afterwards == Afterwards::Closed;
-        if is_last && matches!(self.found, Found::Open) && self.bytes.is_whole() {
-            return LoadedDatabase::with_bytes(database, self.bytes.take_front());
+        match self.found {
+            Found::Open if is_last && self.bytes.is_whole() => {
+                LoadedDatabase::with_bytes(database, self.bytes.take_front())
+            }
+            _ => LoadedDatabase::without_bytes(Some(database)),
         }
-        LoadedDatabase::without_bytes(Some(database))
     }
 }
 

@@ -1,22 +1,19 @@
-use Rattle.std.proofs.Common.{◌≡◌, ◌∙◌, ℕ, List, Some, None, ap, subst, sym}
+use Rattle.std.proofs.Common.{◌≡◌, ◌∙◌, ℕ, List, Some, ap, subst, sym}
 use Rattle.rrd_file.specs.Faults.{IsFile}
-use Rattle.rrd_store.specs.Storages.{Bytes, Held, IsNoFile}
+use Rattle.rrd_store.specs.Storages.{Bytes, Held}
 use Rattle.rrd_disk.specs.Contents.{represented}
 use Rattle.rrd_disk.specs.Replayed.{bytes_of, held_after}
 use Rattle.rrd_disk.proofs.Contents.{Laws, file_unmarked, itself}
 use Rattle.rrd_disk.proofs.Storing.{there_readable}
 use Rattle.rrd_disk.proofs.storage.FileStorage.with_bytes.Goals as goal
 
-pub returns-then-is_whole-clause-bytes : goal.returns-then-is_whole-clause-bytes
-returns-then-is_whole-clause-bytes g c = λ s honest.
+pub returns-in-Open-clause-bytes : goal.returns-in-Open-clause-bytes
+returns-in-Open-clause-bytes g c = rw c.take_front.ensures.disk (λ s honest.
     let laws : Laws = record { begins = c.file_begins.ensures; database = c.files_without_marks_stand_for_themselves.ensures.database; unmarked = c.files_without_marks_stand_for_themselves.ensures.unmarked } in
     let held = held_after s (g.D.Disk.events c.args.self.now.bytes.disk) in
     let front = c.args.self.now.bytes.front.bytes.items in
-    let all : front ≡ bytes_of held = c.is_whole.ensures cc s honest in
-    let file : IsFile (bytes_of held) c.args.database = subst (λ (b : List ℕ). IsFile b c.args.database) all (c.requires cc) in
+    let all : front ≡ bytes_of held = c.is_whole.ensures c.if-is_whole.true s honest in
+    let file : IsFile (bytes_of held) c.args.database = subst (λ (b : List ℕ). IsFile b c.args.database) all (c.requires c.in-Open.is) in
     let there : held ≡ Bytes (bytes_of held) = there_readable laws held (λ none. none c.args.database file) in
     let same : represented held ≡ Bytes (bytes_of held) = itself laws held (bytes_of held) there (file_unmarked laws (bytes_of held) c.args.database file) in
-    c.with_bytes.ensures.bytes (Some (represented held)) (ap (λ (h : Held). Some h) (same ∙ ap (λ (b : List ℕ). Bytes b) (sym (c.take_front.ensures.bytes ∙ all))))
-
-pub returns-clause-bytes : goal.returns-clause-bytes
-returns-clause-bytes g c = λ s honest. rw c.without_bytes.ensures.encoded tt
+    c.with_bytes.ensures.bytes (Some (represented held)) (ap (λ (h : Held). Some h) (same ∙ ap (λ (b : List ℕ). Bytes b) (sym (c.take_front.ensures.bytes ∙ all)))))
