@@ -238,8 +238,8 @@ impl<D: Disk> FileBytes<D> {
         self.front.bytes()
     }
 
-    /// Takes the bytes of the file that are in memory: the first part, or all bytes.
-    pub(crate) fn take_front(&mut self) -> Vec<u8>
+    // Takes the bytes in memory.
+    fn take_front(&mut self) -> Vec<u8>
         ensures disk { self.new.disk ≡ self.old.disk }
         ensures syncs { self.new.syncs ≡ self.old.syncs }
         ensures length { self.new.length ≡ self.old.length }
@@ -248,6 +248,21 @@ impl<D: Disk> FileBytes<D> {
     {
         let empty = Front::new(self.disk.alloc());
         std::mem::replace(&mut self.front, empty).into_bytes()
+    }
+
+    /// Gives the bytes of the file that are in memory away. Of a file of one page they are a copy: a change reads the old
+    /// bytes from memory, and a call for them would take longer than the copy.
+    pub(crate) fn give_front(&mut self) -> Vec<u8>
+        ensures disk { self.new.disk ≡ self.old.disk }
+        ensures syncs { self.new.syncs ≡ self.old.syncs }
+        ensures bytes { result.items ≡ self.old.front.bytes.items }
+    {
+        if self.front.len() <= PAGE
+            && let Ok(bytes) = self.front.copied(self.disk.alloc())
+        {
+            return bytes;
+        }
+        self.take_front()
     }
 
     // Reads the bytes of the file that follow those in `bytes`, up to byte `count`, after them. If the file has fewer, the
@@ -454,18 +469,20 @@ impl<D: Disk> Bytes for FileBytes<D> {
     }
 
     fn read(&mut self, at: usize, count: usize, into: &mut Vec<u8>) -> io::Result<()> {
-        into.clear();
         if count == 0 {
+            into.clear();
             return Ok(());
         }
         self.mend()?;
         if let Some(bytes) = self.front.get(at, count) {
+            into.clear();
             into.extend_from_slice(bytes)?;
             return Ok(());
         }
         let Some(file) = &self.file else {
             return Err(not_open());
         };
+        // Bytes of an earlier read are not cleared: the read takes their place.
         into.resize(count, 0)?;
         if get(&mut self.disk, file.file(), &mut into[..], at as u64)? < count {
             return Err(Error::from(ErrorKind::UnexpectedEof));

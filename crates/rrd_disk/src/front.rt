@@ -1,9 +1,10 @@
 //! The first bytes of a file, in memory.
-ghost use Rattle.std.specs.Prelude.{◌≡◌, [], ℕ, ◌+◌, ◌<◌, ◌≤◌, List, length, IfSome};
+ghost use Rattle.std.specs.Prelude.{◌≡◌, [], ℕ, ◌+◌, ◌<◌, ◌≤◌, List, length, IfOk, IfSome};
 ghost use Rattle.rrd_disk.specs.Fronts.{Begins, Shows};
 ghost use Rattle.rrd_undo.specs.Calls.{AreAt, ArePut, IsSized};
 
-use std::alloc::Global;
+use rrd_tail::PAGE;
+use std::alloc::{AllocError, Global};
 
 /// The first bytes of a file, perhaps all of them.
 ///
@@ -44,6 +45,15 @@ impl Front {
         ensures shown { (file : List ℕ) → Shows self.now file → Begins file result.now }
     {
         &self.bytes
+    }
+
+    /// Copies the bytes, with room for as many as a page behind them.
+    pub(crate) fn copied(&self, alloc: Global) -> Result<Vec<u8>, AllocError>
+        ensures { IfOk result (λ bytes. bytes.items ≡ self.now.bytes.items) }
+    {
+        let mut bytes = Vec::with_capacity(alloc, self.bytes.len().saturating_add(PAGE))?;
+        bytes.extend_from_slice(&self.bytes)?;
+        Ok(bytes)
     }
 
     /// Returns the bytes as a vector.

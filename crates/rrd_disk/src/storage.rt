@@ -743,7 +743,7 @@ impl<D: Disk, L: Location> FileStorage<D, L> {
         let is_last = self.afterwards == Afterwards::Closed;
         match self.found {
             Found::Open if is_last && self.bytes.is_whole() => {
-                LoadedDatabase::with_bytes(database, self.bytes.take_front())
+                LoadedDatabase::with_bytes(database, self.bytes.give_front())
             }
             _ => LoadedDatabase::without_bytes(Some(database)),
         }

@@ -8,7 +8,7 @@ use Rattle.rrd_disk.proofs.Storing.{there_readable}
 use Rattle.rrd_disk.proofs.storage.FileStorage.with_bytes.Goals as goal
 
 pub returns-in-Open-clause-bytes : goal.returns-in-Open-clause-bytes
-returns-in-Open-clause-bytes g c = rw c.take_front.ensures.disk (λ s honest.
+returns-in-Open-clause-bytes g c = rw c.give_front.ensures.disk (λ s honest.
     let laws : Laws = record { begins = c.file_begins.ensures; database = c.files_without_marks_stand_for_themselves.ensures.database; unmarked = c.files_without_marks_stand_for_themselves.ensures.unmarked } in
     let held = held_after s (g.D.Disk.events c.args.self.now.bytes.disk) in
     let front = c.args.self.now.bytes.front.bytes.items in
@@ -16,4 +16,4 @@ returns-in-Open-clause-bytes g c = rw c.take_front.ensures.disk (λ s honest.
     let file : IsFile (bytes_of held) c.args.database = subst (λ (b : List ℕ). IsFile b c.args.database) all (c.requires c.in-Open.is) in
     let there : held ≡ Bytes (bytes_of held) = there_readable laws held (λ none. none c.args.database file) in
     let same : represented held ≡ Bytes (bytes_of held) = itself laws held (bytes_of held) there (file_unmarked laws (bytes_of held) c.args.database file) in
-    c.with_bytes.ensures.bytes (Some (represented held)) (ap (λ (h : Held). Some h) (same ∙ ap (λ (b : List ℕ). Bytes b) (sym (c.take_front.ensures.bytes ∙ all)))))
+    c.with_bytes.ensures.bytes (Some (represented held)) (ap (λ (h : Held). Some h) (same ∙ ap (λ (b : List ℕ). Bytes b) (sym (c.give_front.ensures.bytes ∙ all)))))
