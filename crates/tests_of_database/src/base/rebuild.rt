@@ -3,8 +3,8 @@ use crate::shared::assert_bytes;
 use crate::shared::databases::NONE;
 use arrayvec::ArrayVec;
 use rrd_base::{
-    BeforeUpdate, Database, DsDef, Due, EachSource, Entry, PieceFault, Rebuild, RraDef, SavedArchive,
-    SavedSource, Version,
+    BeforeUpdate, Database, DsDef, Due, EachSource, Entry, PieceFault, Rebuild, RraDef,
+    SavedArchive, SavedSource, Version,
 };
 use rrd_fixed::{Cell, Kind, Name, Raw};
 use rrd_fold::{Function, RowPrep, StepPrep};
