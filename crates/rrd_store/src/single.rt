@@ -42,11 +42,7 @@ fn access_of(command: &Command) -> Access
 }
 
 // Reads the database that a command runs on. A command that creates a database does not read the storage.
-fn start<P: Storage>(
-    alloc: Global,
-    command: &Command,
-    storage: &mut P,
-) -> Result<Loaded, TaskFault>
+fn start<P: Storage>(alloc: Global, command: &Command, storage: &mut P) -> Result<Loaded, TaskFault>
     ensures falls { (s : Option Held) → P.is_honest s storage.new → P.is_honest s storage.old }
     ensures sound { (s : Option Held) → P.is_honest s storage.new → P.is_sound s storage.old
         → P.is_sound s storage.new }

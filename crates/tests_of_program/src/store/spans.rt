@@ -55,12 +55,7 @@ fn run_alone(alloc: Global, storage: &mut InMemory, line: &str) -> Result<bool, 
 }
 
 // Checks the spans of an update: these cells, what is before the cells, and the journal.
-fn assert_spans(
-    rt: &impl Abort,
-    storage: &InMemory,
-    line: &str,
-    cells: &[(usize, usize)],
-) {
+fn assert_spans(rt: &impl Abort, storage: &InMemory, line: &str, cells: &[(usize, usize)]) {
     assert!(rt; storage.agrees, "{line}");
     let Some(spans) = storage.spans.as_deref() else {
         assert!(rt; false, "{line}: no spans");
