@@ -5,7 +5,7 @@ ghost use Rattle.rrd_store.specs.Storages.{Bytes, HasNone, IsAnyFile, IsNoFile, 
 use rrd_base::Database;
 use rrd_file::Span;
 use rrd_file::laws::{file_begins, file_is_layout, layouts_differ};
-use rrd_store::{Access, Loaded, Storage, TaskFault, decoded};
+use rrd_store::{Access, Storage, TaskFault, decoded};
 use std::alloc::{AllocError, Global};
 use std::io::{self, Error, ErrorKind};
 
@@ -38,8 +38,6 @@ pub(crate) struct InMemory {
     pub(crate) ending_at: Option<usize>,
     changes: usize,
     pub(crate) room: usize,
-    // Whether an update gets the bytes with the database.
-    pub(crate) gives_bytes: bool,
     // What it was opened for last, and how many bytes it was to take.
     pub(crate) access: Option<Access>,
     pub(crate) expected: Option<usize>,
@@ -92,7 +90,6 @@ impl InMemory {
             ending_at: None,
             changes: 0,
             room: usize::MAX,
-            gives_bytes: false,
             access: None,
             expected: None,
             spans: None,
@@ -151,16 +148,6 @@ impl Storage for InMemory {
         match decoded(alloc, &self.bytes) {
             Ok(database) => Ok(Some(database)),
             Err(fault) => Err(fault),
-        }
-    }
-
-    fn load_to_update(&mut self, alloc: Global) -> Result<Loaded, TaskFault> {
-        match self.load(alloc, Access::ReadWrite)? {
-            Some(database) if self.gives_bytes => match self.bytes.clone() {
-                Ok(bytes) => Ok(Loaded::with_bytes(database, bytes)),
-                Err(_) => Ok(Loaded::without_bytes(Some(database))),
-            },
-            database => Ok(Loaded::without_bytes(database)),
         }
     }
 
