@@ -21,7 +21,7 @@ use crate::{Cause, Disk, Location, Opening};
 use rrd_base::Database;
 use rrd_file::laws::{file_begins, one_answer};
 use rrd_file::{FileFault, Span};
-use rrd_store::{Access, Loaded as LoadedDatabase, Storage, TaskFault};
+use rrd_store::{Access, Loaded, Storage, TaskFault};
 use rrd_tail::DATABASE_MARK;
 use rrd_undo::laws::files_without_marks_stand_for_themselves;
 use rrd_undo::{Bytes, Span as PageSpan, has_mark, replace, replace_where};
@@ -46,7 +46,7 @@ pub(crate) enum Found {
 }
 
 /// The result of loading a database.
-type Loaded = Result<Option<Database>, TaskFault>;
+type LoadResult = Result<Option<Database>, TaskFault>;
 
 /// What becomes of the file after its bytes were replaced.
 #[derive(Clone, Copy, Debug, PartialEq, Eq)]
@@ -281,7 +281,7 @@ impl<D: Disk, L: Location> FileStorage<D, L> {
     }
 
     // Notes that there is no file.
-    fn miss(&mut self) -> Loaded
+    fn miss(&mut self) -> LoadResult
         ensures disk { self.new.bytes ≡ self.old.bytes }
         ensures closed { self.new.found ≢ Open }
         ensures none { result ≡ Ok None }
@@ -304,7 +304,7 @@ impl<D: Disk, L: Location> FileStorage<D, L> {
     }
 
     // Loads the database of an open file without a mark, which the run may then change.
-    fn load_unmarked(&mut self, alloc: Global) -> Loaded
+    fn load_unmarked(&mut self, alloc: Global) -> LoadResult
         ensures falls { Falls (D.events self.old.bytes.disk) (D.events self.new.bytes.disk) }
         ensures same { KeepsHonest (D.events self.old.bytes.disk) (D.events self.new.bytes.disk) }
         ensures reads { ReadsSome (D.events self.new.bytes.disk) result }
@@ -336,7 +336,7 @@ impl<D: Disk, L: Location> FileStorage<D, L> {
 
     // Returns the database that a file stands for which could not be repaired, if the file still stands for it: a write
     // that was cut short is taken back first. A file that is to stay open has to be repaired.
-    fn unrepaired(&mut self, standing: Standing) -> Loaded
+    fn unrepaired(&mut self, standing: Standing) -> LoadResult
         ensures falls { Falls (D.events self.old.bytes.disk) (D.events self.new.bytes.disk) }
         ensures found { self.new.found ≡ self.old.found }
         ensures same { KeepsHonest (D.events self.old.bytes.disk) (D.events self.new.bytes.disk) }
@@ -356,7 +356,7 @@ impl<D: Disk, L: Location> FileStorage<D, L> {
 
     // Loads the database that an open file with a mark stands for. Repairs the file, which the run may then change; if the
     // file cannot be repaired, the run only reads the file.
-    fn load_marked(&mut self, alloc: Global) -> Loaded
+    fn load_marked(&mut self, alloc: Global) -> LoadResult
         ensures falls { Falls (D.events self.old.bytes.disk) (D.events self.new.bytes.disk) }
         ensures loads { LoadsMarked (D.events self.old.bytes.disk) (D.events self.new.bytes.disk) result }
         ensures held { HasDecoded self.new.found self.new.bytes.front.bytes.items result }
@@ -383,7 +383,7 @@ impl<D: Disk, L: Location> FileStorage<D, L> {
     }
 
     // Loads the database that an open file with a mark stands for. Does not change the file.
-    fn read_marked(&mut self, alloc: Global) -> Loaded
+    fn read_marked(&mut self, alloc: Global) -> LoadResult
         ensures falls { Falls (D.events self.old.bytes.disk) (D.events self.new.bytes.disk) }
         ensures loads { LoadsMarked (D.events self.old.bytes.disk) (D.events self.new.bytes.disk) result }
         ensures valid { Finds None result }
@@ -395,7 +395,7 @@ impl<D: Disk, L: Location> FileStorage<D, L> {
     }
 
     // Loads the database of an open file, which the run may then change.
-    fn load_open(&mut self, alloc: Global) -> Loaded
+    fn load_open(&mut self, alloc: Global) -> LoadResult
         ensures falls { Falls (D.events self.old.bytes.disk) (D.events self.new.bytes.disk) }
         ensures loads { LoadsOpen (D.events self.old.bytes.disk) (D.events self.new.bytes.disk) result }
         ensures held { HasDecoded self.new.found self.new.bytes.front.bytes.items result }
@@ -421,7 +421,7 @@ impl<D: Disk, L: Location> FileStorage<D, L> {
 
     // Loads the database of a file with a mark, under a lock that readers share. If this run may write the file, the run
     // opens the file again under its own lock, and repairs it.
-    fn load_interrupted(&mut self, alloc: Global) -> Loaded
+    fn load_interrupted(&mut self, alloc: Global) -> LoadResult
         ensures falls { Falls (D.events self.old.bytes.disk) (D.events self.new.bytes.disk) }
         ensures loads { LoadsMarked (D.events self.old.bytes.disk) (D.events self.new.bytes.disk) result }
         ensures valid { Finds None result }
@@ -438,7 +438,7 @@ impl<D: Disk, L: Location> FileStorage<D, L> {
     }
 
     // Loads the database of a file that the run only reads, under a lock that readers share.
-    fn load_shared(&mut self, alloc: Global) -> Loaded
+    fn load_shared(&mut self, alloc: Global) -> LoadResult
         ensures falls { Falls (D.events self.old.bytes.disk) (D.events self.new.bytes.disk) }
         ensures loads { LoadsOpen (D.events self.old.bytes.disk) (D.events self.new.bytes.disk) result }
         ensures valid { Finds None result }
@@ -462,7 +462,7 @@ impl<D: Disk, L: Location> FileStorage<D, L> {
     }
 
     // Loads the database of a file that the run only reads. `unwritable` is the reason why the run cannot write the file.
-    fn load_to_read(&mut self, alloc: Global, unwritable: Error) -> Loaded
+    fn load_to_read(&mut self, alloc: Global, unwritable: Error) -> LoadResult
         ensures falls { Falls (D.events self.old.bytes.disk) (D.events self.new.bytes.disk) }
         ensures loads { Loads (D.events self.old.bytes.disk) (D.events self.new.bytes.disk) result }
         ensures closed { self.new.found ≢ Open }
@@ -502,7 +502,7 @@ impl<D: Disk, L: Location> FileStorage<D, L> {
     }
 
     // Loads the database of a file under this run's own lock. If the run may not write the file, the run only reads it.
-    fn load_to_change(&mut self, alloc: Global) -> Loaded
+    fn load_to_change(&mut self, alloc: Global) -> LoadResult
         ensures falls { Falls (D.events self.old.bytes.disk) (D.events self.new.bytes.disk) }
         ensures loads { Loads (D.events self.old.bytes.disk) (D.events self.new.bytes.disk) result }
         ensures held { HasDecoded self.new.found self.new.bytes.front.bytes.items result }
@@ -717,7 +717,7 @@ impl<D: Disk, L: Location> FileStorage<D, L> {
     }
 
     // Loads the database, for reading or for a change. A file that stayed open is read again under the same lock.
-    fn load_for(&mut self, alloc: Global, access: Access) -> Loaded
+    fn load_for(&mut self, alloc: Global, access: Access) -> LoadResult
         ensures falls { Falls (D.events self.old.bytes.disk) (D.events self.new.bytes.disk) }
         ensures loads { Loads (D.events self.old.bytes.disk) (D.events self.new.bytes.disk) result }
         ensures held { HasDecoded self.new.found self.new.bytes.front.bytes.items result }
@@ -732,7 +732,7 @@ impl<D: Disk, L: Location> FileStorage<D, L> {
 
     // Returns a database that was loaded, with the bytes of its file, if they are in memory and the run is over after one
     // change. If the file stays open, the bytes stay here: a change reads the old bytes of its pages from them.
-    fn with_bytes(&mut self, database: Database) -> LoadedDatabase
+    fn with_bytes(&mut self, database: Database) -> Loaded
         requires { self.old.found ≡ Open → IsFile self.old.bytes.front.bytes.items database }
         ensures disk { self.new.bytes.disk ≡ self.old.bytes.disk }
         ensures database { result.database ≡ Some database }
@@ -743,9 +743,9 @@ impl<D: Disk, L: Location> FileStorage<D, L> {
         let is_last = self.afterwards == Afterwards::Closed;
         match self.found {
             Found::Open if is_last && self.bytes.is_whole() => {
-                LoadedDatabase::with_bytes(database, self.bytes.give_front())
+                Loaded::with_bytes(database, self.bytes.give_front())
             }
-            _ => LoadedDatabase::without_bytes(Some(database)),
+            _ => Loaded::without_bytes(Some(database)),
         }
     }
 }
@@ -767,10 +767,10 @@ impl<D: Disk, L: Location> Storage for FileStorage<D, L> {
         loaded
     }
 
-    fn load_to_update(&mut self, alloc: Global) -> Result<LoadedDatabase, TaskFault> {
+    fn load_to_update(&mut self, alloc: Global) -> Result<Loaded, TaskFault> {
         match self.load_for(alloc, Access::ReadWrite) {
             Ok(Some(database)) => Ok(self.with_bytes(database)),
-            Ok(None) => Ok(LoadedDatabase::without_bytes(None)),
+            Ok(None) => Ok(Loaded::without_bytes(None)),
             Err(fault) => {
                 self.let_go();
                 Err(fault)
