@@ -283,7 +283,8 @@ fn a_script_may_be_cut_anywhere(rt: HostRuntime) -> Result<(), Fail> {
 
 // ---- sessions
 
-// Runs each line as a command of its own, and in a session. After each line both storages have the same bytes.
+// Runs each line as a command of its own, over a storage that gives the bytes to an update and over one that doesn't, and in
+// a session. After each line the storages have the same bytes.
 fn assert_session_leaves_the_same(
     rt: &impl Abort,
     alloc: Global,
@@ -291,6 +292,8 @@ fn assert_session_leaves_the_same(
 ) -> Result<(), Fail> {
     let mut apart = Session::new(alloc)?;
     let mut together = rrd_store::Session::new(InMemory::missing(alloc));
+    let mut giving = InMemory::missing(alloc);
+    giving.gives_bytes = true;
     for line in script {
         apart.single(line.as_str())?;
         let mut told = Vec::new(alloc);
@@ -302,6 +305,14 @@ fn assert_session_leaves_the_same(
             "{line}: {script:?}"
         );
         assert!(rt; together.storage().agrees, "{line}: {script:?}");
+        let mut told = Vec::new(alloc);
+        let _end = run_file_command(alloc, &words, 0, &mut giving, &mut told);
+        assert_eq!(rt;
+            giving.bytes.as_slice(),
+            apart.storage.bytes.as_slice(),
+            "{line}: {script:?}"
+        );
+        assert!(rt; giving.agrees, "{line}: {script:?}");
     }
     Ok(())
 }

@@ -1,11 +1,13 @@
-//! The spans of a file that a session says it changes: an update changes what is before the cells, the slots of the rows that
+//! The spans of a file that a run says it changes: an update changes what is before the cells, the slots of the rows that
 //! ended, and the journal.
 use super::storage::{Ending, InMemory};
-use rrd_store::Session;
+use crate::shared::assert_bytes;
+use rrd_store::{Session, run_file_command};
 use std::alloc::Global;
 use std::process::Abort;
 use std::test::Fail;
 use test_data::words_of;
+use test_data::worked_files::{in_first_version, sampled_file};
 
 // A file of 193 bytes before the cells, 64 and 48 bytes of cells, and a journal of two changes. The rows of the second
 // archive have two steps.
@@ -46,16 +48,16 @@ fn spans_of(session: &Session<InMemory>) -> Option<&[(usize, usize)]> {
     session.storage().spans.as_deref()
 }
 
+// Runs a line alone, and tells whether it was written.
+fn run_alone(alloc: Global, storage: &mut InMemory, line: &str) -> Result<bool, Fail> {
+    let mut out = Vec::new(alloc);
+    Ok(run_file_command(alloc, &words_of(alloc, line)?, 0, storage, &mut out).is_ok())
+}
+
 // Checks the spans of an update: these cells, what is before the cells, and the journal.
-fn assert_spans(
-    rt: &impl Abort,
-    session: &Session<InMemory>,
-    line: &str,
-    cells: &[(usize, usize)],
-) {
-    let storage = session.storage();
+fn assert_spans(rt: &impl Abort, storage: &InMemory, line: &str, cells: &[(usize, usize)]) {
     assert!(rt; storage.agrees, "{line}");
-    let Some(spans) = spans_of(session) else {
+    let Some(spans) = storage.spans.as_deref() else {
         assert!(rt; false, "{line}: no spans");
         return;
     };
@@ -80,11 +82,45 @@ fn updates_name_the_slots_that_they_change(rt: HostRuntime) -> Result<(), Fail> 
     // Of the first change nobody knows what was there.
     assert!(&rt; spans_of(&session).is_none());
     assert!(&rt; run(alloc, &mut session, "update 10:1")?);
-    assert_spans(&rt, &session, "update 10:1", &[(209, 225)]);
+    assert_spans(&rt, session.storage(), "update 10:1", &[(209, 225)]);
     for (line, cells) in UPDATES {
         assert!(&rt; run(alloc, &mut session, line)?, "{line}");
-        assert_spans(&rt, &session, line, cells);
+        assert_spans(&rt, session.storage(), line, cells);
     }
+    Ok(())
+}
+
+// An update that is the only one of its run changes the bytes that were read for it.
+#[test]
+fn a_single_update_names_the_slots_that_it_changes(rt: HostRuntime) -> Result<(), Fail> {
+    let alloc = rt.alloc();
+    let mut storage = InMemory::missing(alloc);
+    storage.gives_bytes = true;
+    assert!(&rt; run_alone(alloc, &mut storage, CREATE)?, "{CREATE}");
+    assert!(&rt; run_alone(alloc, &mut storage, "update 10:1")?);
+    for (line, cells) in UPDATES {
+        assert!(&rt; run_alone(alloc, &mut storage, line)?, "{line}");
+        assert_spans(&rt, &storage, line, cells);
+    }
+    for line in ["tune --heartbeat a:90", "resize 0 GROW 2", "revert"] {
+        assert!(&rt; run_alone(alloc, &mut storage, line)?, "{line}");
+        assert!(&rt; storage.spans.is_none(), "{line}");
+    }
+    Ok(())
+}
+
+// A file of the first version is written anew: its header is shorter.
+#[test]
+fn an_update_of_the_first_version_writes_all(rt: HostRuntime) -> Result<(), Fail> {
+    let alloc = rt.alloc();
+    let mut first = InMemory::with(alloc, &in_first_version(alloc, &sampled_file(alloc)?)?)?;
+    first.gives_bytes = true;
+    let mut newest = InMemory::with(alloc, &sampled_file(alloc)?)?;
+    for storage in [&mut first, &mut newest] {
+        assert!(&rt; run_alone(alloc, storage, "update 20:1")?);
+        assert!(&rt; storage.spans.is_none());
+    }
+    assert_bytes(&rt, &first.bytes, &newest.bytes, "the newest version");
     Ok(())
 }
 

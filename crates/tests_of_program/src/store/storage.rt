@@ -1,11 +1,13 @@
 //! A storage in memory that may fail.
 ghost use Rattle.std.specs.Prelude.{◌≡◌, ◌<◌, IfOk, IsTrue, Some, if◌then◌else◌, length, ⊤};
+ghost use Rattle.rrd_file.specs.Faults.{IsFile};
+ghost use Rattle.rrd_store.specs.Sessions.{HasBytes};
 ghost use Rattle.rrd_store.specs.Storages.{Bytes, HasNone, IsAnyFile, IsNoFile, Missing};
 
 use rrd_base::Database;
 use rrd_file::Span;
 use rrd_file::laws::{file_begins, file_is_layout, layouts_differ};
-use rrd_store::{Access, Storage, TaskFault, decoded};
+use rrd_store::{Access, Loaded, Storage, TaskFault, decoded};
 use std::alloc::{AllocError, Global};
 use std::io::{self, Error, ErrorKind};
 
@@ -38,6 +40,8 @@ pub(crate) struct InMemory {
     pub(crate) ending_at: Option<usize>,
     changes: usize,
     pub(crate) room: usize,
+    // Whether an update gets the bytes with the database.
+    pub(crate) gives_bytes: bool,
     // What it was opened for last, and how many bytes it was to take.
     pub(crate) access: Option<Access>,
     pub(crate) expected: Option<usize>,
@@ -90,6 +94,7 @@ impl InMemory {
             ending_at: None,
             changes: 0,
             room: usize::MAX,
+            gives_bytes: false,
             access: None,
             expected: None,
             spans: None,
@@ -107,6 +112,18 @@ impl InMemory {
         match self.ending_at {
             Some(at) if at != number => Ending::Whole,
             _ => self.ending,
+        }
+    }
+
+    // The database with a copy of its file, if there is memory for one.
+    fn with_copy(&self, database: Database) -> Loaded
+        requires { IsFile self.now.bytes.items database }
+        ensures database { result.database ≡ Some database }
+        ensures bytes { HasBytes (Some (Bytes self.now.bytes.items)) result.encoded }
+    {
+        match Vec::from_slice(self.alloc, &self.bytes) {
+            Ok(bytes) => Loaded::with_bytes(database, bytes),
+            Err(_) => Loaded::without_bytes(Some(database)),
         }
     }
 
@@ -148,6 +165,13 @@ impl Storage for InMemory {
         match decoded(alloc, &self.bytes) {
             Ok(database) => Ok(Some(database)),
             Err(fault) => Err(fault),
+        }
+    }
+
+    fn load_to_update(&mut self, alloc: Global) -> Result<Loaded, TaskFault> {
+        match self.load(alloc, Access::ReadWrite)? {
+            Some(database) if self.gives_bytes => Ok(self.with_copy(database)),
+            database => Ok(Loaded::without_bytes(database)),
         }
     }
 
