@@ -140,7 +140,8 @@ impl<D: Disk> Disk for Killed<D> {
 /// Theorem: if the record is that of an honest file that nobody else wrote, the file represents what it represented
 /// before the run, or what the definitions say of an accepted command; or it is damaged, if there was no database. So it
 /// is if the kill came between two calls (`between`), and if it interrupted a write that wrote a first part of its bytes
-/// (`within`), but within one page all of them or none.
+/// (`within`), but within one page all of them or none. The body is a part of the theorem: one that makes no call on the
+/// file, and fails, would keep the contract too.
 pub fn run_command_killed<D: Disk, W: Write>(
     alloc: Global,
     disk: D,

@@ -1,4 +1,6 @@
-//! Theorems about the runs on a file. Each is the contract of a function that does nothing.
+//! Theorems about the runs on a file. Each is the contract of a function that does nothing, except
+//! [`changes_survive_power_failures`]: its body is a part of the theorem, since one that makes no call would keep most of
+//! the contract too.
 //!
 //! The module is public only for readers of the contracts: no other crate calls these functions.
 ghost use Rattle.std.specs.Prelude.{◌≡◌, ◌++◌, ℕ, Bool, List, [], OnOk, Option};
@@ -35,11 +37,11 @@ pub fn files_follow_specification()
     runs_follow_specification();
 }
 
-/// Theorem: after any list of runs on a file that stays open, the bytes that the file represents and all printed text are what
-/// the definitions compute.
+/// Theorem: after any list of runs on a file that stays open, the bytes that the file represents and all printed text are
+/// what the definitions compute.
 ///
-/// Each run is one by [`crate::OpenFile::run`] or [`crate::OpenFile::run_batch`], with the record of all calls on the file since
-/// it was opened. The premises are those of [`files_follow_specification`].
+/// Each run is one by [`crate::OpenFile::run`] or [`crate::OpenFile::run_batch`], with the record of all calls on the file
+/// since it was opened. The premises are those of [`files_follow_specification`].
 pub fn open_files_follow_specification()
     ensures { (w : World) (first : Option Stored) (opened : List Event) (recorded : List RecordedOpen) →
         OpenFilesFollowSpecification w first opened recorded }

@@ -2,8 +2,8 @@
 //!
 //! A database is marked before its first page is replaced. The old bytes of the pages that differ are copied to the
 //! file's tail, many at once, before the new bytes are written over them, and one call makes the file represent the new
-//! bytes. If only the first page differs, one call writes that page. A file that is not a database is marked invalid until its new first page is written: a kill may
-//! lose such a file, but leaves nothing that reads as a database.
+//! bytes. If only the first page differs, one call writes that page. A file that is not a database is marked invalid until
+//! its new first page is written: a kill may lose such a file, but leaves nothing that reads as a database.
 ghost use Rattle.std.specs.Prelude.{◌≡◌, ◌⊎◌, ℕ, ◌+◌, ◌-◌, ◌%◌, ◌<◌, ◌≤◌, List, length, min, slice_index, IsTrue, IfOk, OnErr, OnOk};
 ghost use Rattle.rrd_tail.specs.Marks.{undo_mark};
 ghost use Rattle.rrd_tail.specs.Settled.{settled};

@@ -1,5 +1,8 @@
 //! Theorems about the bytes that a change leaves in a file if calls fail, and that a kill leaves in a file in memory.
 //!
+//! Where a function runs code, its body is a part of the theorem: one that makes no call would keep most of these contracts
+//! too.
+//!
 //! The module is public only for readers of the contracts and for tests: the program calls none of these functions.
 ghost use Rattle.std.specs.Prelude.{◌≡◌, ◌⊎◌, Bool, IfOk, IsTrue, List, None, ℕ, OnErr, OnOk};
 ghost use Rattle.std.specs.List.{All};
