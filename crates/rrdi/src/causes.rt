@@ -1,5 +1,6 @@
 //! The line after a fault: the reason why a file could not be opened, read or written, or what was wrong with the arguments.
 use crate::advice::Advice;
+use crate::shown::ShownPath;
 use rrd_disk::Settings;
 use rrd_fixed::write_bytes;
 use std::fmt::{self, Display, Formatter};
@@ -35,12 +36,13 @@ impl Display for Cause {
 
 /// Reports on standard error why the file at `path` could not be opened, read or written.
 ///
-/// The line is `rrdi: PATH: REASON`. If memory runs out for the line, or the write fails, nothing more is reported.
+/// The line is `rrdi: PATH: REASON`, with `?` for each control character of the path. If memory runs out for the line, or the write fails, nothing more is reported.
 pub(crate) fn report_cause(rt: &HostRuntime, path: &str, error: Error, settings: Settings) {
     let cause = Cause {
         error,
         wait: settings.wait,
     };
+    let path = ShownPath(path);
     let Ok(line) = format!(in rt.alloc(); "rrdi: {path}: {cause}\n") else {
         return;
     };

@@ -20,16 +20,31 @@ fn most_of(count: usize) -> usize {
     if count > MOST { BEGINNING } else { count }
 }
 
+// Shows the first characters of a text, at most `most`.
+fn show<W: fmt::Write>(f: &mut Formatter<W>, text: &str, most: usize) -> fmt::Result {
+    for character in text.chars().take(most) {
+        write!(f, "{}", shown_char(character))?;
+    }
+    Ok(())
+}
+
 /// A text as it is shown, without quotes.
 #[derive(Clone, Copy)]
 pub(crate) struct Shown<'a>(pub(crate) &'a str);
 
 impl<'a> Display for Shown<'a> {
     fn fmt<W: fmt::Write>(&self, f: &mut Formatter<W>) -> fmt::Result {
-        for character in self.0.chars().take(most_of(self.0.chars().count())) {
-            write!(f, "{}", shown_char(character))?;
-        }
-        Ok(())
+        show(f, self.0, most_of(self.0.chars().count()))
+    }
+}
+
+/// A path as it is shown, whole and without quotes.
+#[derive(Clone, Copy)]
+pub(crate) struct ShownPath<'a>(pub(crate) &'a str);
+
+impl<'a> Display for ShownPath<'a> {
+    fn fmt<W: fmt::Write>(&self, f: &mut Formatter<W>) -> fmt::Result {
+        show(f, self.0, usize::MAX)
     }
 }
 
