@@ -125,10 +125,13 @@ my (undef, undef, undef, $rows) = RRDs::fetch('f.rrdi', 'AVERAGE', '-s', 'epoch+
 printf "%.6f\n", $rows->[0][0];
 """), ["123456789.123457"])
 
+    def counting(self) -> Dict[str, str]:
+        """Returns an environment in which the file `starts` has a line for each process that RRDs starts."""
+        return {"RRDI_RRDTOOL": self.stub("counted", f'echo x >>{self.folder}/starts; exec {TOP}/tools/rrdi-rrdtool "$@"')}
+
     def test_one_process(self) -> None:
-        counted = self.stub("counted", f'echo x >>{self.folder}/starts; exec {TOP}/tools/rrdi-rrdtool "$@"')
         self.assertEqual(self.lines("RRDs::update('f.rrdi', 10 * $_ . ':1') for 1 .. 20; show last => RRDs::last('f.rrdi');",
-                                    {"RRDI_RRDTOOL": counted}), ["last: 200; error undef"])
+                                    self.counting()), ["last: 200; error undef"])
         self.assertEqual(self.read("starts"), b"x\n")
 
     def test_a_fork_has_a_process_of_its_own(self) -> None:
@@ -146,8 +149,10 @@ my @children = map { my $number = $_; my $pid = fork; if (!$pid) {
     exit $wrong } $pid } 1 .. 3;
 for (@children) { waitpid $_, 0; show status => $? }
 show last => map { RRDs::last("c$_.rrdi") } 1 .. 3;
-""")
+""", self.counting())
         self.assertEqual(lines, ["status: 0; error undef"] * 3 + ["last: 1000001020; 1000002020; 1000003020; error undef"])
+        # Whether the children disturb each other is a matter of chance.
+        self.assertEqual(self.read("starts"), b"x\n" * 4)
 
     def test_directories(self) -> None:
         (self.folder / "a b'c").mkdir()
