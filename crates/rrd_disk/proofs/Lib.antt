@@ -3,6 +3,7 @@ pub mod Asking
 pub mod Calling
 pub mod Contents
 pub mod Failures
+pub mod Faults
 pub mod FileRuns
 pub mod Fronts
 pub mod Kills

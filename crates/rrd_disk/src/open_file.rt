@@ -44,6 +44,7 @@ impl<D: Disk + Drop> OpenFile<D> {
         ensures kept { IfOk result (λ file. IsKept (D.events file.session.storage.bytes.disk) file.session.database file.session.encoded) }
         ensures opened { IfOk result (λ file. IsOpened (D.events file.session.storage.bytes.disk)) }
         ensures some { IfOk result (λ file. IsSome file.session.database) }
+        ensures fault { IfErr result (λ refused. IsOfPlace refused.fault) }
     {
         let mut session = Session::new(FileStorage::staying_open(disk, place));
         match session.load(alloc) {

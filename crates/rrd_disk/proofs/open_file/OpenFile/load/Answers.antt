@@ -2,21 +2,14 @@ use Rattle.std.proofs.Common.{◌≡◌, IfErr, IsTrue, None, Some, Result, Ok, 
 use Rattle.rrd_store.specs.Runs.{IsOfPlace}
 use Rattle.rrd_store.specs.Single.{FindsOne}
 use Rattle.rrd_store.specs.declared.faults.TaskFault.{TaskFault}
-use Rattle.rrd_store.specs.declared.faults.TaskFault.TheVariants as task
 use Rattle.rrd_disk.specs.Asked.{held_of, world_in}
 use Rattle.rrd_disk.specs.Contents.{IsSound, represented}
 use Rattle.rrd_disk.specs.OpenRuns.{IsKeptOf}
 use Rattle.rrd_disk.specs.Replayed.{World, held_after, is_honest_after}
 use Rattle.rrd_disk.proofs.Asked.{world_in_held}
+use Rattle.rrd_disk.proofs.Faults.{of_place}
 use Rattle.rrd_disk.proofs.OpenRuns.{held_or}
 use Rattle.rrd_disk.proofs.open_file.OpenFile.load.Goals as goal
-
-of_place : (fault : TaskFault) → FindsOne None (Err fault) → IsOfPlace fault
-of_place (task.File fault) f = tt
-of_place task.CannotOpen f = tt
-of_place task.CannotWrite f = absurd f
-of_place (task.Command fault) f = absurd f
-of_place (task.Stream fault) f = absurd f
 
 place_of : {T : Type 0} (Q : TaskFault → Type 0) (end : Result T TaskFault) → ((fault : TaskFault) → Q fault → FindsOne None (Err fault)) → IfErr end Q → IfErr end IsOfPlace
 place_of Q (Ok x) finds f = tt

@@ -1,11 +1,12 @@
-use Rattle.std.proofs.Common.{◌≡◌, ◌∙◌, [], IsTrue, List, Some, ap, sym, subst}
-use Rattle.rrd_store.specs.Sessions.{IsInMemory}
+use Rattle.std.proofs.Common.{◌≡◌, ◌∙◌, [], IsTrue, List, None, Some, ap, sym, subst}
+use Rattle.rrd_store.specs.Sessions.{IsInMemory, IsRead}
 use Rattle.rrd_disk.specs.Asked.{held_of, world_in}
 use Rattle.rrd_disk.specs.Contents.{IsSound, represented}
 use Rattle.rrd_disk.specs.Events.{Event}
 use Rattle.rrd_disk.specs.OpenRuns.{IsKeptOf}
 use Rattle.rrd_disk.specs.Replayed.{World, held_after, is_honest_after}
 use Rattle.rrd_disk.proofs.Asked.{world_in_held}
+use Rattle.rrd_disk.proofs.Faults.{of_place}
 use Rattle.rrd_disk.proofs.OpenRuns.{held_or}
 use Rattle.rrd_disk.proofs.open_file.OpenFile.open.Goals as goal
 
@@ -36,3 +37,8 @@ returns-in-Ok-clause-opened g c = λ w honest sound.
     let was : IsSound (held_after (world_in code) events) = subst (λ (e : List Event). IsSound (held_after (world_in code) e)) (sym begun) first in
     let stays = ap (held_or (world_in code).start) (c.load.ensures.stays (Some code) now was) ∙ ap (λ (e : List Event). represented (held_after (world_in code) e)) begun in
     subst (λ (v : World). represented (held_after v new) ≡ represented v.start) same stays
+
+pub returns-in-Err-clause-fault : goal.returns-in-Err-clause-fault
+returns-in-Err-clause-fault g c =
+    let read : IsRead None c.new-session.result.database = rw c.new-session.ensures.database tt in
+    of_place c.in-Err.fault (c.in-Err.ensures.fault None tt tt read)
