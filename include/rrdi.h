@@ -5,8 +5,9 @@
  * function frees all memory that it allocates before it returns; it allocates by malloc, realloc and free, which must belong to
  * one allocator, and align blocks to 16 bytes. A call needs less than 64 KiB of stack.
  * Files. A function locks the file by flock, as the program does, and closes all files that it opens; only an open file stays
- * open and locked until rrdi_close. The lock is released even if the process was forked in the meantime. If the process has
- * locks of its own on the file, set by fcntl (F_SETLK), it loses them: the system drops them when the call closes the file.
+ * open and locked until rrdi_close. The lock is released even if the process was forked in the meantime; if the process is
+ * killed before that, the child keeps the lock until it ends or calls exec. If the process has locks of its own on the file,
+ * set by fcntl (F_SETLK), it loses them: the system drops them when the call closes the file.
  * Streams. If a descriptor from 0 to 2 is closed, a call does not use it for the file, except for the moment of the opening.
  * Other threads must not write to a closed descriptor.
  * Threads. Calls may run at the same time in several threads, each with its own answer and buffers. Do not call a function

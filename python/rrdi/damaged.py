@@ -4,11 +4,12 @@ from __future__ import annotations
 import os
 import time
 from contextlib import contextmanager
+from io import FileIO
 from typing import Callable, Iterator
 
 from .commands import last
 from .errors import TRUNCATED, VERSION, Damaged
-from .locks import EXCLUSIVE, locked, state_of
+from .locks import EXCLUSIVE, locked, open_file, state_of
 from .words import FilePath
 
 # An empty file may be one that another program has just made, and has not locked and filled yet.
@@ -46,20 +47,17 @@ def held(path: str, is_damaged: Callable[[str], bool]) -> Iterator[bool]:
     if not is_damaged(path):
         yield False
         return
-    file = open_for_lock(path)
-    try:
-        with locked(file, EXCLUSIVE, 0):
-            yield state_of(before) == state_of(os.fstat(file)) == state_of(os.stat(path))
-    finally:
-        os.close(file)
+    with open_for_lock(path) as file, locked(file, EXCLUSIVE, 0):
+        yield state_of(before) == state_of(os.fstat(file.fileno())) == state_of(os.stat(path))
 
 
-def open_for_lock(path: str) -> int:
-    """Opens a file for writing, which some network file systems ask for, or only for reading."""
+def open_for_lock(path: str) -> FileIO:
+    """Opens a file for writing, which some network file systems ask for, or only for reading. Never waits for the other
+    end of a pipe that has taken the name."""
     try:
-        return os.open(path, os.O_RDWR | os.O_CLOEXEC)
+        return open_file(path, os.O_RDWR | os.O_NONBLOCK)
     except PermissionError:
-        return os.open(path, os.O_RDONLY | os.O_CLOEXEC)
+        return open_file(path, os.O_RDONLY | os.O_NONBLOCK)
 
 
 def set_aside(path: str, fault: Damaged) -> str:

@@ -8,31 +8,21 @@ from __future__ import annotations
 
 import os
 import threading
-import weakref
-from typing import List, Optional, Tuple
+from typing import Callable, List, Optional
+from weakref import WeakValueDictionary
 
 from .commands import Batch, Lines, add_detail, batch_of, failed, lines_of, text_of_lines
 from .environment import is_synced, milliseconds
 from .errors import BAD_WORD, CANNOT_OPEN, LOCKED, OK, REFUSED, USAGE, Refused, Unreadable
 from .library import the_library
-from .locks import identity_of
-from .protocol import Answer, OpenedFile
+from .locks import Identity, identity_at
+from .protocol import CLOSED, Answer, OpenedFile
 from .times import Time, moment
 from .words import FilePath, encoded, encoded_path
 
 # After any other fault the file is closed, and the next command opens and reads it again.
 _HARMLESS = frozenset({OK, USAGE, BAD_WORD, REFUSED})
-
-Identity = Tuple[int, int]  # the device and the inode
-
-
-def identity_at(path: bytes) -> Optional[Identity]:
-    """Returns which file has a name; None if no file has it."""
-    try:
-        found = os.stat(path)
-    except OSError:
-        return None
-    return identity_of(found)
+TRIES = 10  # of a command whose file is closed each time before the command runs
 
 
 class KeptFile:
@@ -49,7 +39,7 @@ class KeptFile:
         self._opened: Optional[OpenedFile] = None
         self._identity: Optional[Identity] = None
         self.guard = threading.RLock()
-        _forks.add(self)
+        _files[id(self)] = self
 
     def run(self, words: List[str], now: Optional[Time] = None) -> str:
         """Runs one command, and returns its output. An error says which sample, value or time was wrong."""
@@ -63,10 +53,8 @@ class KeptFile:
         """Runs lines, as `rrdi.batch`: writes the file once."""
         given = lines_of(lines)
         text, time = text_of_lines(given), moment(now)
-        with self.guard:
-            opened = self._current()
-            answer = (self._noted(opened.batch(text, time)) if opened else
-                      the_library().batch_file(self._path, text, time, self._wait, self._syncs))
+        answer = self._answer(lambda opened: opened.batch(text, time), lambda: the_library().batch_file(
+            self._path, text, time, self._wait, self._syncs))
         return batch_of(given, answer, self.path)
 
     def close(self) -> None:
@@ -76,26 +64,32 @@ class KeptFile:
                 self._opened.close()
             self._opened = None
 
-    def forget(self) -> None:
-        """Leaves the file to the parent. Called in a forked child."""
-        self.guard = threading.RLock()
-        if self._opened is not None:
-            self._opened.forget()
-        self._opened = None
-
     def has(self, identity: Optional[Identity]) -> bool:
         """Checks whether this is the file that is open."""
-        return self._opened is not None and self._identity == identity
+        opened = self._opened
+        return opened is not None and opened.is_open and self._identity == identity
 
     def _run(self, words: List[str], now: Optional[Time]) -> str:
         given, time = encoded(words), moment(now)
-        with self.guard:
-            opened = self._current()
-            answer = (self._noted(opened.run(given, time)) if opened else
-                      the_library().run_file(self._path, given, time, self._wait, self._syncs))
+        answer = self._answer(lambda opened: opened.run(given, time), lambda: the_library().run_file(
+            self._path, given, time, self._wait, self._syncs))
         if answer.fault != OK:
             raise failed(answer, self.path)
         return answer.output.decode()
+
+    def _answer(self, run: Callable[[OpenedFile], Answer], run_at_path: Callable[[], Answer]) -> Answer:
+        """Runs a command on the open file, or on the file at the path if it cannot stay open. A fork, or a handler of a
+        signal, may close the file before the command runs; then the command opens it again."""
+        with self.guard:
+            for _ in range(TRIES):
+                opened = self._current()
+                if opened is None:
+                    break
+                answer = run(opened)
+                if answer[:2] != CLOSED[:2]:
+                    return self._noted(answer)
+                self.close()
+            return run_at_path()
 
     def _current(self) -> Optional[OpenedFile]:
         """Returns the open file, which is opened if need be; None if the command has to open it itself.
@@ -103,7 +97,8 @@ class KeptFile:
         # Errors
         `Busy` if another program holds the lock.
         """
-        if self._opened is not None and identity_at(self._path) != self._identity:
+        opened = self._opened
+        if opened is not None and not (opened.is_open and identity_at(self._path) == self._identity):
             self.close()
         if self._opened is None:
             self._open()
@@ -113,9 +108,10 @@ class KeptFile:
         before = identity_at(self._path)
         answer, opened = the_library().open(self._path, self._wait, self._syncs)
         if opened is None:
-            if answer.fault == CANNOT_OPEN and answer.system_error in LOCKED:
+            is_locked = answer.fault == CANNOT_OPEN and answer.system_error in LOCKED
+            if is_locked and self._opened is None:  # no handler of a signal has opened it meanwhile
                 raise failed(answer, self.path)
-        elif identity_at(self._path) != before:  # another file has taken the name meanwhile
+        elif before is None or identity_at(self._path) != before:  # another file has taken the name meanwhile
             opened.close()
         else:
             self._opened, self._identity = opened, before
@@ -127,45 +123,22 @@ class KeptFile:
         return answer
 
 
-class _Forks:
-    """Closes all open files before a fork: otherwise the child would have their locks too, and would keep them if the
-    parent were killed. A file with a call in another thread stays open, and the child forgets it."""
-
-    def __init__(self) -> None:
-        self._files: weakref.WeakSet[KeptFile] = weakref.WeakSet()
-        self._guard = threading.RLock()
-        self._closed: List[KeptFile] = []
-
-    def add(self, file: KeptFile) -> None:
-        with self._guard:
-            self._files.add(file)
-
-    def has(self, path: bytes) -> bool:
-        """Checks whether this program has a file open."""
-        identity = identity_at(path)
-        with self._guard:
-            return any(file.has(identity) for file in self._files)
-
-    def before(self) -> None:
-        self._guard.acquire()
-        for file in self._files:
-            if file.guard.acquire(blocking=False):
-                self._closed.append(file)
-                file.close()
-
-    def after(self) -> None:
-        for file in self._closed:
-            file.guard.release()
-        self._closed.clear()
-        self._guard.release()
-
-    def after_in_child(self) -> None:
-        for file in self._files:
-            if file not in self._closed:
-                file.forget()
-        self.after()
+_files: WeakValueDictionary[int, KeptFile] = WeakValueDictionary()
 
 
-_forks = _Forks()
-is_open_here = _forks.has
-os.register_at_fork(before=_forks.before, after_in_parent=_forks.after, after_in_child=_forks.after_in_child)
+def _kept_files() -> List[KeptFile]:
+    return [file for file in (reference() for reference in _files.valuerefs()) if file is not None]
+
+
+def is_open_here(path: bytes) -> bool:
+    """Checks whether this program has a file open."""
+    identity = identity_at(path)
+    return any(file.has(identity) for file in _kept_files())
+
+
+def _after_fork_in_child() -> None:
+    for file in _kept_files():
+        file.guard = threading.RLock()  # another thread may have held it, and is not in the child
+
+
+os.register_at_fork(after_in_child=_after_fork_in_child)

@@ -1,5 +1,7 @@
 """Tells by the first bytes of a file of which program it is."""
 
+from .locks import open_regular
+
 # The first bytes of a file of rrdi: without a change, and during a change.
 RRDI_MARKS = (b"RRDI", b"RRDC", b"RRDc", b"RRDU")
 RRDTOOL_MARK = b"RRD\0"
@@ -8,9 +10,9 @@ WHISPER_END = ".wsp"
 
 
 def first_bytes(file: str) -> bytes:
-    """Returns the first four bytes of a file, or fewer; none if it can't be read."""
+    """Returns the first four bytes of a regular file, or fewer; none if it can't be read."""
     try:
-        with open(file, "rb") as opened:
+        with open_regular(file) as opened:
             return opened.read(4)
     except OSError:
         return b""

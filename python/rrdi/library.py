@@ -1,21 +1,24 @@
 """Finds the C library librrdi, and calls its functions.
 
-A call lends the library buffers that belong to the calling thread, so several threads may call at the same time. During a
-call the interpreter's lock is free. docs/embedding.md has the library's own rules.
+A call lends the library buffers that nothing else uses until the answer is read: other threads may call meanwhile, and
+so may handlers of signals and what the collector runs. During a call the interpreter's lock is free. docs/embedding.md
+has the library's own rules.
 """
 
 from __future__ import annotations
 
 import ctypes
 import os
-import threading
-from typing import List, Optional, Tuple
+from collections import deque
+from typing import Callable, Deque, List, Optional, Tuple
 
+from .calls import Call, StaysOpen, calls
 from .errors import NO_ROOM
 from .protocol import DONE as DONE, Answer as Answer, Library as Library, OpenedFile
 
 NAMES = ("librrdi.so.0", "librrdi.so")
 FIRST_ROOM = 65_536  # bytes of output
+MOST_FREE = 16  # rooms that wait for the next call
 
 
 class _Answer(ctypes.Structure):
@@ -43,8 +46,20 @@ class _File(ctypes.Structure):
     is_open: bool
 
 
+class _OwnFile(_File):
+    """The struct of an open file. It closes the file at last, if an exception cuts `_OpenedByC.__del__` short."""
+
+    def __init__(self, close: Callable[[int], None]):
+        super().__init__()
+        self.close, self.at = close, ctypes.addressof(self)
+
+    def __del__(self) -> None:
+        if self.is_open:
+            self.close(self.at)
+
+
 class _Room:
-    """Bytes that a thread lends to the library. They grow when a call needs more."""
+    """Bytes that a call lends to the library. They grow when a call needs more."""
 
     def __init__(self, length: int):
         self.grow(length)
@@ -61,10 +76,11 @@ class _Room:
             self.grow(FIRST_ROOM)
 
 
-class _Rooms(threading.local):
-    """The buffers of one thread."""
+class _Rooms(Call):
+    """What a call lends to the library, and nothing else uses until the answer is read."""
 
     def __init__(self) -> None:
+        super().__init__()
         self.answer = _Answer()
         self.answer_at = ctypes.addressof(self.answer)
         self.output, self.file, self.refused = _Room(FIRST_ROOM), _Room(1), _Room(8)
@@ -76,7 +92,6 @@ _AT_PATH = [_BYTES, _LENGTH, _BYTES, _LENGTH, ctypes.c_uint64, ctypes.c_uint64, 
 _OPENING = [_BYTES, _LENGTH, ctypes.c_uint64, ctypes.c_bool, _ADDRESS, _ADDRESS, _LENGTH]
 _ON_OPEN = [_ADDRESS, _BYTES, _LENGTH, ctypes.c_uint64, _ADDRESS, _LENGTH]
 _REFUSED = [_ADDRESS, _LENGTH]
-
 
 class CLibrary:
     """librrdi by ctypes.
@@ -100,41 +115,48 @@ class CLibrary:
         for function in (self._run, self._batch, self._run_file, self._batch_file, self._open, self.run_open,
                          self.batch_open, self.close_file):
             function.restype = None
-        self.rooms = _Rooms()
+        # A call takes rooms, and gives them back when its answer is read. After an exception it does not.
+        self._free: Deque[_Rooms] = deque(maxlen=MOST_FREE)
+
+    def take_rooms(self) -> _Rooms:
+        try:
+            return self._free.pop()
+        except IndexError:
+            return _Rooms()
 
     def run_file(self, path: bytes, words: bytes, now: int, wait: int, syncs: bool) -> Answer:
-        rooms = self.rooms
+        rooms = self.take_rooms()
         answer, output = rooms.answer, rooms.output
         while True:
-            self._run_file(path, len(path), words, len(words), now, wait, syncs, output.at, output.length,
-                           rooms.answer_at)
+            rooms.run(self._run_file, path, None, path, len(path), words, len(words), now, wait, syncs, output.at,
+                      output.length, rooms.answer_at)
             if not answer.is_cut:
-                return _finished(rooms) if answer.fault or answer.output_length else DONE
+                return self.finished(rooms)
             output.grow(answer.output_length)  # only a command that changes nothing prints so much
 
     def batch_file(self, path: bytes, lines: bytes, now: int, wait: int, syncs: bool) -> Answer:
-        rooms = self.rooms
+        rooms = self.take_rooms()
         answer, output, refused = rooms.answer, rooms.output, rooms.refused
         refused.grow(8 * (lines.count(b"\n") + 1))
         while True:
-            self._batch_file(path, len(path), lines, len(lines), now, wait, syncs, output.at, output.length,
-                             refused.at, refused.length // 8, rooms.answer_at)
+            rooms.run(self._batch_file, path, None, path, len(path), lines, len(lines), now, wait, syncs, output.at,
+                      output.length, refused.at, refused.length // 8, rooms.answer_at)
             if answer.fault != NO_ROOM:
-                return _finished(rooms, refused)
+                return self.finished(rooms, refused)
             output.grow(answer.output_length)
 
     def run(self, data: Optional[bytes], words: bytes, now: int) -> Answer:
-        rooms, given = self.rooms, data or b""
+        rooms, given = self.take_rooms(), data or b""
         output, file = rooms.output, rooms.file
         file.grow(len(given) + FIRST_ROOM)
         while True:
             self._run(data is not None, given, len(given), words, len(words), now, file.at, file.length, output.at,
                       output.length, rooms.answer_at)
             if not _needs_room(rooms):
-                return _finished(rooms, None, file)
+                return self.finished(rooms, None, file)
 
     def batch(self, data: Optional[bytes], lines: bytes, now: int) -> Answer:
-        rooms, given = self.rooms, data or b""
+        rooms, given = self.take_rooms(), data or b""
         output, file, refused = rooms.output, rooms.file, rooms.refused
         file.grow(len(given) + FIRST_ROOM)
         refused.grow(8 * (lines.count(b"\n") + 1))
@@ -142,52 +164,83 @@ class CLibrary:
             self._batch(data is not None, given, len(given), lines, len(lines), now, file.at, file.length, output.at,
                         output.length, refused.at, refused.length // 8, rooms.answer_at)
             if not _needs_room(rooms):
-                return _finished(rooms, refused, file)
+                return self.finished(rooms, refused, file)
 
     def open(self, path: bytes, wait: int, syncs: bool) -> Tuple[Answer, Optional[OpenedFile]]:
-        rooms, opened = self.rooms, _OpenedByC(self)
-        self._open(path, len(path), wait, syncs, opened.at, rooms.output.at, rooms.output.length, rooms.answer_at)
-        return _finished(rooms), opened if opened.file.is_open else None
+        rooms, opened = self.take_rooms(), _OpenedByC(self, path)
+        output = rooms.output
+        rooms.run(self._open, path, opened, path, len(path), wait, syncs, opened.at, output.at, output.length,
+                  rooms.answer_at)
+        return self.finished(rooms), opened if opened.is_open else None
 
+    def give_back(self, rooms: _Rooms) -> None:
+        self._free.append(rooms)
+
+    def finished(self, rooms: _Rooms, refused: Optional[_Room] = None, file: Optional[_Room] = None) -> Answer:
+        """Returns what a call has left in its rooms, and gives them back."""
+        answer, length = rooms.answer, rooms.answer.output_length
+        if not (length or answer.fault or refused or file):
+            self.give_back(rooms)
+            return DONE
+        output = ctypes.string_at(rooms.output.at, length) if length else b""
+        data: Optional[bytes] = None
+        numbers: Tuple[int, ...] = ()
+        if refused is not None and answer.refused:
+            numbers = tuple((ctypes.c_uint64 * answer.refused).from_address(refused.at))
+        if file is not None and answer.is_changed:
+            data = ctypes.string_at(file.at, answer.file_length)
+        found = Answer(answer.fault, answer.system_error, answer.at, output, numbers, data)
+        if length > FIRST_ROOM or file is not None or refused is not None:
+            for room in (rooms.output, rooms.file, rooms.refused):
+                room.shrink()
+        self.give_back(rooms)
+        return found
 
 class _OpenedByC:
     """A file that the C library keeps open. A file that nobody uses any longer is closed."""
 
-    def __init__(self, library: CLibrary):
-        self._library, self.file = library, _File()
-        self.at = ctypes.addressof(self.file)
+    def __init__(self, library: CLibrary, path: bytes):
+        self._library, self.path, self.file = library, path, _OwnFile(library.close_file)
+        self.at = self.file.at
+        calls.open[id(self)] = self
+
+    @property
+    def is_open(self) -> bool:
+        return self.file.is_open
 
     def run(self, words: bytes, now: int) -> Answer:
-        rooms = self._library.rooms
+        rooms = self._library.take_rooms()
         answer, output = rooms.answer, rooms.output
         while True:
-            self._library.run_open(self.at, words, len(words), now, output.at, output.length, rooms.answer_at)
+            rooms.run(self._library.run_open, self.path, self, self.at, words, len(words), now, output.at,
+                      output.length, rooms.answer_at)
             if not answer.is_cut:
-                return _finished(rooms) if answer.fault or answer.output_length else DONE
+                return self._library.finished(rooms)
             output.grow(answer.output_length)
 
     def batch(self, lines: bytes, now: int) -> Answer:
-        rooms = self._library.rooms
+        rooms = self._library.take_rooms()
         answer, output, refused = rooms.answer, rooms.output, rooms.refused
         refused.grow(8 * (lines.count(b"\n") + 1))
         while True:
-            self._library.batch_open(self.at, lines, len(lines), now, output.at, output.length, refused.at,
-                                     refused.length // 8, rooms.answer_at)
+            rooms.run(self._library.batch_open, self.path, self, self.at, lines, len(lines), now, output.at,
+                      output.length, refused.at, refused.length // 8, rooms.answer_at)
             if answer.fault != NO_ROOM:
-                return _finished(rooms, refused)
+                return self._library.finished(rooms, refused)
             output.grow(answer.output_length)
 
     def close(self) -> None:
-        self._library.close_file(self.at)
+        rooms = self._library.take_rooms()
+        rooms.run(self._library.close_file, self.path, self, self.at)
+        self._library.give_back(rooms)
 
     def forget(self) -> None:
+        """Leaves the file to the parent. Called in a forked child."""
         # The memory of the database stays with the child: to free it, the library would release the parent's lock.
-        self.file = _File()
-        self.at = ctypes.addressof(self.file)
+        ctypes.memset(self.at, 0, ctypes.sizeof(_File))
 
     def __del__(self) -> None:
         self.close()
-
 
 def _needs_room(rooms: _Rooms) -> bool:
     """Enlarges the buffers that were too small for the last call in memory. The caller can then repeat the call."""
@@ -197,23 +250,6 @@ def _needs_room(rooms: _Rooms) -> bool:
     rooms.file.grow(answer.file_length)
     rooms.output.grow(answer.output_length)
     return True
-
-
-def _finished(rooms: _Rooms, refused: Optional[_Room] = None, file: Optional[_Room] = None) -> Answer:
-    """Returns the contents of the thread's buffers after a call."""
-    answer, length = rooms.answer, rooms.answer.output_length
-    output = ctypes.string_at(rooms.output.at, length) if length else b""
-    data: Optional[bytes] = None
-    numbers: Tuple[int, ...] = ()
-    if refused is not None and answer.refused:
-        numbers = tuple((ctypes.c_uint64 * answer.refused).from_address(refused.at))
-    if file is not None and answer.is_changed:
-        data = ctypes.string_at(file.at, answer.file_length)
-    if length > FIRST_ROOM or file is not None or refused is not None:
-        for room in (rooms.output, rooms.file, rooms.refused):
-            room.shrink()
-    return Answer(answer.fault, answer.system_error, answer.at, output, numbers, data)
-
 
 # ---- Where the library is
 
@@ -238,7 +274,6 @@ def library_path() -> Optional[str]:
         return None
     return NAMES[0]
 
-
 def _folders() -> List[str]:
     """Returns folders near this package: in a wheel, an installation (PREFIX/share/rrdi/python), a repository."""
     package = os.path.dirname(os.path.realpath(__file__))
@@ -248,17 +283,13 @@ def _folders() -> List[str]:
         folders.append(os.path.join(os.path.dirname(os.path.dirname(above)), "lib"))
     return folders
 
-
 class _Loaded:
     """The library that all functions of the package call."""
 
     def __init__(self) -> None:
         self.library: Optional[Library] = None
-        self.lock = threading.Lock()
-
 
 _loaded = _Loaded()
-
 
 def load_library(path: Optional[str] = None) -> Library:
     """Loads the library at `path`, or the library that `library_path` finds, for all functions of this package.
@@ -267,18 +298,16 @@ def load_library(path: Optional[str] = None) -> Library:
     - `OSError` if there is no library, or the library cannot be loaded.
     - `AttributeError` if the library lacks a function.
     """
-    with _loaded.lock:
-        found = path or library_path()
-        if found is None:
-            raise OSError("librrdi.so.0 not found; install it, or name it by the variable RRDI_LIBRARY")
-        _loaded.library = CLibrary(ctypes.CDLL(found))
-        return _loaded.library
-
+    found = path or library_path()
+    if found is None:
+        raise OSError("librrdi.so.0 not found; install it, or name it by the variable RRDI_LIBRARY")
+    loaded = CLibrary(ctypes.CDLL(found))  # two threads may do this at once: each library is good
+    _loaded.library = loaded
+    return loaded
 
 def use_library(library: Optional[Library]) -> None:
     """Sets the library that all functions of this package call; None means the library that `load_library` finds."""
     _loaded.library = library
-
 
 def the_library() -> Library:
     """Returns the library. Loads the library at the first call."""

@@ -1,9 +1,10 @@
 """What runs the commands of rrdi: the C library, or the program in its place."""
 
 # Without `annotations` of __future__: a named tuple whose types are texts makes a tool start a tenth slower.
+import errno
 from typing import NamedTuple, Optional, Protocol, Tuple
 
-from .errors import OK
+from .errors import CANNOT_OPEN, OK
 
 
 class Answer(NamedTuple):
@@ -19,6 +20,8 @@ class Answer(NamedTuple):
 
 # A call that changed a file, or found nothing to change.
 DONE = Answer(OK, 0, 0, b"")
+# A call on a file that is not open.
+CLOSED = Answer(CANNOT_OPEN, errno.EBADF, 0, b"cannot open")
 
 
 class OnFiles(Protocol):
@@ -35,16 +38,17 @@ class OnFiles(Protocol):
 
 
 class OpenedFile(Protocol):
-    """A file that stays open and locked, with its database in memory. One call at a time may use it."""
+    """A file that stays open and locked, with its database in memory. One call at a time may use it. Once it is closed, by
+    `close` or before a fork, a call ends with `CLOSED`."""
+
+    @property
+    def is_open(self) -> bool: ...
 
     def run(self, words: bytes, now: int) -> Answer: ...
 
     def batch(self, lines: bytes, now: int) -> Answer: ...
 
     def close(self) -> None: ...
-
-    def forget(self) -> None:
-        """Leaves the file to the process that has opened it. A forked child calls this, and nothing else."""
 
 
 class Library(OnFiles, Protocol):

@@ -9,19 +9,16 @@ import signal
 import threading
 import unittest
 from pathlib import Path
-from typing import Callable, List, Optional, Tuple
+from typing import Callable, List, Optional
 from unittest import mock
 
 from cases import HANG, DataCase, run_in_threads, sleeping_child, use_library
-from doubles import NothingStaysOpen
+from locking import BUSY, Locking
 
 import rrdi
 from rrdi.errors import CANNOT_OPEN, CANNOT_WRITE, NO_MEMORY, READ_FAILED, REFUSED
 from rrdi.kept import KeptFile
 from rrdi.protocol import DONE, Answer, OpenedFile
-
-BUSY = Answer(CANNOT_OPEN, errno.EAGAIN, 0, b"cannot open")
-
 
 def is_locked(path: Path) -> bool:
     """Checks whether anybody has the lock of a file."""
@@ -33,75 +30,13 @@ def is_locked(path: Path) -> bool:
     return False
 
 
-class Locked:
-    """An open file of `Locking`."""
-
-    def __init__(self, library: Locking, path: bytes):
-        self.library, self.calls = library, 0
-        self.file: Optional[int] = os.open(path, os.O_RDWR | os.O_CLOEXEC)
-        fcntl.flock(self.file, fcntl.LOCK_EX | fcntl.LOCK_NB)
-
-    def run(self, words: bytes, now: int) -> Answer:
-        assert self.file is not None and not self.calls, "one call at a time, on an open file"
-        self.calls += 1
-        answer = self.library.answered("open", words)
-        self.calls -= 1
-        return answer
-
-    def batch(self, lines: bytes, now: int) -> Answer:
-        return self.run(lines, now)
-
-    def close(self) -> None:
-        self.library.said.append("close")
-        if self.file is not None:
-            fcntl.flock(self.file, fcntl.LOCK_UN)
-            os.close(self.file)
-        self.file = None
-
-    def forget(self) -> None:
-        self.library.said.append("forget")
-        self.file = None
-
-
-class Locking(NothingStaysOpen):
-    """A library that opens and locks files, keeps what is called, and gives the next answer, or that all is well."""
-
-    def __init__(self) -> None:
-        self.said: List[str] = []
-        self.answers: List[Answer] = []
-        self.at_open: Callable[[bytes], Optional[Answer]] = lambda path: None
-        self.at_call: Callable[[], None] = lambda: None
-
-    def open(self, path: bytes, wait: int, syncs: bool) -> Tuple[Answer, Optional[OpenedFile]]:
-        self.said.append(f"open {wait} {syncs}")
-        fault = self.at_open(path)
-        return (DONE, Locked(self, path)) if fault is None else (fault, None)
-
-    def answered(self, where: str, words: bytes) -> Answer:
-        self.said.append(f"{where} {words.decode()}")
-        self.at_call()
-        return self.answers.pop(0) if self.answers else DONE
-
-    def run_file(self, path: bytes, words: bytes, now: int, wait: int, syncs: bool) -> Answer:
-        return self.answered("path", words)
-
-    def batch_file(self, path: bytes, lines: bytes, now: int, wait: int, syncs: bool) -> Answer:
-        return self.answered("path", lines)
-
-    def run(self, data: Optional[bytes], words: bytes, now: int) -> Answer:
-        raise AssertionError("nothing is in memory")
-
-    def batch(self, data: Optional[bytes], lines: bytes, now: int) -> Answer:
-        raise AssertionError("nothing is in memory")
-
-
 class KeptCase(DataCase):
     def setUp(self) -> None:
         super().setUp()
         self.path = self.folder / "f.rrdi"
         self.path.write_bytes(b"a database")
         self.library = Locking()
-        use_library(self, self.library)
+        use_library(self, self.library.library)
         self.kept = KeptFile(self.path, 2, True)
 
     def said(self) -> List[str]:
@@ -197,18 +132,20 @@ class Files(KeptCase):
         def replace(path: bytes) -> None:
             os.rename(path, self.folder / "old")
             self.path.write_bytes(b"a new database")
+            self.library.renamed[path] = os.fsencode(self.folder / "old")
         self.library.at_open = replace
-        with mock.patch.object(Locked, "__init__", opened_as_old(Locked.__init__)):
-            self.kept.run(["update"])
+        self.kept.run(["update"])
         self.assertEqual(self.said(), ["open 2000 True", "close", "path update"])
         self.assertFalse(is_locked(self.folder / "old"))
 
-
-def opened_as_old(original: Callable[..., None]) -> Callable[..., None]:
-    """Opens the file that had the name before."""
-    def begin(self: Locked, library: Locking, path: bytes) -> None:
-        original(self, library, os.path.join(os.path.dirname(path), b"old"))
-    return begin
+    def test_a_name_that_the_system_does_not_tell(self) -> None:
+        """A file stays open only if it can be compared with the file at its path: any error of the system is no answer."""
+        for number in (errno.EACCES, errno.EIO, errno.ESTALE, errno.ENOENT):
+            with mock.patch("rrdi.locks.os.stat", side_effect=OSError(number, "why")):
+                self.kept.run(["update"])
+                self.kept.run(["update"])
+            self.assertEqual(self.said(), ["open 2000 True", "close", "path update"] * 2)
+            self.assertFalse(is_locked(self.path))
 
 
 class Threads(KeptCase):
@@ -234,34 +171,45 @@ class Forks(KeptCase):
             os._exit(0 if self.library.said == ["open 2000 True", "open last"] else 1)
         self.assertEqual(os.waitpid(child, 0)[1], 0)
 
-    def test_a_fork_during_a_call(self) -> None:
-        """The file stays open, and the child forgets it."""
-        is_running, may_end = threading.Event(), threading.Event()
+    def test_a_fork_between_the_opening_and_the_command(self) -> None:
+        """A handler of a signal forks: the command opens the file again, in both processes."""
+        with mock.patch.object(self.kept, "_current", forking(self, self.kept._current)):
+            self.kept.run(["update"])
+        self.assertEqual(self.said(), ["open 2000 True", "close", "closed", "open 2000 True", "open update"])
+
+    def test_a_thread_that_is_in_a_command(self) -> None:
+        """A child that was forked meanwhile runs commands on the file too."""
+        is_held, may_end = threading.Event(), threading.Event()
         self.addCleanup(may_end.set)
 
-        def wait() -> None:
-            is_running.set()
-            may_end.wait()
-        self.library.at_call = wait
-        thread = threading.Thread(target=self.kept.run, args=(["update"],))
+        def hold() -> None:
+            with self.kept.guard:
+                is_held.set()
+                may_end.wait()
+        thread = threading.Thread(target=hold)
         thread.start()
-        is_running.wait()
+        is_held.wait()
         child = os.fork()
         if child == 0:
             signal.alarm(HANG)
-            self.library.at_call = lambda: None
-            self.library.at_open = lambda path: BUSY
-            try:
-                self.kept.run(["last"])
-            except rrdi.Busy:
-                os._exit(0 if self.library.said[2:] == ["forget", "open 2000 True"] else 1)
-            os._exit(2)
+            self.kept.run(["last"])
+            os._exit(0)
         self.assertEqual(os.waitpid(child, 0)[1], 0)
         may_end.set()
         thread.join()
-        self.assertEqual((self.said(), is_locked(self.path)), (["open 2000 True", "open update"], True))
-        self.kept.close()
-        self.assertFalse(is_locked(self.path))
+
+
+def forking(case: unittest.TestCase, original: Callable[[], Optional[OpenedFile]]) -> Callable[[], Optional[OpenedFile]]:
+    """Forks once, after the file was opened."""
+    forks = [True]
+
+    def current() -> Optional[OpenedFile]:
+        found = original()
+        if forks:
+            forks.pop()
+            sleeping_child(case)
+        return found
+    return current
 
 
 if __name__ == "__main__":

@@ -4,27 +4,18 @@ from __future__ import annotations
 
 import ctypes
 import os
-import threading
 import unittest
-from types import SimpleNamespace
-from typing import Any, Callable, Dict, List, Tuple
+from typing import Any, Callable, List, Tuple
 from unittest import mock
 
 from cases import new_folder, use_library
 from doubles import has_library
+from locking import c_library
 
 import rrdi
 from rrdi import library
-from rrdi.library import FIRST_ROOM, CLibrary, load_library
+from rrdi.library import FIRST_ROOM, load_library
 from rrdi.protocol import OpenedFile
-
-POINTER, LENGTH, NUMBER = ctypes.c_void_p, ctypes.c_size_t, ctypes.c_uint64
-IN_MEMORY = [ctypes.c_bool, POINTER, LENGTH, POINTER, LENGTH, NUMBER, POINTER, LENGTH, POINTER, LENGTH]
-AT_PATH = [POINTER, LENGTH, POINTER, LENGTH, NUMBER, NUMBER, ctypes.c_bool, POINTER, LENGTH]
-REFUSED = [POINTER, LENGTH]
-OPENING = [POINTER, LENGTH, NUMBER, ctypes.c_bool, POINTER, POINTER, LENGTH, POINTER]
-ON_OPEN = [POINTER, POINTER, LENGTH, NUMBER, POINTER, LENGTH]
-
 
 class Called:
     """Functions that record their calls, and answer with this output, file and refused lines, if there is room."""
@@ -32,17 +23,10 @@ class Called:
     def __init__(self, output: bytes = b"", file: bytes = b"", refused: Tuple[int, ...] = (), fault: int = 0):
         self.output, self.file, self.refused, self.fault = output, file, refused, fault
         self.given: List[Any] = []
-        prototypes: Dict[str, Tuple[List[Any], List[Any]]] = {
-            "rrdi_run": (IN_MEMORY, []), "rrdi_batch": (IN_MEMORY, REFUSED), "rrdi_run_file": (AT_PATH, []),
-            "rrdi_batch_file": (AT_PATH, REFUSED)}
-        functions = {name: ctypes.CFUNCTYPE(None, *first, *refused, POINTER)(self.function(name, len(first) == 10))
-                     for name, (first, refused) in prototypes.items()}
-        functions["rrdi_open"] = ctypes.CFUNCTYPE(None, *OPENING)(self.open)
-        functions["rrdi_close"] = ctypes.CFUNCTYPE(None, POINTER)(self.close)
-        functions["rrdi_run_open"] = ctypes.CFUNCTYPE(None, *ON_OPEN, POINTER)(self.on_open("rrdi_run_open"))
-        functions["rrdi_batch_open"] = ctypes.CFUNCTYPE(None, *ON_OPEN, *REFUSED, POINTER)(
-            self.on_open("rrdi_batch_open"))
-        self.library = CLibrary(SimpleNamespace(**functions))  # type: ignore[arg-type]
+        functions = {name: self.function(name, name in ("rrdi_run", "rrdi_batch"))
+                     for name in ("rrdi_run", "rrdi_batch", "rrdi_run_file", "rrdi_batch_file")}
+        on_open = {name: self.on_open(name) for name in ("rrdi_run_open", "rrdi_batch_open")}
+        self.library = c_library({**functions, **on_open, "rrdi_open": self.open, "rrdi_close": self.close})
 
     def function(self, name: str, is_in_memory: bool) -> Callable[..., None]:
         def called(*words: Any) -> None:
@@ -140,20 +124,17 @@ class Rooms(unittest.TestCase):
     def test_rooms_that_shrink(self) -> None:
         called = Called(b"o" * (17 * FIRST_ROOM))
         called.library.run_file(b"f", b"fetch", 0, 0, False)
-        self.assertEqual(called.library.rooms.output.length, FIRST_ROOM)
+        self.assertEqual(called.library.take_rooms().output.length, FIRST_ROOM)
 
-    def test_rooms_of_threads(self) -> None:
-        called, found = Called(b"text"), []
-
-        def call() -> None:
-            called.library.run_file(b"f", b"last", 0, 0, False)
-            found.append((called.library.rooms.answer_at, called.library.rooms.output.at))
-
-        call()
-        thread = threading.Thread(target=call)
-        thread.start()
-        thread.join()
-        self.assertEqual(len({address for rooms in found for address in rooms}), 4)
+    def test_rooms_that_are_taken(self) -> None:
+        """Each call has rooms of its own, and gives them back."""
+        called = Called(b"text")
+        one, other = called.library.take_rooms(), called.library.take_rooms()
+        self.assertEqual(len({one.answer_at, one.output.at, other.answer_at, other.output.at}), 4)
+        called.library.give_back(one)
+        called.library.run_file(b"f", b"last", 0, 0, False)
+        self.assertIs(called.library.take_rooms(), one)
+        self.assertIsNot(called.library.take_rooms(), one)
 
 
 class Opened(unittest.TestCase):
@@ -199,7 +180,7 @@ class Opened(unittest.TestCase):
     def test_what_a_child_forgets_stays_open(self) -> None:
         called = Called()
         opened = self.opened(called)
-        opened.forget()
+        opened.forget()  # type: ignore[attr-defined]
         del opened
         self.assertEqual(called.given, [("rrdi_close", False, None)])
 

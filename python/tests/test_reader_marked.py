@@ -3,6 +3,7 @@ docs/file-format.md describes them."""
 from __future__ import annotations
 
 import fcntl
+import io
 import os
 import unittest
 from pathlib import Path
@@ -13,7 +14,7 @@ import graphite_doubles as graphite
 from cases import DataCase, child_status, counted_reads, sleeping_child
 from lib import marks
 from lib.marks import PAGE, pages, record
-from rrdi import errors, reader
+from rrdi import errors, locks, reader
 from rrdi.locks import SHARED, locked
 from rrdi.reader.files import opened
 from rrdi.reader.selected import OpenFile
@@ -158,7 +159,7 @@ class Locks(DataCase):
         """A child that was forked while a file was read does not keep others from changing it."""
         with OpenFile(self.path):
             children = [sleeping_child(self)]
-        with open(self.path, "rb") as file, locked(file.fileno(), SHARED, 0):
+        with open(self.path, "rb", buffering=0) as file, locked(file, SHARED, 0):
             children.append(sleeping_child(self))
         with opened(self.path):
             children.append(sleeping_child(self))
@@ -174,21 +175,21 @@ class Locks(DataCase):
 
     def test_a_file_that_is_replaced_meanwhile(self) -> None:
         """The lock of a file that has lost its name is worth nothing: the new file is read."""
-        flock = fcntl.flock
+        flock = locks.flock
 
-        def replace(file: int, kind: int) -> None:
+        def replace(file: io.FileIO, kind: int) -> int:
             if os.path.exists(self.path + ".new"):
                 os.rename(self.path + ".new", self.path)
-            flock(file, kind)
+            return flock(file, kind)
         Path(self.path + ".new").write_bytes(NEW)
-        with mock.patch("fcntl.flock", replace):
+        with mock.patch("rrdi.locks.flock", replace):
             self.assertEqual(reader.read_file(self.path)["last_time"], 140)
 
     def test_errors_of_locks(self) -> None:
         """Only a file system without locks is read without one."""
         import errno
         for number, is_read in ((errno.ENOSYS, True), (errno.EOPNOTSUPP, True), (errno.ENOLCK, False), (errno.EIO, False)):
-            with mock.patch("fcntl.flock", side_effect=OSError(number, "why")):
+            with mock.patch("rrdi.locks.flock", return_value=number):
                 if is_read:
                     self.assertEqual(reader.read_file(self.path)["last_time"], 130)
                 else:

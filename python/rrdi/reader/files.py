@@ -2,7 +2,9 @@
 from __future__ import annotations
 
 import os
+import stat
 from contextlib import contextmanager
+from io import FileIO
 from typing import Iterator
 
 from ..errors import Damaged
@@ -45,9 +47,23 @@ def read_bytes(path: str) -> bytes:
     # Errors
     `OSError` if the file cannot be opened, locked or read.
     """
-    with open(0 if path == "-" else path, "rb", closefd=path != "-") as file:
-        with locked(file.fileno(), SHARED, patience()):
-            return file.read()
+    if path != "-" and is_regular(path):
+        file = open_locked(path, SHARED, patience())
+        try:
+            return file.readall()
+        finally:
+            close(file)
+    with FileIO(0 if path == "-" else path, closefd=path != "-") as stream, locked(stream, SHARED, patience()):
+        return stream.readall()
+
+
+def is_regular(path: str) -> bool:
+    """Checks whether it is a regular file that has a name; others, such as a pipe, are read to their end.
+
+    # Errors
+    `OSError` if the system does not say: also if there is no file.
+    """
+    return stat.S_ISREG(os.stat(path).st_mode)
 
 
 @contextmanager
@@ -59,7 +75,7 @@ def opened(path: str) -> Iterator[Stored]:
     """
     file = open_locked(path, SHARED, patience())
     try:
-        yield Stored.of_file(file)
+        yield Stored.of_file(file.fileno())
     finally:
         close(file)
 
@@ -71,7 +87,7 @@ def read_file(path: str) -> Parts:
     - `OSError` if the file cannot be opened, locked or read.
     - `Damaged` if the file is not a database.
     """
-    if path == "-" or not os.path.isfile(path):  # a pipe is read to its end
+    if path == "-" or not is_regular(path):
         return read(read_bytes(path))
     with opened(path) as stored:
         return Reader(stored).database()

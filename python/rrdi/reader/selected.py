@@ -74,8 +74,9 @@ class OpenFile:
     """
 
     def __init__(self, path: str):
-        self.file = open_locked(path, SHARED, patience())
+        self._opened = open_locked(path, SHARED, patience())
         try:
+            self.file = self._opened.fileno()
             self._stored = Stored.of_file(self.file)
             self.front = self._read_front()
             self._outline: Optional[Outline] = None
@@ -84,7 +85,7 @@ class OpenFile:
             raise
 
     def close(self) -> None:
-        close(self.file)
+        close(self._opened)
 
     def __enter__(self) -> OpenFile:
         return self

@@ -42,11 +42,12 @@ import os
 import shutil
 from contextlib import contextmanager
 from functools import partial
+from io import FileIO
 from typing import Callable, Dict, Iterator, List, NamedTuple
 
 from ..damaged import held, is_being_made
 from ..errors import TRAILING, TRUNCATED, fault_of
-from ..locks import EXCLUSIVE, close, lock
+from ..locks import EXCLUSIVE, close, lock, open_file
 from ..making import NewFile, make
 from ..reader.undo import MARK
 from . import machine, program
@@ -68,7 +69,7 @@ def alone(path: str) -> Iterator[None]:
     # Errors
     `Failure` if another program holds the lock for half a minute.
     """
-    file = os.open(path, os.O_WRONLY | os.O_CREAT | os.O_CLOEXEC, 0o666)
+    file = open_file(path, os.O_WRONLY | os.O_CREAT, 0o666)
     try:
         take_turn(file, path)
         yield
@@ -76,7 +77,7 @@ def alone(path: str) -> Iterator[None]:
         close(file)
 
 
-def take_turn(file: int, path: str) -> None:
+def take_turn(file: FileIO, path: str) -> None:
     try:
         lock(file, EXCLUSIVE, PATIENCE)
     except BlockingIOError:
