@@ -25,6 +25,7 @@ my ($above) = (Cwd::abs_path(__FILE__) || '') =~ m{^(.*/)[^/]*/[^/]*\z}s;
 my ($child, $to, $from, $owner, $directory, $environment);
 my $is_busy = 0;
 my $error;
+my $most_interruptions = 1_000;  # of a call of the system, in a row
 
 sub error { return $error }
 
@@ -101,12 +102,13 @@ sub _write {
     my $pipe = $to;  # as in _read
     no warnings 'closed';
     local $SIG{PIPE} = 'IGNORE';
-    my $at = 0;
+    my ($at, $interrupted) = (0, 0);
     while ($at < length $text) {
         my $count = syswrite $pipe, $text, length($text) - $at, $at;
-        next if not defined $count and $! == EINTR;
+        next if not defined $count and $! == EINTR and $interrupted++ < $most_interruptions;
         return 0 unless defined $count;
         $at += $count;
+        $interrupted = 0;
     }
     return 1;
 }
@@ -115,11 +117,12 @@ sub _write {
 sub _bytes {
     my ($pipe, $count) = @_;
     no warnings 'closed';
-    my $text = '';
+    my ($text, $interrupted) = ('', 0);
     while (length $text < $count) {
         my $read = read $pipe, $text, $count - length $text, length $text;
-        next if not defined $read and $! == EINTR;
+        next if not defined $read and $! == EINTR and $interrupted++ < $most_interruptions;
         return unless $read;
+        $interrupted = 0;
     }
     return $text;
 }

@@ -94,6 +94,32 @@ class BesideRRDs(PerlCase):
         self.assertEqual(self.read("r.rrd")[:4], b"RRDI")
 
 
+# Each call of the system is interrupted as often as the argument says, and then reads or writes one byte.
+INTERRUPTED = r"""
+use Errno qw(EINTR);
+our ($calls, $most) = (0, $ARGV[0]);
+sub one { $! = EINTR; return $calls++ % ($most + 1) == $most ? 1 : undef }
+BEGIN {
+    *CORE::GLOBAL::syswrite = sub (*$;$$) { return one() };
+    *CORE::GLOBAL::read = sub (*\$$;$) { my $got = one(); ${$_[1]} .= 'x' if $got; return $got };
+}
+use RRDs;
+print RRDs::_write('abc'), " $calls";
+$calls = 0;
+print ' ', RRDs::_bytes(undef, 3) // 'none', " $calls\n";
+"""
+
+
+@unittest.skipUnless(PERL, "perl is not installed")
+class Interruptions(unittest.TestCase):
+    def test_calls_that_are_interrupted(self) -> None:
+        """A call is repeated up to 1,000 times in a row."""
+        for most, printed in ((0, "1 3 xxx 3"), (1, "1 6 xxx 6"), (1_000, "1 3003 xxx 3003"), (1_001, "0 1001 none 1001")):
+            ran = subprocess.run([str(PERL), "-w", f"-I{TOP}/perl", "-e", INTERRUPTED, str(most)], stdout=subprocess.PIPE,
+                                 stderr=subprocess.PIPE, universal_newlines=True)
+            self.assertEqual((ran.stdout, ran.stderr), (f"{printed}\n", ""))
+
+
 class Module(PerlCase):
     def setUp(self) -> None:
         super().setUp()
