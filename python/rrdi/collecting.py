@@ -88,7 +88,7 @@ class Collected:
         return batch(self.path, lines, now=self.now, busy_timeout=self.busy_timeout, sync=self.sync)
 
     def flush(self) -> None:
-        if self._waiting:
+        while self._waiting:
             self._run([])
         refused, self.refused = tuple(self.refused), []
         if refused:
@@ -103,11 +103,15 @@ class Collected:
 
     def _run(self, question: List[str]) -> str:
         """Runs the waiting changes and then a query; returns the output of all. Keeps the refused lines."""
-        ran = self._ran(self._waiting + question)
+        waiting, self._waiting = self._waiting, []  # for the changes that come meanwhile
+        try:
+            ran = self._ran(waiting + question)
+        except BaseException:
+            self._waiting[:0] = waiting
+            raise
         self._creation = None
         self.refused += [one._replace(number=one.number + self._count) for one in ran.refused]
-        self._count += len(self._waiting)
-        self._waiting.clear()
+        self._count += len(waiting)
         return ran.output
 
     def _ran(self, lines: List[str]) -> Batch:

@@ -8,7 +8,7 @@ from io import FileIO
 from typing import Callable, Iterator
 
 from .commands import last
-from .errors import TRUNCATED, VERSION, Damaged
+from .errors import TRUNCATED, VERSION, Damaged, Error
 from .locks import EXCLUSIVE, locked, open_file, state_of
 from .words import FilePath
 
@@ -65,14 +65,15 @@ def set_aside(path: str, fault: Damaged) -> str:
     rrdi stays, and so does one that another program is making or changing."""
     if fault.fault == VERSION:
         return fault.reason
-    if fault.fault == TRUNCATED and not fault.at and is_being_made(path):
-        return f"{fault.reason}; another program may be making the file"
     aside = f"{path}.damaged-{int(time.time())}-{os.getpid()}"
     try:
+        if fault.fault == TRUNCATED and not fault.at and is_being_made(path):
+            return f"{fault.reason}; another program may be making the file"
         with held(path, is_still_damaged) as is_held:
             if not is_held or os.path.lexists(aside):
                 return f"{fault.reason}; the file has changed meanwhile"
             os.rename(path, aside)
-    except OSError as error:
-        return f"{fault.reason}, and the file cannot be renamed: {error.strerror}"
+    except (OSError, Error) as error:
+        why = error.strerror if isinstance(error, OSError) else ""
+        return f"{fault.reason}, and the file cannot be renamed: {why or error}"
     return f"{fault.reason}; the file is now {aside}"

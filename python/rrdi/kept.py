@@ -60,8 +60,9 @@ class KeptFile:
     def close(self) -> None:
         """Closes the file, and releases its lock. Does nothing if the file is closed."""
         with self.guard:
-            if self._opened is not None:
-                self._opened.close()
+            opened = self._opened
+            if opened is not None:
+                opened.close()
             self._opened = None
 
     def has(self, identity: Optional[Identity]) -> bool:

@@ -53,6 +53,7 @@ class Locking:
         self.at_open: Callable[[bytes], Optional[Answer]] = lambda path: None
         self.at_call: Callable[[], None] = lambda: None
         self.renamed: Dict[bytes, bytes] = {}
+        self.is_echo = False  # an answer has the words of the call
         self.library = c_library({
             "rrdi_run": self._in_memory, "rrdi_batch": self._in_memory, "rrdi_run_file": self._at_path,
             "rrdi_batch_file": self._at_path, "rrdi_open": self._open, "rrdi_close": self._close,
@@ -75,7 +76,7 @@ class Locking:
     def _answered(self, where: str, given: bytes, words: "tuple[int, ...]") -> Answer:
         self.said.append(f"{where} {given.decode()}")
         self.at_call()
-        answer = self.answers.pop(0) if self.answers else DONE
+        answer = self.answers.pop(0) if self.answers else DONE._replace(output=given if self.is_echo else b"")
         if answer.refused:
             numbers = (ctypes.c_uint64 * len(answer.refused)).from_address(words[-3])
             numbers[:] = list(answer.refused)

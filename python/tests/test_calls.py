@@ -239,13 +239,26 @@ class Forks(DataCase):
             sleeping_child(self)
         self.assertTrue(is_locked(self.path))
         close()
+        self.assert_not_locked()
+        self.may_end.set()
+        assert self.thread is not None
+        self.thread.join()
+
+    def assert_not_locked(self) -> None:
         until = time.monotonic() + HANG
         while is_locked(self.path) and time.monotonic() < until:  # until the child has begun
             time.sleep(0.01)
         self.assertFalse(is_locked(self.path))
-        self.may_end.set()
-        assert self.thread is not None
-        self.thread.join()
+
+    def test_a_fork_that_an_exception_cut_short(self) -> None:
+        """The child gives up the files that the fork should have closed."""
+        opened = self.opened()
+        with mock.patch.object(running.calls, "stop", side_effect=KeyboardInterrupt), \
+                mock.patch("sys.unraisablehook", lambda of_fork: None):
+            sleeping_child(self)
+        os.close(opened.file.reserved)
+        opened.forget()
+        self.assert_not_locked()
 
     def test_no_call_begins_during_a_fork(self) -> None:
         """Nor for ever after a fork that an exception cut short."""
@@ -280,9 +293,11 @@ class Forks(DataCase):
         self.library.at_call = within
         self.start(lambda: self.library.library.run_file(b"f", b"outer", 0, 0, False))
         threading.Timer(0.1, self.may_end.set).start()
+        begun = time.monotonic()
         with mock.patch.object(running, "LONGEST_WAIT", HANG), mock.patch.object(running, "LONGEST_STOP", HANG):
             running.calls.stop()
             running.calls.after_fork()
+        self.assertLess(time.monotonic() - begun, HANG / 2)
         self.assertEqual(self.library.said, ["path outer", "path inner"])
 
     def test_forks_and_calls_at_once(self) -> None:

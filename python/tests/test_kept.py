@@ -14,6 +14,7 @@ from unittest import mock
 
 from cases import HANG, DataCase, run_in_threads, sleeping_child, use_library
 from locking import BUSY, Locking
+from opcodes import between_all
 
 import rrdi
 from rrdi.errors import CANNOT_OPEN, CANNOT_WRITE, NO_MEMORY, READ_FAILED, REFUSED
@@ -146,6 +147,56 @@ class Files(KeptCase):
                 self.kept.run(["update"])
             self.assertEqual(self.said(), ["open 2000 True", "close", "path update"] * 2)
             self.assertFalse(is_locked(self.path))
+
+
+class Handlers(KeptCase):
+    """Handlers of signals use the file of the command that they interrupt."""
+
+    def setUp(self) -> None:
+        super().setUp()
+        self.library.is_echo = True
+
+    def test_a_command_at_each_step(self) -> None:
+        """Both get their answers. Only while the file is being opened, the inner one finds it locked by the outer one."""
+        for is_open in (False, True):
+            inner: List[str] = []
+
+            def act() -> None:
+                try:
+                    inner.append(self.kept.run(["inner"]))
+                except rrdi.Busy:
+                    inner.append("busy")
+            if not is_open:
+                self.kept.close()
+            self.assertEqual(between_all(act, lambda: self.kept.run(["outer"])), "outer")
+            self.assertEqual(set(inner) - {"busy"}, {"inner"})
+            self.assertLess(inner.count("busy"), len(inner) / 2)
+            self.assertTrue(not is_open or "busy" not in inner)
+
+    def test_a_close_at_each_step(self) -> None:
+        self.assertEqual(between_all(self.kept.close, lambda: self.kept.run(["outer"])), "outer")
+        between_all(self.kept.close, self.kept.close)
+        self.assertFalse(is_locked(self.path))
+
+    def test_changes_that_come_while_others_run(self) -> None:
+        """They wait, and run afterwards: with `collect=True` no change is lost, and none runs twice."""
+        database = rrdi.Database(self.path, collect=True)
+        times = iter(range(20, 40, 10))
+
+        def update() -> None:
+            for time in times:
+                return database.update(f"{time}:1")
+        self.library.at_call = update
+        with database:
+            database.update("10:1")
+        self.assertEqual(self.said(), [f"path update {time}:1" for time in (10, 20, 30)])
+        self.library.answers = [BUSY]
+        database.update("40:1")
+        with self.assertRaises(rrdi.Busy):
+            database.flush()
+        database.update("50:1")
+        database.flush()
+        self.assertEqual(self.said()[1:], ["path update 40:1\nupdate 50:1"])
 
 
 class Threads(KeptCase):

@@ -21,8 +21,9 @@ from opcodes import raised_at_each
 from test_calls import open_numbers
 from test_kept import is_locked
 
+import rrdi
 from rrdi import kinds, locks, reader
-from rrdi.damaged import held
+from rrdi.damaged import held, set_aside
 from rrdi.locks import EXCLUSIVE, SHARED, lock, open_file, open_locked
 from rrdi.reader.files import opened, read_bytes
 from rrdi.reader.selected import OpenFile
@@ -258,6 +259,11 @@ class Pipes(LockCase):
                 with mock.patch("os.stat", side_effect=OSError(number, "why")), self.assertRaises(OSError) as raised:
                     read(self.path)
                 self.assertEqual(raised.exception.errno, number)
+        for error in (OSError(errno.EIO, "why"), rrdi.Busy("cannot open", self.path)):
+            with mock.patch("rrdi.damaged.is_still_damaged", side_effect=error):
+                said = set_aside(self.path, rrdi.Damaged("file: trailing at 9", None, 25, 9))
+            self.assertEqual(said, f"file: trailing at 9, and the file cannot be renamed: "
+                             f"{'why' if isinstance(error, OSError) else error}")
         numbers = open_numbers()
         for read in (reader.read_file, OpenFile):
             with self.assertRaises(IsADirectoryError):
