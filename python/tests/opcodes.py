@@ -5,7 +5,7 @@ from __future__ import annotations
 import sys
 from pathlib import Path
 from types import FrameType
-from typing import Any, Callable, Optional
+from typing import Any, Callable, Iterator, Optional
 
 import rrdi
 
@@ -45,6 +45,16 @@ class _Steps:
 def between_all(act: Callable[[], None], work: Callable[[], object]) -> object:
     """Runs `work`, with `act` before each step, and returns the result of `work`."""
     return _Steps(act).run(work)
+
+
+def between_each(act: Callable[[], None], work: Callable[[], object]) -> Iterator[object]:
+    """Runs `work` again and again, with `act` before one step, each time the next. Yields the results of `work`."""
+    for number in range(1, MOST_STEPS):
+        steps = _Steps(act, number)
+        yield steps.run(work)
+        if steps.count < number:
+            return
+    raise AssertionError("the work has no end")
 
 
 def raised_at_each(work: Callable[[], object], check: Callable[[int], None]) -> int:

@@ -14,7 +14,7 @@ from unittest import mock
 
 from cases import HANG, DataCase, run_in_threads, sleeping_child, use_library
 from locking import BUSY, Locking
-from opcodes import between_all
+from opcodes import between_all, between_each
 
 import rrdi
 from rrdi.errors import CANNOT_OPEN, CANNOT_WRITE, NO_MEMORY, READ_FAILED, REFUSED
@@ -172,6 +172,26 @@ class Handlers(KeptCase):
             self.assertEqual(set(inner) - {"busy"}, {"inner"})
             self.assertLess(inner.count("busy"), len(inner) / 2)
             self.assertTrue(not is_open or "busy" not in inner)
+
+    def test_a_command_at_one_step(self) -> None:
+        """The file that the inner one opens is the file of both."""
+        inner: List[str] = []
+
+        def act() -> None:
+            try:
+                inner.append(self.kept.run(["inner"]))
+            except rrdi.Busy:
+                inner.append("busy")
+
+        def work() -> str:
+            found = self.kept.run(["outer"])
+            self.kept.close()
+            return found
+        outer = list(between_each(act, work))
+        self.assertEqual((set(outer), set(inner)), ({"outer"}, {"inner", "busy"}))
+        self.assertLess(inner.count("busy"), len(inner) / 2)
+        self.kept.close()
+        self.assertFalse(is_locked(self.path))
 
     def test_a_close_at_each_step(self) -> None:
         self.assertEqual(between_all(self.kept.close, lambda: self.kept.run(["outer"])), "outer")
