@@ -65,8 +65,8 @@ class Calls:
         self.stopped_until, self.stopped_by = 0.0, 0
 
     def are_stopped(self, begun: Call) -> bool:
-        """Checks whether a call that is about to begin has to wait for a thread that forks. It does not if this thread is
-        in another call, for which that thread waits."""
+        """Checks whether a call that is about to begin has to wait for a thread that forks. It does not if this thread
+        is in another call, for which that thread waits."""
         if self.stopped_by == get_ident() or time.monotonic() >= self.stopped_until:
             return False
         return all(call is begun or call.thread != begun.thread for call in self._running())

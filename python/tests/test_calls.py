@@ -215,7 +215,8 @@ class Forks(DataCase):
         opened = self.opened()
         self.start(lambda: opened.run(b"update", 0))
         threading.Timer(0.1, self.may_end.set).start()
-        sleeping_child(self)
+        with mock.patch.object(running, "LONGEST_WAIT", HANG):
+            sleeping_child(self)
         self.assertEqual((self.library.said[-1], is_locked(self.path)), ("close", False))
 
     def test_a_call_that_takes_long(self) -> None:
@@ -262,19 +263,19 @@ class Forks(DataCase):
 
     def test_no_call_begins_during_a_fork(self) -> None:
         """Nor for ever after a fork that an exception cut short."""
-        for is_ended in (True, False):
+        for is_ended, longest in ((True, HANG), (False, 0.5)):
             self.library.said.clear()
-            with mock.patch.object(running, "LONGEST_STOP", 0.3):
+            with mock.patch.object(running, "LONGEST_STOP", longest):
                 running.calls.stop()
                 self.may_end.set()
                 self.thread = threading.Thread(target=lambda: self.library.library.run_file(b"f", b"last", 0, 0, False),
                                                daemon=True)
                 self.thread.start()
-                time.sleep(0.1)
-                self.assertEqual(self.library.said, [])
                 if is_ended:
+                    time.sleep(0.1)
+                    self.assertEqual(self.library.said, [])
                     running.calls.after_fork()
-                self.thread.join(5)
+                self.thread.join(10)
                 self.assertEqual(self.library.said, ["path last"])
         running.calls.after_fork()
 
@@ -335,6 +336,8 @@ class Forks(DataCase):
 SCRIPT = """import sys, threading, time
 sys.path[:0] = {path!r}
 import locking
+from rrdi import calls
+calls.LONGEST_WAIT = 60
 library = locking.Locking()
 begun = threading.Event()
 

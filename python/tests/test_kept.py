@@ -140,7 +140,7 @@ class Files(KeptCase):
         self.assertFalse(is_locked(self.folder / "old"))
 
     def test_a_name_that_the_system_does_not_tell(self) -> None:
-        """A file stays open only if it can be compared with the file at its path: any error of the system is no answer."""
+        """A file stays open only if it can be compared with the file at its path: an error of the system is no answer."""
         for number in (errno.EACCES, errno.EIO, errno.ESTALE, errno.ENOENT):
             with mock.patch("rrdi.locks.os.stat", side_effect=OSError(number, "why")):
                 self.kept.run(["update"])
@@ -157,7 +157,7 @@ class Handlers(KeptCase):
         self.library.is_echo = True
 
     def test_a_command_at_each_step(self) -> None:
-        """Both get their answers. Only while the file is being opened, the inner one finds it locked by the outer one."""
+        """Both get their answers. Only while the outer one opens the file, the inner one finds it locked."""
         for is_open in (False, True):
             inner: List[str] = []
 
@@ -270,7 +270,10 @@ class Forks(KeptCase):
         thread.join()
 
 
-def forking(case: unittest.TestCase, original: Callable[[], Optional[OpenedFile]]) -> Callable[[], Optional[OpenedFile]]:
+Opening = Callable[[], Optional[OpenedFile]]
+
+
+def forking(case: unittest.TestCase, original: Opening) -> Opening:
     """Forks once, after the file was opened."""
     forks = [True]
 
