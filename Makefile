@@ -1,10 +1,6 @@
-# Builds, installs and packages rrdi. docs/install.md has more.
+# Builds, tries, installs and packages rrdi. `make help` lists the targets; docs/install.md has more.
 #
-#     make                                   proves and builds the program, with rt on the PATH
-#     make library                           proves and builds the C library, and links it: out/librrdi.a, out/librrdi.so.0
-#     make install [PREFIX=/usr/local] [DESTDIR=folder]    installs the program, and the library if it was built
-#     make uninstall [PREFIX=/usr/local] [DESTDIR=folder]
-#     make deb                               a package of Debian, out/rrdi_VERSION_ARCHITECTURE.deb
+# A make that was stopped goes on where it was when it is repeated: what was proved is kept in crates/*/out.
 #
 # PROGRAM=file names another program than the one that `make` builds, and ARCHIVE=file another archive of the library.
 
@@ -47,12 +43,37 @@ MAINTAINER := Bengcodla maintainers <maintainers@users.noreply.bengcodla.example
 # Not empty if the library is to be installed: its archive was built, or was passed.
 HAS_LIBRARY = $(if $(filter command,$(firstword $(origin ARCHIVE))),$(ARCHIVE),$(wildcard $(ARCHIVE)))
 
-all:
+# The line after ## is what `make help` says of a target.
+all: ## proves and builds the program, and runs a first session (half an hour the first time, 6 GB of disk)
 	cd crates/rrdi && rt run -- batch < ../../docs/first-session.txt
 
-library:
+help: ## prints this list
+	@sed -n 's/^\([a-z]*\):.*## \(.*\)/make \1\t\2/p' $(MAKEFILE_LIST) | expand -t 18
+
+build: ## proves and builds the program
+	cd crates/rrdi && rt run -- help > /dev/null
+
+library: ## proves and builds the C library too: out/librrdi.a, out/librrdi.so.0 (needs cc and binutils)
 	library/build
 	$(MAKE) --no-print-directory link-library
+
+prove: ## proves every crate, those of the tests too
+	rt all check
+
+test: ## tries the program and the library that are built, the tools, the packages and the pages (minutes)
+	$(ALONE) .ci/run-built --lacking
+
+check: ## runs the full check: every proof, planted bug and test (over an hour, 16 GB of memory, 15 GB of disk)
+	@cd .ci && $(ALONE) python3 -B -m lib.gate $(OPTIONS)
+
+bench: ## measures updates by the program, beside rrdtool if that is installed
+	.ci/measure-updates $(PROGRAM) $$(command -v rrdtool || echo $(PROGRAM))
+
+clean: ## removes what was proved and built
+	rm -rf crates/*/out $(BUILD)
+
+# What tries an installation calls make too, and that one has nothing to do with this one.
+ALONE = env -u MAKEFLAGS -u MFLAGS -u MAKELEVEL
 
 # Other names than those of rrdi.h can't be seen of either library, so they can't clash with those of another one.
 link-library: $(BUILD)/librrdi.so.0 $(BUILD)/librrdi.a
@@ -96,7 +117,8 @@ LDCONFIG = ldconfig
 manual = sed -e 's|^\.Pa docs/|.Pa $(PREFIX)/share/rrdi/docs/|' -e 's|^\.Pa examples/|.Pa $(PREFIX)/share/rrdi/examples/|' \
 	-e 's|< docs/|< $(PREFIX)/share/rrdi/docs/|' $(1) | gzip -9n
 
-install: install-program $(if $(HAS_LIBRARY),install-library)
+# With PREFIX=/usr/local, below DESTDIR if that is given.
+install: install-program $(if $(HAS_LIBRARY),install-library) ## installs what was built, below PREFIX=/usr/local
 	@$(if $(HAS_LIBRARY),,echo "make: $(ARCHIVE) not found, so the C library is not installed; make library builds it" >&2)
 
 install-directories:
@@ -140,7 +162,7 @@ install-program: $(PROGRAM) install-directories
 		install -m $$mode "$$file" "$(SHARED)/examples" || exit 1; \
 	done
 
-uninstall:
+uninstall: ## removes what was installed below PREFIX
 	rm -f "$(BINARIES)/rrdi" "$(MANUALS)/rrdi.1" "$(MANUALS)/rrdi.1.gz" "$(COMPLETIONS)/rrdi" "$(MODULES)/rrdi"
 	rm -f "$(HEADERS)/rrdi.h" "$(HEADERS)/rrdi_create.h" "$(LIBRARIES)/pkgconfig/rrdi.pc" "$(LIBRARIES)/librrdi.a" \
 		"$(LIBRARIES)/librrdi.so" "$(LIBRARIES)/librrdi.so.0" "$(MANUALS_OF_C)/rrdi.3" $(EXPORTS:%="$(MANUALS_OF_C)/%.3") \
@@ -201,7 +223,7 @@ COMMA := ,
 # The version of the C library that a file needs.
 GLIBC = $$(grep -ao 'GLIBC_[0-9.]*' $(1) | sed 's/GLIBC_//' | sort -V | tail -n 1)
 
-deb: $(PROGRAM) link-library
+deb: $(PROGRAM) link-library ## makes packages of Debian in out/
 	rm -rf $(PACKAGE) $(RUNTIME) $(DEVELOPMENT) $(OF_PYTHON)
 	$(MAKE) --no-print-directory install PREFIX=/usr LIBDIR=lib/$(MULTIARCH) ZSHDIR=share/zsh/vendor-completions \
 		DESTDIR=$(PACKAGE) PROGRAM="$(PROGRAM)"
@@ -224,7 +246,7 @@ deb: $(PROGRAM) link-library
 	$(call finish,$(OF_PYTHON),python3-rrdi,python,python3 (>= 3.8)$(COMMA) rrdi (= $(VERSION))$(COMMA) librrdi0 (>= $(VERSION)),$(ABOUT_PYTHON))
 	$(call finish,$(PACKAGE),rrdi,utils,libc6 (>= $(call GLIBC,"$(PROGRAM)"))$(COMMA) python3 (>= 3.8),$(ABOUT_PACKAGE))
 
-.PHONY: all library link-library install install-directories install-library install-program uninstall deb
+.PHONY: all help build library prove test check bench clean link-library install install-directories install-library install-program uninstall deb
 
 # The tools, and what Perl and C programs of RRDtool's users record by.
 include tools/tools.mk

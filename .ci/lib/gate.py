@@ -1,6 +1,6 @@
 """Runs the full check, and ends at the first step that fails.
 
-    .ci/run [--alone] [--record]
+    make check [OPTIONS=--record] [OPTIONS=--alone]
 
 These three rows of steps run beside each other:
 
@@ -26,6 +26,7 @@ import re
 import shutil
 import signal
 import subprocess
+import sys
 import tempfile
 import threading
 import time
@@ -78,18 +79,20 @@ OF_PAGES = {"rrdtool": "rrdtool", "gnuplot": "gnuplot-nox", "pkg-config": "pkg-c
 
 
 def install_tools(packages: dict[str, str]) -> None:
-    """Installs missing tools, if that is allowed. run-built reports what a script still lacks."""
-    lacking = [package for tool, package in packages.items() if not shutil.which(tool)]
-    if not lacking or os.geteuid() != 0 or not shutil.which("apt-get"):
-        return
-    install = ["install", "-y", "-qq", *lacking]
-    try:
-        for words in (install, ["update", "-qq"], install):  # a new machine may have no list of packages yet
-            if not all(map(shutil.which, packages)):
-                subprocess.run(["apt-get", *words], timeout=300, stdin=subprocess.DEVNULL, stdout=subprocess.DEVNULL,
-                               stderr=subprocess.DEVNULL, check=False)
-    except (OSError, subprocess.TimeoutExpired) as error:
-        print(f"run: {' '.join(lacking)} could not be installed: {error}")
+    """Installs missing tools, if that is allowed, and names the packages of those that are missing then. run-built reports
+    what a script still lacks."""
+    def lacking() -> list[str]:
+        return [package for tool, package in packages.items() if not shutil.which(tool)]
+
+    if lacking() and os.geteuid() == 0 and shutil.which("apt-get"):
+        install = ["install", "-y", "-qq", *lacking()]
+        with suppress(OSError, subprocess.TimeoutExpired):
+            for words in (install, ["update", "-qq"], install):  # a new machine may have no list of packages yet
+                if lacking():
+                    subprocess.run(["apt-get", *words], timeout=300, stdin=subprocess.DEVNULL, stdout=subprocess.DEVNULL,
+                                   stderr=subprocess.DEVNULL, check=False)
+    if lacking():
+        print(f"run: some checks need more: sudo apt-get install {' '.join(lacking())}", flush=True)
 
 
 def counted(step: Step, lines: list[str]) -> int:
@@ -305,13 +308,12 @@ def gate(command: str = "", status: int = 0, out: str | None = None, more: str =
 
 
 def whole(command: str, *words: str) -> subprocess.CompletedProcess[str]:
-    """Runs .ci/run itself, in a repository in which the named command fails."""
+    """Runs the full check as `make check` does, in a repository in which the named command fails."""
     with tempfile.TemporaryDirectory() as folder:
         repository(Path(folder), command, 1)
-        shutil.copy(TOP / ".ci/run", Path(folder, ".ci/run"))
         shutil.copytree(TOP / ".ci/lib", Path(folder, ".ci/lib"))
-        return subprocess.run(["sh", f"{folder}/.ci/run", *words], capture_output=True, text=True, check=False,
-                              env={**os.environ, "PATH": f"{folder}:{os.environ['PATH']}"})
+        return subprocess.run([sys.executable, "-B", "-m", "lib.gate", *words], capture_output=True, text=True, check=False,
+                              cwd=Path(folder, ".ci"), env={**os.environ, "PATH": f"{folder}:{os.environ['PATH']}"})
 
 
 def test_order(test: SelfTest) -> None:
@@ -357,6 +359,34 @@ def test_record(test: SelfTest) -> None:
             test.want(True, "a file that differs from the commit")
 
 
+def test_packages(test: SelfTest) -> None:
+    """Tests that a missing tool is installed, or its package named."""
+    said = StringIO()
+    with tempfile.TemporaryDirectory() as folder:
+        was, os.environ["PATH"] = os.environ["PATH"], folder
+        answering(folder, "apt-get", more=f': >"{folder}/$4"; /bin/chmod 755 "{folder}/$4"')
+        try:
+            with redirect_stdout(said):
+                install_tools({"gift": "gift"})
+                Path(folder, "apt-get").unlink()
+                install_tools({"gift": "gift", "no-such-tool": "its-package"})
+        finally:
+            os.environ["PATH"] = was
+    wanted = "run: some checks need more: sudo apt-get install" + " gift" * bool(os.geteuid())
+    test.want(said.getvalue().strip().split("\n")[-1] == f"{wanted} its-package", f"missing packages: {said.getvalue()}")
+
+
+def test_run(test: SelfTest) -> None:
+    """Tests that .ci/run is `make check`, and `make check` this module."""
+    with tempfile.TemporaryDirectory() as folder:
+        answering(folder, "make", 7, "make was called\n")
+        ran = subprocess.run(["sh", TOP / ".ci/run"], capture_output=True, text=True, check=False, cwd=folder,
+                             env={**os.environ, "PATH": f"{folder}:{os.environ['PATH']}"})
+    test.want((ran.returncode, ran.stdout) == (7, "make was called\n"), f".ci/run calls make: {ran.stdout}{ran.stderr}")
+    ran = subprocess.run(["make", "--no-print-directory", "-n", "check"], cwd=TOP, capture_output=True, text=True, check=False)
+    test.want(ran.returncode == 0 and "python3 -B -m lib.gate" in ran.stdout, f"make check: {ran.stdout}{ran.stderr}")
+
+
 def self_test() -> int:
     test = SelfTest("run")
     test_record(test)
@@ -378,9 +408,11 @@ def self_test() -> int:
     test_order(test)
     for name, wanted in (("", 0), (".ci/run-built", 1)):
         ran = whole(name)
-        test.want(ran.returncode == wanted, f".ci/run, {name or 'nothing'} fails: {ran.stdout}{ran.stderr}")
+        test.want(ran.returncode == wanted, f"the full check, {name or 'nothing'} fails: {ran.stdout}{ran.stderr}")
     ran = whole("", "--help")
-    test.want(ran.returncode == 0 and "full check" in ran.stdout, "a shell can read .ci/run")
+    test.want(ran.returncode == 0 and "full check" in ran.stdout, "the full check has a description")
+    test_run(test)
+    test_packages(test)
     steps = [step for row in (*ROWS, (LAST,)) for step in row]
     test.want(all(step.least > 0 for step in steps if step.words[0] not in ("library/build", "make")), "each script has a least number")
     return test.end()
@@ -388,7 +420,7 @@ def self_test() -> int:
 
 def parser() -> command_line.Parser:
     parser = command_line.parser_of(__doc__)
-    parser.prog = ".ci/run"
+    parser.prog = "make check"
     parser.add_argument("--alone", action="store_true", help="try each planted bug alone, by the kit's judge")
     parser.add_argument("--record", action="store_true", help="put the results into docs/results.md")
     return parser

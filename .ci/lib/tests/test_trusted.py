@@ -1,4 +1,5 @@
-"""Tests that docs/trust.md names all the code that the theorem about FILE rests on, and that there is no other."""
+"""Tests that docs/trust.md names all the code that the theorem about FILE rests on, and that there is no other; and that
+docs/definitions.md names each module that one has to believe."""
 from __future__ import annotations
 
 import re
@@ -24,6 +25,22 @@ BY_HAND = {"crates/rrd_disk/proofs/record/Record/new/Proof.antt", "crates/rrd_di
 WAY_AROUND = re.compile(r"\b(unsafe|axiom|postulate)\b", re.IGNORECASE)
 UNSAFE = {("crates/rrd_disk/src/record.rt", "unsafe impl Send for Record {}"),
           ("library/rrdi_c/src/raw_box.rt.in", "unsafe { Box::from_raw(alloc, address) }")}
+
+
+def listed_modules() -> dict[str, set[str]]:
+    """Returns the modules of each crate that docs/definitions.md asks its readers to believe."""
+    part = (TOP / "docs/definitions.md").read_text().split("You have to believe that these modules")[1].split("These modules are not")[0]
+    rows = re.findall(r"^\| `(\w+)` \| (.*) \|$", part, re.MULTILINE)
+    return {crate: set(re.findall(r"\b[A-Z]\w+", modules)) for crate, modules in rows}
+
+
+def specified() -> Iterator[tuple[str, str, str]]:
+    """Gives the crate, the name and the first line of each module of definitions, theorems and glue."""
+    for folder in (TOP / "crates", TOP / "library"):
+        for path in sorted(folder.glob("*/specs/**/*.antt*")):
+            crate, name = path.relative_to(folder).parts[0], path.name.split(".")[0]
+            if name != "Lib":
+                yield crate, name, path.read_text().split("\n", 1)[0]
 
 
 def searched() -> Iterator[Path]:
@@ -61,6 +78,13 @@ class Trusted(unittest.TestCase):
                  if WAY_AROUND.search(line.replace("#[unsafe(no_mangle)]", ""))}
         self.assertEqual(found, UNSAFE)
         self.assertIn("`unsafe impl Send for Record`; and one block in the C library", re.sub(r"\s+", " ", PAGE.read_text()))
+
+    def test_the_definitions_name_each_module_to_believe(self) -> None:
+        listed, modules = listed_modules(), list(specified())
+        defining = {(crate, name) for crate, name, head in modules if head.startswith("-- Definition")}
+        self.assertEqual(defining - {(crate, name) for crate in listed for name in listed[crate]}, set())
+        self.assertEqual({(crate, name) for crate in listed for name in listed[crate]} - {(crate, name) for crate, name, _ in modules}, set())
+        self.assertGreater(len(defining), 80)
 
     def test_an_implementation_is_found(self) -> None:
         text = "impl<'a, D: Disk> Storage for FileStorage<'a, D> {\nimpl Bytes for Memory {\n    impl Debug for Disk {\n"
