@@ -7,8 +7,9 @@ from contextlib import contextmanager
 from typing import Callable, Iterator
 
 from .commands import last
-from .errors import TRUNCATED, VERSION, Damaged
+from .errors import TRUNCATED, VERSION, Damaged, Error
 from .locks import EXCLUSIVE, locked, state_of
+from .making import is_there
 from .words import FilePath
 
 # An empty file may be one that another program has just made, and has not locked and filled yet.
@@ -25,7 +26,11 @@ def is_being_made(path: FilePath) -> bool:
 
 
 def is_still_damaged(path: FilePath) -> bool:
-    """Asks the library again whether a file is damaged."""
+    """Asks the library again whether a file is damaged.
+
+    # Errors
+    Another `Error` if the library cannot say.
+    """
     try:
         last(path)
     except Damaged as fault:
@@ -67,14 +72,16 @@ def set_aside(path: str, fault: Damaged) -> str:
     rrdi stays, and so does one that another program is making or changing."""
     if fault.fault == VERSION:
         return fault.reason
-    if fault.fault == TRUNCATED and not fault.at and is_being_made(path):
-        return f"{fault.reason}; another program may be making the file"
     aside = f"{path}.damaged-{int(time.time())}-{os.getpid()}"
     try:
+        if fault.fault == TRUNCATED and not fault.at and is_being_made(path):
+            return f"{fault.reason}; another program may be making the file"
         with held(path, is_still_damaged) as is_held:
-            if not is_held or os.path.lexists(aside):
+            if not is_held or is_there(aside, follows=False):
                 return f"{fault.reason}; the file has changed meanwhile"
             os.rename(path, aside)
+    except Error as error:
+        return f"{fault.reason}, and the file cannot be renamed: {error}"
     except OSError as error:
         return f"{fault.reason}, and the file cannot be renamed: {error.strerror}"
     return f"{fault.reason}; the file is now {aside}"
