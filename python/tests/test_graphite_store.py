@@ -81,7 +81,7 @@ class Edges(DataCase):
         said: List[str] = []
         store = self.store(said)
         path = self.folder / "m.rrdi"
-        with mock.patch.object(stores, "read_known", side_effect=[stores.Known(mock.Mock(last=0, step=10, sources=1, depth=16), (0, 0)),
+        with mock.patch.object(stores, "read_known", side_effect=[stores.Known(mock.Mock(last=NOW - 100, step=10, sources=1, depth=16), (0, 0)),
                                                                   FileNotFoundError(errno.ENOENT, "No such file", str(path))]):
             store._new.clear()
             store.write("m", [(NOW - 20, 1.0)])

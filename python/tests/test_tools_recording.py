@@ -546,6 +546,8 @@ class CannotLook(unittest.TestCase):
             return stat(path, **more)
         with mock.patch("os.stat", failing), self.assertRaises(OSError):
             record.keep_copies(self.file, 10**9)
+        with mock.patch("shutil.copy", side_effect=OSError(errno.ENOSPC, "No space left on device")), self.assertRaises(OSError):
+            record.keep_copies(self.file, 10**9)
         self.assertEqual(self.copies(), "123")
         record.keep_copies(self.file, 10**9)
         self.assertEqual(self.copies(), "new12")

@@ -207,14 +207,15 @@ def keep_copies(file: str, last: int) -> None:
     """Copies the file if the newest copy is at least an hour older; renames the older copies.
 
     # Errors
-    Those of `last_of_copy`: the copies then stay as they are.
+    Those of `last_of_copy`, and `OSError` if the file cannot be copied: the copies then stay as they are.
     """
     if last - max(last_of_copy(f"{file}.1"), 0) < HOUR:
         return
-    for number in range(COPIES, 1, -1):
-        if is_there(f"{file}.{number - 1}"):
+    with NewFile(f"{file}.1") as made:
+        shutil.copy(file, made.unfinished)
+        for number in [number for number in range(COPIES, 1, -1) if is_there(f"{file}.{number - 1}")]:
             os.rename(f"{file}.{number - 1}", f"{file}.{number}")
-    copy(file, f"{file}.1")
+        made.replace()
 
 
 class RecordArguments(NamedTuple):
