@@ -306,8 +306,10 @@ class CannotLook(unittest.TestCase):
                               (PermissionError(errno.EACCES, "Permission denied"), "cannot open: permission denied")):
             with mock.patch("os.stat", side_effect=error):
                 self.assertEqual(creating.write(file, [b"10:1"]), Outcome(again=reason))
-        for error, reason in ((MemoryError(), "out of memory"), (OSError(errno.EIO, "Input/output error"), "input/output error")):
-            with mock.patch.object(metrics, "make", side_effect=error):
+        failures: List[Tuple[Exception, str]] = [
+            (MemoryError(), "out of memory"), (OSError(errno.EIO, "Input/output error"), "input/output error")]
+        for failure, reason in failures:
+            with mock.patch.object(metrics, "make", side_effect=failure):
                 self.assertEqual(creating.write(file, [b"10:1"]), Outcome(again=f"cannot create: {reason}"))
         self.assertEqual(writer.write.call_count, 0)
         feeder.threads.shutdown()

@@ -12,7 +12,7 @@ from queue import Empty, SimpleQueue
 from typing import Callable, Dict, Iterable, Iterator, List, Optional, Set, Tuple
 
 from ..limits import LONGEST_LINE
-from .workers import FIRST, Workers
+from .workers import FIRST, Batch, Workers
 from .writers import NO_ROOM, Outcome, Writer, text_of
 
 UPDATE = b"update "
@@ -52,6 +52,9 @@ def line_text(line: "bytes | bytearray") -> str:
 def printable(text: str) -> str:
     """Returns a text with control characters as escapes: they could change what a terminal shows."""
     return "".join(letter if letter.isprintable() else ascii(letter)[1:-1] for letter in text)
+
+
+NO_MEMORY_LEFT = Outcome(lost="MemoryError")
 
 
 def selector_of(source: int) -> Optional[selectors.BaseSelector]:
@@ -214,18 +217,30 @@ class Feeder:
 
     def run(self, file: bytes, samples: List[bytes]) -> None:
         """Runs one batch, in a thread of its own. Its end is told in any case: `finish` waits for it."""
-        error: Optional[BaseException] = None
-        outcome: Optional[Outcome] = None
-        try:
-            outcome = self.writer.write(file, samples)
-        except BaseException as raised:  # the samples must survive any exception in the thread
-            error = raised
+        outcome = self.write(file, samples)
         while True:
             try:
-                self.ended.put((file, samples, outcome or Outcome(lost=f"{type(error).__name__}: {error}")))
+                self.ended.put((file, samples, outcome))
                 return
             except MemoryError:
                 time.sleep(MEMORY_PAUSE)
+
+    def run_here(self, file: bytes, samples: List[bytes]) -> None:
+        """Runs one batch in the present thread, which alone can make room by what it ends."""
+        outcome = self.write(file, samples)
+        try:
+            self.end_batch(file, samples, outcome)
+        except MemoryError:
+            self.running.discard(file)
+            self.say_lost(file, NO_ROOM, samples)
+
+    def write(self, file: bytes, samples: List[bytes]) -> Outcome:
+        try:
+            return self.writer.write(file, samples)
+        except MemoryError:
+            return NO_MEMORY_LEFT  # there may be none for another text
+        except BaseException as error:  # the samples must survive any exception in the thread
+            return Outcome(lost=f"{type(error).__name__}: {error}")
 
     def end_batches(self, seconds: float = 0) -> None:
         """Takes back the samples that ended batches could not pass to rrdi. Waits some seconds for the first ended batch."""
@@ -268,15 +283,18 @@ class Feeder:
 
     def start(self, file: bytes) -> None:
         waiting, samples = self.waiting.get(file), self.held.get(file, [])
+        left: Optional[Batch] = None
         if waiting:
             samples = waiting.samples + samples
         if samples:
             self.running.add(file)
-            self.threads.give((file, samples), len(self.running))
+            left = self.threads.give((file, samples), len(self.running))
         self.waiting.pop(file, None)
         self.held.pop(file, None)
         self.since.pop(file, None)
         self.count -= len(samples)
+        if left:
+            self.run_here(*left)
 
     def start_due(self) -> None:
         """Starts a batch for each file that is due and has no running batch."""
@@ -367,7 +385,7 @@ class Feeder:
                 self.end_batches(0.01)
             except MemoryError:  # each batch that ends leaves more
                 tries += 1
-                if is_over and tries >= MEMORY_TRIES and not self.running:
+                if is_over and tries >= MEMORY_TRIES:  # a thread may wait for memory to tell the end of its batch
                     self.give_up_all()
                 time.sleep(MEMORY_PAUSE)
 

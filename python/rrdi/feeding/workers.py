@@ -2,11 +2,13 @@
 from __future__ import annotations
 
 import threading
+import time
 from contextlib import suppress
 from queue import Empty, SimpleQueue
 from typing import Callable, List, Optional, Tuple
 
 FIRST = 4  # threads that begin before the first line is read, while there is memory
+PAUSE = 1.0  # seconds until the next try after the system has refused a thread: each such try costs Python memory
 
 Batch = Tuple[bytes, List[bytes]]  # a file and its samples
 
@@ -18,28 +20,30 @@ class Workers:
         self.most, self.work = most, work
         self.batches: SimpleQueue[Optional[Batch]] = SimpleQueue()
         self.threads: List[threading.Thread] = []  # those that began, and those that may begin late
+        self.next_try = 0.0
 
     def begin(self, wanted: int) -> None:
         """Begins threads, until there are as many as are wanted or the system refuses one."""
-        while len(self.threads) < min(wanted, self.most):
+        while len(self.threads) < min(wanted, self.most) and time.monotonic() >= self.next_try:
             # At the end of the process no thread is waited for that has no batch.
             thread = threading.Thread(target=self.run, daemon=True)
             self.threads.append(thread)
             try:
                 thread.start()
             except RuntimeError:
+                self.next_try = time.monotonic() + PAUSE
                 self.threads.remove(thread)
-                return
 
-    def give(self, batch: Batch, running: int) -> None:
-        """Gives a batch to the threads, of which `running` are wanted. The present thread runs it if there is none, or
-        none yet: one that begins late finds the batch taken, and waits for the next."""
+    def give(self, batch: Batch, running: int) -> Optional[Batch]:
+        """Gives a batch to the threads, of which `running` are wanted. Returns a batch for the caller to run if there is no
+        thread, or none yet: one that begins late finds the batch taken, and waits for the next."""
         self.batches.put(batch)
         with suppress(MemoryError):
             self.begin(running)
         if not any(thread.is_alive() for thread in self.threads):
             with suppress(Empty):
-                self.run_one(self.batches.get_nowait())
+                return self.batches.get_nowait()
+        return None
 
     def run(self) -> None:
         while self.run_one(self.batches.get()):
