@@ -6,6 +6,7 @@ import os
 import selectors
 import sys
 import time
+from contextlib import suppress
 from dataclasses import dataclass
 from operator import length_hint
 from queue import Empty, SimpleQueue
@@ -387,7 +388,17 @@ class Feeder:
                 tries += 1
                 if is_over and tries >= MEMORY_TRIES:  # a thread may wait for memory to tell the end of its batch
                     self.give_up_all()
-                time.sleep(MEMORY_PAUSE)
+                if not self.start_one():
+                    time.sleep(MEMORY_PAUSE)
+
+    def start_one(self) -> bool:
+        """Starts a batch for one held file: there may be memory for it if there is none for a list of all files."""
+        with suppress(MemoryError):
+            for file in self.since:
+                if file not in self.running and file not in self.waiting:
+                    self.start(file)
+                    return True
+        return False
 
     def give_up_all(self) -> None:
         for file in self.held:
