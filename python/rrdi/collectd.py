@@ -28,9 +28,9 @@ from typing import Any, Callable, Dict, List, NamedTuple, Optional, Protocol, Se
 
 from .amounts import gauge_text
 from .commands import RefusedLine, batch
-from .errors import NO_FILE, Damaged, Error, Usage
+from .errors import NO_FILE, Damaged, Usage
 from .library import load_library
-from .making import make
+from .making import is_there, make
 from .waiting import MOST_OF_A_FILE, newest, why
 from .words import as_bytes, in_one_line, line_of
 
@@ -174,6 +174,10 @@ def raw_text(value: float) -> str:
     return str(value) if isinstance(value, int) else gauge_text(value) or "U"
 
 
+class Unusable(Exception):
+    """Why a sample cannot be held; the text is for the user."""
+
+
 class Held(NamedTuple):
     """Samples of a file that wait, since when, and the line that creates the file if it is not there."""
 
@@ -189,7 +193,7 @@ class Plugin:
         self.collectd, self.options, self._clock = collectd, Configuration(), clock
         self.counts: Counter[str] = Counter()
         self._held: Dict[str, Held] = {}
-        self._guard = threading.Lock()  # of what is held
+        self._guard = threading.Lock()  # of what is held, and of the counts
         self._turn = threading.Lock()  # of writing files: one thread at a time
 
     def register(self) -> None:
@@ -216,24 +220,32 @@ class Plugin:
             self.collectd.error(f"rrdi: {error}")
 
     def write(self, values: Values) -> None:
-        path = file_of(self.options.datadir, values)
-        if path is None or not math.isfinite(values.time) or values.time < 0:
-            self.lose(name_of(values), 1, "its name or its time cannot be used")
-            return
         try:
-            held = self.hold(path, values, int(values.time + 0.5))
-        except Usage:
-            self.lose(name_of(values), 1, "the names of its sources cannot be used")
+            held = self.hold(values)
+        except Exception as fault:  # such as a type that collectd does not know: the sample is counted at least
+            self.lose(name_of(values), 1, str(fault) if isinstance(fault, Unusable) else f"{type(fault).__name__}: {fault}")
             return
         if self._clock() - held.since >= self.options.cachetimeout:
             self.take_in(self.options.cachetimeout, is_patient=False)
 
-    def hold(self, path: str, values: Values, when: int) -> Held:
+    def hold(self, values: Values) -> Held:
+        """Holds a sample until its file is written.
+
+        # Errors
+        `Unusable` if the sample has no file, or no line.
+        """
+        path = file_of(self.options.datadir, values)
+        if path is None or not math.isfinite(values.time) or values.time < 0:
+            raise Unusable("its name or its time cannot be used")
+        when = int(values.time + 0.5)
         line = "update " + ":".join([str(when), *map(raw_text, values.values)])
         with self._guard:
             held = self._held.get(path)
             if held is None:
-                create = definition(self.options, values, self.collectd.get_dataset(values.type), when)
+                try:
+                    create = definition(self.options, values, self.collectd.get_dataset(values.type), when)
+                except Usage:
+                    raise Unusable("the names of its sources cannot be used") from None
                 held = self._held[path] = Held(self._clock(), create, [])
             held.lines.append(line)
         return held
@@ -243,7 +255,9 @@ class Plugin:
 
     def end(self) -> None:
         self.take_in(0)
-        waiting = sum(len(held.lines) for held in self._held.values())
+        with self._guard:
+            waiting = sum(len(held.lines) for held in self._held.values())
+            self._held.clear()
         if waiting:
             self.lose("", waiting, "their files could not be written before the end")
         self.collectd.notice(f"rrdi: {self.counts['taken']} samples taken in, {self.counts['lost']} lost")
@@ -258,28 +272,30 @@ class Plugin:
         try:
             now = self._clock()
             with self._guard:
-                due = [(path, held) for path, held in self._held.items() if now - held.since >= seconds]
-                for path, _ in due:
-                    del self._held[path]
-            for path, held in due:
-                self.write_file(path, held)
+                due = [path for path, held in self._held.items() if now - held.since >= seconds]
+            for path in due:
+                with self._guard:
+                    held = self._held.pop(path, None)
+                if held is not None:
+                    self.write_file(path, held)
         finally:
             self._turn.release()
 
     def write_file(self, path: str, held: Held) -> None:
         """Runs one batch. If the file can't be written, its samples wait for the next time."""
         try:
-            refused = None if os.path.exists(path) else self.begin(path, held)
+            refused = None if is_there(path) else self.begin(path, held)
             if refused is None:
                 refused = batch(path, held.lines).refused
-        except (Error, OSError) as fault:
+        except Exception as fault:  # the samples must survive any exception
             reason = why(path, fault)
             self.keep(path, held, f"{path}: {reason}" if isinstance(fault, Damaged) else reason)
             return
         if refused and refused[0].reason == NO_FILE:
             self.keep(path, held, f"{path}: {NO_FILE}")  # another program has taken the file away meanwhile
             return
-        self.counts["taken"] += len(held.lines) - len(refused)
+        with self._guard:
+            self.counts["taken"] += len(held.lines) - len(refused)
         if refused:
             self.lose(path, len(refused), f"the first: {refused[0].line[:200]}: {refused[0].reason}")
 
@@ -300,7 +316,8 @@ class Plugin:
             self.warn(f"rrdi: {reason}; {len(lines)} samples wait")
 
     def lose(self, path: str, count: int, reason: str) -> None:
-        self.counts["lost"] += count
+        with self._guard:
+            self.counts["lost"] += count
         self.warn(f"rrdi: {path}: {count} samples lost: {reason}")
 
     def warn(self, text: str) -> None:

@@ -10,6 +10,7 @@ from typing import Callable, Iterator
 from .commands import last
 from .errors import TRUNCATED, VERSION, Damaged, Error
 from .locks import EXCLUSIVE, locked, open_file, state_of
+from .making import is_there
 from .words import FilePath
 
 # An empty file may be one that another program has just made, and has not locked and filled yet.
@@ -26,7 +27,11 @@ def is_being_made(path: FilePath) -> bool:
 
 
 def is_still_damaged(path: FilePath) -> bool:
-    """Asks the library again whether a file is damaged."""
+    """Asks the library again whether a file is damaged.
+
+    # Errors
+    Another `Error` if the library cannot say.
+    """
     try:
         last(path)
     except Damaged as fault:
@@ -70,7 +75,7 @@ def set_aside(path: str, fault: Damaged) -> str:
         if fault.fault == TRUNCATED and not fault.at and is_being_made(path):
             return f"{fault.reason}; another program may be making the file"
         with held(path, is_still_damaged) as is_held:
-            if not is_held or os.path.lexists(aside):
+            if not is_held or is_there(aside, follows=False):
                 return f"{fault.reason}; the file has changed meanwhile"
             os.rename(path, aside)
     except (OSError, Error) as error:

@@ -8,15 +8,53 @@ from __future__ import annotations
 import errno
 import os
 import secrets
+from contextlib import suppress
+from io import FileIO
 from types import TracebackType
 from typing import Callable, Optional, Type, TypeVar
 
+from .locks import EXCLUSIVE, close, lock, open_file
 from .words import FilePath
 
 Filled = TypeVar("Filled")
 
 # What link(2) answers if a file system has no links.
 NO_LINKS = frozenset({errno.EPERM, errno.EOPNOTSUPP, errno.ENOTSUP, errno.ENOSYS, errno.EMLINK})
+# What readlink(2) answers if a path is no symbolic link.
+NOT_A_LINK = frozenset({errno.EINVAL, errno.ENOENT, errno.ENOTDIR})
+MOST_LINKS = 40  # that lead from one to the next, as Linux follows them
+
+
+def is_there(path: FilePath, follows: bool = True) -> bool:
+    """Checks whether a file has a name. `os.path.exists` says no, too, if the system can't look at the file.
+
+    `follows` looks for the file to which a symbolic link leads, and not for the link.
+
+    # Errors
+    `OSError` if the system can't look at the file, which may be there.
+    """
+    try:
+        os.stat(path, follow_symlinks=follows)
+    except (FileNotFoundError, NotADirectoryError):
+        return False
+    return True
+
+
+def end_of_links(path: str) -> str:
+    """Returns the path to which a symbolic link leads, which may have no file; the path itself if it is no link.
+
+    # Errors
+    `OSError` if the system can't look at a link, or there are too many.
+    """
+    for _ in range(MOST_LINKS):
+        try:
+            target = os.readlink(path)
+        except OSError as error:
+            if error.errno in NOT_A_LINK:
+                return path
+            raise
+        path = os.path.join(os.path.dirname(path), target)
+    raise OSError(errno.ELOOP, os.strerror(errno.ELOOP), path)
 
 
 class NewFile:
@@ -29,12 +67,11 @@ class NewFile:
     If `path` is a link to a file that does not exist, that file is made. `makes_folder` makes the folder too.
 
     # Errors
-    `OSError` if the folder can't be made.
+    `OSError` if the folder can't be made, or the system can't look at the path.
     """
 
     def __init__(self, path: FilePath, makes_folder: bool = False):
-        named = os.fsdecode(path)
-        self.path = os.path.realpath(named) if os.path.islink(named) else named
+        self.path = end_of_links(os.fsdecode(path))
         folder = os.path.dirname(self.path)
         self.unfinished = os.path.join(folder, f".rrdi-{secrets.token_hex(8)}.new")
         if makes_folder and folder:
@@ -47,12 +84,16 @@ class NewFile:
                  trace: Optional[TracebackType]) -> None:
         try:
             os.unlink(self.unfinished)
-        except OSError:  # it has its name, or there never was one
+        except OSError:  # it has its name, there never was one, or it stays: what was made counts all the same
             pass
 
     def is_filled(self) -> bool:
-        """Checks whether there is something under the other name: a refused `create` leaves no file."""
-        return os.path.exists(self.unfinished)
+        """Checks whether there is something under the other name: a refused `create` leaves no file.
+
+        # Errors
+        `OSError` if the system can't look at it.
+        """
+        return is_there(self.unfinished)
 
     def appear(self) -> bool:
         """Gives the file its name. Returns False if a file has that name: that file stays as it is.
@@ -81,11 +122,27 @@ class NewFile:
     def _take_name(self) -> bool:
         """Gives the file its name where there are no links: takes the name by an empty file, and replaces that one."""
         try:
-            os.close(os.open(self.path, os.O_WRONLY | os.O_CREAT | os.O_EXCL | os.O_CLOEXEC))
+            empty = open_file(self.path, os.O_RDWR | os.O_CREAT | os.O_EXCL)
         except FileExistsError:
             return False
-        os.rename(self.unfinished, self.path)
+        try:
+            os.rename(self.unfinished, self.path)
+        except BaseException:
+            remove_empty(empty, self.path)
+            raise
+        finally:
+            with suppress(OSError):
+                close(empty)
         return True
+
+
+def remove_empty(file: FileIO, path: str) -> None:
+    """Removes an empty file that is open, unless another program has filled, replaced or locked it meanwhile."""
+    with suppress(OSError):
+        lock(file, EXCLUSIVE, 0)
+        found = os.fstat(file.fileno())
+        if found.st_size == 0 and os.path.samestat(found, os.lstat(path)):
+            os.unlink(path)
 
 
 def make(path: FilePath, fill: Callable[[str], Filled], makes_folder: bool = False) -> Optional[Filled]:
@@ -94,7 +151,7 @@ def make(path: FilePath, fill: Callable[[str], Filled], makes_folder: bool = Fal
     Returns None if there is a file at `path`, which stays as it is. `fill` may leave no file.
 
     # Errors
-    Those of `fill`, and `OSError` if the folder can't be made or the system refuses the name.
+    Those of `fill`, and `OSError` if the folder can't be made, or the system refuses the name or can't look at the file.
     """
     with NewFile(path, makes_folder) as new:
         filled = fill(new.unfinished)

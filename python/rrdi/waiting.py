@@ -5,7 +5,7 @@ from __future__ import annotations
 from typing import List, Tuple, TypeVar
 
 from .damaged import set_aside
-from .errors import Damaged
+from .errors import Damaged, Error
 
 Item = TypeVar("Item")
 
@@ -21,4 +21,6 @@ def newest(items: List[Item], room: int) -> Tuple[List[Item], int]:
 
 def why(path: str, fault: Exception) -> str:
     """Returns why samples of a file wait. A damaged file is renamed, so that the next ones make a new file."""
-    return set_aside(path, fault) if isinstance(fault, Damaged) else str(fault)
+    if isinstance(fault, Damaged):
+        return set_aside(path, fault)
+    return str(fault) if isinstance(fault, (Error, OSError)) else f"{type(fault).__name__}: {fault}"

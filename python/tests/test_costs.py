@@ -2,10 +2,13 @@
 is done, or do what would never end."""
 from __future__ import annotations
 
+import contextlib
+import fnmatch
 import os
 import random
 import re
 import struct
+import time
 import unittest
 from pathlib import Path
 from typing import Callable, List, Optional
@@ -19,6 +22,8 @@ from rrdi.compat.syntax import LONGEST_NUMBER, read_number
 from rrdi.feeding import metrics
 from rrdi.feeding.rules import Names, read_rules, texts_of_stars
 from rrdi.graphite import finding
+from rrdi.graphite.globs import Globs
+from rrdi.graphite.names import LONGEST_PART
 from rrdi.importing.whisper import read_whisper, whisper_batch
 from rrdi.reader.selected import OpenFile
 
@@ -96,6 +101,55 @@ class Patterns(DataCase):
         self.assertEqual(self.listed.call_count, 1)
         names = "{" + ",".join(f"host-{number}" for number in range(20_000)) + ",ab}"
         self.assertEqual(self.found(names), ["ab.rrdi"])
+
+    def test_names_that_braces_stand_for(self) -> None:
+        """Of many names the folder tells which it has; if it can't be listed, the system is asked for each."""
+        self.put("ab", "host-7")
+        names = "{" + ",".join(f"host-{number}" for number in range(300)) + ",ab}"
+        for is_listed, most in ((True, 2), (False, 301)):
+            with mock.patch("os.path.isfile", side_effect=os.path.isfile) as asked, \
+                    mock.patch("os.access", return_value=is_listed):
+                self.assertEqual(self.found(names), ["ab.rrdi", "host-7.rrdi"])
+            self.assertEqual((asked.call_count, self.listed.call_count), (most, int(is_listed)))
+
+    def test_patterns_that_cost_much(self) -> None:
+        """Patterns of at most 4 KB: each is answered or refused within a second of computing."""
+        self.put(*("a" * (number % 40) + f"server{number}" for number in range(500)))
+        braces = "{a,b}" * 9
+        for pattern in ("[" * 4_045, "{a,b}" * 8 + "[" * 900 + "*", braces + "[" * 400 + "*", braces + "[!" * 120 + "*",
+                        braces + "*a" * 250, "*a" * 2_000, "*a" * 120 + "b", "[a]" * 1_300, "[\u0100-\uffff]" * 500,
+                        f"[{'a-z' * 1_300}]*", braces + f"[{'a-z' * 500}]*", "{a,b}" * 14, ("{a,b}" * 14 + ".") * 56,
+                        "*." + "{a,b}" * 14, "*.".join(["{a,b}" * 3 + "[" * 50] * 60), ("[" * 60 + ".") * 66, "**.a*." * 600,
+                        braces + "".join(chr(0x4E00 + number) for number in range(250)) + "*", "?" * 4_000,
+                        "{" + ",".join(f"s*{number}*" for number in range(600)) + "}", "{" * 1_000 + "a,b" + "}" * 1_000):
+            before = time.process_time()
+            with contextlib.suppress(finding.TooMuch):
+                self.found(pattern)
+            self.assertLess(time.process_time() - before, 1, f"{pattern[:60]!r}, {len(pattern.encode())} bytes")
+
+    def test_all_parts_together(self) -> None:
+        """What the parts of a pattern stand for is limited for all of them together."""
+        two = "{" + ",".join(f"{number}*" for number in range(501)) + "}"
+        for pattern in (f"{two}.{two}", ".".join(["{a,b}" * 13] * 4), "**.a." * 11 + "x"):
+            self.assertRaises(finding.TooMuch, self.found, pattern)
+        self.assertEqual(self.found("**.a." * 10 + "x"), [])
+        self.assertEqual(self.found("*." * 2_000 + "x"), [])
+
+    def test_words_match_as_before(self) -> None:
+        """Random words and names: as `fnmatch` has it."""
+        chance, matched = random.Random(7), 0
+        for _ in range(8_000):
+            words = ["".join(chance.choice("ab*?[]!-^c&|~") for _ in range(chance.randrange(9))) for _ in range(chance.randrange(1, 4))]
+            globs, matches = Globs(words), [re.compile(fnmatch.translate(word)).match for word in words]
+            for _ in range(5):
+                name = "".join(chance.choice("abc-]![^\n&") for _ in range(chance.randrange(7)))
+                wanted = any(match(name) for match in matches)
+                self.assertEqual(globs.match(name), wanted, (words, name))
+                matched += wanted
+        self.assertGreater(matched, 1_000)
+        longest = "x" * LONGEST_PART
+        self.assertEqual([Globs([word]).match(longest) for word in ("?" * LONGEST_PART, "?" * LONGEST_PART + "*", "?" * 256)],
+                         [True, True, False])
 
     def test_links_that_loop(self) -> None:
         self.put("x", "f/y")

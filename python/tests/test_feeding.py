@@ -202,7 +202,7 @@ class Batches(unittest.TestCase):
     def test_a_writer_that_fails(self) -> None:
         feeder = Feeder(FeedOptions(), mock.Mock(write=mock.Mock(side_effect=MemoryError("none"))))
         self.assertEqual(taken(feeder, b"a 10:1") + finished(feeder),
-                         "rrdi-feed: a: MemoryError: none; 1 samples may be lost\nrrdi-feed: may be lost: a 10:1\n")
+                         "rrdi-feed: a: MemoryError; 1 samples may be lost\nrrdi-feed: may be lost: a 10:1\n")
 
     def test_newer_samples_follow_those_that_wait(self) -> None:
         feeder = Feeder(FeedOptions(seconds=60), Stub())

@@ -6,12 +6,13 @@ import fcntl
 import os
 import time
 import unittest
+from pathlib import Path
 from typing import Any, Callable, Dict, List
 from unittest import mock
 
 from cases import DataCase, WithLibrary, WithProgram, use_library
 from rrdi import commands, damaged, errors
-from rrdi.making import NewFile, make
+from rrdi.making import NewFile, is_there, make
 from rrdi.tools import record
 
 DEFINITIONS = ("DS:g:GAUGE:60:U:U", "RRA:LAST:0.5:1:4")
@@ -67,6 +68,129 @@ class Making(DataCase):
                 file.write("new")
             new.replace()
         self.assertEqual((self.files(), self.path.read_text()), (["data/f.rrdi"], "new"))
+
+
+def failing(name: str, number: int, suffix: str = "") -> Any:
+    """Replaces a function of `os` by one that fails with an error number for the paths with a suffix."""
+    function = getattr(os, name)
+
+    def fail(path: Any, *more: Any, **named: Any) -> Any:
+        if os.fsdecode(path).endswith(suffix):
+            raise OSError(number, os.strerror(number))
+        return function(path, *more, **named)
+    return mock.patch.object(os, name, fail)
+
+
+class CannotLook(DataCase):
+    """A file at which the system cannot look may be there."""
+
+    ERRORS = (errno.EIO, errno.EACCES, errno.ESTALE, errno.ENOMEM)
+
+    def setUp(self) -> None:
+        super().setUp()
+        self.path = str(self.folder / "f.rrdi")
+
+    def fill(self, new: str) -> str:
+        with open(new, "w", encoding="ascii") as file:
+            file.write("new")
+        return "filled"
+
+    def test_is_there(self) -> None:
+        there, nothing = str(self.folder), str(self.folder / "none")
+        (self.folder / "dangling").symlink_to("none")
+        (self.folder / "file").write_text("")
+        for path, is_file, is_name in ((there, True, True), (nothing, False, False), (str(self.folder / "dangling"), False, True),
+                                       (str(self.folder / "file/in it"), False, False)):
+            self.assertEqual((is_there(path), is_there(os.fsencode(path)), is_there(path, follows=False)), (is_file, is_file, is_name))
+        for number in self.ERRORS:
+            with failing("stat", number), self.assertRaises(OSError) as raised:
+                is_there(there)
+            self.assertEqual(raised.exception.errno, number)
+
+    def test_a_file_that_was_filled(self) -> None:
+        """It is not made, and nobody is told that it was."""
+        for number in self.ERRORS:
+            with failing("stat", number, ".new"), self.assertRaises(OSError) as raised:
+                make(self.path, self.fill)
+            self.assertEqual((raised.exception.errno, self.files()), (number, []))
+        self.assertEqual(make(self.path, self.fill), "filled")
+
+    def test_a_link(self) -> None:
+        for number in self.ERRORS:
+            with failing("readlink", number), self.assertRaises(OSError) as raised:
+                make(self.path, self.fill)
+            self.assertEqual((raised.exception.errno, self.files()), (number, []))
+
+    def test_links(self) -> None:
+        """Links from one to the next, over folders; and those that lead nowhere."""
+        (self.folder / "a").mkdir()
+        os.symlink("a/second", self.path)
+        os.symlink("../third", str(self.folder / "a/second"))
+        self.assertEqual((make(self.path, self.fill), (self.folder / "third").read_text()), ("filled", "new"))
+        os.symlink("round", str(self.folder / "round"))
+        with self.assertRaises(OSError) as raised:
+            make(str(self.folder / "round"), self.fill)
+        self.assertEqual(raised.exception.errno, errno.ELOOP)
+        self.assertFalse(any(name.endswith(".new") for name in self.files()))
+
+
+    def test_a_damaged_file(self) -> None:
+        """It stays, and that is said: who asks keeps its samples."""
+        Path(self.path).write_text("RRDI and no more")
+        cut = errors.Damaged("file: truncated at 16", self.path, errors.TRUNCATED, 16)
+        busy = errors.Busy("cannot open", self.path, errors.CANNOT_OPEN, None, errno.EAGAIN)
+        for error in (busy, OSError(errno.EIO, "Input/output error")):
+            with mock.patch.object(damaged, "last", side_effect=error):
+                text = damaged.set_aside(self.path, cut)
+            self.assertRegex(text, "^file: truncated at 16, and the file cannot be renamed: .*(Input/output error|holds its lock)$")
+        Path(self.path).write_text("")
+        os.utime(self.path, (0, 0))
+        empty = errors.Damaged("file: truncated at 0", self.path, errors.TRUNCATED, 0)
+        for name in ("stat", "open", "rename"):
+            with failing(name, errno.ESTALE), mock.patch.object(damaged, "last", side_effect=empty):
+                self.assertRegex(damaged.set_aside(self.path, empty), "cannot be renamed: Stale .*handle$")
+        self.assertEqual(self.files(), ["data/f.rrdi"])
+
+
+class WithoutLinks(DataCase):
+    """A file system without links: what holds the name is left only for another program."""
+
+    def setUp(self) -> None:
+        super().setUp()
+        self.path = self.folder / "f.rrdi"
+
+    def not_made(self, meanwhile: Callable[[], object]) -> None:
+        """Makes a file that gets no name. Just before, something else happens."""
+        def rename(*paths: str) -> None:
+            meanwhile()
+            raise OSError(errno.EIO, "Input/output error")
+        with mock.patch("os.link", side_effect=OSError(errno.EPERM, "Operation not permitted")), \
+                mock.patch("os.rename", rename), self.assertRaises(OSError) as raised:
+            make(str(self.path), lambda new: open(new, "w", encoding="ascii").close())
+        self.assertEqual(raised.exception.errno, errno.EIO)
+
+    def test_no_empty_file_is_left(self) -> None:
+        self.not_made(lambda: None)
+        self.assertEqual(self.files(), [])
+
+    def test_a_file_of_another_program_stays(self) -> None:
+        def replace() -> None:
+            self.path.unlink()
+            self.path.write_text("")
+        for act, text in ((lambda: self.path.write_text("filled"), "filled"), (replace, "")):
+            self.not_made(act)
+            self.assertEqual((self.files(), self.path.read_text()), (["data/f.rrdi"], text))
+            self.path.unlink()
+
+    def test_a_file_that_another_program_locks_stays(self) -> None:
+        opened: List[Any] = []
+
+        def lock() -> None:
+            opened.append(self.path.open())
+            fcntl.flock(opened[0], fcntl.LOCK_EX)
+        self.not_made(lock)
+        opened[0].close()
+        self.assertEqual(self.files(), ["data/f.rrdi"])
 
 
 class Modes(DataCase):

@@ -5,6 +5,7 @@ import fcntl
 import os
 import re
 import signal
+import socket
 import struct
 import subprocess
 import sys
@@ -134,16 +135,25 @@ class Feed(ToolCase):
         self.addCleanup(fed.kill)
         fed.stdin.write("a 10:1\n")
         fed.stdin.flush()
-        self.wait_until_read(fed)
+        self.wait_until_read(fed, fed.stdin.fileno())
         return fed
 
-    def wait_until_read(self, fed: "subprocess.Popen[str]") -> None:
+    def started_on(self, source: int) -> "subprocess.Popen[str]":
+        """Starts rrdi-feed, which reads an open file."""
+        fed = subprocess.Popen([sys.executable, str(TOP / "tools/rrdi-feed"), "--jobs", "1"], cwd=self.folder, text=True,
+                               env=self.env, stdin=source, stderr=subprocess.PIPE)
+        assert fed.stderr
+        self.addCleanup(fed.wait)
+        self.addCleanup(fed.stderr.close)
+        self.addCleanup(fed.kill)
+        return fed
+
+    def wait_until_read(self, fed: "subprocess.Popen[str]", source: int) -> None:
         """Waits until rrdi-feed handles its signals and has read its input."""
-        assert fed.stdin
         until = time.monotonic() + 60
         while True:
             caught = re.search(r"^SigCgt:\s*(\w+)", Path(f"/proc/{fed.pid}/status").read_text(), re.MULTILINE)
-            waiting = struct.unpack("i", fcntl.ioctl(fed.stdin, termios.FIONREAD, bytes(4)))[0]
+            waiting = struct.unpack("i", fcntl.ioctl(source, termios.FIONREAD, bytes(4)))[0]
             if caught and int(caught[1], 16) >> signal.SIGUSR1 - 1 & 1 and not waiting:
                 return
             self.assertLess(time.monotonic(), until)
@@ -164,6 +174,46 @@ class Feed(ToolCase):
             fed.send_signal(number)
             self.assertEqual(fed.wait(60), 0)
             self.assertEqual(self.logged(), ["a 10:1"])
+
+    def test_a_connection_that_is_reset(self) -> None:
+        """What was read before is stored, but for a line that is cut, which is named."""
+        for family in (socket.AF_INET, socket.AF_UNIX):
+            self.write("log", "")
+            if family == socket.AF_INET:
+                with socket.create_server(("127.0.0.1", 0)) as server:
+                    sender = socket.create_connection(server.getsockname())
+                    source, _ = server.accept()
+            else:
+                sender, source = socket.socketpair()
+            with sender, source:
+                fed = self.started_on(source.fileno())
+                assert fed.stderr
+                sender.sendall(b"a 10:1\nb 20:2\na 20:12")
+                self.wait_until_read(fed, source.fileno())
+                if family == socket.AF_INET:  # the system then resets the connection
+                    sender.setsockopt(socket.SOL_SOCKET, socket.SO_LINGER, struct.pack("ii", 1, 0))
+                else:  # what the sender has not read resets it
+                    source.sendall(b"unread")
+                sender.close()
+            self.assertEqual((fed.wait(60), fed.stderr.read()), (
+                1, "rrdi-feed: cannot read the input any further: Connection reset by peer\n"
+                   "rrdi-feed: a line without its end may be lost, got: a 20:12\n"))
+            self.assertEqual(self.logged(), ["a 10:1", "b 20:2"])
+
+    def test_a_pipe_without_an_end(self) -> None:
+        """Opened for reading and writing, it never ends: a signal does it."""
+        os.mkfifo(self.folder / "pipe")
+        pipe = os.open(self.folder / "pipe", os.O_RDWR)
+        self.addCleanup(os.close, pipe)
+        fed = self.started_on(pipe)
+        os.write(pipe, b"a 10:1\n")
+        self.wait_until_read(fed, pipe)
+        fed.send_signal(signal.SIGTERM)
+        self.assertEqual((fed.wait(60), self.logged()), (0, ["a 10:1"]))
+
+    def test_no_input(self) -> None:
+        ran = self.run_command(["sh", "-c", f"{sys.executable} {TOP}/tools/rrdi-feed <&-"])
+        self.assertEqual(ran, Ran(1, "", "rrdi-feed: cannot read the input any further: Bad file descriptor\n"))
 
     def test_the_seconds_pass(self) -> None:
         fed = self.started("--seconds", "1")

@@ -1,7 +1,10 @@
 """Tests of rrdi-plot and rrdi-record. A script replaces gnuplot."""
 from __future__ import annotations
 
+import contextlib
+import errno
 import fcntl
+import io
 import math
 import os
 import shutil
@@ -9,14 +12,15 @@ import subprocess
 import sys
 import time
 import unittest
-from typing import Dict, List, Optional
+from pathlib import Path
+from typing import Any, Dict, List, Optional
 from unittest import mock
 
-from cases import HANG, child_status, needs_program, sleeping_child
+from cases import HANG, child_status, needs_program, new_folder, sleeping_child
 from doubles import PROGRAM, TOP
 from tool_case import Ran, ToolCase
 
-from rrdi.tools import machine, record
+from rrdi.tools import machine, program, record
 from rrdi.tools.command_line import Failure
 from rrdi.tools.plotting import labels, numbers
 from rrdi.tools.plotting.columns import chosen, columns_of, limits, segments, series_of, since_known
@@ -481,6 +485,81 @@ class Record(ToolCase):
             child = sleeping_child(self)
         with mock.patch.object(record, "PATIENCE", 0.1), record.alone(path):
             self.assertIsNone(child_status(child))
+
+
+class CannotLook(unittest.TestCase):
+    """Copies at which rrdi-record cannot look for now: none is lost, and the sample is recorded."""
+
+    def setUp(self) -> None:
+        self.file = str(new_folder(self) / "f.rrdi")
+        for number in (1, 2, 3):
+            Path(f"{self.file}.{number}").write_text(str(number))
+        # What asking for the last time of a copy gives.
+        self.last: Dict[int, object] = {}
+        asked = mock.patch.object(program, "last", self.last_of)
+        asked.start()
+        self.addCleanup(asked.stop)
+
+    def last_of(self, path: str) -> int:
+        found = self.last[int(path[-1])]
+        if isinstance(found, Exception):
+            raise found
+        assert isinstance(found, int)
+        return found
+
+    def copies(self) -> str:
+        return "".join(Path(f"{self.file}.{number}").read_text() for number in (1, 2, 3))
+
+    LOCKED = program.CommandFailed("cannot open", errno.EAGAIN)
+    UNREADABLE = program.CommandFailed("file: read failed")
+    DAMAGED = program.CommandFailed("file: truncated at 50")
+
+    def test_the_newest_copy(self) -> None:
+        for last, wanted in (({1: self.DAMAGED, 2: 5, 3: 4}, 2), ({1: self.LOCKED, 2: self.DAMAGED, 3: 4}, 3)):
+            self.last = last
+            self.assertEqual(record.newest_copy(self.file), f"{self.file}.{wanted}")
+        self.last = {1: self.DAMAGED, 2: self.DAMAGED, 3: self.DAMAGED}
+        self.assertEqual(record.newest_copy(self.file), "")
+        # No empty database begins while a copy may have rows.
+        for failed in (self.LOCKED, self.UNREADABLE):
+            self.last = {1: self.DAMAGED, 2: failed, 3: self.DAMAGED}
+            with self.assertRaisesRegex(program.CommandFailed, f"^{self.file}.2: {failed}"):
+                record.newest_copy(self.file)
+        for number in (1, 2, 3):
+            os.unlink(f"{self.file}.{number}")
+        self.last = dict.fromkeys((1, 2, 3), program.CommandFailed("cannot open", errno.ENOENT))
+        self.assertEqual(record.newest_copy(self.file), "")
+        with mock.patch("os.stat", side_effect=OSError(errno.EIO, "Input/output error")), self.assertRaises(OSError):
+            record.newest_copy(self.file)
+
+    def test_copies_stay(self) -> None:
+        Path(self.file).write_text("new")
+        self.last = {1: self.LOCKED}
+        with self.assertRaises(program.CommandFailed):
+            record.keep_copies(self.file, 10**9)
+        self.last = {1: 0}
+        stat = os.stat
+
+        def failing(path: str, **more: Any) -> os.stat_result:
+            if str(path).endswith(".1"):
+                raise OSError(errno.EIO, "Input/output error")
+            return stat(path, **more)
+        with mock.patch("os.stat", failing), self.assertRaises(OSError):
+            record.keep_copies(self.file, 10**9)
+        with mock.patch("shutil.copy", side_effect=OSError(errno.ENOSPC, "No space left on device")), self.assertRaises(OSError):
+            record.keep_copies(self.file, 10**9)
+        self.assertEqual(self.copies(), "123")
+        record.keep_copies(self.file, 10**9)
+        self.assertEqual(self.copies(), "new12")
+
+    def test_the_sample_is_recorded(self) -> None:
+        for failed, text in ((OSError(errno.ENOSPC, "No space left on device", "f.1"), "f.1: No space left on device"),
+                             (program.CommandFailed("f.1: cannot open"), "f.1: cannot open")):
+            with mock.patch.multiple(record, make_ready=lambda file, fill: 7, update=mock.DEFAULT,
+                                     keep_copies=mock.Mock(side_effect=failed)) as mocks, \
+                    mock.patch.dict(os.environ), contextlib.redirect_stderr(io.StringIO()) as said:
+                self.assertEqual(record.record(["--disk", "/", self.file]), 0)
+            self.assertEqual((mocks["update"].call_count, said.getvalue()), (1, f"rrdi-record: no copy was made: {text}\n"))
 
 
 if __name__ == "__main__":

@@ -1,17 +1,20 @@
 """Holds samples by their files, and passes them on."""
 from __future__ import annotations
 
+import errno
 import os
 import selectors
 import sys
 import time
-from concurrent.futures import ThreadPoolExecutor
+from contextlib import suppress
 from dataclasses import dataclass
+from operator import length_hint
 from queue import Empty, SimpleQueue
-from typing import Callable, Dict, List, Optional, Set, Tuple
+from typing import Callable, Dict, Iterable, Iterator, List, Optional, Set, Tuple
 
 from ..limits import LONGEST_LINE
-from .writers import Outcome, Writer, text_of
+from .workers import FIRST, Batch, Workers
+from .writers import NO_ROOM, Outcome, Writer, text_of
 
 UPDATE = b"update "
 SHORT = LONGEST_LINE - len(UPDATE)  # bytes of a line whose sample cannot be too long
@@ -21,6 +24,7 @@ SAMPLES_OF_A_LINE = 100
 READ = 1 << 18  # bytes of one read of the input
 LONGEST_GIVEN = 1 << 24  # bytes of a line of the input, which may have many samples
 LONGEST_SHOWN = 4_096  # bytes of a bad line in a message
+MEMORY_PAUSE, MEMORY_TRIES = 0.01, 10  # seconds until the next try if there is no memory, and the least number of tries
 
 
 @dataclass
@@ -41,7 +45,7 @@ class Waiting:
     due: float
 
 
-def line_text(line: bytes) -> str:
+def line_text(line: "bytes | bytearray") -> str:
     """Returns a line for a message: without its end, and with control characters as escapes."""
     return printable(text_of(line[:LONGEST_SHOWN]).strip() + (".." if len(line) > LONGEST_SHOWN else ""))
 
@@ -51,8 +55,25 @@ def printable(text: str) -> str:
     return "".join(letter if letter.isprintable() else ascii(letter)[1:-1] for letter in text)
 
 
+NO_MEMORY_LEFT = Outcome(lost="MemoryError")
+
+
+def selector_of(source: int) -> Optional[selectors.BaseSelector]:
+    """Returns what waits for input; None for a plain file, which can always be read."""
+    selector = selectors.DefaultSelector()
+    try:
+        selector.register(source, selectors.EVENT_READ)
+    except PermissionError:
+        return None
+    return selector
+
+
 class Feeder:
-    """Reads lines, each with a FILE and its samples. `name` begins each message."""
+    """Reads lines, each with a FILE and its samples. `name` begins each message.
+
+    An exception at any place leaves each sample that was read where the next call finds it: a list gets its new place
+    before it loses the old one.
+    """
 
     def __init__(self, options: FeedOptions, writer: Writer, name: str = "rrdi-feed"):
         self.options, self.writer, self.name = options, writer, name
@@ -64,13 +85,17 @@ class Feeder:
         self.running: Set[bytes] = set()
         self.ended: SimpleQueue[Tuple[bytes, List[bytes], Outcome]] = SimpleQueue()
         self.pauses: Dict[bytes, float] = {}
-        self.threads = ThreadPoolExecutor(options.jobs)
+        self.threads = Workers(options.jobs, self.run)
         self.count, self.is_ending, self.is_hurried, self.has_failed = 0, False, False, False
         self.bad_lines = 0
         # Returns what was wrong with a refused sample of a file; the reason is rrdi's.
         self.explain: Callable[[bytes, bytes, str], str] = lambda file, sample, reason: ""
+        # What was read and is not yet in lines; the lines, and those of them that are not yet taken.
+        self.data = b""
+        self.lines: List[bytes] = []
+        self.left: Iterator[bytes] = iter(self.lines)
         # The beginning of a line whose end has not arrived. If that line is too long, its end is passed over.
-        self.rest, self.is_too_long = b"", False
+        self.rest, self.is_too_long = bytearray(), False
 
     # ---- Messages
 
@@ -78,49 +103,90 @@ class Feeder:
         self.has_failed = True
         try:
             print(f"{self.name}: {text}", file=sys.stderr, flush=True)
-        except OSError:  # nobody reads the messages, but the samples go on
+        except (OSError, MemoryError):  # nobody reads the messages, but the samples go on
             pass
 
-    def say_bad(self, reason: str, line: bytes) -> None:
+    def say_bad(self, reason: str, line: "bytes | bytearray") -> None:
         """Reports a line from which no sample was read."""
         self.bad_lines += 1
         self.say(f"{reason}, got: {line_text(line)}")
 
     def say_lost(self, file: bytes, reason: str, samples: List[bytes]) -> None:
         """Reports samples that may be lost, in lines that the user can feed again."""
-        name = text_of(file)
-        self.say(f"{name}: {reason}; {len(samples)} samples may be lost")
-        for at in range(0, len(samples), SAMPLES_OF_A_LINE):
-            self.say(f"may be lost: {name} {text_of(b' '.join(samples[at:at + SAMPLES_OF_A_LINE]))}")
+        try:
+            name = text_of(file)
+            self.say(f"{name}: {reason}; {len(samples)} samples may be lost")
+            for at in range(0, len(samples), SAMPLES_OF_A_LINE):
+                self.say(f"may be lost: {name} {text_of(b' '.join(samples[at:at + SAMPLES_OF_A_LINE]))}")
+        except MemoryError:
+            self.say("samples may be lost that there is no memory to show")
+
+    def say_untaken(self) -> None:
+        """Reports the lines that were read and not taken."""
+        try:
+            for line in self.untaken() if self.lines else self.data.split(b"\n"):
+                self.say(f"a line may be lost, got: {printable(text_of(line).strip())}")
+        except MemoryError:
+            self.say("lines may be lost that there is no memory to show")
 
     # ---- Lines
 
     def take_data(self, data: bytes) -> None:
         """Takes what was read from the input; no data is the end of the input, where the last line may lack its end."""
-        *lines, rest = (self.rest + data).split(b"\n")
-        if self.is_too_long and lines:
-            del lines[0]
-            self.is_too_long = False
-        if self.is_too_long:
-            rest = b""
-        elif len(rest) > LONGEST_GIVEN:
-            self.say_bad(f"a line has over {LONGEST_GIVEN} bytes", rest)
-            rest, self.is_too_long = b"", True
-        self.rest = rest
-        self.take_all(lines if data else [rest])
+        self.data = data or b"\n"
+        self.split_data()
+        self.take_lines()
 
-    def take_all(self, lines: List[bytes]) -> None:
+    def split_data(self) -> None:
+        """Makes lines of what was read. The beginning of the last one waits for its end."""
+        *lines, rest = self.data.split(b"\n")
+        if lines:
+            lines[0] = b"" if self.is_too_long else bytes(self.rest) + lines[0]
+            begun, left = bytearray(rest), iter(lines)
+            self.lines, self.left = lines, left
+            self.rest, self.is_too_long = begun, False
+        elif not self.is_too_long:
+            self.rest += rest
+        self.data = b""
+        if len(self.rest) > LONGEST_GIVEN:
+            self.say_bad(f"a line has over {LONGEST_GIVEN} bytes", self.rest)
+            self.rest, self.is_too_long = bytearray(), True
+
+    def take_lines(self) -> None:
+        self.take_all(self.left)
+        self.lines = []
+
+    def take_again(self) -> None:
+        """Takes what an exception has left of the input. There is more memory by now, or it is reported as lost."""
+        try:
+            if self.lines:
+                self.lines = self.untaken()
+                self.left = iter(self.lines)
+            else:
+                self.split_data()
+            self.take_lines()
+        except MemoryError:
+            self.say_untaken()
+            self.lines, self.data = [], b""
+
+    def untaken(self) -> List[bytes]:
+        """Returns the lines that were not taken, from the one on at which an exception came."""
+        return self.lines[-1 - length_hint(self.left):]
+
+    def take_all(self, lines: Iterable[bytes]) -> None:
         """Takes lines. A short loop takes a further sample of a held file; `take` takes all other lines."""
         samples_of, count = self.held.get, 0
-        for line in lines:
-            words = line.split()
-            samples = samples_of(words[0]) if len(words) == 2 and len(line) <= SHORT else None
-            if samples is None or words[1][0] not in DIGITS:
-                self.take(words, line)
-            else:
-                samples.append(words[1])
-                count += 1
-        self.count += count
+        try:
+            for line in lines:
+                words = line.split()
+                samples = samples_of(words[0]) if len(words) == 2 and len(line) <= SHORT else None
+                if samples is None or words[1][0] not in DIGITS:
+                    self.take(words, line)
+                else:
+                    samples.append(words[1])
+                    count += 1
+        finally:
+            self.count += count
 
     def take(self, words: List[bytes], line: bytes) -> None:
         if words and words[0].upper() == b"UPDATE":
@@ -143,38 +209,61 @@ class Feeder:
 
     def hold(self, file: bytes, samples: List[bytes]) -> None:
         if file not in self.held:
-            self.held[file], self.since[file] = [], time.monotonic()
+            self.since[file] = time.monotonic()  # first: held samples without a time would stay for ever
+            self.held[file] = []
         self.held[file] += samples
         self.count += len(samples)
 
     # ---- Batches
 
     def run(self, file: bytes, samples: List[bytes]) -> None:
-        """Runs one batch, in a thread of its own."""
+        """Runs one batch, in a thread of its own. Its end is told in any case: `finish` waits for it."""
+        outcome = self.write(file, samples)
+        while True:
+            try:
+                self.ended.put((file, samples, outcome))
+                return
+            except MemoryError:
+                time.sleep(MEMORY_PAUSE)
+
+    def run_here(self, file: bytes, samples: List[bytes]) -> None:
+        """Runs one batch in the present thread, which alone can make room by what it ends."""
+        outcome = self.write(file, samples)
         try:
-            outcome = self.writer.write(file, samples)
-        except Exception as error:  # the samples must survive any exception in the thread
-            outcome = Outcome(lost=f"{type(error).__name__}: {error}")
-        self.ended.put((file, samples, outcome))
+            self.end_batch(file, samples, outcome)
+        except MemoryError:
+            self.running.discard(file)
+            self.say_lost(file, NO_ROOM, samples)
+
+    def write(self, file: bytes, samples: List[bytes]) -> Outcome:
+        try:
+            return self.writer.write(file, samples)
+        except MemoryError:
+            return NO_MEMORY_LEFT  # there may be none for another text
+        except BaseException as error:  # the samples must survive any exception in the thread
+            return Outcome(lost=f"{type(error).__name__}: {error}")
 
     def end_batches(self, seconds: float = 0) -> None:
         """Takes back the samples that ended batches could not pass to rrdi. Waits some seconds for the first ended batch."""
         try:
             ended = self.ended.get(timeout=seconds) if seconds else self.ended.get_nowait()
             while True:
-                self.end_batch(*ended)
+                try:
+                    self.end_batch(*ended)
+                except BaseException:
+                    self.ended.put(ended)
+                    raise
                 ended = self.ended.get_nowait()
         except Empty:
             pass
 
     def end_batch(self, file: bytes, samples: List[bytes], outcome: Outcome) -> None:
-        self.running.discard(file)
-        samples = samples[outcome.done:]
+        samples = samples[outcome.done:] if outcome.done else samples
         if outcome.lost:
             self.say_lost(file, outcome.lost, samples)
         for sample, reason in outcome.refused:
             self.say(f"{printable(text_of(file))} {printable(text_of(sample))}: {reason}")
-            detail = self.explain(file, sample, reason)
+            detail = self.explained(file, sample, reason)
             if detail:
                 self.say(detail)
         if outcome.again:
@@ -184,14 +273,29 @@ class Feeder:
             self.count += len(samples)
         else:
             self.pauses.pop(file, None)
+        self.running.discard(file)
+
+    def explained(self, file: bytes, sample: bytes, reason: str) -> str:
+        """Returns what was wrong with a refused sample; nothing if that cannot be found out."""
+        try:
+            return self.explain(file, sample, reason)
+        except Exception:  # the reason was said; the samples go on
+            return ""
 
     def start(self, file: bytes) -> None:
-        waiting = self.waiting.pop(file, None)
-        samples = (waiting.samples if waiting else []) + self.held.pop(file, [])
+        waiting, samples = self.waiting.get(file), self.held.get(file, [])
+        left: Optional[Batch] = None
+        if waiting:
+            samples = waiting.samples + samples
+        if samples:
+            self.running.add(file)
+            left = self.threads.give((file, samples), len(self.running))
+        self.waiting.pop(file, None)
+        self.held.pop(file, None)
         self.since.pop(file, None)
         self.count -= len(samples)
-        self.running.add(file)
-        self.threads.submit(self.run, file, samples)
+        if left:
+            self.run_here(*left)
 
     def start_due(self) -> None:
         """Starts a batch for each file that is due and has no running batch."""
@@ -224,14 +328,23 @@ class Feeder:
     # ---- From the first line to the last
 
     def feed(self) -> int:
-        source = sys.stdin.fileno()
-        selector: Optional[selectors.BaseSelector] = None
+        """Reads all lines and passes their samples on, also if the reading fails. Returns the exit status."""
         try:
-            waiter = selectors.DefaultSelector()
-            waiter.register(source, selectors.EVENT_READ)
-            selector = waiter
-        except PermissionError:  # a plain file can always be read
-            pass
+            self.threads.begin(FIRST)
+            self.read()
+        except (OSError, MemoryError) as error:
+            reason = error.strerror or str(error) if isinstance(error, OSError) else NO_ROOM
+            self.say(f"cannot read the input any further: {reason}")
+        finally:
+            self.finish()
+        return 1 if self.has_failed else 0
+
+    def read(self) -> None:
+        """Reads lines up to the end of the input, or until a signal comes."""
+        if sys.stdin is None:  # it was closed, and another file may have its number
+            raise OSError(errno.EBADF, os.strerror(errno.EBADF))
+        source = sys.stdin.fileno()
+        selector = selector_of(source)
         while not self.is_ending:
             self.start_due()
             # While feed holds too many samples, it reads no lines, and the program that writes them waits.
@@ -240,25 +353,61 @@ class Feeder:
                 continue
             if selector and not selector.select(0.1 if self.waiting else min(self.options.seconds, 0.5)):
                 continue
-            data = os.read(source, READ)
+            try:
+                data = os.read(source, READ)
+            except (BlockingIOError, InterruptedError):  # another program has read it, or made it fail at once
+                continue
             self.take_data(data)
             if not data:
                 self.is_ending = True
-        self.finish()
-        return 1 if self.has_failed else 0
 
     def finish(self) -> None:
-        """Passes on all held samples, and gives up files that cannot be opened for too long."""
-        until = time.monotonic() + self.options.patience
-        while self.held or self.waiting or self.running:
-            self.start_due()
-            if time.monotonic() >= until:
-                for file in list(self.waiting):
-                    self.give_up(file)
-            self.end_batches(0.01)
+        """Passes on all samples that were read."""
+        self.is_ending = True
+        self.write_held()
+        if self.lines or self.data:
+            self.take_again()
+            self.write_held()
+        if self.rest:  # a signal or a fault has cut the line: a number in it may be another one
+            self.say(f"a line without its end may be lost, got: {line_text(self.rest)}")
         self.threads.shutdown()
         if self.bad_lines:
             self.say(f"bad lines: {self.bad_lines}")
+
+    def write_held(self) -> None:
+        """Passes on all held samples, and gives up files that cannot be opened for too long."""
+        until, tries = time.monotonic() + self.options.patience, 0
+        while self.held or self.waiting or self.running:
+            is_over = time.monotonic() >= until
+            try:
+                self.start_due()
+                for file in list(self.waiting) if is_over else []:
+                    self.give_up(file)
+                self.end_batches(0.01)
+            except MemoryError:  # each batch that ends leaves more
+                tries += 1
+                if is_over and tries >= MEMORY_TRIES:  # a thread may wait for memory to tell the end of its batch
+                    self.give_up_all()
+                if not self.start_one():
+                    time.sleep(MEMORY_PAUSE)
+
+    def start_one(self) -> bool:
+        """Starts a batch for one held file: there may be memory for it if there is none for a list of all files."""
+        with suppress(MemoryError):
+            for file in self.since:
+                if file not in self.running and file not in self.waiting:
+                    self.start(file)
+                    return True
+        return False
+
+    def give_up_all(self) -> None:
+        for file in self.held:
+            self.say_lost(file, NO_ROOM, self.held[file])
+        for file, waiting in self.waiting.items():
+            self.say_lost(file, NO_ROOM, waiting.samples)
+        self.held.clear()
+        self.since.clear()
+        self.waiting.clear()
 
     def end(self, *_: object) -> None:
         self.is_ending = True

@@ -5,15 +5,15 @@ from __future__ import annotations
 import os
 import re
 import time
-from typing import Dict, List, Sequence, Tuple
+from typing import Dict, Iterable, List, Sequence, Tuple
 
 from ..amounts import WITH_EXPONENT
 from ..compat.syntax import read_number
 from ..errors import NO_FILE
-from ..making import make
+from ..making import is_there, make
 from .feeder import Feeder, FeedOptions
 from .rules import BadLine, Names
-from .writers import Outcome, Writer
+from .writers import NO_ROOM, Outcome, Writer
 
 NUMBER = re.compile(WITH_EXPONENT.encode() + rb"|[-+]?[nN][aA][nN]|U")
 TIME = re.compile(rb"([0-9]+)(\.[0-9]*)?")
@@ -49,7 +49,7 @@ class MetricFeeder(Feeder):
         self.names, self.creating = names, Creating(writer)
         super().__init__(options, self.creating, name)
 
-    def take_all(self, lines: List[bytes]) -> None:
+    def take_all(self, lines: Iterable[bytes]) -> None:
         for line in lines:
             self.take(line.split(), line)
 
@@ -90,14 +90,21 @@ class Creating:
 
     def write(self, file: bytes, samples: List[bytes]) -> Outcome:
         arguments = self.arguments.get(file)
-        if arguments and not os.path.lexists(file):
-            reason = self.create(file, with_start(arguments, samples[0]))
+        if arguments:
+            reason = self.create_missing(file, with_start(arguments, samples[0]))
             if reason:
                 return Outcome(again=reason)
         outcome = self.writer.write(file, samples)
         if arguments and outcome.refused and outcome.refused[0][1] == NO_FILE:
             return Outcome(again=NO_FILE)  # another program has taken the file away meanwhile
         return outcome
+
+    def create_missing(self, file: bytes, arguments: Sequence[str]) -> str:
+        """Does the same as `create`, and nothing if there is a file."""
+        try:
+            return "" if is_there(file, follows=False) else self.create(file, arguments)
+        except OSError as error:
+            return f"cannot open: {reason_in(error)}"
 
     def create(self, file: bytes, arguments: Sequence[str]) -> str:
         """Creates a database if no file has its name. Returns the reason if that fails, and otherwise nothing."""
@@ -111,4 +118,10 @@ class Creating:
         except NotCreated as refused:
             return str(refused)
         except OSError as error:
-            return f"cannot create: {(error.strerror or str(error)).lower()}"
+            return f"cannot create: {reason_in(error)}"
+        except MemoryError:
+            return f"cannot create: {NO_ROOM}"
+
+
+def reason_in(error: OSError) -> str:
+    return (error.strerror or str(error)).lower()

@@ -29,8 +29,19 @@ class Writer(Protocol):
         """Creates a database. Returns the reason if that fails, and otherwise nothing."""
 
 
-def text_of(data: bytes) -> str:
+NO_ROOM = "out of memory"
+
+
+def text_of(data: "bytes | bytearray") -> str:
     return data.decode(errors="replace")
+
+
+def may_be_made(file: bytes) -> bool:
+    """Checks whether an empty file may be one that another program is making: one at which the system can't look, too."""
+    try:
+        return is_being_made(file)
+    except OSError:
+        return True
 
 
 def lines_of(samples: List[bytes]) -> bytes:
@@ -41,7 +52,7 @@ def lines_of(samples: List[bytes]) -> bytes:
 def outcome_of(file: bytes, samples: List[bytes], answer: Answer, before: int = 0) -> Outcome:
     """Returns the outcome of a batch that had a line for each of these samples, and `before` other lines before them."""
     is_empty = answer.fault == TRUNCATED and answer.at == 0
-    if answer.fault in (CANNOT_OPEN, NO_MEMORY) or is_empty and is_being_made(file):
+    if answer.fault in (CANNOT_OPEN, NO_MEMORY) or is_empty and may_be_made(file):
         return Outcome(again=reason_of(answer.fault, answer.output))
     if answer.fault != OK:
         return Outcome(lost=reason_of(answer.fault, answer.output))
@@ -57,7 +68,11 @@ class BatchWriter:
 
     def write(self, file: bytes, samples: List[bytes]) -> Outcome:
         try:
-            answer = self.rrdi.batch_file(file, lines_of(samples), present(None), milliseconds(None), is_synced(None))
+            lines = lines_of(samples)
+        except MemoryError:
+            return Outcome(again=NO_ROOM)
+        try:
+            answer = self.rrdi.batch_file(file, lines, present(None), milliseconds(None), is_synced(None))
         except NoAnswer as none:
             return Outcome(lost=str(none)) if none.status else Outcome(again=str(none))
         return outcome_of(file, samples, answer)

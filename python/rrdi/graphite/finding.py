@@ -1,17 +1,18 @@
 """Finds the files and folders of metrics that a pattern of Graphite matches, below a data folder."""
 from __future__ import annotations
 
-import fnmatch
 import os
 import re
 from typing import Iterator, List, NamedTuple, Optional, Sequence, Set, Tuple
 
+from .globs import Globs
 from .names import SUFFIX, is_usable
 
 BRACES = re.compile(r"\{([^{}]*)\}")
 ANY_DEPTH = "**"
-# Of one part of a pattern: the characters of the words for which its braces stand, and the words with * ? [ among them.
-MOST_LETTERS, MOST_PATTERNS = 1_000_000, 1_000
+# Of a pattern: the characters of the words for which its braces stand, the words with * ? [ among them, and the **.
+MOST_LETTERS, MOST_PATTERNS, MOST_DEPTHS = 1_000_000, 1_000, 10
+MANY_NAMES = 100  # of which a folder is asked for those that it has, instead of the system for each
 # Links to folders that are followed for a pattern. A link to a folder above itself is not followed.
 MOST_LINKS = 100_000
 
@@ -29,14 +30,36 @@ class MetricEntry(NamedTuple):
 
 # ---- Patterns
 
-def expanded(part: str) -> List[str]:
+class Limits:
+    """What the parts of one pattern stand for so far.
+
+    # Errors
+    `TooMuch` from each call after which it is too much.
+    """
+
+    def __init__(self) -> None:
+        self.letters = self.patterns = self.depths = 0
+
+    def add(self, letters: int = 0, patterns: int = 0, depths: int = 0) -> None:
+        self.letters += letters
+        self.patterns += patterns
+        self.depths += depths
+        if self.letters > MOST_LETTERS:
+            raise TooMuch("the braces stand for too many names")
+        if self.patterns > MOST_PATTERNS:
+            raise TooMuch("the braces stand for too many patterns")
+        if self.depths > MOST_DEPTHS:
+            raise TooMuch("too many **")
+
+
+def expanded(part: str, limits: Limits) -> List[str]:
     """A part of a pattern without braces: `{a,b}c` is `ac` and `bc`.
 
     # Errors
     `TooMuch` if these are too many.
     """
     done: List[str] = []
-    waiting, letters = [part], 0
+    waiting = [part]
     while waiting:
         word = waiting.pop()
         found = BRACES.search(word)
@@ -44,9 +67,7 @@ def expanded(part: str) -> List[str]:
             done.append(word)
             continue
         before, after, inner = word[:found.start()], word[found.end():], found[1].split(",")
-        letters += len(inner) * (len(before) + len(after) + 1) + len(found[1])
-        if letters > MOST_LETTERS:
-            raise TooMuch("the braces stand for too many names")
+        limits.add(letters=len(inner) * (len(before) + len(after) + 1) + len(found[1]))
         waiting += [before + one + after for one in inner]
     return done
 
@@ -62,23 +83,24 @@ class Part:
     `TooMuch` if it stands for too many.
     """
 
-    def __init__(self, text: str):
-        words = expanded(text)
+    def __init__(self, text: str, limits: Limits):
+        words = expanded(text, limits)
         signs = [word for word in words if has_signs(word)]
-        if len(signs) > MOST_PATTERNS:
-            raise TooMuch("the braces stand for too many patterns")
-        self.names = [word for word in words if not has_signs(word) and is_usable(word)]
-        self.patterns = [re.compile(fnmatch.translate(word)).match for word in signs]
+        limits.add(patterns=len(signs) if len(words) > 1 else 0)
+        self.names = {word for word in words if not has_signs(word) and is_usable(word)}
+        self.globs = Globs(signs) if signs else None
 
     def matches(self, folder: str) -> Tuple[Set[str], Set[str]]:
         """The files and the folders in a folder that the part matches."""
         files: Set[str] = set()
         folders: Set[str] = set()
-        there = entries(folder) if self.patterns else ([], [])
-        for match in self.patterns:
-            files.update(filter(match, there[0]))
-            folders.update(filter(match, there[1]))
-        for name in self.names:
+        # A folder that may be entered may be one that can't be listed.
+        are_many = len(self.names) > MANY_NAMES and os.access(folder, os.R_OK)
+        there = entries(folder) if self.globs is not None or are_many else ([], [])
+        if self.globs is not None:
+            files.update(filter(self.globs.match, there[0]))
+            folders.update(filter(self.globs.match, there[1]))
+        for name in self.names & {*there[0], *there[1]} if are_many else self.names:
             path = os.path.join(folder, name)
             files.update([name] if os.path.isfile(path + SUFFIX) else [])
             folders.update([name] if os.path.isdir(path) else [])
@@ -104,14 +126,20 @@ def entries(folder: str) -> Tuple[List[str], List[str]]:
 
 
 def parts_of(pattern: str) -> List[Optional[Part]]:
-    """The parts of a pattern; None is any number of folders, which come only once in a row, and never last."""
+    """The parts of a pattern; None is any number of folders, which come only once in a row, and never last.
+
+    # Errors
+    `TooMuch` if they stand for too much.
+    """
     parts: List[Optional[Part]] = []
+    limits = Limits()
     for text in pattern.replace("\\", "").split("."):
         if text != ANY_DEPTH:
-            parts.append(Part(text))
+            parts.append(Part(text, limits))
         elif not parts or parts[-1] is not None:
             parts.append(None)
-    return parts if parts[-1] is not None else [*parts, Part("*")]
+            limits.add(depths=1)
+    return parts if parts[-1] is not None else [*parts, Part("*", limits)]
 
 
 # ---- Folders

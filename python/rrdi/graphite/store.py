@@ -3,12 +3,12 @@ from __future__ import annotations
 
 import os
 import time
+from collections import Counter
 from typing import Callable, Dict, Iterable, List, Mapping, NamedTuple, Optional, Tuple
 
 from ..commands import batch
-from ..errors import Error
 from ..locks import identity_of
-from ..making import make
+from ..making import is_there, make
 from ..reader.selected import Front, OpenFile
 from ..waiting import MOST_OF_A_FILE, MOST_OF_ALL, newest, why
 from .late import plan
@@ -61,9 +61,13 @@ class Store:
         return path_of(self.options.folder, metric, self.options.is_hashed)
 
     def has(self, metric: str) -> bool:
-        """Whether points can be written without `create`. Those of a name without a file are counted by `write`."""
+        """Whether points can be written without `create`. Those of a name without a file are counted by `write`, and
+        those of a file at which the system can't look wait there: carbon may drop the points of a new metric."""
         path = self.path(metric)
-        return path is None or path in self._new or os.path.exists(path)
+        try:
+            return path is None or path in self._new or is_there(path)
+        except (OSError, MemoryError):
+            return True
 
     def create(self, metric: str, template: Template) -> None:
         """Sets how the metric's file is made, which the next `write` does: the file begins with its first slot."""
@@ -81,7 +85,7 @@ class Store:
         new = self._new.pop(path, None)
         try:
             self._write(metric, path, given, new)
-        except (Error, OSError) as fault:
+        except Exception as fault:  # the points must survive any exception
             self._wait(metric, path, given, why(path, fault))
 
     # ---- Points that wait
@@ -107,18 +111,18 @@ class Store:
         known = None if new else self._known_of(path)
         step = known.front.step if known else new.step if new else 1
         slots, left_out = sort_points(points, step, self._clock() + self.options.most_future)
+        counts, reason = Counter(left_out), ""
         if slots:
             tried = (self._begin(path, slots, new) if new else None) or put(path, slots, known)
             self._remember(path, known, slots, tried)
+            counts.update(tried.counts)
             if tried.slots:
-                self.losses.add(metric, tried.counts)
                 tried = put(path, tried.slots, None)
-            if tried.slots or tried.counts:
-                refused = tried.counts.get("refused", 0) + len(tried.slots)
-                self.losses.add(metric, {**tried.counts, "refused": refused}, tried.reason)
+                counts.update(tried.counts)
+            counts["refused"] += len(tried.slots)
+            reason = tried.reason
         # Last, since points that have to wait come here again.
-        if left_out:
-            self.losses.add(metric, left_out)
+        self.losses.add(metric, counts, reason)
 
     def _known_of(self, path: str) -> Known:
         """Returns the first numbers of a file. They are read once, and then follow from what was written."""
@@ -139,7 +143,7 @@ class Store:
 
         def fill(fresh: str) -> Tried:
             tried = give(fresh, 0, lines, slots, {})
-            return tried if os.path.exists(fresh) else Tried({}, {"refused": len(slots)}, tried.reason)
+            return tried if is_there(fresh) else Tried({}, {"refused": len(slots)}, tried.reason)
         return make(path, fill, makes_folder=True)
 
 
@@ -167,8 +171,10 @@ def give(path: str, reverts: int, lines: List[Line], slots: Slots, counts: Mappi
         return Tried({}, counts)
     before = ["last"] if last else ["revert"] * reverts
     ran = batch(path, before + [line.text for line in lines])
+    refused: List[Tuple[int, str]] = [(one.number - 1 - len(before), one.reason) for one in ran.refused]
+    if last and refused and refused[0][0] < 0:  # another program has taken the file away
+        return Tried(slots, counts, refused[0][1])
     if last and int(ran.output.partition("\n")[0] or last) < last:
         return Tried(slots, counts, "another program has changed the file")
-    refused: List[Tuple[int, str]] = [(one.number - 1 - len(before), one.reason) for one in ran.refused]
     left = {end: slots[end] for number, _ in refused if number >= 0 for end in lines[number].slots}
     return Tried(left, counts, refused[0][1] if refused else "")

@@ -48,6 +48,7 @@ from __future__ import annotations
 import os
 import re
 import signal
+import stat
 import tempfile
 from typing import Dict, List, NamedTuple, Optional, Tuple
 
@@ -58,6 +59,7 @@ from ..feeding.grouped import GroupWriter
 from ..feeding.metrics import Creating, MetricFeeder
 from ..feeding.rules import EACH_NAME, BadRule, Names, Rule, read_rules
 from ..feeding.writers import BatchWriter, Writer
+from ..making import is_there
 from . import program
 from .command_line import Failure, Tool, WrongArguments, called_name
 
@@ -115,7 +117,7 @@ FileState = Tuple[int, ...]
 
 
 def state_of(file: bytes) -> FileState:
-    """Returns what is another after each change of a file; nothing if there is no file."""
+    """Returns what is another after each change of a file; nothing if there is none, or the system can't look at it."""
     try:
         status = os.stat(file)
     except OSError:
@@ -149,6 +151,15 @@ class Explaining:
         return answer
 
 
+def is_directory(path: str) -> bool:
+    """Checks whether a path is one of a directory.
+
+    # Errors
+    `OSError` if the system can't look at it.
+    """
+    return is_there(path) and stat.S_ISDIR(os.stat(path).st_mode)
+
+
 def chosen_writer() -> BatchWriter:
     library = chosen_library()
     return GroupWriter(library) if library is not None else BatchWriter(chosen())
@@ -158,7 +169,7 @@ def feeder_of(arguments: FeedArguments) -> Feeder:
     writer, name = chosen_writer(), called_name(TOOL)
     if arguments.directory is None:
         feeder = Feeder(arguments.options, writer, name)
-    elif os.path.isdir(arguments.directory):
+    elif is_directory(arguments.directory):
         names = Names(os.fsencode(os.path.abspath(arguments.directory)), rules_of(arguments.rules, writer))
         feeder = MetricFeeder(arguments.options, writer, names, name)
     else:

@@ -43,15 +43,15 @@ import shutil
 from contextlib import contextmanager
 from functools import partial
 from io import FileIO
-from typing import Callable, Dict, Iterator, List, NamedTuple
+from typing import Callable, Dict, Iterator, List, NamedTuple, Optional
 
 from ..damaged import held, is_being_made
-from ..errors import TRAILING, TRUNCATED, fault_of
+from ..errors import NOT_OURS, TRAILING, TRUNCATED, fault_of
 from ..locks import EXCLUSIVE, close, lock, open_file
-from ..making import NewFile, make
+from ..making import NewFile, is_there, make
 from ..reader.undo import MARK
 from . import machine, program
-from .command_line import Failure, Tool, WrongArguments, called_name, say
+from .command_line import Failure, Tool, WrongArguments, called_name, error_text, say
 from .machine import Number
 
 WHAT = ("--load", "--memory", "--disk", "--network")  # the order of the sources
@@ -135,14 +135,36 @@ def has_mark(file: str) -> bool:
         return MARK.startswith(opened.read(len(MARK)))
 
 
+def last_of_copy(path: str) -> int:
+    """Returns the last time of a copy; -1 if there is none, or it is damaged.
+
+    # Errors
+    - `CommandFailed` if the copy cannot be opened or read: there may be rows in it.
+    - `OSError` if the system can't look at it.
+    """
+    try:
+        return program.last(path)
+    except program.CommandFailed as failed:
+        if NOT_OURS <= fault_of(str(failed))[0] <= TRAILING or not is_there(path):
+            return -1
+        raise program.CommandFailed(failed.of_file(path)) from None
+
+
 def newest_copy(file: str) -> str:
-    """Returns the newest readable copy of a file; nothing if there is none."""
+    """Returns the newest readable copy of a file; nothing if there is none.
+
+    # Errors
+    Those of `last_of_copy`, if a copy may be readable later, and no other one is readable now.
+    """
+    failure: Optional[Exception] = None
     for number in range(1, COPIES + 1):
         try:
-            program.last(f"{file}.{number}")
-            return f"{file}.{number}"
-        except program.CommandFailed:
-            continue
+            if last_of_copy(f"{file}.{number}") >= 0:
+                return f"{file}.{number}"
+        except (program.CommandFailed, OSError) as failed:
+            failure = failed
+    if failure is not None:
+        raise failure
     return ""
 
 
@@ -150,7 +172,7 @@ def restore(file: str, damage: str, fill: Fill) -> None:
     """Replaces a damaged file by its newest readable copy, or by an empty database, and keeps the damaged one.
 
     # Errors
-    `Failure` if another program uses the file or has changed it meanwhile.
+    `Failure` if another program uses the file or has changed it meanwhile, and those of `newest_copy`.
     """
     with held(file, lambda path: look(path).damage != "") as is_held:
         if not is_held:
@@ -173,7 +195,7 @@ def make_ready(file: str, fill: Fill) -> int:
     # Errors
     `Failure` if the file cannot be opened or read, or is no database of this rrdi.
     """
-    if not os.path.exists(file):
+    if not is_there(file):
         make(file, fill)  # or another program has made the file meanwhile
     found = look(file)
     if found.damage:
@@ -183,17 +205,18 @@ def make_ready(file: str, fill: Fill) -> int:
 
 
 def keep_copies(file: str, last: int) -> None:
-    """Copies the file if the newest copy is at least an hour older; renames the older copies."""
-    try:
-        copied = program.last(f"{file}.1")
-    except program.CommandFailed:
-        copied = 0
-    if last - copied < HOUR:
+    """Copies the file if the newest copy is at least an hour older; renames the older copies.
+
+    # Errors
+    Those of `last_of_copy`, and `OSError` if the file cannot be copied: the copies then stay as they are.
+    """
+    if last - max(last_of_copy(f"{file}.1"), 0) < HOUR:
         return
-    for number in range(COPIES, 1, -1):
-        if os.path.exists(f"{file}.{number - 1}"):
+    with NewFile(f"{file}.1") as made:
+        shutil.copy(file, made.unfinished)
+        for number in [number for number in range(COPIES, 1, -1) if is_there(f"{file}.{number - 1}")]:
             os.rename(f"{file}.{number - 1}", f"{file}.{number}")
-    copy(file, f"{file}.1")
+        made.replace()
 
 
 class RecordArguments(NamedTuple):
@@ -227,7 +250,11 @@ def record(words: List[str]) -> int:
     os.environ["RRDI_SYNC"] = "1"
     with alone(file + ".lock"):
         numbers = [number for reader in arguments.readers for number in reader()]
-        keep_copies(file, make_ready(file, fill_for(numbers)))
+        last = make_ready(file, fill_for(numbers))
+        try:
+            keep_copies(file, last)
+        except (program.CommandFailed, OSError) as failed:  # the sample is recorded all the same
+            say(called_name(TOOL), f"no copy was made: {error_text(failed) if isinstance(failed, OSError) else failed}")
         update(file, numbers)
     return 0
 
