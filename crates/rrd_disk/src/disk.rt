@@ -2,6 +2,7 @@
 ghost use Rattle.std.specs.Prelude.{◌≡◌, ◌∷◌, List, length, take, IfOk, OnErr, OnOk};
 ghost use Rattle.std.specs.Io.{ReadsAtMost};
 ghost use Rattle.rrd_disk.specs.Calls.{opened, seen};
+ghost use Rattle.rrd_disk.specs.declared.disk.Opening.TheVariants.{Read};
 ghost use Rattle.rrd_disk.specs.Events.{Event, Got, Measured, Put, PutFailed, SizeFailed, Sized, Streamed, SyncFailed, Synced};
 
 use std::alloc::Global;
@@ -72,7 +73,8 @@ pub trait DiskFile: Drop {
     fn unlock(&self) -> io::Result<()>;
 }
 
-/// A system that has files, with the record of the calls on the file of one run.
+/// A system that has the file of one run, with the record of the calls on the file. The system is made for the path of
+/// the file: code above it cannot name another file.
 ///
 /// Each call notes what the call did and what the system answered. A reader of the theorems has to believe that the
 /// bodies of an `impl` make the calls that they note.
@@ -83,13 +85,16 @@ pub trait Disk {
     // The calls so far, the newest first.
     ghost events: { Self → List Event };
 
-    /// An open file of this system.
+    /// The open file.
     type File: DiskFile;
+
+    /// The open pipe, if the file is a pipe.
+    type Pipe: Drop;
 
     /// Returns the allocator for the bytes of files.
     fn alloc(&self) -> Global;
 
-    /// Opens the file at `path`. Returns `None` if there is no file, or no directory for a new one.
+    /// Opens the file. Returns `None` if there is no file, or no directory for a new one.
     ///
     /// No standard stream of the process is the open file: the numbers 0 to 2 are for the streams, even if they are
     /// closed.
@@ -97,8 +102,17 @@ pub trait Disk {
     /// # Errors
     ///
     /// The file cannot be opened for that purpose.
-    fn open(&mut self, path: &str, opening: Opening) -> io::Result<Option<Self::File>>
+    fn open(&mut self, opening: Opening) -> io::Result<Option<Self::File>>
         ensures ok { IfOk result (λ file. events self.new ≡ opened opening file ∷ events self.old) }
+        ensures err { OnErr result (events self.new ≡ events self.old) };
+
+    /// Opens the file for reading, if it is a pipe. Returns `None` if there is no file.
+    ///
+    /// # Errors
+    ///
+    /// The file is no pipe, or cannot be opened.
+    fn open_pipe(&mut self) -> io::Result<Option<Self::Pipe>>
+        ensures ok { IfOk result (λ pipe. events self.new ≡ opened Read pipe ∷ events self.old) }
         ensures err { OnErr result (events self.new ≡ events self.old) };
 
     /// Returns the facts that the system reports of an open file.
@@ -110,18 +124,19 @@ pub trait Disk {
         ensures ok { IfOk result (λ facts. events self.new ≡ Measured facts.length ∷ events self.old) }
         ensures err { OnErr result (events self.new ≡ events self.old) };
 
-    /// Returns the facts that the system reports of the file at `path`, without opening the file. Returns `None` if there
+    /// Returns the facts that the system reports of the file at the path, without opening the file. Returns `None` if there
     /// is no file.
     ///
     /// # Errors
     ///
     /// The system does not report the facts.
-    fn facts_at(&mut self, path: &str) -> io::Result<Option<Facts>>
+    fn facts_at(&mut self) -> io::Result<Option<Facts>>
         ensures ok { IfOk result (λ facts. events self.new ≡ seen facts (events self.old)) }
         ensures err { OnErr result (events self.new ≡ events self.old) };
 
-    /// Checks whether there is a directory at `path`, or something else. Returns `false` only if there is nothing.
-    fn is_there(&self, path: &str) -> bool;
+    /// Checks whether there is a directory for the file, or something else in its place. Returns `false` only if there is
+    /// nothing, or if the path names no file.
+    fn has_directory(&self) -> bool;
 
     /// Reads bytes from byte `at` on by one call, and returns the number of bytes that were read: 0 at the end of the file.
     ///
@@ -138,7 +153,7 @@ pub trait Disk {
     /// # Errors
     ///
     /// The read failed.
-    fn read_pipe(&mut self, file: &mut Self::File, bytes: &mut [u8]) -> io::Result<usize>
+    fn read_pipe(&mut self, pipe: &mut Self::Pipe, bytes: &mut [u8]) -> io::Result<usize>
         ensures bound { ReadsAtMost result bytes.new }
         ensures ok { OnOk result (events self.new ≡ Streamed ∷ events self.old) }
         ensures err { OnErr result (events self.new ≡ events self.old) };

@@ -10,7 +10,7 @@ use crate::front::Front;
 use crate::locks::LockedFile;
 use crate::once::{get, get_behind, get_next, measure, open, put, set_length, sync};
 use crate::opening::{Opened, open_locked};
-use crate::{Disk, DiskFile, Opening};
+use crate::{Disk, Opening};
 use rrd_tail::PAGE;
 use rrd_undo::{Bytes, Syncs};
 use std::io::{self, Error, ErrorKind};
@@ -53,11 +53,11 @@ pub(crate) struct FileBytes<D: Disk> {
 
 /// The result of opening the file of a run.
 #[derive(Drop)]
-pub(crate) enum Entry<F: DiskFile> {
+pub(crate) enum Entry<P: Drop> {
     /// The file is open and locked.
     Open,
     /// A pipe without a name, which is only read.
-    Pipe(F),
+    Pipe(P),
     /// There is no file, or no directory for a new one.
     Missing,
     /// There is a file that the system does not open for this purpose, for this reason.
@@ -143,17 +143,12 @@ impl<D: Disk> FileBytes<D> {
         self.owed = None;
     }
 
-    /// Opens the file at `path`, locks the file, and reads its first part.
+    /// Opens the file, locks the file, and reads its first part.
     ///
     /// # Errors
     ///
     /// The file is no regular file, cannot be locked or read, or memory ran out.
-    pub(crate) fn open(
-        &mut self,
-        path: &str,
-        opening: Opening,
-        wait: u64,
-    ) -> io::Result<Entry<D::File>>
+    pub(crate) fn open(&mut self, opening: Opening, wait: u64) -> io::Result<Entry<D::Pipe>>
         ensures falls { Falls (D.events self.old.disk) (D.events self.new.disk) }
         ensures power { KeepsDisk (D.events self.old.disk) (D.events self.new.disk) }
         ensures syncs { self.new.syncs ≡ self.old.syncs }
@@ -161,27 +156,27 @@ impl<D: Disk> FileBytes<D> {
         ensures says { IfOk result (λ entry. SaysEntry entry (D.events self.new.disk)) }
     {
         self.close();
-        match open_locked(&mut self.disk, path, opening, wait)? {
+        match open_locked(&mut self.disk, opening, wait)? {
             Opened::Regular(file, length) => {
                 self.file = Some(file);
                 self.length = Some(length);
                 self.read_to(first_part(length))?;
                 Ok(Entry::Open)
             }
-            Opened::Pipe(file) => Ok(Entry::Pipe(file)),
+            Opened::Pipe(pipe) => Ok(Entry::Pipe(pipe)),
             Opened::Missing => Ok(Entry::Missing),
             Opened::Refused(error) => Ok(Entry::Refused(error)),
         }
     }
 
-    /// Checks whether this run may open the file at `path` for writing.
-    pub(crate) fn may_write(&mut self, path: &str) -> bool
+    /// Checks whether this run may open the file for writing.
+    pub(crate) fn may_write(&mut self) -> bool
         ensures falls { Falls (D.events self.old.disk) (D.events self.new.disk) }
         ensures power { KeepsDisk (D.events self.old.disk) (D.events self.new.disk) }
         ensures syncs { self.new.syncs ≡ self.old.syncs }
         ensures same { KeepsHeld (D.events self.old.disk) (D.events self.new.disk) }
     {
-        matches!(open(&mut self.disk, path, Opening::Write), Ok(Some(_)))
+        matches!(open(&mut self.disk, Opening::Write), Ok(Some(_)))
     }
 
     // Returns the length of the file in bytes.
@@ -328,7 +323,7 @@ impl<D: Disk> FileBytes<D> {
     /// # Errors
     ///
     /// A read failed, or memory ran out.
-    pub(crate) fn read_pipe(&mut self, pipe: &mut D::File, bytes: &mut Vec<u8>) -> io::Result<bool>
+    pub(crate) fn read_pipe(&mut self, pipe: &mut D::Pipe, bytes: &mut Vec<u8>) -> io::Result<bool>
         ensures falls { Falls (D.events self.old.disk) (D.events self.new.disk) }
         ensures power { KeepsDisk (D.events self.old.disk) (D.events self.new.disk) }
         ensures syncs { self.new.syncs ≡ self.old.syncs }

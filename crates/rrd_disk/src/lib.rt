@@ -23,7 +23,7 @@ pub use cause::Cause;
 pub use disk::{Disk, DiskFile, Facts, Kind, Lock, Opening};
 pub use killed::{Killed, run_batch_killed, run_command_killed};
 pub use open_file::{OpenFault, OpenFile};
-pub use place::{Location, OwnPlace, Place};
+pub use place::{Location, OwnPlace, Place, directory_of};
 pub use record::{Noted, Record};
 pub use rrd_undo::Syncs;
 pub use runs::{FileRun, run_batch_at, run_command_at};

@@ -103,7 +103,7 @@ pub(crate) fn load<D: Disk>(
 pub(crate) fn load_pipe<D: Disk>(
     alloc: Global,
     file: &mut FileBytes<D>,
-    pipe: &mut D::File,
+    pipe: &mut D::Pipe,
     cause: &Cause,
 ) -> Result<Option<Database>, TaskFault>
     ensures falls { Falls (D.events file.old.disk) (D.events file.new.disk) }

@@ -3,6 +3,7 @@ ghost use Rattle.std.specs.Prelude.{◌≡◌, ◌+◌, ◌<◌, ◌≤◌, ◌�
 ghost use Rattle.rrd_disk.specs.Fronts.{Begins};
 ghost use Rattle.std.specs.Io.{ReadsAtMost};
 ghost use Rattle.rrd_disk.specs.Calls.{Falls, IsGot, IsGotAtOnce, KeepsHeld, LeavesPart, LeavesSized, PlaceStays, opened};
+ghost use Rattle.rrd_disk.specs.declared.disk.Opening.TheVariants.{Read};
 ghost use Rattle.rrd_disk.specs.Power.{IsOnDisk, KeepsDisk, LeavesOnDisk, StoresOrNot};
 ghost use Rattle.rrd_disk.specs.Replayed.{World, bytes_after, held_after, is_honest_after};
 ghost use Rattle.rrd_undo.specs.Calls.{ArePut, IsSized};
@@ -12,17 +13,27 @@ use crate::{Disk, Opening};
 use rrd_fixed::TRIES;
 use std::io::{self, Error, ErrorKind};
 
-/// Opens the file at `path`. Returns `None` if there is no file, or no directory for a new one.
-pub(crate) fn open<D: Disk>(
-    disk: &mut D,
-    path: &str,
-    opening: Opening,
-) -> io::Result<Option<D::File>>
+/// Opens the file. Returns `None` if there is no file, or no directory for a new one.
+pub(crate) fn open<D: Disk>(disk: &mut D, opening: Opening) -> io::Result<Option<D::File>>
     ensures ok { IfOk result (λ file. D.events disk.new ≡ opened opening file ∷ D.events disk.old) }
     ensures err { OnErr result (D.events disk.new ≡ D.events disk.old) }
 {
     for _ in 0..TRIES {
-        match disk.open(path, opening) {
+        match disk.open(opening) {
+            Err(error) if error.kind() == ErrorKind::Interrupted => {}
+            ended => return ended,
+        }
+    }
+    Err(Error::from(ErrorKind::Interrupted))
+}
+
+/// Opens the file for reading, if it is a pipe. Returns `None` if there is no file.
+pub(crate) fn open_pipe<D: Disk>(disk: &mut D) -> io::Result<Option<D::Pipe>>
+    ensures ok { IfOk result (λ pipe. D.events disk.new ≡ opened Read pipe ∷ D.events disk.old) }
+    ensures err { OnErr result (D.events disk.new ≡ D.events disk.old) }
+{
+    for _ in 0..TRIES {
+        match disk.open_pipe() {
             Err(error) if error.kind() == ErrorKind::Interrupted => {}
             ended => return ended,
         }
@@ -184,7 +195,7 @@ pub(crate) fn get_behind<D: Disk>(
 }
 
 // Reads the next bytes of a pipe by one call, and returns the number of bytes that were read: 0 at the end.
-fn get_some_next<D: Disk>(disk: &mut D, file: &mut D::File, bytes: &mut [u8]) -> io::Result<usize>
+fn get_some_next<D: Disk>(disk: &mut D, pipe: &mut D::Pipe, bytes: &mut [u8]) -> io::Result<usize>
     ensures bound { ReadsAtMost result bytes.new }
     ensures falls { Falls (D.events disk.old) (D.events disk.new) }
     ensures power { KeepsDisk (D.events disk.old) (D.events disk.new) }
@@ -192,7 +203,7 @@ fn get_some_next<D: Disk>(disk: &mut D, file: &mut D::File, bytes: &mut [u8]) ->
     ensures none { OnOk result ((s : World) → IsTrue (is_honest_after s (D.events disk.new)) → ⊥) }
 {
     for _ in 0..TRIES {
-        match disk.read_pipe(file, bytes) {
+        match disk.read_pipe(pipe, bytes) {
             Err(error) if error.kind() == ErrorKind::Interrupted => {}
             ended => return ended,
         }
@@ -205,7 +216,7 @@ fn get_some_next<D: Disk>(disk: &mut D, file: &mut D::File, bytes: &mut [u8]) ->
 /// Returns the number of bytes that were read.
 pub(crate) fn get_next<D: Disk>(
     disk: &mut D,
-    file: &mut D::File,
+    pipe: &mut D::Pipe,
     bytes: &mut [u8],
 ) -> io::Result<usize>
     ensures bound { ReadsAtMost result bytes.new }
@@ -217,7 +228,7 @@ pub(crate) fn get_next<D: Disk>(
     let mut count = 0;
     while count < bytes.len() {
         let rest = bytes.len() - count;
-        let more = get_some_next(disk, file, &mut bytes[count..])?;
+        let more = get_some_next(disk, pipe, &mut bytes[count..])?;
         if more == 0 {
             break;
         }
