@@ -1,6 +1,7 @@
 //! The file of a run: its bytes, which are read and changed by the calls of the system.
-ghost use Rattle.std.specs.Prelude.{◌≡◌, ◌≤◌, ℕ, IfOk, IsTrue, List, OnOk, length, max, option_map};
+ghost use Rattle.std.specs.Prelude.{◌≡◌, ◌≤◌, ℕ, IfOk, IsTrue, List, None, OnOk, length, max, option_map};
 ghost use Rattle.rrd_disk.specs.Calls.{Falls, KeepsHeld, KeepsHeldFor, LeavesPart, PlaceStays};
+ghost use Rattle.rrd_disk.specs.Fronts.{Shows};
 ghost use Rattle.rrd_disk.specs.Known.{AreAll, Measures, Owes, ShowsBytes};
 ghost use Rattle.rrd_disk.specs.Openings.{HasLength};
 ghost use Rattle.rrd_disk.specs.Power.{KeepsDisk, LeavesOnDisk};
@@ -136,6 +137,9 @@ impl<D: Disk> FileBytes<D> {
     pub(crate) fn close(&mut self)
         ensures disk { self.new.disk ≡ self.old.disk }
         ensures syncs { self.new.syncs ≡ self.old.syncs }
+        ensures front { (bytes : List ℕ) → Shows self.new.front bytes }
+        ensures length { self.new.length ≡ None }
+        ensures owed { self.new.owed ≡ None }
     {
         self.file = None;
         self.length = None;
