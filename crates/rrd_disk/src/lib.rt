@@ -2,6 +2,7 @@
 //! The caller provides the calls of the system, so that the program and a library for C write files by the same code.
 #![tactic(auto)]
 
+mod begun;
 mod cause;
 mod disk;
 mod file_bytes;
@@ -19,6 +20,7 @@ mod runs;
 mod settings;
 mod storage;
 
+pub use begun::Begun;
 pub use cause::Cause;
 pub use disk::{Disk, DiskFile, Facts, Kind, Lock, Opening};
 pub use killed::{Killed, run_batch_killed, run_command_killed};

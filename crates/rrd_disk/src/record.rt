@@ -47,6 +47,7 @@ pub enum Noted<'a> {
 }
 
 /// The calls on a file so far, for clauses: `events` has the newest first.
+#[repr(C)]
 #[derive(Drop)]
 #[non_exhaustive]
 pub struct Record {
@@ -64,8 +65,15 @@ unsafe impl Send for Record {}
 impl Record {
     ghost use Rattle.rrd_disk.specs.Noting.{event_of};
 
+    /// Begins a record of no calls, for a program. A library, which has no runtime, begins one by [`crate::Begun::begin`].
+    pub fn of_program(_rt: &HostRuntime) -> Record
+        ensures { result.events ≡ [] }
+    {
+        Record::new()
+    }
+
     /// Begins a record of no calls.
-    pub fn new() -> Record
+    pub(crate) fn new() -> Record
         ensures { result.events ≡ [] }
     {
         Record {}
