@@ -1,7 +1,8 @@
 //! The calls of the system on a file.
-ghost use Rattle.std.specs.Prelude.{◌≡◌, ◌∷◌, List, length, take, IfOk, OnErr, OnOk};
+ghost use Rattle.std.specs.Prelude.{◌≡◌, ◌∷◌, IsTrue, List, length, take, IfOk, OnErr, OnOk};
 ghost use Rattle.std.specs.Io.{ReadsAtMost};
 ghost use Rattle.rrd_disk.specs.Calls.{opened, seen};
+ghost use Rattle.rrd_disk.specs.Locks.{is_guarded, locked};
 ghost use Rattle.rrd_disk.specs.declared.disk.Opening.TheVariants.{Read};
 ghost use Rattle.rrd_disk.specs.Events.{Event, Got, Measured, Put, PutFailed, SizeFailed, Sized, Streamed, SyncFailed, Synced};
 
@@ -26,6 +27,15 @@ pub enum Lock {
     Shared,
     /// No other program holds a lock.
     Own,
+}
+
+/// The result of a try to lock a file.
+#[derive(Clone, Copy, Debug, PartialEq, Eq)]
+pub enum LockResult {
+    /// The open file holds the lock.
+    Taken,
+    /// The file system has no locks.
+    NoLocks,
 }
 
 /// The kind of a file.
@@ -56,15 +66,6 @@ pub struct Facts {
 
 /// An open file, which is closed when the value is dropped.
 pub trait DiskFile: Drop {
-    /// Tries once to lock the file, without waiting. If the call fails, this open file holds no lock.
-    ///
-    /// # Errors
-    ///
-    /// - `WouldBlock` if another program holds a lock that excludes this one.
-    /// - `Unsupported` or `InvalidInput` if the file system has no locks.
-    /// - Any other error if the file could not be locked.
-    fn try_lock(&self, lock: Lock) -> io::Result<()>;
-
     /// Releases the lock, also for the other handles of the same open file, and for the processes that share them.
     ///
     /// # Errors
@@ -115,6 +116,16 @@ pub trait Disk {
         ensures ok { IfOk result (λ pipe. events self.new ≡ opened Read pipe ∷ events self.old) }
         ensures err { OnErr result (events self.new ≡ events self.old) };
 
+    /// Tries once to lock an open file, without waiting. If the call fails, this open file holds no lock.
+    ///
+    /// # Errors
+    ///
+    /// - `WouldBlock` if another program holds a lock that excludes this one.
+    /// - Any other error if the file could not be locked, for a reason other than that the file system has no locks.
+    fn try_lock(&mut self, file: &Self::File, lock: Lock) -> io::Result<LockResult>
+        ensures ok { IfOk result (λ taken. events self.new ≡ locked lock taken ∷ events self.old) }
+        ensures err { OnErr result (events self.new ≡ events self.old) };
+
     /// Returns the facts that the system reports of an open file.
     ///
     /// # Errors
@@ -160,19 +171,24 @@ pub trait Disk {
 
     /// Writes bytes from byte `at` on by one call, and returns the number of bytes that were written.
     ///
+    /// The file has been locked against all other programs since it was opened, unless its file system has no locks.
+    ///
     /// # Errors
     ///
     /// The write failed. A first part of the bytes may have been written all the same.
     fn write_at(&mut self, file: &Self::File, bytes: &[u8], at: u64) -> io::Result<usize>
+        requires { IsTrue (is_guarded (events self.old)) }
         ensures ok { IfOk result (λ n. events self.new ≡ Put at bytes.now n ∷ events self.old) }
         ensures err { OnErr result (events self.new ≡ PutFailed at bytes.now ∷ events self.old) };
 
-    /// Sets the length of the file to `length` bytes: truncates the file, or appends zeros.
+    /// Sets the length of the file to `length` bytes: truncates the file, or appends zeros. The file has been locked as for
+    /// [`Disk::write_at`].
     ///
     /// # Errors
     ///
     /// The file is as it was, or has that length.
     fn set_length(&mut self, file: &Self::File, length: u64) -> io::Result<()>
+        requires { IsTrue (is_guarded (events self.old)) }
         ensures ok { OnOk result (events self.new ≡ Sized length ∷ events self.old) }
         ensures err { OnErr result (events self.new ≡ SizeFailed length ∷ events self.old) };
 

@@ -1,8 +1,9 @@
 //! The file of a run: its bytes, which are read and changed by the calls of the system.
-ghost use Rattle.std.specs.Prelude.{◌≡◌, ◌≤◌, ℕ, IfOk, IsTrue, List, None, OnOk, length, max, option_map};
+ghost use Rattle.std.specs.Prelude.{◌≡◌, ◌≤◌, ℕ, IfOk, IsTrue, List, None, OnOk, false, length, max, option_map};
 ghost use Rattle.rrd_disk.specs.Calls.{Falls, KeepsHeld, KeepsHeldFor, LeavesPart, PlaceStays};
 ghost use Rattle.rrd_disk.specs.Fronts.{Shows};
 ghost use Rattle.rrd_disk.specs.Known.{AreAll, Measures, Owes, ShowsBytes};
+ghost use Rattle.rrd_disk.specs.Locks.{Guards, IsToRead};
 ghost use Rattle.rrd_disk.specs.Openings.{HasLength};
 ghost use Rattle.rrd_disk.specs.Power.{KeepsDisk, LeavesOnDisk};
 ghost use Rattle.rrd_disk.specs.Replayed.{World, bytes_after, held_after, is_honest_after};
@@ -50,6 +51,7 @@ pub(crate) struct FileBytes<D: Disk> {
     ghost shown: { ShowsBytes front.bytes.items (D.Disk.events disk) },
     ghost measured: { Measures length (D.Disk.events disk) },
     ghost owing: { Owes owed (D.Disk.events disk) },
+    ghost guarded: { Guards file (D.Disk.events disk) },
 }
 
 /// The result of opening the file of a run.
@@ -137,6 +139,7 @@ impl<D: Disk> FileBytes<D> {
     pub(crate) fn close(&mut self)
         ensures disk { self.new.disk ≡ self.old.disk }
         ensures syncs { self.new.syncs ≡ self.old.syncs }
+        ensures file { self.new.file ≡ None }
         ensures front { (bytes : List ℕ) → Shows self.new.front bytes }
         ensures length { self.new.length ≡ None }
         ensures owed { self.new.owed ≡ None }
@@ -173,6 +176,16 @@ impl<D: Disk> FileBytes<D> {
         }
     }
 
+    // Checks whether the file is open for a change.
+    fn is_to_change(&self) -> bool
+        ensures { result ≡ false → IsToRead self.now.file }
+    {
+        match &self.file {
+            Some(file) => file.is_to_change(),
+            None => false,
+        }
+    }
+
     /// Checks whether this run may open the file for writing.
     pub(crate) fn may_write(&mut self) -> bool
         ensures falls { Falls (D.events self.old.disk) (D.events self.new.disk) }
@@ -180,6 +193,9 @@ impl<D: Disk> FileBytes<D> {
         ensures syncs { self.new.syncs ≡ self.old.syncs }
         ensures same { KeepsHeld (D.events self.old.disk) (D.events self.new.disk) }
     {
+        if self.is_to_change() {
+            return true;
+        }
         matches!(open(&mut self.disk, Opening::Write), Ok(Some(_)))
     }
 
@@ -357,7 +373,7 @@ impl<D: Disk> FileBytes<D> {
         if kept.is_empty() {
             return Ok(());
         }
-        let Err(failed) = put(&mut self.disk, file.file(), kept, owed.at as u64) else {
+        let Err(failed) = put(&mut self.disk, file.file_to_change()?, kept, owed.at as u64) else {
             return Ok(());
         };
         // At a limit on the size of files this write is cut short as that one was: the old bytes may be there all the same.
@@ -389,7 +405,7 @@ impl<D: Disk> FileBytes<D> {
         let Some(file) = &self.file else {
             return Err(not_open());
         };
-        set_length(&mut self.disk, file.file(), owed.length)?;
+        set_length(&mut self.disk, file.file_to_change()?, owed.length)?;
         self.length = Some(owed.length);
         self.owed = None;
         Ok(())
@@ -433,7 +449,7 @@ impl<D: Disk> FileBytes<D> {
         let Some(file) = &self.file else {
             return Err(not_open());
         };
-        match put(&mut self.disk, file.file(), bytes, at as u64) {
+        match put(&mut self.disk, file.file_to_change()?, bytes, at as u64) {
             Ok(()) => {
                 self.front.put(at, bytes);
                 self.length = longer(self.length, end);
@@ -516,7 +532,7 @@ impl<D: Disk> Bytes for FileBytes<D> {
         let Some(file) = &self.file else {
             return Err(not_open());
         };
-        let ended = set_length(&mut self.disk, file.file(), count as u64);
+        let ended = set_length(&mut self.disk, file.file_to_change()?, count as u64);
         match &ended {
             Ok(()) => {
                 self.front.cut(count);

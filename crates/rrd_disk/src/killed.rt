@@ -8,7 +8,10 @@ ghost use Rattle.rrd_disk.specs.Kills.{are_failed, interrupted};
 ghost use Rattle.rrd_disk.specs.Runs.{IsKilledRun};
 ghost use Rattle.rrd_store.specs.Runs.{ByBatch, ByCommand};
 
-use crate::{Disk, Facts, FileRun, Noted, Opening, Place, Record, run_batch_at, run_command_at};
+use crate::{
+    Disk, Facts, FileRun, Lock, LockResult, Noted, Opening, Place, Record, run_batch_at,
+    run_command_at,
+};
 use rrd_store::{Always, FileBatchEnd, TaskFault};
 use rrd_tool::Words;
 use std::alloc::Global;
@@ -83,6 +86,11 @@ impl<D: Disk> Disk for Killed<D> {
     fn open_pipe(&mut self) -> io::Result<Option<D::Pipe>> {
         self.live()?;
         self.system.open_pipe()
+    }
+
+    fn try_lock(&mut self, file: &D::File, lock: Lock) -> io::Result<LockResult> {
+        self.live()?;
+        self.system.try_lock(file, lock)
     }
 
     fn facts(&mut self, file: &D::File) -> io::Result<Facts> {

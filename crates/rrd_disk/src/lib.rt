@@ -22,8 +22,9 @@ mod storage;
 
 pub use begun::Begun;
 pub use cause::Cause;
-pub use disk::{Disk, DiskFile, Facts, Kind, Lock, Opening};
+pub use disk::{Disk, DiskFile, Facts, Kind, Lock, LockResult, Opening};
 pub use killed::{Killed, run_batch_killed, run_command_killed};
+pub use locks::note_lock;
 pub use open_file::{OpenFault, OpenFile};
 pub use place::{Location, OwnPlace, Place, directory_of};
 pub use record::{Noted, Record};

@@ -1,6 +1,7 @@
 //! Opens a file and locks it, so that the path still names the file when the lock is held.
 ghost use Rattle.std.specs.Prelude.{◌≡◌, IfOk, None};
 ghost use Rattle.rrd_disk.specs.Calls.{Falls, KeepsHeld, KeepsHeldFor};
+ghost use Rattle.rrd_disk.specs.Locks.{GuardsOpened, GuardsOpenedIf, KeepsGuard};
 ghost use Rattle.rrd_disk.specs.Openings.{IsNone, IsThere, Says, SaysIf};
 ghost use Rattle.rrd_disk.specs.Power.{KeepsDisk};
 
@@ -72,6 +73,7 @@ fn names<D: Disk>(disk: &mut D, facts: &Facts) -> io::Result<bool>
     ensures falls { Falls (D.events disk.old) (D.events disk.new) }
     ensures power { KeepsDisk (D.events disk.old) (D.events disk.new) }
     ensures same { KeepsHeld (D.events disk.old) (D.events disk.new) }
+    ensures guard { KeepsGuard (D.events disk.old) (D.events disk.new) }
 {
     match disk.facts_at()? {
         Some(named) => Ok(
@@ -94,6 +96,7 @@ fn lock_named<D: Disk>(
     ensures power { KeepsDisk (D.events disk.old) (D.events disk.new) }
     ensures same { KeepsHeld (D.events disk.old) (D.events disk.new) }
     ensures says { IfOk result (λ opened. IsThere (D.events disk.old) → SaysIf opened (D.events disk.new)) }
+    ensures guard { IfOk result (λ opened. GuardsOpenedIf opened (D.events disk.new)) }
 {
     let locked = lock(disk, file, lock_for(opening), pauses)?;
     let facts = disk.facts(locked.file())?;
@@ -109,6 +112,7 @@ fn pipe_opened<D: Disk>(disk: &mut D) -> Opened<D::File, D::Pipe>
     ensures power { KeepsDisk (D.events disk.old) (D.events disk.new) }
     ensures same { KeepsHeld (D.events disk.old) (D.events disk.new) }
     ensures says { Says result (D.events disk.new) }
+    ensures guard { GuardsOpened result (D.events disk.new) }
 {
     match open_pipe(disk) {
         Ok(Some(pipe)) => Opened::Pipe(pipe),
@@ -127,6 +131,7 @@ fn open_once<D: Disk>(
     ensures power { KeepsDisk (D.events disk.old) (D.events disk.new) }
     ensures same { KeepsHeldFor opening (D.events disk.old) (D.events disk.new) }
     ensures says { IfOk result (λ opened. SaysIf opened (D.events disk.new)) }
+    ensures guard { IfOk result (λ opened. GuardsOpenedIf opened (D.events disk.new)) }
 {
     let Some(kind) = kind_at(disk, opening)? else {
         return Ok(Some(Opened::Missing));
@@ -163,6 +168,7 @@ pub(crate) fn open_locked<D: Disk>(
     ensures power { KeepsDisk (D.events disk.old) (D.events disk.new) }
     ensures same { KeepsHeldFor opening (D.events disk.old) (D.events disk.new) }
     ensures says { IfOk result (λ opened. Says opened (D.events disk.new)) }
+    ensures guard { IfOk result (λ opened. GuardsOpened opened (D.events disk.new)) }
 {
     let mut pauses = Pauses::within(wait);
     for _ in 0..OPENINGS {

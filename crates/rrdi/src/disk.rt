@@ -5,7 +5,9 @@
 ghost use Rattle.std.specs.Prelude.{◌≡◌, []};
 
 use crate::front::Front;
-use rrd_disk::{Disk, DiskFile, Facts, Kind, Lock, Noted, Opening, Record, directory_of};
+use rrd_disk::{
+    Disk, DiskFile, Facts, Kind, Lock, LockResult, Noted, Opening, Record, directory_of, note_lock,
+};
 use std::alloc::Global;
 use std::fs::{self, File, Metadata};
 use std::io::{self, Error, ErrorKind, Read};
@@ -30,17 +32,18 @@ pub(crate) struct HostPipe {
 }
 
 impl DiskFile for HostFile {
-    fn try_lock(&self, lock: Lock) -> io::Result<()> {
-        match lock {
-            Lock::Shared => self.file.try_lock_shared()?,
-            Lock::Own => self.file.try_lock()?,
-        }
-        Ok(())
-    }
-
     fn unlock(&self) -> io::Result<()> {
         self.file.unlock()
     }
+}
+
+// Tries once to lock an open file.
+fn try_lock(file: &File, lock: Lock) -> io::Result<()> {
+    match lock {
+        Lock::Shared => file.try_lock_shared()?,
+        Lock::Own => file.try_lock()?,
+    }
+    Ok(())
 }
 
 // Moves a file that took the number of a standard stream to a higher number. If the stream is closed, what the program
@@ -161,6 +164,10 @@ impl<'a> Disk for Host<'a> {
         }
         self.record.note(&Noted::Found);
         Ok(Some(HostPipe { pipe }))
+    }
+
+    fn try_lock(&mut self, file: &HostFile, lock: Lock) -> io::Result<LockResult> {
+        note_lock(&mut self.record, lock, try_lock(&file.file, lock))
     }
 
     fn facts(&mut self, file: &HostFile) -> io::Result<Facts> {
