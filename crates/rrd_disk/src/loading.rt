@@ -107,6 +107,7 @@ pub(crate) fn load_pipe<D: Disk>(
     cause: &Cause,
 ) -> Result<Option<Database>, TaskFault>
     ensures falls { Falls (D.events file.old.disk) (D.events file.new.disk) }
+    ensures syncs { file.new.syncs ≡ file.old.syncs }
     ensures same { KeepsHeld (D.events file.old.disk) (D.events file.new.disk) }
     ensures finds { (s : World) → IsTrue (is_honest_after s (D.events file.new.disk)) → (bytes : List ℕ) → Finds (Some (Bytes bytes)) result }
     ensures valid { Finds None result }

@@ -65,6 +65,8 @@ pub struct FileStorage<D: Disk, L: Location> {
     found: Found,
     ghost readable: { IsReadable found (D.Disk.events bytes.disk) },
     ghost standing: { IsStanding found (D.Disk.events bytes.disk) },
+    // Whatever the run does, it syncs the file as its place says.
+    ghost syncing: { KeepsSyncs (L.Location.syncs place) bytes.syncs (D.Disk.events bytes.disk) },
 }
 
 // Returns why a file could not be read.
