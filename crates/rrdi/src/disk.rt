@@ -73,7 +73,7 @@ impl<'a> Host<'a> {
         Host {
             rt,
             path,
-            record: Record::new(),
+            record: Record::of_program(rt),
             front: Front::new(),
         }
     }
