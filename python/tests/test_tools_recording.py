@@ -557,7 +557,8 @@ class CannotLook(unittest.TestCase):
                              (program.CommandFailed("f.1: cannot open"), "f.1: cannot open")):
             with mock.patch.multiple(record, make_ready=lambda file, fill: 7, update=mock.DEFAULT,
                                      keep_copies=mock.Mock(side_effect=failed)) as mocks, \
-                    mock.patch.dict(os.environ), contextlib.redirect_stderr(io.StringIO()) as said:
+                    mock.patch.dict(os.environ), mock.patch.object(sys, "argv", ["/bin/rrdi-record"]), \
+                    contextlib.redirect_stderr(io.StringIO()) as said:
                 self.assertEqual(record.record(["--disk", "/", self.file]), 0)
             self.assertEqual((mocks["update"].call_count, said.getvalue()), (1, f"rrdi-record: no copy was made: {text}\n"))
 
