@@ -150,9 +150,9 @@ class Files(FixCase):
 
     def test_refusals(self) -> None:
         at = "{0} (1970-01-01 00:00:{0})".format
-        self.stays(f"f.rrdi: there is no sample at {at(24)}, only at {at(23)} and {at(31)}", "24")
-        self.stays(f"f.rrdi: there is no sample at {at(56)}: the last one was at {at(55)}", "56")
-        self.stays("f.rrdi: 0 (1970-01-01 00:00:00) is out of reach: the journal has 5 changes, after 0 (1970-01-01 00:00:00)", "0")
+        self.stays(f"f.rrdi: there is no sample between {at(23)} and {at(31)}", "24")
+        self.stays(f"f.rrdi: there is no sample after {at(55)}", "56")
+        self.stays("f.rrdi: 0 (1970-01-01 00:00:00) is out of reach: the journal begins after 0 (1970-01-01 00:00:00), with 5 changes", "0")
         self.stays("f.rrdi: give 1 value, for the source g, not 2", "23", "1:2")
         self.stays("f.rrdi: there is no source h, only g", "23", "1", "--source", "h")
         self.stays("f.rrdi: 23:1000000000000000000: bad value", "23", "1" + 18 * "0")
@@ -168,7 +168,7 @@ class Files(FixCase):
 
     def test_a_short_journal(self) -> None:
         self.made("f.rrdi", self.CHANGES, depth=2)
-        self.stays("f.rrdi: 23 (1970-01-01 00:00:23) is out of reach: the journal has 2 changes, after 31 (1970-01-01 00:00:31)", "23")
+        self.stays("f.rrdi: 23 (1970-01-01 00:00:23) is out of reach: the journal begins after 31 (1970-01-01 00:00:31), with 2 changes", "23")
         self.assertEqual(self.fix("f.rrdi", "40", "3").status, 0)
 
     def test_the_first_layout(self) -> None:
@@ -185,7 +185,7 @@ class Files(FixCase):
         for change in ("tune --heartbeat g:50", "resize 0 GROW 2", "tune RRA:LAST:0.5:1:3", "tune DELRRA:1"):
             with self.subTest(change=change):
                 self.made("f.rrdi", [*self.CHANGES[:3], change, *self.CHANGES[3:]])
-                self.stays("f.rrdi: after the sample came a tune or a resize, at 31 (1970-01-01 00:00:31), which rrdi-fix does not "
+                self.stays("f.rrdi: since then came a tune or a resize, at 31 (1970-01-01 00:00:31), which rrdi-fix does not "
                            "repeat; rrdi-show --journal f.rrdi shows it", "23")
                 self.assertEqual(self.fix("f.rrdi", "40").status, 0)
 
@@ -212,7 +212,7 @@ class Files(FixCase):
         """The journal has the last one alone; the others come from the user, and are compared with what the file has."""
         changes = ["update 10:1", "update 20:2 30:850 40:4", "update 50:5 60:6", "update 70:7"]
         self.made("f.rrdi", changes)
-        why = "f.rrdi: the update from {} to {} did not have one sample; the journal lacks the others: give all of its samples by --samples"
+        why = "f.rrdi: the update from {} to {} had more than the sample that the journal shows; give all of its samples by --samples"
         at = "{0} (1970-01-01 00:{1})".format
         self.stays(why.format(at(40, "00:40"), at(60, "01:00")), "30")
         self.stays(why.format(at(10, "00:10"), at(40, "00:40")), "40", "--samples", "-", given="50:5\n60:6\n")
@@ -255,6 +255,15 @@ class Files(FixCase):
         self.stays(f"f.rrdi: two samples have this time, since the clock was set back; give {first} or {first + 3600}",
                    "2023-10-29 02:30", env={"TZ": "Europe/Berlin"})
         self.assertIn(f"{first + 10}:2", self.fix("f.rrdi", "2023-10-29 02:30:10", env={"TZ": "Europe/Berlin"}).out)
+
+    def test_many_changes(self) -> None:
+        """More than a pipe takes, unless it is made larger."""
+        changes = [f"update {at}:{at % 9}" for at in range(1_000_000, 1_040_000, 10)]
+        self.made("f.rrdi", changes, depth=5_000)
+        self.made("wanted.rrdi", [*changes[:7], *changes[8:]], depth=5_000)
+        self.assertEqual(self.fix("f.rrdi", "1000070").out,
+                         "f.rrdi: 1000070:8 (1970-01-12 13:47:50) is taken out; 3992 later changes were sent again\n")
+        self.assertEqual(self.read("f.rrdi"), self.read("wanted.rrdi"))
 
     def test_a_link(self) -> None:
         """The file behind a link is changed, and stays the same file."""
@@ -361,20 +370,22 @@ class OthersAndKills(ProcessCase, FixCase):
         self.updated(file, *lines)
 
     def test_kills(self) -> None:
-        """A kill at a random moment leaves the old bytes or the new ones, or bytes that stand for one of them."""
+        """A kill leaves the old bytes or the new ones, or bytes that stand for one of them. The kills come close to the moment
+        of the change: a little earlier after each one that came too late, and later after each one that came too early."""
         self.long_file("f.rrdi", 850)
         old, spike = self.read("f.rrdi"), str(33 + 200 * 60)
         start = time.monotonic()
         self.assertEqual(self.fix("f.rrdi", spike).status, 0)
-        longest, new, chance, seen = time.monotonic() - start, self.read("f.rrdi"), random.Random(1), set()
+        pause, new, seen = time.monotonic() - start, self.read("f.rrdi"), set()
         for number in range(self.ROUNDS):
             self.write("f.rrdi", old)
             process = self.start(sys.executable, str(TOP / "tools/rrdi-fix"), "f.rrdi", spike, stdout=subprocess.DEVNULL)
-            time.sleep(longest * chance.uniform(0.5, 1.1))
+            time.sleep(pause)
             process.send_signal(signal.SIGKILL if number % 2 else signal.SIGTERM)
             process.wait()
             self.run_command([PROGRAM or "", "batch", "f.rrdi"], "last\n", {"RRDI_WAIT": "60"})  # repairs what was broken off
             self.assertIn(self.read("f.rrdi"), (old, new), number)
+            pause *= 0.9 if self.read("f.rrdi") == new else 1.1
             seen.add(self.read("f.rrdi") == new)
         self.assertEqual(seen, {False, True})
 
@@ -433,7 +444,7 @@ class ReplacedFile(unittest.TestCase):
         """The name had another file for a moment, and the session has locked that one."""
         def session_at(path: str) -> FakeSession:
             return FakeSession(path + ".new")
-        with mock.patch.object(holding, "session_at", session_at), self.assertRaisesRegex(Failure, "keeps replacing the file"):
+        with mock.patch.object(holding, "session_at", session_at), self.assertRaisesRegex(Failure, "keeps replacing the file, or the locks"):
             holding.opened(self.path)
 
     def test_after_the_change(self) -> None:

@@ -33,8 +33,8 @@ environment:
 
 docs/cookbook.md has an example.
 
-Exit status: 0; 1 and a line on standard error if FILE stays as it was; 2 after
-wrong arguments.
+Exit status: 0; 1 and a line on standard error if FILE could not be changed; 2
+after wrong arguments.
 """
 from __future__ import annotations
 
@@ -121,10 +121,10 @@ def found_sample(file: HeldFile, history: History, time: int, given: List[OneSam
     """
     newest, oldest = history.last[0].time, history.last[-1].time
     if time > newest:
-        raise Failure(f"{file.path}: there is no sample at {shown(time)}: the last one was at {shown(newest)}")
+        raise Failure(f"{file.path}: there is no sample after {shown(newest)}")
     if time <= oldest:
-        raise Failure(f"{file.path}: {shown(time)} is out of reach: the journal has {history.reach} "
-                      f"change{'s' * (history.reach != 1)}, after {shown(oldest)}")
+        raise Failure(f"{file.path}: {shown(time)} is out of reach: the journal begins after {shown(oldest)}, with "
+                      f"{history.reach} change{'s' * (history.reach != 1)}")
     count = next(number for number in range(1, history.reach + 1) if history.last[number].time < time)
     check_updates(file, history, count)
     changes = [with_given(history.change(number), given) for number in range(1, count + 1)]
@@ -134,7 +134,7 @@ def found_sample(file: HeldFile, history: History, time: int, given: List[OneSam
             return FoundSample(sample, changes)
     before = max([changes[-1].before, *(sample.time for sample in changes[-1].samples if sample.time < time)])
     after = min(sample.time for sample in changes[-1].samples if sample.time > time)
-    raise Failure(f"{file.path}: there is no sample at {shown(time)}, only at {shown(before)} and {shown(after)}")
+    raise Failure(f"{file.path}: there is no sample between {shown(before)} and {shown(after)}")
 
 
 def check_updates(file: HeldFile, history: History, count: int) -> None:
@@ -142,8 +142,8 @@ def check_updates(file: HeldFile, history: History, count: int) -> None:
     for number in range(1, count + 1):
         last = history.last[number].time
         if history.last[number - 1].time == last:
-            raise Failure(f"{file.path}: after the sample came a tune or a resize, at {shown(last)}, which rrdi-fix "
-                          f"does not repeat; rrdi-show --journal {file.path} shows it")
+            raise Failure(f"{file.path}: since then came a tune or a resize, at {shown(last)}, which rrdi-fix does not "
+                          f"repeat; rrdi-show --journal {file.path} shows it")
 
 
 def check_samples(file: HeldFile, history: History, changes: List[SentUpdate]) -> None:
@@ -162,8 +162,8 @@ def check_samples(file: HeldFile, history: History, changes: List[SentUpdate]) -
     if wrong.is_given:
         raise Failure(f"{file.path}: the samples given after {shown(wrong.before)} up to {shown(wrong.until)} are not "
                       "those of the file")
-    raise Failure(f"{file.path}: the update from {shown(wrong.before)} to {shown(wrong.until)} did not have one "
-                  "sample; the journal lacks the others: give all of its samples by --samples")
+    raise Failure(f"{file.path}: the update from {shown(wrong.before)} to {shown(wrong.until)} had more "
+                  "than the sample that the journal shows; give all of its samples by --samples")
 
 
 def shown(time: int) -> str:

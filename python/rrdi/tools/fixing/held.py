@@ -195,18 +195,28 @@ def held(path: str) -> Iterator[HeldFile]:
     try:
         library = chosen_library()
         tried = by_library(library) if library is not None else by_program(program_path())
-        data = settled(file.readall())
+        data = settled(read_all(file, path))
         if data.startswith(OLD_VERSION):
             raise Failure(f"{path}: the layout is that of rrdi 0.1, which rrdi-fix does not change; the next update "
                           "makes it new")
         found = HeldFile(path, session, identity_of(os.fstat(file.fileno())), data, tried)
         found.check_same()
         yield found
-    except OSError as error:
-        raise Failure(f"{path}: {error.strerror or error_text(error)}") from None
     finally:
         session.end()
         file.close()
+
+
+def read_all(file: FileIO, path: str) -> bytes:
+    """Returns the bytes of an open file.
+
+    # Errors
+    `Failure` if it cannot be read.
+    """
+    try:
+        return file.readall()
+    except OSError as error:
+        raise Failure(f"{path}: {error.strerror or error_text(error)}") from None
 
 
 def opened(path: str) -> "tuple[Session, FileIO]":
@@ -222,7 +232,7 @@ def opened(path: str) -> "tuple[Session, FileIO]":
         if file is not None:
             return session, file
         session.end()
-    raise Failure(f"{path}: another program keeps replacing the file")
+    raise Failure(f"{path}: another program keeps replacing the file, or the locks of its file system do not hold")
 
 
 def identity_of_file(path: str) -> Identity:
@@ -267,6 +277,8 @@ def read_by(session: Session, path: str, before: Identity) -> Optional[FileIO]:
         file = open_regular(path)
     except FileNotFoundError:
         return None
+    except OSError as error:
+        raise Failure(f"{path}: {error.strerror or error_text(error)}") from None
     try:
         is_same = identity_of(os.fstat(file.fileno())) == before == identity_at(as_bytes(path))
         if is_same and is_locked(file, path):

@@ -10,7 +10,7 @@ from ...errors import OK, reason_of, reasons_in
 from ...limits import LONGEST_LINE
 from ...protocol import Answer, Library
 from ...words import as_bytes, as_text
-from ..command_line import Failure
+from ..command_line import Failure, error_text
 from ..program import CommandFailed
 
 NO_TIME = 0  # what N stands for: no line of these tools has one
@@ -63,17 +63,22 @@ def by_library(library: Library) -> Trial:
 
 def by_program(program: str, folder: Optional[str] = None) -> Trial:
     """Returns what runs lines by a program, on a copy in a folder for files that do not last."""
+    def tried_at(path: str, data: bytes, text: bytes) -> AfterTrial:
+        with open(path, "wb") as copy:
+            copy.write(data)
+        answer = accepted(ByProgram(program).batch_file(os.fsencode(path), text, NO_TIME, 0, False))
+        with open(path, "rb") as copy:
+            return AfterTrial(copy.read(), as_text(answer.output))
+
     def tried(data: bytes, lines: List[str]) -> AfterTrial:
-        with tempfile.TemporaryDirectory(prefix="rrdi-fix", dir=folder) as place:
-            path = os.path.join(place, "copy.rrdi")
-            with open(path, "wb") as copy:
-                copy.write(data)
-            try:
-                answer = accepted(ByProgram(program).batch_file(os.fsencode(path), text_of(lines), NO_TIME, 0, False))
-            except NoAnswer as none:
-                raise not_run(none) from None
-            with open(path, "rb") as copy:
-                return AfterTrial(copy.read(), as_text(answer.output))
+        text = text_of(lines)
+        try:
+            with tempfile.TemporaryDirectory(prefix="rrdi-fix", dir=folder) as place:
+                return tried_at(os.path.join(place, "copy.rrdi"), data, text)
+        except NoAnswer as none:
+            raise not_run(none) from None
+        except OSError as error:
+            raise Failure(f"cannot make a copy to try the change on: {error_text(error)}") from None
     return tried
 
 
