@@ -13,13 +13,17 @@ PAGE = TOP / "docs" / "trust.md"
 # The traits whose implementations say what a file has, and of which a false one would prove anything.
 IMPLEMENTATION = re.compile(r"^impl\b.*\b(Bytes|Disk|Storage) for (\w+)", re.MULTILINE)
 # The proofs by hand, which may say of a value what no check of the code sees.
-BY_HAND = {"crates/rrd_disk/proofs/record/Record/new/Proof.antt", "crates/rrd_disk/proofs/record/Record/note/Proof.antt",
+BY_HAND = {"crates/rrd_disk/proofs/begun/Begun/note/Proof.antt",
+           "crates/rrd_disk/proofs/record/Record/new/Proof.antt", "crates/rrd_disk/proofs/record/Record/note/Proof.antt",
            "crates/rrd_disk/proofs/record/Record/TheSendSync/Send.antt",
            "crates/rrd_ring/proofs/ring/row_mut/Proof.antt",
            "library/rrdi_c/proofs/handle/Handle/into_raw_box/Proof.antt.in", "library/rrdi_c/proofs/handle/Handle/none/Proof.antt.in",
            "library/rrdi_c/proofs/handle/Handle/of/Proof.antt.in",
            "library/rrdi_c/proofs/raw_box/RawBox/from_box/Proof.antt.in",
            "library/rrdi_c/proofs/raw_box/RawBox/into_box/Proof.antt.in"}
+
+# A call of the system, which the record of the calls sees only in the bodies of `Disk for System`.
+SYSTEM_CALL = re.compile(r"\b(?:libc|os)::[a-z]\w*\(")
 
 # Words that may lead around the prover, and the lines that have one.
 WAY_AROUND = re.compile(r"\b(unsafe|axiom|postulate)\b", re.IGNORECASE)
@@ -31,7 +35,10 @@ def listed_modules() -> dict[str, set[str]]:
     """Returns the modules of each crate that docs/definitions.md asks its readers to believe."""
     part = (TOP / "docs/definitions.md").read_text().split("You have to believe that these modules")[1].split("These modules are not")[0]
     rows = re.findall(r"^\| `(\w+)` \| (.*) \|$", part, re.MULTILINE)
-    return {crate: set(re.findall(r"\b[A-Z]\w+", modules)) for crate, modules in rows}
+    listed: dict[str, set[str]] = {}
+    for crate, modules in rows:
+        listed.setdefault(crate, set()).update(re.findall(r"\b[A-Z]\w+", modules))
+    return listed
 
 
 def specified() -> Iterator[tuple[str, str, str]]:
@@ -72,6 +79,10 @@ class Trusted(unittest.TestCase):
         found = {str(path.relative_to(TOP)) for folder in ("crates", "library") for name in ("Proof.antt*", "TheSendSync/*.antt*")
                  for path in (TOP / folder).glob(f"*/proofs/**/{name}")}
         self.assertEqual(found, BY_HAND)
+
+    def test_one_file_of_the_library_calls_the_system(self) -> None:
+        found = {str(path.relative_to(TOP)) for path in sources() if SYSTEM_CALL.search(path.read_text())}
+        self.assertEqual(found, {"library/rrdi_c/src/system.rt.in"})
 
     def test_the_page_names_what_a_search_for_unsafe_finds(self) -> None:
         found = {(str(path.relative_to(TOP)), line.strip()) for path in searched() for line in path.read_text().splitlines()

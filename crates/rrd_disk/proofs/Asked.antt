@@ -6,23 +6,12 @@ use Rattle.rrd_store.specs.Storages.{Held, Missing, Bytes}
 use Rattle.rrd_disk.specs.Asked.{FallsAsked, code_by, code_of, content_of, file_of, held_of, is_asked, is_honest_asked, is_honest_in, is_told, kind_of, run_of, start_by, world_in, world_of}
 use Rattle.rrd_undo.specs.declared.tail.Syncs.{Syncs}
 use Rattle.rrd_undo.specs.declared.tail.Syncs.TheVariants.{Never, Ordered}
-use Rattle.rrd_disk.specs.Calls.{Falls, KeepsHeld, PlaceStays}
 use Rattle.rrd_disk.specs.Events.{Event}
 use Rattle.rrd_disk.specs.Replayed.{World, held_after, is_honest_after, is_there, left, part_after}
 
 -- whatever is asked, the record is honest
 pub honest_in : (s : List ℕ) (events : List Event) → IsTrue (is_honest_in s events) → IsTrue (is_honest_after (world_of s) events)
 honest_in s events h = (and_parts (is_honest_after (world_of s) events) (is_asked s (is_there (held_after (world_of s) events))) h).0
-
--- a record that was honest before more calls, of which none makes a file
-pub falls_in : (s : List ℕ) (old new : List Event) → Falls old new → PlaceStays old new → IsTrue (is_honest_in s new) → IsTrue (is_honest_in s old)
-falls_in s old new falls place h =
-    let both = and_parts (is_honest_after (world_of s) new) (is_asked s (is_there (held_after (world_of s) new))) h in
-    and_from (is_honest_after (world_of s) old) (is_asked s (is_there (held_after (world_of s) old))) (falls (world_of s) both.0) (rw (← (place (world_of s))) both.1)
-
--- what is kept stays where it is
-pub place_kept : (old new : List Event) → KeepsHeld old new → PlaceStays old new
-place_kept old new same = λ s. ap is_there (same s)
 
 -- ---- a question about each world
 

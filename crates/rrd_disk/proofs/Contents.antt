@@ -48,10 +48,6 @@ module _ (laws : Laws) where
   pub itself : (h : Held) (bytes : List ℕ) → h ≡ Bytes bytes → mark_of bytes ≡ None → represented h ≡ Bytes bytes
   itself h bytes is none = ap represented is ∙ ap (λ (b : List ℕ). Bytes b) (laws.unmarked bytes none)
 
-  -- the bytes that a file has after it was settled
-  pub settled_itself : (bytes : List ℕ) → ¬ IsNoFile (settled bytes) → settled (settled bytes) ≡ settled bytes
-  settled_itself bytes some = laws.unmarked (settled bytes) (some_unmarked (settled bytes) some)
-
   -- no bytes are no database, and have no mark
   pub none_empty : IsNoFile []
   none_empty = λ d file. absurd (omega (arith, (laws.begins [] d file).0))

@@ -1,9 +1,9 @@
 -- What is known in memory of a file, after its calls.
-use Rattle.std.proofs.Common.{◌≡◌, ℕ, ◌+◌, ◌-◌, ◌<◌, ◌≤◌, ◌++◌, max, List, Option, Some, None, IsTrue, IfOk, Result, Ok, Err, length, take, replicate, slice_index, option_map, refl, sym, ◌∙◌, ap, subst, inl, inr, arith, length-append}
+use Rattle.std.proofs.Common.{◌≡◌, ℕ, ◌+◌, ◌-◌, ◌<◌, ◌≤◌, ◌++◌, max, List, Option, Some, None, IsTrue, IfOk, Result, Ok, Err, length, take, slice_index, option_map, refl, sym, ◌∙◌, ap, subst, inl, inr, arith, length-append}
 use Rattle.std.specs.Io.{ReadsAtMost}
-use Rattle.std.proofs.Math.Seq.{take-append-add, take-append_seam}
+use Rattle.std.proofs.Math.Seq.{take-append-add}
 use Rattle.std.proofs.lemmas.Bool.{cases_lt}
-use Rattle.std.proofs.lemmas.List.{get_or_append_left, get_or-append_right, length-take-le, take_all, take-take}
+use Rattle.std.proofs.lemmas.List.{get_or_append_left, get_or-append_right, length-take-le, take-take}
 use Rattle.rrd_disk.specs.Events.{Event}
 use Rattle.rrd_disk.specs.Calls.{Falls, IsGot}
 use Rattle.rrd_disk.specs.Fronts.{Begins}
@@ -65,14 +65,6 @@ shown_behind file old part x had n room few joined begins got =
     let came = more_came front part x (take (had + n) x) n few put (ap (λ k. take (k + n) x) (sym long)) in
     let got_there = subst (λ (k : ℕ). IsGot file k n part) (sym long) got in
     subst (λ (b : List ℕ). Begins file b) (sym came) (more_shown file front part n begins got_there)
-
--- a list that was made longer begins with its bytes
-pub front_of_longer : (bytes resized : List ℕ) (count had : ℕ) → had ≡ length bytes → length bytes ≤ count
-    → resized ≡ take count bytes ++ replicate (count - length bytes) 0 → take had resized ≡ bytes
-front_of_longer bytes resized count had all_had more is =
-    let zeros : List ℕ = replicate (count - length bytes) 0 in
-    let all : take count bytes ≡ bytes = take_all count bytes more in
-    ap (λ k. take k resized) all_had ∙ ap (take (length bytes)) (is ∙ ap (λ (b : List ℕ). b ++ zeros) all) ∙ take-append_seam bytes zeros
 
 pub got_behind : {E : Type 0} (r : Result ℕ E) (old part x : List ℕ) (had : ℕ) (file : World → List ℕ) (Honest : World → Type 0)
     → had ≤ length old → ReadsAtMost r part → take (had + length part) x ≡ take had old ++ part

@@ -37,27 +37,12 @@ module _ (at : ℕ) (bytes : List ℕ) where
     whole = λ small. whole_twice f g h (first.whole small) (second.whole small);
   }
 
--- a change of the length that was not made
-pub sized_none : (count : ℕ) (f : List ℕ) → IsSizedOrNot count f f
-sized_none count f = inl refl
-
 -- ---- several calls
-
-pub keeps_disk_twice : (old mid new : List Event) → Falls mid new → KeepsDisk old mid → KeepsDisk mid new → KeepsDisk old new
-keeps_disk_twice old mid new falls first second d w honest c left = first d w (falls w honest) c (second d w honest c left)
 
 module _ (Does : List ℕ → List ℕ → Type 0) where
   -- no call leaves what there was, if the call may end so
   pub leaves_none : (old new : List Event) → ((f : List ℕ) → Does f f) → KeepsDisk old new → LeavesOnDisk Does old new
   leaves_none old new none keeps d w honest c left = (c, keeps d w honest c left, none c)
-
-  pub leaves_after : (old mid new : List Event) → Falls mid new → KeepsDisk old mid → LeavesOnDisk Does mid new → LeavesOnDisk Does old new
-  leaves_after old mid new falls first second d w honest c left =
-      let l = second d w honest c left in
-      (l.0, first d w (falls w honest) l.0 l.1, l.2)
-
-  pub leaves_before : (old mid new : List Event) → Falls mid new → LeavesOnDisk Does old mid → KeepsDisk mid new → LeavesOnDisk Does old new
-  leaves_before old mid new falls first second d w honest c left = first d w (falls w honest) c (second d w honest c left)
 
   -- the same call again
   pub leaves_twice : (old mid new : List Event) → ((f g h : List ℕ) → Does f g → Does g h → Does f h)
@@ -114,9 +99,6 @@ size_ended (Ok x) old mid new count leaves ok err =
     leaves_twice (IsSizedOrNot count) old mid new (sized_twice count) (falls_once mid new (Sized count) ok) leaves (sized_leaves mid new count ok)
 
 -- ---- syncs
-
-pub sync_none : (old new : List Event) → new ≡ old → StoresOrNot old new
-sync_none old new same d w honest c left = inl (subst (λ (events : List Event). MayLeave d w events c) same left)
 
 -- after a sync that failed the disk has what it may have had before, or the file's bytes
 pub sync_failed_again : (old mid new : List Event) → StoresOrNot old mid → new ≡ SyncFailed ∷ mid → StoresOrNot old new

@@ -6,7 +6,7 @@ use Rattle.rrd_undo.specs.Calls.{AreAt, ArePut, IsSized}
 use Rattle.rrd_undo.specs.Power.{IsSizedOrNot}
 use Rattle.rrd_store.specs.Storages.{Held, Missing, Bytes}
 use Rattle.rrd_disk.specs.Calls.{IsPartPut}
-use Rattle.rrd_disk.specs.Events.{Event, Found, Made, Measured, Got, Put, PutFailed, Sized, SizeFailed, Synced, SyncFailed, Streamed}
+use Rattle.rrd_disk.specs.Events.{Event, Found, Made, Measured, Got, Put, PutFailed, Sized, SizeFailed, Synced, SyncFailed}
 use Rattle.rrd_disk.specs.Events.{Missing as NotFound}
 use Rattle.rrd_disk.specs.Replayed.{World, bytes_after, bytes_of, held_after, is_honest_after, is_honest_of, is_honest_read, is_there, left, part_after}
 use Rattle.rrd_disk.proofs.Overlays.{overlaid-ArePut, padded-IsSized}
@@ -66,10 +66,6 @@ made : (h : Held) (part : ℕ) → left h part Made ≡ Bytes (bytes_of (left h 
 made Missing part = refl
 made (Bytes file) part = refl
 
-made_same : (h : Held) (part : ℕ) → bytes_of (left h part Made) ≡ bytes_of h
-made_same Missing part = refl
-made_same (Bytes file) part = refl
-
 measured : (h : Held) (part count : ℕ) → IsTrue (is_honest_of h part (Measured count)) → count ≡ length (bytes_of h)
 measured Missing part count honest = absurd (true≢false (sym honest))
 measured (Bytes file) part count honest = eqb-true count (length file) honest
@@ -100,10 +96,6 @@ size_failed : (h : Held) (part count : ℕ) → IsTrue (is_honest_of h part (Siz
 size_failed Missing part count honest = absurd (true≢false (sym honest))
 size_failed (Bytes file) part count honest = failed_size count file part
 
-streamed : (h : Held) (part : ℕ) → IsTrue (is_honest_of h part Streamed) → ⊥
-streamed Missing part honest = true≢false (sym honest)
-streamed (Bytes file) part honest = true≢false (sym honest)
-
 -- a sync leaves the file as it is
 synced : (h : Held) (part : ℕ) → left h part Synced ≡ h
 synced Missing part = refl
@@ -113,31 +105,9 @@ sync_failed : (h : Held) (part : ℕ) → left h part SyncFailed ≡ h
 sync_failed Missing part = refl
 sync_failed (Bytes file) part = refl
 
--- so do the calls that ask
-measured_same : (h : Held) (part count : ℕ) → left h part (Measured count) ≡ h
-measured_same Missing part count = refl
-measured_same (Bytes file) part count = refl
-
-got_same : (h : Held) (part at wanted : ℕ) (bytes : List ℕ) → left h part (Got at wanted bytes) ≡ h
-got_same Missing part at wanted bytes = refl
-got_same (Bytes file) part at wanted bytes = refl
-
-streamed_same : (h : Held) (part : ℕ) → left h part Streamed ≡ h
-streamed_same Missing part = refl
-streamed_same (Bytes file) part = refl
-
--- a write, or a new length, makes no file
-put_place : (h : Held) (part at : ℕ) (bytes : List ℕ) (taken : ℕ) → is_there (left h part (Put at bytes taken)) ≡ is_there h
-put_place Missing part at bytes taken = refl
-put_place (Bytes file) part at bytes taken = refl
-
 put_failed_place : (h : Held) (part at : ℕ) (bytes : List ℕ) → is_there (left h part (PutFailed at bytes)) ≡ is_there h
 put_failed_place Missing part at bytes = refl
 put_failed_place (Bytes file) part at bytes = refl
-
-sized_place : (h : Held) (part count : ℕ) → is_there (left h part (Sized count)) ≡ is_there h
-sized_place Missing part count = refl
-sized_place (Bytes file) part count = refl
 
 size_failed_place : (h : Held) (part count : ℕ) → is_there (left h part (SizeFailed count)) ≡ is_there h
 size_failed_place Missing part count = refl
@@ -151,9 +121,6 @@ module _ (w : World) (earlier : List Event) where
 
   pub none_is : IsTrue (is_honest_after w (NotFound ∷ earlier)) → held_after w earlier ≡ Missing
   none_is honest = none (held_after w earlier) (part_after w earlier) (honest_now w earlier NotFound honest)
-
-  pub measured_is : (count : ℕ) → IsTrue (is_honest_after w (Measured count ∷ earlier)) → count ≡ length (bytes_after w earlier)
-  measured_is count honest = measured (held_after w earlier) (part_after w earlier) count (honest_now w earlier (Measured count) honest)
 
   pub read_is : (at wanted : ℕ) (bytes : List ℕ) → IsTrue (is_honest_after w (Got at wanted bytes ∷ earlier)) → IsTrue (is_honest_read (bytes_after w earlier) at wanted bytes)
   read_is at wanted bytes honest = read (held_after w earlier) (part_after w earlier) at wanted bytes (honest_now w earlier (Got at wanted bytes) honest)
@@ -177,38 +144,14 @@ module _ (w : World) (earlier : List Event) where
       → IsSizedOrNot count (bytes_after w earlier) (bytes_after w (SizeFailed count ∷ earlier))
   size_failed_is count honest = size_failed (held_after w earlier) (part_after w earlier) count (honest_now w earlier (SizeFailed count) honest)
 
-  pub not_streamed : IsTrue (is_honest_after w (Streamed ∷ earlier)) → ⊥
-  not_streamed honest = streamed (held_after w earlier) (part_after w earlier) (honest_now w earlier Streamed honest)
-
-  pub made_is : held_after w (Made ∷ earlier) ≡ Bytes (bytes_after w (Made ∷ earlier))
-  made_is = made (held_after w earlier) (part_after w earlier)
-
-  pub made_keeps : bytes_after w (Made ∷ earlier) ≡ bytes_after w earlier
-  made_keeps = made_same (held_after w earlier) (part_after w earlier)
-
   pub synced_keeps : held_after w (Synced ∷ earlier) ≡ held_after w earlier
   synced_keeps = synced (held_after w earlier) (part_after w earlier)
 
   pub sync_failed_keeps : held_after w (SyncFailed ∷ earlier) ≡ held_after w earlier
   sync_failed_keeps = sync_failed (held_after w earlier) (part_after w earlier)
 
-  pub measured_keeps : (count : ℕ) → held_after w (Measured count ∷ earlier) ≡ held_after w earlier
-  measured_keeps = measured_same (held_after w earlier) (part_after w earlier)
-
-  pub got_keeps : (at wanted : ℕ) (bytes : List ℕ) → held_after w (Got at wanted bytes ∷ earlier) ≡ held_after w earlier
-  got_keeps = got_same (held_after w earlier) (part_after w earlier)
-
-  pub streamed_keeps : held_after w (Streamed ∷ earlier) ≡ held_after w earlier
-  streamed_keeps = streamed_same (held_after w earlier) (part_after w earlier)
-
-  pub put_keeps_place : (at : ℕ) (bytes : List ℕ) (taken : ℕ) → is_there (held_after w (Put at bytes taken ∷ earlier)) ≡ is_there (held_after w earlier)
-  put_keeps_place = put_place (held_after w earlier) (part_after w earlier)
-
   pub put_failed_keeps_place : (at : ℕ) (bytes : List ℕ) → is_there (held_after w (PutFailed at bytes ∷ earlier)) ≡ is_there (held_after w earlier)
   put_failed_keeps_place = put_failed_place (held_after w earlier) (part_after w earlier)
-
-  pub sized_keeps_place : (count : ℕ) → is_there (held_after w (Sized count ∷ earlier)) ≡ is_there (held_after w earlier)
-  sized_keeps_place = sized_place (held_after w earlier) (part_after w earlier)
 
   pub size_failed_keeps_place : (count : ℕ) → is_there (held_after w (SizeFailed count ∷ earlier)) ≡ is_there (held_after w earlier)
   size_failed_keeps_place = size_failed_place (held_after w earlier) (part_after w earlier)

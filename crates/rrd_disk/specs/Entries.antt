@@ -5,8 +5,8 @@ use Rattle.rrd_disk.specs.Openings.{IsNone, IsThere}
 use Rattle.rrd_disk.specs.declared.file_bytes.Entry.{Entry}
 use Rattle.rrd_disk.specs.declared.file_bytes.Entry.TheVariants.{Open, Pipe, Missing, Refused}
 
-abbrev pub SaysEntry : {F : Type 0} → Entry F → List Event → Type 0
+abbrev pub SaysEntry : {P : Type 0} → Entry P → List Event → Type 0
 SaysEntry Open events = IsThere events
-SaysEntry (Pipe file) events = IsThere events
+SaysEntry (Pipe pipe) events = IsThere events
 SaysEntry Missing events = IsNone events
 SaysEntry (Refused error) events = ⊤

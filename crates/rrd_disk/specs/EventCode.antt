@@ -1,7 +1,8 @@
 -- Glue: how the logic stores a list of events: each as its number in a table, two numbers and bytes.
 use Rattle.std.specs.Prelude.{◌≡◌, ℕ, List, [], ◌∷◌, get_or, refl}
 use Rattle.std.specs.Coded.{Coded, code_by, coded×, coded_ℕ, coded_list}
-use Rattle.rrd_disk.specs.Events.{Event, Missing, Found, Made, Measured, Got, Put, PutFailed, Sized, SizeFailed, Synced, SyncFailed, Streamed}
+use Rattle.rrd_disk.specs.Events.{Event, Missing, Found, Made, Locked, NoLocks, Measured, Got, Put, PutFailed, Sized, SizeFailed, Synced, SyncFailed, Streamed}
+use Rattle.rrd_disk.specs.declared.disk.Lock.TheVariants.{Shared, Own}
 
 abbrev Parts : Type 0
 Parts = ℕ × (ℕ × (ℕ × List ℕ))
@@ -19,11 +20,14 @@ to_parts (SizeFailed count) = (8, (0, (count, [])))
 to_parts Synced = (9, (0, (0, [])))
 to_parts SyncFailed = (10, (0, (0, [])))
 to_parts Streamed = (11, (0, (0, [])))
+to_parts (Locked Shared) = (12, (0, (0, [])))
+to_parts (Locked Own) = (13, (0, (0, [])))
+to_parts NoLocks = (14, (0, (0, [])))
 
 -- each event with these numbers and bytes, in the order of `to_parts`
 abbrev table : ℕ → ℕ → List ℕ → List Event
 table at count bytes =
-    Missing ∷ Found ∷ Made ∷ Measured count ∷ Got at count bytes ∷ Put at bytes count ∷ PutFailed at bytes ∷ Sized count ∷ SizeFailed count ∷ Synced ∷ SyncFailed ∷ Streamed ∷ []
+    Missing ∷ Found ∷ Made ∷ Measured count ∷ Got at count bytes ∷ Put at bytes count ∷ PutFailed at bytes ∷ Sized count ∷ SizeFailed count ∷ Synced ∷ SyncFailed ∷ Streamed ∷ Locked Shared ∷ Locked Own ∷ NoLocks ∷ []
 
 abbrev from_parts : Parts → Event
 from_parts p = get_or (table p.1.0 p.1.1.0 p.1.1.1) p.0 Missing
@@ -42,6 +46,9 @@ from_parts-to_parts (SizeFailed count) = refl
 from_parts-to_parts Synced = refl
 from_parts-to_parts SyncFailed = refl
 from_parts-to_parts Streamed = refl
+from_parts-to_parts (Locked Shared) = refl
+from_parts-to_parts (Locked Own) = refl
+from_parts-to_parts NoLocks = refl
 
 abbrev pub events_code : Coded (List Event)
 events_code = coded_list (code_by Parts (coded× coded_ℕ (coded× coded_ℕ (coded× coded_ℕ (coded_list coded_ℕ)))) to_parts from_parts from_parts-to_parts)

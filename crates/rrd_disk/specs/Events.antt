@@ -1,5 +1,6 @@
 -- Definition: the calls that a program makes on its file, each with its answer (own).
 use Rattle.std.specs.Prelude.{ℕ, List}
+use Rattle.rrd_disk.specs.declared.disk.Lock.{Lock}
 
 -- A record is a list of these, the newest first. Offsets, counts and lengths are in bytes.
 pub data Event : Type 0 where
@@ -9,6 +10,10 @@ pub data Event : Type 0 where
   Found : Event
   -- the file was opened, and made empty if there was none
   Made : Event
+  -- the open file was locked so
+  Locked : Lock → Event
+  -- the open file was to be locked, and its file system has no locks
+  NoLocks : Event
   -- the file has so many bytes
   Measured : ℕ → Event
   -- from an offset on so many bytes were wanted, and these came

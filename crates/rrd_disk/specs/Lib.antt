@@ -8,6 +8,7 @@ pub mod Fronts
 pub mod Kills
 pub mod Known
 pub mod Loading
+pub mod Locks
 pub mod Noting
 pub mod OpenRuns
 pub mod Openings

@@ -23,12 +23,12 @@ IsUnmarked events = (s : World) → IsTrue (is_honest_after s events) → mark_o
 abbrev pub HasLength : ℕ → List Event → Type 0
 HasLength count events = (s : World) → IsTrue (is_honest_after s events) → count ≡ length (bytes_after s events)
 
-abbrev pub Says : {F : Type 0} → Opened F → List Event → Type 0
+abbrev pub Says : {F P : Type 0} → Opened F P → List Event → Type 0
 Says (Regular locked count) events = IsThere events × HasLength count events
-Says (Pipe file) events = IsThere events
+Says (Pipe pipe) events = IsThere events
 Says Missing events = IsNone events
 Says (Refused error) events = ⊤
 
-abbrev pub SaysIf : {F : Type 0} → Option (Opened F) → List Event → Type 0
+abbrev pub SaysIf : {F P : Type 0} → Option (Opened F P) → List Event → Type 0
 SaysIf None events = ⊤
 SaysIf (Some opened) events = Says opened events

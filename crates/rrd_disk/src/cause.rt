@@ -8,6 +8,7 @@ use std::io::{self, Error};
 #[derive(Drop)]
 pub struct Cause {
     last: Cell<Option<Error>>,
+    is_written: Cell<bool>,
 }
 
 impl Cause {
@@ -15,6 +16,7 @@ impl Cause {
     pub fn new() -> Cause {
         Cause {
             last: Cell::new(None),
+            is_written: Cell::new(false),
         }
     }
 
@@ -25,6 +27,19 @@ impl Cause {
     /// call that writes.
     pub fn last(&self) -> Option<Error> {
         self.last.get()
+    }
+
+    /// Checks whether a database was written to the file.
+    pub fn is_written(&self) -> bool {
+        self.is_written.get()
+    }
+
+    /// Notes that a database was written, or why that failed.
+    pub(crate) fn note_write(&self, ended: &io::Result<()>) {
+        self.note(ended);
+        if ended.is_ok() {
+            self.is_written.set(true);
+        }
     }
 
     /// Forgets why the last call failed.

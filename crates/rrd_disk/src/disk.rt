@@ -1,7 +1,9 @@
 //! The calls of the system on a file.
-ghost use Rattle.std.specs.Prelude.{◌≡◌, ◌∷◌, List, length, take, IfOk, OnErr, OnOk};
+ghost use Rattle.std.specs.Prelude.{◌≡◌, ◌∷◌, IsTrue, List, length, take, IfOk, OnErr, OnOk};
 ghost use Rattle.std.specs.Io.{ReadsAtMost};
 ghost use Rattle.rrd_disk.specs.Calls.{opened, seen};
+ghost use Rattle.rrd_disk.specs.Locks.{is_guarded, locked};
+ghost use Rattle.rrd_disk.specs.declared.disk.Opening.TheVariants.{Read};
 ghost use Rattle.rrd_disk.specs.Events.{Event, Got, Measured, Put, PutFailed, SizeFailed, Sized, Streamed, SyncFailed, Synced};
 
 use std::alloc::Global;
@@ -25,6 +27,15 @@ pub enum Lock {
     Shared,
     /// No other program holds a lock.
     Own,
+}
+
+/// The result of a try to lock a file.
+#[derive(Clone, Copy, Debug, PartialEq, Eq)]
+pub enum LockResult {
+    /// The open file holds the lock.
+    Taken,
+    /// The file system has no locks.
+    NoLocks,
 }
 
 /// The kind of a file.
@@ -55,15 +66,6 @@ pub struct Facts {
 
 /// An open file, which is closed when the value is dropped.
 pub trait DiskFile: Drop {
-    /// Tries once to lock the file, without waiting. If the call fails, this open file holds no lock.
-    ///
-    /// # Errors
-    ///
-    /// - `WouldBlock` if another program holds a lock that excludes this one.
-    /// - `Unsupported` or `InvalidInput` if the file system has no locks.
-    /// - Any other error if the file could not be locked.
-    fn try_lock(&self, lock: Lock) -> io::Result<()>;
-
     /// Releases the lock, also for the other handles of the same open file, and for the processes that share them.
     ///
     /// # Errors
@@ -72,7 +74,8 @@ pub trait DiskFile: Drop {
     fn unlock(&self) -> io::Result<()>;
 }
 
-/// A system that has files, with the record of the calls on the file of one run.
+/// A system that has the file of one run, with the record of the calls on the file. The system is made for the path of
+/// the file: code above it cannot name another file.
 ///
 /// Each call notes what the call did and what the system answered. A reader of the theorems has to believe that the
 /// bodies of an `impl` make the calls that they note.
@@ -83,13 +86,16 @@ pub trait Disk {
     // The calls so far, the newest first.
     ghost events: { Self → List Event };
 
-    /// An open file of this system.
+    /// The open file.
     type File: DiskFile;
+
+    /// The open pipe, if the file is a pipe.
+    type Pipe: Drop;
 
     /// Returns the allocator for the bytes of files.
     fn alloc(&self) -> Global;
 
-    /// Opens the file at `path`. Returns `None` if there is no file, or no directory for a new one.
+    /// Opens the file. Returns `None` if there is no file, or no directory for a new one.
     ///
     /// No standard stream of the process is the open file: the numbers 0 to 2 are for the streams, even if they are
     /// closed.
@@ -97,8 +103,27 @@ pub trait Disk {
     /// # Errors
     ///
     /// The file cannot be opened for that purpose.
-    fn open(&mut self, path: &str, opening: Opening) -> io::Result<Option<Self::File>>
+    fn open(&mut self, opening: Opening) -> io::Result<Option<Self::File>>
         ensures ok { IfOk result (λ file. events self.new ≡ opened opening file ∷ events self.old) }
+        ensures err { OnErr result (events self.new ≡ events self.old) };
+
+    /// Opens the file for reading, if it is a pipe. Returns `None` if there is no file.
+    ///
+    /// # Errors
+    ///
+    /// The file is no pipe, or cannot be opened.
+    fn open_pipe(&mut self) -> io::Result<Option<Self::Pipe>>
+        ensures ok { IfOk result (λ pipe. events self.new ≡ opened Read pipe ∷ events self.old) }
+        ensures err { OnErr result (events self.new ≡ events self.old) };
+
+    /// Tries once to lock an open file, without waiting. If the call fails, this open file holds no lock.
+    ///
+    /// # Errors
+    ///
+    /// - `WouldBlock` if another program holds a lock that excludes this one.
+    /// - Any other error if the file could not be locked, for a reason other than that the file system has no locks.
+    fn try_lock(&mut self, file: &Self::File, lock: Lock) -> io::Result<LockResult>
+        ensures ok { IfOk result (λ taken. events self.new ≡ locked lock taken ∷ events self.old) }
         ensures err { OnErr result (events self.new ≡ events self.old) };
 
     /// Returns the facts that the system reports of an open file.
@@ -110,18 +135,19 @@ pub trait Disk {
         ensures ok { IfOk result (λ facts. events self.new ≡ Measured facts.length ∷ events self.old) }
         ensures err { OnErr result (events self.new ≡ events self.old) };
 
-    /// Returns the facts that the system reports of the file at `path`, without opening the file. Returns `None` if there
+    /// Returns the facts that the system reports of the file at the path, without opening the file. Returns `None` if there
     /// is no file.
     ///
     /// # Errors
     ///
     /// The system does not report the facts.
-    fn facts_at(&mut self, path: &str) -> io::Result<Option<Facts>>
+    fn facts_at(&mut self) -> io::Result<Option<Facts>>
         ensures ok { IfOk result (λ facts. events self.new ≡ seen facts (events self.old)) }
         ensures err { OnErr result (events self.new ≡ events self.old) };
 
-    /// Checks whether there is a directory at `path`, or something else. Returns `false` only if there is nothing.
-    fn is_there(&self, path: &str) -> bool;
+    /// Checks whether there is a directory for the file, or something else in its place. Returns `false` only if there is
+    /// nothing, or if the path names no file.
+    fn has_directory(&self) -> bool;
 
     /// Reads bytes from byte `at` on by one call, and returns the number of bytes that were read: 0 at the end of the file.
     ///
@@ -138,26 +164,31 @@ pub trait Disk {
     /// # Errors
     ///
     /// The read failed.
-    fn read_pipe(&mut self, file: &mut Self::File, bytes: &mut [u8]) -> io::Result<usize>
+    fn read_pipe(&mut self, pipe: &mut Self::Pipe, bytes: &mut [u8]) -> io::Result<usize>
         ensures bound { ReadsAtMost result bytes.new }
         ensures ok { OnOk result (events self.new ≡ Streamed ∷ events self.old) }
         ensures err { OnErr result (events self.new ≡ events self.old) };
 
     /// Writes bytes from byte `at` on by one call, and returns the number of bytes that were written.
     ///
+    /// The file has been locked against all other programs since it was opened, unless its file system has no locks.
+    ///
     /// # Errors
     ///
     /// The write failed. A first part of the bytes may have been written all the same.
     fn write_at(&mut self, file: &Self::File, bytes: &[u8], at: u64) -> io::Result<usize>
+        requires { IsTrue (is_guarded (events self.old)) }
         ensures ok { IfOk result (λ n. events self.new ≡ Put at bytes.now n ∷ events self.old) }
         ensures err { OnErr result (events self.new ≡ PutFailed at bytes.now ∷ events self.old) };
 
-    /// Sets the length of the file to `length` bytes: truncates the file, or appends zeros.
+    /// Sets the length of the file to `length` bytes: truncates the file, or appends zeros. The file has been locked as for
+    /// [`Disk::write_at`].
     ///
     /// # Errors
     ///
     /// The file is as it was, or has that length.
     fn set_length(&mut self, file: &Self::File, length: u64) -> io::Result<()>
+        requires { IsTrue (is_guarded (events self.old)) }
         ensures ok { OnOk result (events self.new ≡ Sized length ∷ events self.old) }
         ensures err { OnErr result (events self.new ≡ SizeFailed length ∷ events self.old) };
 

@@ -1,7 +1,9 @@
 //! The file of a run: its bytes, which are read and changed by the calls of the system.
-ghost use Rattle.std.specs.Prelude.{◌≡◌, ◌≤◌, ℕ, IfOk, IsTrue, List, OnOk, length, max, option_map};
+ghost use Rattle.std.specs.Prelude.{◌≡◌, ◌≤◌, ℕ, IfOk, IsTrue, List, None, OnOk, false, length, max, option_map};
 ghost use Rattle.rrd_disk.specs.Calls.{Falls, KeepsHeld, KeepsHeldFor, LeavesPart, PlaceStays};
+ghost use Rattle.rrd_disk.specs.Fronts.{Shows};
 ghost use Rattle.rrd_disk.specs.Known.{AreAll, Measures, Owes, ShowsBytes};
+ghost use Rattle.rrd_disk.specs.Locks.{Guards, IsToRead};
 ghost use Rattle.rrd_disk.specs.Openings.{HasLength};
 ghost use Rattle.rrd_disk.specs.Power.{KeepsDisk, LeavesOnDisk};
 ghost use Rattle.rrd_disk.specs.Replayed.{World, bytes_after, held_after, is_honest_after};
@@ -10,7 +12,7 @@ use crate::front::Front;
 use crate::locks::LockedFile;
 use crate::once::{get, get_behind, get_next, measure, open, put, set_length, sync};
 use crate::opening::{Opened, open_locked};
-use crate::{Disk, DiskFile, Opening};
+use crate::{Disk, Opening};
 use rrd_tail::PAGE;
 use rrd_undo::{Bytes, Syncs};
 use std::io::{self, Error, ErrorKind};
@@ -49,15 +51,16 @@ pub(crate) struct FileBytes<D: Disk> {
     ghost shown: { ShowsBytes front.bytes.items (D.Disk.events disk) },
     ghost measured: { Measures length (D.Disk.events disk) },
     ghost owing: { Owes owed (D.Disk.events disk) },
+    ghost guarded: { Guards file (D.Disk.events disk) },
 }
 
 /// The result of opening the file of a run.
 #[derive(Drop)]
-pub(crate) enum Entry<F: DiskFile> {
+pub(crate) enum Entry<P: Drop> {
     /// The file is open and locked.
     Open,
     /// A pipe without a name, which is only read.
-    Pipe(F),
+    Pipe(P),
     /// There is no file, or no directory for a new one.
     Missing,
     /// There is a file that the system does not open for this purpose, for this reason.
@@ -136,6 +139,10 @@ impl<D: Disk> FileBytes<D> {
     pub(crate) fn close(&mut self)
         ensures disk { self.new.disk ≡ self.old.disk }
         ensures syncs { self.new.syncs ≡ self.old.syncs }
+        ensures file { self.new.file ≡ None }
+        ensures front { (bytes : List ℕ) → Shows self.new.front bytes }
+        ensures length { self.new.length ≡ None }
+        ensures owed { self.new.owed ≡ None }
     {
         self.file = None;
         self.length = None;
@@ -143,17 +150,12 @@ impl<D: Disk> FileBytes<D> {
         self.owed = None;
     }
 
-    /// Opens the file at `path`, locks the file, and reads its first part.
+    /// Opens the file, locks the file, and reads its first part.
     ///
     /// # Errors
     ///
     /// The file is no regular file, cannot be locked or read, or memory ran out.
-    pub(crate) fn open(
-        &mut self,
-        path: &str,
-        opening: Opening,
-        wait: u64,
-    ) -> io::Result<Entry<D::File>>
+    pub(crate) fn open(&mut self, opening: Opening, wait: u64) -> io::Result<Entry<D::Pipe>>
         ensures falls { Falls (D.events self.old.disk) (D.events self.new.disk) }
         ensures power { KeepsDisk (D.events self.old.disk) (D.events self.new.disk) }
         ensures syncs { self.new.syncs ≡ self.old.syncs }
@@ -161,27 +163,40 @@ impl<D: Disk> FileBytes<D> {
         ensures says { IfOk result (λ entry. SaysEntry entry (D.events self.new.disk)) }
     {
         self.close();
-        match open_locked(&mut self.disk, path, opening, wait)? {
+        match open_locked(&mut self.disk, opening, wait)? {
             Opened::Regular(file, length) => {
                 self.file = Some(file);
                 self.length = Some(length);
                 self.read_to(first_part(length))?;
                 Ok(Entry::Open)
             }
-            Opened::Pipe(file) => Ok(Entry::Pipe(file)),
+            Opened::Pipe(pipe) => Ok(Entry::Pipe(pipe)),
             Opened::Missing => Ok(Entry::Missing),
             Opened::Refused(error) => Ok(Entry::Refused(error)),
         }
     }
 
-    /// Checks whether this run may open the file at `path` for writing.
-    pub(crate) fn may_write(&mut self, path: &str) -> bool
+    // Checks whether the file is open for a change.
+    fn is_to_change(&self) -> bool
+        ensures { result ≡ false → IsToRead self.now.file }
+    {
+        match &self.file {
+            Some(file) => file.is_to_change(),
+            None => false,
+        }
+    }
+
+    /// Checks whether this run may open the file for writing.
+    pub(crate) fn may_write(&mut self) -> bool
         ensures falls { Falls (D.events self.old.disk) (D.events self.new.disk) }
         ensures power { KeepsDisk (D.events self.old.disk) (D.events self.new.disk) }
         ensures syncs { self.new.syncs ≡ self.old.syncs }
         ensures same { KeepsHeld (D.events self.old.disk) (D.events self.new.disk) }
     {
-        matches!(open(&mut self.disk, path, Opening::Write), Ok(Some(_)))
+        if self.is_to_change() {
+            return true;
+        }
+        matches!(open(&mut self.disk, Opening::Write), Ok(Some(_)))
     }
 
     // Returns the length of the file in bytes.
@@ -328,7 +343,7 @@ impl<D: Disk> FileBytes<D> {
     /// # Errors
     ///
     /// A read failed, or memory ran out.
-    pub(crate) fn read_pipe(&mut self, pipe: &mut D::File, bytes: &mut Vec<u8>) -> io::Result<bool>
+    pub(crate) fn read_pipe(&mut self, pipe: &mut D::Pipe, bytes: &mut Vec<u8>) -> io::Result<bool>
         ensures falls { Falls (D.events self.old.disk) (D.events self.new.disk) }
         ensures power { KeepsDisk (D.events self.old.disk) (D.events self.new.disk) }
         ensures syncs { self.new.syncs ≡ self.old.syncs }
@@ -358,7 +373,7 @@ impl<D: Disk> FileBytes<D> {
         if kept.is_empty() {
             return Ok(());
         }
-        let Err(failed) = put(&mut self.disk, file.file(), kept, owed.at as u64) else {
+        let Err(failed) = put(&mut self.disk, file.file_to_change()?, kept, owed.at as u64) else {
             return Ok(());
         };
         // At a limit on the size of files this write is cut short as that one was: the old bytes may be there all the same.
@@ -390,7 +405,7 @@ impl<D: Disk> FileBytes<D> {
         let Some(file) = &self.file else {
             return Err(not_open());
         };
-        set_length(&mut self.disk, file.file(), owed.length)?;
+        set_length(&mut self.disk, file.file_to_change()?, owed.length)?;
         self.length = Some(owed.length);
         self.owed = None;
         Ok(())
@@ -434,7 +449,7 @@ impl<D: Disk> FileBytes<D> {
         let Some(file) = &self.file else {
             return Err(not_open());
         };
-        match put(&mut self.disk, file.file(), bytes, at as u64) {
+        match put(&mut self.disk, file.file_to_change()?, bytes, at as u64) {
             Ok(()) => {
                 self.front.put(at, bytes);
                 self.length = longer(self.length, end);
@@ -517,7 +532,7 @@ impl<D: Disk> Bytes for FileBytes<D> {
         let Some(file) = &self.file else {
             return Err(not_open());
         };
-        let ended = set_length(&mut self.disk, file.file(), count as u64);
+        let ended = set_length(&mut self.disk, file.file_to_change()?, count as u64);
         match &ended {
             Ok(()) => {
                 self.front.cut(count);

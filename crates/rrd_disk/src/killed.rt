@@ -8,8 +8,11 @@ ghost use Rattle.rrd_disk.specs.Kills.{are_failed, interrupted};
 ghost use Rattle.rrd_disk.specs.Runs.{IsKilledRun};
 ghost use Rattle.rrd_store.specs.Runs.{ByBatch, ByCommand};
 
-use crate::{Disk, Facts, FileRun, Noted, Opening, Place, Record, run_batch_at, run_command_at};
-use rrd_store::{FileBatchEnd, TaskFault};
+use crate::{
+    Disk, Facts, FileRun, Lock, LockResult, Noted, Opening, Place, Record, run_batch_at,
+    run_command_at,
+};
+use rrd_store::{Always, FileBatchEnd, TaskFault};
 use rrd_tool::Words;
 use std::alloc::Global;
 use std::io::{self, Error, ErrorKind, Read, Write};
@@ -69,13 +72,25 @@ impl<D: Disk> Disk for Killed<D> {
 
     type File = D::File;
 
+    type Pipe = D::Pipe;
+
     fn alloc(&self) -> Global {
         self.system.alloc()
     }
 
-    fn open(&mut self, path: &str, opening: Opening) -> io::Result<Option<D::File>> {
+    fn open(&mut self, opening: Opening) -> io::Result<Option<D::File>> {
         self.live()?;
-        self.system.open(path, opening)
+        self.system.open(opening)
+    }
+
+    fn open_pipe(&mut self) -> io::Result<Option<D::Pipe>> {
+        self.live()?;
+        self.system.open_pipe()
+    }
+
+    fn try_lock(&mut self, file: &D::File, lock: Lock) -> io::Result<LockResult> {
+        self.live()?;
+        self.system.try_lock(file, lock)
     }
 
     fn facts(&mut self, file: &D::File) -> io::Result<Facts> {
@@ -83,13 +98,13 @@ impl<D: Disk> Disk for Killed<D> {
         self.system.facts(file)
     }
 
-    fn facts_at(&mut self, path: &str) -> io::Result<Option<Facts>> {
+    fn facts_at(&mut self) -> io::Result<Option<Facts>> {
         self.live()?;
-        self.system.facts_at(path)
+        self.system.facts_at()
     }
 
-    fn is_there(&self, path: &str) -> bool {
-        self.calls_left == 0 || self.system.is_there(path)
+    fn has_directory(&self) -> bool {
+        self.calls_left == 0 || self.system.has_directory()
     }
 
     fn read_at(&mut self, file: &D::File, bytes: &mut [u8], at: u64) -> io::Result<usize> {
@@ -97,9 +112,9 @@ impl<D: Disk> Disk for Killed<D> {
         self.system.read_at(file, bytes, at)
     }
 
-    fn read_pipe(&mut self, file: &mut D::File, bytes: &mut [u8]) -> io::Result<usize> {
+    fn read_pipe(&mut self, pipe: &mut D::Pipe, bytes: &mut [u8]) -> io::Result<usize> {
         self.live()?;
-        self.system.read_pipe(file, bytes)
+        self.system.read_pipe(pipe, bytes)
     }
 
     fn write_at(&mut self, file: &D::File, bytes: &[u8], at: u64) -> io::Result<usize> {
@@ -208,5 +223,5 @@ pub fn run_batch_killed<D: Disk, R: Read, W: Write>(
         })) }
 {
     let killed = Killed::new(disk, calls);
-    run_batch_at(alloc, killed, place, now, numbered, reader, out)
+    run_batch_at(alloc, killed, place, now, numbered, reader, out, &Always)
 }

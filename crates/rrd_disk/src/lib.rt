@@ -2,6 +2,7 @@
 //! The caller provides the calls of the system, so that the program and a library for C write files by the same code.
 #![tactic(auto)]
 
+mod begun;
 mod cause;
 mod disk;
 mod file_bytes;
@@ -19,11 +20,13 @@ mod runs;
 mod settings;
 mod storage;
 
+pub use begun::Begun;
 pub use cause::Cause;
-pub use disk::{Disk, DiskFile, Facts, Kind, Lock, Opening};
+pub use disk::{Disk, DiskFile, Facts, Kind, Lock, LockResult, Opening};
 pub use killed::{Killed, run_batch_killed, run_command_killed};
+pub use locks::note_lock;
 pub use open_file::{OpenFault, OpenFile};
-pub use place::{Location, OwnPlace, Place};
+pub use place::{Location, OwnPlace, Place, directory_of};
 pub use record::{Noted, Record};
 pub use rrd_undo::Syncs;
 pub use runs::{FileRun, run_batch_at, run_command_at};

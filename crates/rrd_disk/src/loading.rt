@@ -103,10 +103,11 @@ pub(crate) fn load<D: Disk>(
 pub(crate) fn load_pipe<D: Disk>(
     alloc: Global,
     file: &mut FileBytes<D>,
-    pipe: &mut D::File,
+    pipe: &mut D::Pipe,
     cause: &Cause,
 ) -> Result<Option<Database>, TaskFault>
     ensures falls { Falls (D.events file.old.disk) (D.events file.new.disk) }
+    ensures syncs { file.new.syncs ≡ file.old.syncs }
     ensures same { KeepsHeld (D.events file.old.disk) (D.events file.new.disk) }
     ensures finds { (s : World) → IsTrue (is_honest_after s (D.events file.new.disk)) → (bytes : List ℕ) → Finds (Some (Bytes bytes)) result }
     ensures valid { Finds None result }

@@ -1,20 +1,15 @@
 //! The advisory lock on an open file.
-ghost use Rattle.std.specs.Prelude.{◌≡◌, ◌+◌, IfSome};
+ghost use Rattle.std.specs.Prelude.{◌≡◌, ◌+◌, ◌∷◌, IfOk, IfSome, OnErr, OnOk, false};
+ghost use Rattle.rrd_disk.specs.Calls.{Falls, KeepsHeld};
+ghost use Rattle.rrd_disk.specs.Locks.{GuardsFor, locked};
+ghost use Rattle.rrd_disk.specs.Power.{KeepsDisk};
+ghost use Rattle.rrd_disk.specs.declared.disk.Lock.TheVariants.{Own};
 
-use crate::{Disk, DiskFile, Lock, Settings};
+use crate::{Disk, DiskFile, Lock, LockResult, Noted, Record, Settings};
 use std::io::{self, Error, ErrorKind};
 
 /// The longest pause between two tries, in milliseconds.
 const MAX_PAUSE: u64 = 50;
-
-/// The result of a try to lock a file.
-#[derive(Clone, Copy, Debug, PartialEq, Eq)]
-enum LockResult {
-    /// This program holds the lock.
-    Taken,
-    /// The file system has no locks.
-    NoLocks,
-}
 
 /// The pauses between the tries, in milliseconds: each pause is twice as long as the pause before, up to 50.
 #[derive(Drop)]
@@ -53,6 +48,8 @@ impl Pauses {
 /// the meantime has the file open too, and would hold the lock for as long as that process lives.
 pub(crate) struct LockedFile<F: DiskFile> {
     file: F,
+    // The lock that the run asked for.
+    lock: Lock,
     lock_result: LockResult,
 }
 
@@ -60,6 +57,27 @@ impl<F: DiskFile> LockedFile<F> {
     /// Returns the open file.
     pub(crate) fn file(&self) -> &F {
         &self.file
+    }
+
+    /// Returns the open file for a change.
+    ///
+    /// # Errors
+    ///
+    /// The run opened the file to read it, under a lock that it shares with other readers.
+    pub(crate) fn file_to_change(&self) -> io::Result<&F>
+        ensures { OnOk result (self.now.lock ≡ Own) }
+    {
+        match self.lock {
+            Lock::Own => Ok(&self.file),
+            Lock::Shared => Err(Error::from(ErrorKind::PermissionDenied)),
+        }
+    }
+
+    /// Checks whether the run opened the file for a change.
+    pub(crate) fn is_to_change(&self) -> bool
+        ensures { result ≡ false → self.now.lock ≡ Own → ⊥ }
+    {
+        self.lock == Lock::Own
     }
 
     /// Checks whether this run holds the lock. Without the lock another program may be changing the file.
@@ -70,7 +88,11 @@ impl<F: DiskFile> LockedFile<F> {
 
 impl<F: DiskFile> Drop for LockedFile<F> {
     fn drop(self) {
-        let LockedFile { file, lock_result } = self;
+        let LockedFile {
+            file,
+            lock: _lock,
+            lock_result,
+        } = self;
         if lock_result == LockResult::Taken {
             let _unlocked = file.unlock();
         }
@@ -98,18 +120,40 @@ fn is_to_be_tried_again(error: &Error) -> bool {
     matches!(error.kind(), ErrorKind::WouldBlock | ErrorKind::Interrupted)
 }
 
+/// Notes the answer to a call that tried to lock a file, for an implementation of [`Disk::try_lock`].
+pub fn note_lock(calls: &mut Record, lock: Lock, tried: io::Result<()>) -> io::Result<LockResult>
+    ensures ok { IfOk result (λ taken. calls.new.events ≡ locked lock taken ∷ calls.old.events) }
+    ensures err { OnErr result (calls.new.events ≡ calls.old.events) }
+{
+    match tried {
+        Ok(()) => {
+            calls.note(&Noted::Locked(lock));
+            Ok(LockResult::Taken)
+        }
+        Err(error) if has_no_locks(&error) => {
+            calls.note(&Noted::NoLocks);
+            Ok(LockResult::NoLocks)
+        }
+        Err(error) => Err(error),
+    }
+}
+
 // Locks a file, and tries again during the pauses while another program holds a lock.
 fn try_until_locked<D: Disk>(
-    disk: &D,
+    disk: &mut D,
     file: &D::File,
     lock: Lock,
     pauses: &mut Pauses,
-) -> io::Result<LockResult> {
+) -> io::Result<LockResult>
+    ensures falls { Falls (D.events disk.old) (D.events disk.new) }
+    ensures power { KeepsDisk (D.events disk.old) (D.events disk.new) }
+    ensures same { KeepsHeld (D.events disk.old) (D.events disk.new) }
+    ensures guard { OnOk result (GuardsFor lock (D.events disk.new)) }
+{
     for _ in 0..=Settings::MAX_WAIT {
-        match file.try_lock(lock) {
-            Ok(()) => return Ok(LockResult::Taken),
+        match disk.try_lock(file, lock) {
+            Ok(lock_result) => return Ok(lock_result),
             Err(error) if is_to_be_tried_again(&error) => {}
-            Err(error) if has_no_locks(&error) => return Ok(LockResult::NoLocks),
             Err(error) => return Err(error),
         }
         let Some(pause) = pauses.take() else {
@@ -127,11 +171,20 @@ fn try_until_locked<D: Disk>(
 /// - `WouldBlock` if another program held a lock at each try.
 /// - Another error if the system could not lock the file, for a reason other than that the file system has no locks.
 pub(crate) fn lock<D: Disk>(
-    disk: &D,
+    disk: &mut D,
     file: D::File,
     lock: Lock,
     pauses: &mut Pauses,
-) -> io::Result<LockedFile<D::File>> {
+) -> io::Result<LockedFile<D::File>>
+    ensures falls { Falls (D.events disk.old) (D.events disk.new) }
+    ensures power { KeepsDisk (D.events disk.old) (D.events disk.new) }
+    ensures same { KeepsHeld (D.events disk.old) (D.events disk.new) }
+    ensures guard { IfOk result (λ file. GuardsFor file.lock (D.events disk.new)) }
+{
     let lock_result = try_until_locked(disk, &file, lock, pauses)?;
-    Ok(LockedFile { file, lock_result })
+    Ok(LockedFile {
+        file,
+        lock,
+        lock_result,
+    })
 }

@@ -3,6 +3,8 @@ ghost use Rattle.std.specs.Prelude.{◌≡◌, ◌+◌, ◌<◌, ◌≤◌, ◌�
 ghost use Rattle.rrd_disk.specs.Fronts.{Begins};
 ghost use Rattle.std.specs.Io.{ReadsAtMost};
 ghost use Rattle.rrd_disk.specs.Calls.{Falls, IsGot, IsGotAtOnce, KeepsHeld, LeavesPart, LeavesSized, PlaceStays, opened};
+ghost use Rattle.rrd_disk.specs.declared.disk.Opening.TheVariants.{Read};
+ghost use Rattle.rrd_disk.specs.Locks.{KeepsGuard, is_guarded};
 ghost use Rattle.rrd_disk.specs.Power.{IsOnDisk, KeepsDisk, LeavesOnDisk, StoresOrNot};
 ghost use Rattle.rrd_disk.specs.Replayed.{World, bytes_after, held_after, is_honest_after};
 ghost use Rattle.rrd_undo.specs.Calls.{ArePut, IsSized};
@@ -12,17 +14,27 @@ use crate::{Disk, Opening};
 use rrd_fixed::TRIES;
 use std::io::{self, Error, ErrorKind};
 
-/// Opens the file at `path`. Returns `None` if there is no file, or no directory for a new one.
-pub(crate) fn open<D: Disk>(
-    disk: &mut D,
-    path: &str,
-    opening: Opening,
-) -> io::Result<Option<D::File>>
+/// Opens the file. Returns `None` if there is no file, or no directory for a new one.
+pub(crate) fn open<D: Disk>(disk: &mut D, opening: Opening) -> io::Result<Option<D::File>>
     ensures ok { IfOk result (λ file. D.events disk.new ≡ opened opening file ∷ D.events disk.old) }
     ensures err { OnErr result (D.events disk.new ≡ D.events disk.old) }
 {
     for _ in 0..TRIES {
-        match disk.open(path, opening) {
+        match disk.open(opening) {
+            Err(error) if error.kind() == ErrorKind::Interrupted => {}
+            ended => return ended,
+        }
+    }
+    Err(Error::from(ErrorKind::Interrupted))
+}
+
+/// Opens the file for reading, if it is a pipe. Returns `None` if there is no file.
+pub(crate) fn open_pipe<D: Disk>(disk: &mut D) -> io::Result<Option<D::Pipe>>
+    ensures ok { IfOk result (λ pipe. D.events disk.new ≡ opened Read pipe ∷ D.events disk.old) }
+    ensures err { OnErr result (D.events disk.new ≡ D.events disk.old) }
+{
+    for _ in 0..TRIES {
+        match disk.open_pipe() {
             Err(error) if error.kind() == ErrorKind::Interrupted => {}
             ended => return ended,
         }
@@ -32,6 +44,7 @@ pub(crate) fn open<D: Disk>(
 
 // Writes bytes from byte `at` on by one call, and returns the number of bytes that were written.
 fn put_some<D: Disk>(disk: &mut D, file: &D::File, bytes: &[u8], at: u64) -> io::Result<usize>
+    requires { IsTrue (is_guarded (D.events disk.old)) }
     ensures falls { Falls (D.events disk.old) (D.events disk.new) }
     ensures power { LeavesOnDisk (AreTorn at bytes.now) (D.events disk.old) (D.events disk.new) }
     ensures whole { IfOk result (λ n. (s : World) → IsTrue (is_honest_after s (D.events disk.new)) → n ≡ length bytes.now) }
@@ -39,6 +52,7 @@ fn put_some<D: Disk>(disk: &mut D, file: &D::File, bytes: &[u8], at: u64) -> io:
         → ArePut at bytes.now (bytes_after s (D.events disk.old)) (bytes_after s (D.events disk.new))) }
     ensures err { OnErr result (LeavesPart at bytes.now (D.events disk.old) (D.events disk.new)) }
     ensures place { PlaceStays (D.events disk.old) (D.events disk.new) }
+    ensures guard { KeepsGuard (D.events disk.old) (D.events disk.new) }
 {
     for _ in 0..TRIES {
         match disk.write_at(file, bytes, at) {
@@ -82,7 +96,8 @@ pub(crate) fn put<D: Disk>(
     bytes: &[u8],
     at: u64,
 ) -> Result<(), PutError>
-    requires { 0 < length bytes.now }
+    requires some { 0 < length bytes.now }
+    requires guarded { IsTrue (is_guarded (D.events disk.old)) }
     ensures falls { Falls (D.events disk.old) (D.events disk.new) }
     ensures power { LeavesOnDisk (AreTorn at bytes.now) (D.events disk.old) (D.events disk.new) }
     ensures ok { OnOk result ((s : World) → IsTrue (is_honest_after s (D.events disk.new))
@@ -90,6 +105,7 @@ pub(crate) fn put<D: Disk>(
     ensures err { OnErr result (LeavesPart at bytes.now (D.events disk.old) (D.events disk.new)) }
     ensures short { IfErr result (λ failed. IsTrue failed.is_cut_short → (s : World) → IsTrue (is_honest_after s (D.events disk.new)) → ⊥) }
     ensures place { PlaceStays (D.events disk.old) (D.events disk.new) }
+    ensures guard { KeepsGuard (D.events disk.old) (D.events disk.new) }
 {
     match put_some(disk, file, bytes, at) {
         Ok(count) if count >= bytes.len() => return Ok(()),
@@ -119,6 +135,7 @@ fn get_some<D: Disk>(disk: &mut D, file: &D::File, bytes: &mut [u8], at: u64) ->
     ensures same { KeepsHeld (D.events disk.old) (D.events disk.new) }
     ensures ok { IfOk result (λ n. (s : World) → IsTrue (is_honest_after s (D.events disk.new))
         → IsGotAtOnce (bytes_after s (D.events disk.old)) at n bytes.new) }
+    ensures guard { KeepsGuard (D.events disk.old) (D.events disk.new) }
 {
     for _ in 0..TRIES {
         match disk.read_at(file, bytes, at) {
@@ -144,6 +161,7 @@ pub(crate) fn get<D: Disk>(
     ensures same { KeepsHeld (D.events disk.old) (D.events disk.new) }
     ensures ok { IfOk result (λ n. (s : World) → IsTrue (is_honest_after s (D.events disk.new))
         → IsGot (bytes_after s (D.events disk.old)) at n bytes.new) }
+    ensures guard { KeepsGuard (D.events disk.old) (D.events disk.new) }
 {
     let mut count = 0;
     while count < bytes.len() {
@@ -179,20 +197,22 @@ pub(crate) fn get_behind<D: Disk>(
         → Begins (bytes_after s (D.events disk.old)) (take had bytes.old) → Begins (bytes_after s (D.events disk.old)) (take (had + n) bytes.new)) }
     ensures ends { IfOk result (λ n. (s : World) → IsTrue (is_honest_after s (D.events disk.new))
         → had + n < length bytes.new → length (bytes_after s (D.events disk.old)) ≤ had + n) }
+    ensures guard { KeepsGuard (D.events disk.old) (D.events disk.new) }
 {
     get(disk, file, &mut bytes[had..], had as u64)
 }
 
 // Reads the next bytes of a pipe by one call, and returns the number of bytes that were read: 0 at the end.
-fn get_some_next<D: Disk>(disk: &mut D, file: &mut D::File, bytes: &mut [u8]) -> io::Result<usize>
+fn get_some_next<D: Disk>(disk: &mut D, pipe: &mut D::Pipe, bytes: &mut [u8]) -> io::Result<usize>
     ensures bound { ReadsAtMost result bytes.new }
     ensures falls { Falls (D.events disk.old) (D.events disk.new) }
     ensures power { KeepsDisk (D.events disk.old) (D.events disk.new) }
     ensures same { KeepsHeld (D.events disk.old) (D.events disk.new) }
     ensures none { OnOk result ((s : World) → IsTrue (is_honest_after s (D.events disk.new)) → ⊥) }
+    ensures guard { KeepsGuard (D.events disk.old) (D.events disk.new) }
 {
     for _ in 0..TRIES {
-        match disk.read_pipe(file, bytes) {
+        match disk.read_pipe(pipe, bytes) {
             Err(error) if error.kind() == ErrorKind::Interrupted => {}
             ended => return ended,
         }
@@ -205,7 +225,7 @@ fn get_some_next<D: Disk>(disk: &mut D, file: &mut D::File, bytes: &mut [u8]) ->
 /// Returns the number of bytes that were read.
 pub(crate) fn get_next<D: Disk>(
     disk: &mut D,
-    file: &mut D::File,
+    pipe: &mut D::Pipe,
     bytes: &mut [u8],
 ) -> io::Result<usize>
     ensures bound { ReadsAtMost result bytes.new }
@@ -213,11 +233,12 @@ pub(crate) fn get_next<D: Disk>(
     ensures power { KeepsDisk (D.events disk.old) (D.events disk.new) }
     ensures same { KeepsHeld (D.events disk.old) (D.events disk.new) }
     ensures none { OnOk result (0 < length bytes.old → (s : World) → IsTrue (is_honest_after s (D.events disk.new)) → ⊥) }
+    ensures guard { KeepsGuard (D.events disk.old) (D.events disk.new) }
 {
     let mut count = 0;
     while count < bytes.len() {
         let rest = bytes.len() - count;
-        let more = get_some_next(disk, file, &mut bytes[count..])?;
+        let more = get_some_next(disk, pipe, &mut bytes[count..])?;
         if more == 0 {
             break;
         }
@@ -232,18 +253,21 @@ pub(crate) fn measure<D: Disk>(disk: &mut D, file: &D::File) -> io::Result<u64>
     ensures power { KeepsDisk (D.events disk.old) (D.events disk.new) }
     ensures same { KeepsHeld (D.events disk.old) (D.events disk.new) }
     ensures ok { IfOk result (λ n. (s : World) → IsTrue (is_honest_after s (D.events disk.new)) → n ≡ length (bytes_after s (D.events disk.old))) }
+    ensures guard { KeepsGuard (D.events disk.old) (D.events disk.new) }
 {
     Ok(disk.facts(file)?.length)
 }
 
 /// Sets the length of the file.
 pub(crate) fn set_length<D: Disk>(disk: &mut D, file: &D::File, length: u64) -> io::Result<()>
+    requires { IsTrue (is_guarded (D.events disk.old)) }
     ensures falls { Falls (D.events disk.old) (D.events disk.new) }
     ensures power { LeavesOnDisk (IsSizedOrNot length) (D.events disk.old) (D.events disk.new) }
     ensures ok { OnOk result ((s : World) → IsTrue (is_honest_after s (D.events disk.new))
         → IsSized length (bytes_after s (D.events disk.old)) (bytes_after s (D.events disk.new))) }
     ensures err { OnErr result (LeavesSized length (D.events disk.old) (D.events disk.new)) }
     ensures place { PlaceStays (D.events disk.old) (D.events disk.new) }
+    ensures guard { KeepsGuard (D.events disk.old) (D.events disk.new) }
 {
     for _ in 0..TRIES {
         match disk.set_length(file, length) {
@@ -260,6 +284,7 @@ pub(crate) fn sync<D: Disk>(disk: &mut D, file: &D::File) -> io::Result<()>
     ensures power { StoresOrNot (D.events disk.old) (D.events disk.new) }
     ensures same { KeepsHeld (D.events disk.old) (D.events disk.new) }
     ensures stored { OnOk result (IsOnDisk (D.events disk.new)) }
+    ensures guard { KeepsGuard (D.events disk.old) (D.events disk.new) }
 {
     for _ in 0..TRIES {
         match disk.sync(file) {

@@ -1,11 +1,12 @@
 //! Opens a file and locks it, so that the path still names the file when the lock is held.
 ghost use Rattle.std.specs.Prelude.{◌≡◌, IfOk, None};
 ghost use Rattle.rrd_disk.specs.Calls.{Falls, KeepsHeld, KeepsHeldFor};
+ghost use Rattle.rrd_disk.specs.Locks.{GuardsOpened, GuardsOpenedIf, KeepsGuard};
 ghost use Rattle.rrd_disk.specs.Openings.{IsNone, IsThere, Says, SaysIf};
 ghost use Rattle.rrd_disk.specs.Power.{KeepsDisk};
 
 use crate::locks::{LockedFile, Pauses, lock};
-use crate::once::open;
+use crate::once::{open, open_pipe};
 use crate::{Disk, DiskFile, Facts, Kind, Lock, Opening};
 use std::io::{self, Error, ErrorKind};
 
@@ -14,11 +15,11 @@ const OPENINGS: u32 = 100;
 
 /// The result of opening a file.
 #[derive(Drop)]
-pub(crate) enum Opened<F: DiskFile> {
+pub(crate) enum Opened<F: DiskFile, P: Drop> {
     /// A regular file that is locked, and its length.
     Regular(LockedFile<F>, u64),
     /// A pipe without a name, which is only read, and has no lock.
-    Pipe(F),
+    Pipe(P),
     /// There is no file, or no directory for a new one.
     Missing,
     /// There is a file that the system does not open for this purpose, for this reason.
@@ -51,15 +52,15 @@ fn openable_kind(facts: &Facts, opening: Opening) -> io::Result<Kind> {
     }
 }
 
-// Returns the kind of the file at a path, if a file of this kind may be opened; `None` if there is no file. The system is
-// asked before the file is opened: to open a pipe with a name would wait for a program at the pipe's other end.
-fn kind_at<D: Disk>(disk: &mut D, path: &str, opening: Opening) -> io::Result<Option<Kind>>
+// Returns the kind of the file, if a file of this kind may be opened; `None` if there is no file. The system is asked
+// before the file is opened: to open a pipe with a name would wait for a program at the pipe's other end.
+fn kind_at<D: Disk>(disk: &mut D, opening: Opening) -> io::Result<Option<Kind>>
     ensures falls { Falls (D.events disk.old) (D.events disk.new) }
     ensures power { KeepsDisk (D.events disk.old) (D.events disk.new) }
     ensures same { KeepsHeld (D.events disk.old) (D.events disk.new) }
     ensures none { IfOk result (λ kind. kind ≡ None → IsNone (D.events disk.new)) }
 {
-    match disk.facts_at(path)? {
+    match disk.facts_at()? {
         Some(facts) => Ok(Some(openable_kind(&facts, opening)?)),
         // The system creates a regular file.
         None if opening == Opening::Make => Ok(Some(Kind::Regular)),
@@ -67,13 +68,14 @@ fn kind_at<D: Disk>(disk: &mut D, path: &str, opening: Opening) -> io::Result<Op
     }
 }
 
-// Checks whether a path names the regular file with these facts.
-fn names<D: Disk>(disk: &mut D, path: &str, facts: &Facts) -> io::Result<bool>
+// Checks whether the path names the regular file with these facts.
+fn names<D: Disk>(disk: &mut D, facts: &Facts) -> io::Result<bool>
     ensures falls { Falls (D.events disk.old) (D.events disk.new) }
     ensures power { KeepsDisk (D.events disk.old) (D.events disk.new) }
     ensures same { KeepsHeld (D.events disk.old) (D.events disk.new) }
+    ensures guard { KeepsGuard (D.events disk.old) (D.events disk.new) }
 {
-    match disk.facts_at(path)? {
+    match disk.facts_at()? {
         Some(named) => Ok(
             facts.kind == Kind::Regular
                 && named.device == facts.device
@@ -86,53 +88,68 @@ fn names<D: Disk>(disk: &mut D, path: &str, facts: &Facts) -> io::Result<bool>
 // Locks an open file. Returns `None` if the path then names another file.
 fn lock_named<D: Disk>(
     disk: &mut D,
-    path: &str,
     file: D::File,
     opening: Opening,
     pauses: &mut Pauses,
-) -> io::Result<Option<Opened<D::File>>>
+) -> io::Result<Option<Opened<D::File, D::Pipe>>>
     ensures falls { Falls (D.events disk.old) (D.events disk.new) }
     ensures power { KeepsDisk (D.events disk.old) (D.events disk.new) }
     ensures same { KeepsHeld (D.events disk.old) (D.events disk.new) }
     ensures says { IfOk result (λ opened. IsThere (D.events disk.old) → SaysIf opened (D.events disk.new)) }
+    ensures guard { IfOk result (λ opened. GuardsOpenedIf opened (D.events disk.new)) }
 {
     let locked = lock(disk, file, lock_for(opening), pauses)?;
     let facts = disk.facts(locked.file())?;
-    if !names(disk, path, &facts)? {
+    if !names(disk, &facts)? {
         return Ok(None);
     }
     Ok(Some(Opened::Regular(locked, facts.length)))
 }
 
-// Opens the file at a path once, and locks the file. Returns `None` if the path then names another file.
+// Opens the file, which is a pipe.
+fn pipe_opened<D: Disk>(disk: &mut D) -> Opened<D::File, D::Pipe>
+    ensures falls { Falls (D.events disk.old) (D.events disk.new) }
+    ensures power { KeepsDisk (D.events disk.old) (D.events disk.new) }
+    ensures same { KeepsHeld (D.events disk.old) (D.events disk.new) }
+    ensures says { Says result (D.events disk.new) }
+    ensures guard { GuardsOpened result (D.events disk.new) }
+{
+    match open_pipe(disk) {
+        Ok(Some(pipe)) => Opened::Pipe(pipe),
+        Ok(None) => Opened::Missing,
+        Err(error) => Opened::Refused(error),
+    }
+}
+
+// Opens the file once, and locks the file. Returns `None` if the path then names another file.
 fn open_once<D: Disk>(
     disk: &mut D,
-    path: &str,
     opening: Opening,
     pauses: &mut Pauses,
-) -> io::Result<Option<Opened<D::File>>>
+) -> io::Result<Option<Opened<D::File, D::Pipe>>>
     ensures falls { Falls (D.events disk.old) (D.events disk.new) }
     ensures power { KeepsDisk (D.events disk.old) (D.events disk.new) }
     ensures same { KeepsHeldFor opening (D.events disk.old) (D.events disk.new) }
     ensures says { IfOk result (λ opened. SaysIf opened (D.events disk.new)) }
+    ensures guard { IfOk result (λ opened. GuardsOpenedIf opened (D.events disk.new)) }
 {
-    let Some(kind) = kind_at(disk, path, opening)? else {
+    let Some(kind) = kind_at(disk, opening)? else {
         return Ok(Some(Opened::Missing));
     };
-    let found = match open(disk, path, opening) {
+    if kind == Kind::Pipe {
+        return Ok(Some(pipe_opened(disk)));
+    }
+    let found = match open(disk, opening) {
         Ok(found) => found,
         Err(error) => return Ok(Some(Opened::Refused(error))),
     };
     let Some(file) = found else {
         return Ok(Some(Opened::Missing));
     };
-    if kind == Kind::Pipe {
-        return Ok(Some(Opened::Pipe(file)));
-    }
-    lock_named(disk, path, file, opening, pauses)
+    lock_named(disk, file, opening, pauses)
 }
 
-/// Opens the file at a path, and locks the file: a reader shares the lock with other readers.
+/// Opens the file, and locks the file: a reader shares the lock with other readers.
 ///
 /// Another program may replace the file while this run waits for the lock. The run then opens the new file, so that no
 /// change goes to a file without a name. `wait` is the time in milliseconds for which the run waits in all.
@@ -144,18 +161,18 @@ fn open_once<D: Disk>(
 /// - The file cannot be locked, or another program replaced it each time.
 pub(crate) fn open_locked<D: Disk>(
     disk: &mut D,
-    path: &str,
     opening: Opening,
     wait: u64,
-) -> io::Result<Opened<D::File>>
+) -> io::Result<Opened<D::File, D::Pipe>>
     ensures falls { Falls (D.events disk.old) (D.events disk.new) }
     ensures power { KeepsDisk (D.events disk.old) (D.events disk.new) }
     ensures same { KeepsHeldFor opening (D.events disk.old) (D.events disk.new) }
     ensures says { IfOk result (λ opened. Says opened (D.events disk.new)) }
+    ensures guard { IfOk result (λ opened. GuardsOpened opened (D.events disk.new)) }
 {
     let mut pauses = Pauses::within(wait);
     for _ in 0..OPENINGS {
-        if let Some(opened) = open_once(disk, path, opening, &mut pauses)? {
+        if let Some(opened) = open_once(disk, opening, &mut pauses)? {
             return Ok(opened);
         }
     }

@@ -1,17 +1,14 @@
-//! The file of a storage: its path, and how runs use it.
+//! How runs use the file of a system, and the directory of a file.
 ghost use Rattle.std.specs.Prelude.{◌≡◌};
 ghost use Rattle.rrd_undo.specs.declared.tail.Syncs.{Syncs};
 
 use crate::{Cause, Settings};
-use std::alloc::{AllocError, Global};
+use std::path::Path;
 
-/// The file of a storage, and how runs use it.
+/// How runs use their file.
 pub trait Location: Drop {
     // When a run syncs the file.
     ghost syncs: { Self → Syncs };
-
-    /// Returns the path of the file.
-    fn path(&self) -> &str;
 
     /// Returns the settings by which a run uses the file.
     fn settings(&self) -> Settings
@@ -21,11 +18,9 @@ pub trait Location: Drop {
     fn cause(&self) -> &Cause;
 }
 
-/// The file of one run, and how the run uses it.
+/// How one run uses its file.
 #[derive(Clone, Copy)]
 pub struct Place<'a> {
-    /// The path of the file.
-    pub path: &'a str,
     /// The settings by which the run uses the file.
     pub settings: Settings,
     /// Receives the reason why a call on the file failed.
@@ -34,10 +29,6 @@ pub struct Place<'a> {
 
 impl<'a> Location for Place<'a> {
     ghost syncs = { λ place. place.settings.syncs };
-
-    fn path(&self) -> &str {
-        self.path
-    }
 
     fn settings(&self) -> Settings {
         self.settings
@@ -48,35 +39,25 @@ impl<'a> Location for Place<'a> {
     }
 }
 
-/// The file of several runs, and how the runs use it.
+/// How several runs use their file.
 #[derive(Drop)]
 pub struct OwnPlace {
-    path: String,
     settings: Settings,
     cause: Cause,
 }
 
 impl OwnPlace {
-    /// Creates the place of the file at `path`.
-    ///
-    /// # Errors
-    ///
-    /// Memory ran out for a copy of the path.
-    pub fn new(alloc: Global, path: &str, settings: Settings) -> Result<OwnPlace, AllocError> {
-        Ok(OwnPlace {
-            path: String::from_str(alloc, path)?,
+    /// Creates the place of a file that runs use by these settings.
+    pub fn new(settings: Settings) -> OwnPlace {
+        OwnPlace {
             settings,
             cause: Cause::new(),
-        })
+        }
     }
 }
 
 impl Location for OwnPlace {
     ghost syncs = { λ place. place.settings.syncs };
-
-    fn path(&self) -> &str {
-        self.path.as_str()
-    }
 
     fn settings(&self) -> Settings {
         self.settings
@@ -84,5 +65,14 @@ impl Location for OwnPlace {
 
     fn cause(&self) -> &Cause {
         &self.cause
+    }
+}
+
+/// Returns the directory of the file at `path`: an empty text if that is the current directory. Returns `None` if the path
+/// is empty, and names no file.
+pub fn directory_of(path: &str) -> Option<&str> {
+    match Path::new(path).parent() {
+        Some(directory) => Some(directory.as_str()),
+        None => None,
     }
 }

@@ -4,6 +4,7 @@ ghost use Rattle.std.specs.Borrow.{ftrue};
 ghost use Rattle.rrd_disk.specs.Events.{Event};
 ghost use Rattle.rrd_disk.specs.EventCode.{events_code};
 
+use crate::Lock;
 use std::marker::Model;
 
 /// A call on a file with its answer. Offsets, counts and lengths are in bytes.
@@ -15,6 +16,10 @@ pub enum Noted<'a> {
     Found,
     /// The file was opened, and made empty if there was none.
     Made,
+    /// The open file was locked so.
+    Locked(Lock),
+    /// The open file was to be locked, and its file system has no locks.
+    NoLocks,
     /// The file has so many bytes.
     Measured(u64),
     /// From the offset `at` on `wanted` bytes were wanted, and these came.
@@ -47,6 +52,7 @@ pub enum Noted<'a> {
 }
 
 /// The calls on a file so far, for clauses: `events` has the newest first.
+#[repr(C)]
 #[derive(Drop)]
 #[non_exhaustive]
 pub struct Record {
@@ -64,8 +70,15 @@ unsafe impl Send for Record {}
 impl Record {
     ghost use Rattle.rrd_disk.specs.Noting.{event_of};
 
+    /// Begins a record of no calls, for a program. A library, which has no runtime, begins one by [`crate::Begun::begin`].
+    pub fn of_program(_rt: &HostRuntime) -> Record
+        ensures { result.events ≡ [] }
+    {
+        Record::new()
+    }
+
     /// Begins a record of no calls.
-    pub fn new() -> Record
+    pub(crate) fn new() -> Record
         ensures { result.events ≡ [] }
     {
         Record {}

@@ -1,10 +1,11 @@
 //! Runs on the file at a path, each with the record of the calls that it made.
 ghost use Rattle.std.specs.Prelude.{◌≡◌, []};
+ghost use Rattle.rrd_disk.specs.OpenRuns.{IsAnyRun};
 ghost use Rattle.rrd_disk.specs.Runs.{IsRun};
 ghost use Rattle.rrd_store.specs.Runs.{ByBatch, ByCommand};
 
 use crate::{Disk, FileStorage, Place};
-use rrd_store::{FileBatchEnd, TaskFault, run_file_batch, run_file_command};
+use rrd_store::{FileBatchEnd, Gate, TaskFault, run_file_batch, run_file_command};
 use rrd_tool::Words;
 use std::alloc::Global;
 use std::io::{Read, Write};
@@ -30,7 +31,15 @@ pub fn run_command_at<D: Disk, W: Write>(
     now: u64,
     out: &mut W,
 ) -> FileRun<D, Result<(), TaskFault>>
-    ensures { D.events disk ≡ [] → IsRun (D.events result.disk)
+    ensures run { D.events disk ≡ [] → IsRun (D.events result.disk)
+        (ByCommand (record {
+          words = words.now;
+          now = now;
+          out_before = W.contents out.old;
+          out_after = W.contents out.new;
+          end = result.end;
+        })) }
+    ensures any { IsAnyRun
         (ByCommand (record {
           words = words.now;
           now = now;
@@ -48,9 +57,10 @@ pub fn run_command_at<D: Disk, W: Write>(
 }
 
 /// Runs each line of `reader` on the database in a file, as [`run_file_batch`] does on any storage, and closes the file.
+/// If `gate` does not allow the write, the batch ends as after a failed write.
 ///
 /// Theorem: as for [`run_command_at`].
-pub fn run_batch_at<D: Disk, R: Read, W: Write>(
+pub fn run_batch_at<D: Disk, R: Read, W: Write, G: Gate>(
     alloc: Global,
     disk: D,
     place: Place<'_>,
@@ -58,8 +68,19 @@ pub fn run_batch_at<D: Disk, R: Read, W: Write>(
     numbered: usize,
     reader: &mut R,
     out: &mut W,
+    gate: &G,
 ) -> FileRun<D, Result<FileBatchEnd, TaskFault>>
-    ensures { D.events disk ≡ [] → IsRun (D.events result.disk)
+    ensures run { D.events disk ≡ [] → IsRun (D.events result.disk)
+        (ByBatch (record {
+          now = now;
+          numbered = numbered;
+          in_before = R.remaining reader.old;
+          in_after = R.remaining reader.new;
+          out_before = W.contents out.old;
+          out_after = W.contents out.new;
+          end = result.end;
+        })) }
+    ensures any { IsAnyRun
         (ByBatch (record {
           now = now;
           numbered = numbered;
@@ -71,7 +92,7 @@ pub fn run_batch_at<D: Disk, R: Read, W: Write>(
         })) }
 {
     let mut storage = FileStorage::new(disk, place);
-    let end = run_file_batch(alloc, now, numbered, &mut storage, reader, out);
+    let end = run_file_batch(alloc, now, numbered, &mut storage, reader, out, gate);
     FileRun {
         end,
         disk: storage.into_disk(),

@@ -27,7 +27,6 @@ use rrd_undo::laws::files_without_marks_stand_for_themselves;
 use rrd_undo::{Bytes, Span as PageSpan, has_mark, replace, replace_where};
 use std::alloc::{AllocError, Global};
 use std::io::{self, Error, ErrorKind};
-use std::path::Path;
 
 /// The state of the file in a run.
 #[derive(Drop)]
@@ -57,7 +56,7 @@ enum Afterwards {
     Open,
 }
 
-/// The file at a path, as the storage of a database ([`Storage`]).
+/// The file of a system, as the storage of a database ([`Storage`]).
 #[derive(Drop)]
 pub struct FileStorage<D: Disk, L: Location> {
     bytes: FileBytes<D>,
@@ -66,6 +65,8 @@ pub struct FileStorage<D: Disk, L: Location> {
     found: Found,
     ghost readable: { IsReadable found (D.Disk.events bytes.disk) },
     ghost standing: { IsStanding found (D.Disk.events bytes.disk) },
+    // Whatever the run does, it syncs the file as its place says.
+    ghost syncing: { KeepsSyncs (L.Location.syncs place) bytes.syncs (D.Disk.events bytes.disk) },
 }
 
 // Returns why a file could not be read.
@@ -198,7 +199,7 @@ fn prepare<D: Disk>(alloc: Global, file: &mut FileBytes<D>, cause: &Cause) -> io
 }
 
 impl<D: Disk, L: Location> FileStorage<D, L> {
-    // Creates the storage for the file at a place.
+    // Creates the storage for the file of a system.
     fn at(disk: D, place: L, afterwards: Afterwards) -> FileStorage<D, L>
         ensures disk { result.bytes.disk ≡ disk }
         ensures syncs { result.bytes.syncs ≡ L.syncs place }
@@ -211,7 +212,7 @@ impl<D: Disk, L: Location> FileStorage<D, L> {
         }
     }
 
-    /// Creates the storage for the file at `place`, for one run. The storage notes at `place` why a call failed.
+    /// Creates the storage for the file of `disk`, for one run. The storage notes at `place` why a call failed.
     ///
     /// Makes no call of the system: [`Storage::load`] and [`Storage::replace`] do.
     pub fn new(disk: D, place: L) -> FileStorage<D, L>
@@ -221,7 +222,7 @@ impl<D: Disk, L: Location> FileStorage<D, L> {
         FileStorage::at(disk, place, Afterwards::Closed)
     }
 
-    /// Creates the storage for the file at `place`, for several runs, as [`FileStorage::new`] does for one.
+    /// Creates the storage for the file of `disk`, for several runs, as [`FileStorage::new`] does for one.
     ///
     /// The file stays open and locked after [`Storage::load`] for a change, and after [`Storage::replace`], until one of
     /// these calls fails. A file that is missing, or cannot be locked, written or repaired, is not loaded: nobody could
@@ -264,7 +265,7 @@ impl<D: Disk, L: Location> FileStorage<D, L> {
     }
 
     // Opens and locks the file, and reads its first part.
-    fn open(&mut self, opening: Opening) -> io::Result<Entry<D::File>>
+    fn open(&mut self, opening: Opening) -> io::Result<Entry<D::Pipe>>
         ensures falls { Falls (D.events self.old.bytes.disk) (D.events self.new.bytes.disk) }
         ensures power { KeepsDisk (D.events self.old.bytes.disk) (D.events self.new.bytes.disk) }
         ensures syncs { self.new.bytes.syncs ≡ self.old.bytes.syncs }
@@ -274,7 +275,7 @@ impl<D: Disk, L: Location> FileStorage<D, L> {
     {
         self.found = Found::Unopened;
         let wait = self.place.settings().wait;
-        match self.bytes.open(self.place.path(), opening, wait) {
+        match self.bytes.open(opening, wait) {
             Ok(Entry::Open) if self.is_shared() => Err(no_locks()),
             opened => opened,
         }
@@ -416,7 +417,7 @@ impl<D: Disk, L: Location> FileStorage<D, L> {
         ensures falls { Falls (D.events self.old.bytes.disk) (D.events self.new.bytes.disk) }
         ensures same { KeepsHeld (D.events self.old.bytes.disk) (D.events self.new.bytes.disk) }
     {
-        self.bytes.is_locked() && self.bytes.may_write(self.place.path())
+        self.bytes.is_locked() && self.bytes.may_write()
     }
 
     // Loads the database of a file with a mark, under a lock that readers share. If this run may write the file, the run
@@ -475,8 +476,8 @@ impl<D: Disk, L: Location> FileStorage<D, L> {
                 loaded
             }
             Ok(Entry::Missing) => self.miss(),
-            Ok(Entry::Pipe(mut file)) => {
-                let loaded = load_pipe(alloc, &mut self.bytes, &mut file, self.place.cause());
+            Ok(Entry::Pipe(mut pipe)) => {
+                let loaded = load_pipe(alloc, &mut self.bytes, &mut pipe, self.place.cause());
                 self.leave(unwritable);
                 loaded
             }
@@ -484,21 +485,11 @@ impl<D: Disk, L: Location> FileStorage<D, L> {
         }
     }
 
-    // Checks that the directory of a missing file exists. Without the directory the run could not create the file: a
-    // batch then fails before its first line, and not after its last line.
-    fn has_directory(&self) -> bool {
-        let Some(directory) = Path::new(self.place.path()).parent() else {
-            // The path is empty, and names no file.
-            return false;
-        };
-        // Without a directory before its name the file is in the current directory.
-        directory.as_str().is_empty() || self.bytes.disk().is_there(directory.as_str())
-    }
-
     // Checks whether a run may go on without a file, and create it. A file that is to stay open has to be there: a later
-    // run would take it for missing still.
+    // run would take it for missing still. Without a directory the run could not create the file: a batch then fails
+    // before its first line, and not after its last line.
     fn may_create(&self) -> bool {
-        self.afterwards == Afterwards::Closed && self.has_directory()
+        self.afterwards == Afterwards::Closed && self.bytes.disk().has_directory()
     }
 
     // Loads the database of a file under this run's own lock. If the run may not write the file, the run only reads it.
@@ -780,13 +771,13 @@ impl<D: Disk, L: Location> Storage for FileStorage<D, L> {
 
     fn replace(&mut self, bytes: &[u8]) -> io::Result<()> {
         let ended = self.write(bytes);
-        self.place.cause().note(&ended);
+        self.place.cause().note_write(&ended);
         ended
     }
 
     fn replace_where(&mut self, bytes: &[u8], changed: &[Span]) -> io::Result<()> {
         let ended = self.write_where(bytes, changed);
-        self.place.cause().note(&ended);
+        self.place.cause().note_write(&ended);
         ended
     }
 }

@@ -1,5 +1,5 @@
 -- The database that stays in memory is the one that reading the storage gives.
-use Rattle.std.proofs.Common.{◌≡◌, ◌∙◌, ℕ, Bool, true, false, List, Option, Some, None, Result, Ok, Err, IfSome, refl, sym, ap, subst}
+use Rattle.std.proofs.Common.{◌≡◌, ◌∙◌, ℕ, Bool, false, List, Option, Some, None, Result, Ok, Err, IfSome, refl, sym, ap, subst}
 use Rattle.rrd_spec.specs.Journal.Survivors.{Stored}
 use Rattle.rrd_spec.specs.Limits.{newest}
 use Rattle.rrd_file.specs.Faults.{IsValidStored}

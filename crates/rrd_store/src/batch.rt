@@ -112,13 +112,14 @@ pub(crate) fn run_on<P: Storage, R: Read, W: Write, G: Gate>(
 }
 
 // Reads the database, runs the lines, and writes the database that the lines left.
-fn run_over<P: Storage, R: Read, W: Write>(
+fn run_over<P: Storage, R: Read, W: Write, G: Gate>(
     alloc: Global,
     now: u64,
     numbered: usize,
     storage: &mut P,
     reader: &mut R,
     out: &mut W,
+    gate: &G,
 ) -> Result<FileBatchEnd, TaskFault>
     ensures falls { (s : Option Held) → P.is_honest s storage.new → P.is_honest s storage.old }
     ensures sound { (s : Option Held) → P.is_honest s storage.new → P.is_sound s storage.old
@@ -128,16 +129,14 @@ fn run_over<P: Storage, R: Read, W: Write>(
         (R.remaining reader.old) (R.remaining reader.new) (W.contents out.old) (W.contents out.new) result }
 {
     let database = storage.load(alloc, Access::ReadWrite)?;
-    let (end, _database) = run_on(
-        alloc, database, now, numbered, storage, reader, out, &Always,
-    );
+    let (end, _database) = run_on(alloc, database, now, numbered, storage, reader, out, gate);
     Ok(end)
 }
 
 /// Runs each line of `reader` on the database in `storage`, and writes the database at the end.
 ///
 /// Runs the lines as [`run_batch`] does. If `storage` has nothing, the batch starts without a database. If there is no
-/// database at the end, nothing is written.
+/// database at the end, nothing is written. If `gate` does not allow the write, the batch ends as after a failed write.
 /// `now` is the present time in seconds since 1970, `numbered` the maximum number of refused lines to list. Nobody else
 /// may change `storage` between the first read and the write.
 ///
@@ -145,13 +144,14 @@ fn run_over<P: Storage, R: Read, W: Write>(
 ///
 /// `File` or `CannotOpen` if no database can be read from `storage`. No line was read then, nothing was written, and
 /// `storage` is unchanged.
-pub fn run_file_batch<P: Storage, R: Read, W: Write>(
+pub fn run_file_batch<P: Storage, R: Read, W: Write, G: Gate>(
     alloc: Global,
     now: u64,
     numbered: usize,
     storage: &mut P,
     reader: &mut R,
     out: &mut W,
+    gate: &G,
 ) -> Result<FileBatchEnd, TaskFault>
     ensures falls { (s : Option Held) → P.is_honest s storage.new → P.is_honest s storage.old }
     ensures sound { (s : Option Held) → P.is_honest s storage.new → P.is_sound s storage.old
@@ -172,5 +172,5 @@ pub fn run_file_batch<P: Storage, R: Read, W: Write>(
         })) }
 {
     storage_runs_follow_specification();
-    run_over(alloc, now, numbered, storage, reader, out)
+    run_over(alloc, now, numbered, storage, reader, out, gate)
 }

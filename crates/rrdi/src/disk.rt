@@ -5,10 +5,12 @@
 ghost use Rattle.std.specs.Prelude.{◌≡◌, []};
 
 use crate::front::Front;
-use rrd_disk::{Disk, DiskFile, Facts, Kind, Lock, Noted, Opening, Record};
+use rrd_disk::{
+    Disk, DiskFile, Facts, Kind, Lock, LockResult, Noted, Opening, Record, directory_of, note_lock,
+};
 use std::alloc::Global;
 use std::fs::{self, File, Metadata};
-use std::io::{self, ErrorKind, Read};
+use std::io::{self, Error, ErrorKind, Read};
 use std::os::fd::AsRawFd;
 use std::os::unix::fs::{FileExt, FileTypeExt, MetadataExt};
 use std::thread::sleep;
@@ -17,24 +19,31 @@ use std::time::Duration;
 /// The highest number of a standard stream.
 const LAST_STREAM: i32 = 2;
 
-/// An open file of the system.
+/// The open file.
 #[derive(Drop)]
 pub(crate) struct HostFile {
     file: File,
 }
 
-impl DiskFile for HostFile {
-    fn try_lock(&self, lock: Lock) -> io::Result<()> {
-        match lock {
-            Lock::Shared => self.file.try_lock_shared()?,
-            Lock::Own => self.file.try_lock()?,
-        }
-        Ok(())
-    }
+/// The open pipe, if the file is one.
+#[derive(Drop)]
+pub(crate) struct HostPipe {
+    pipe: File,
+}
 
+impl DiskFile for HostFile {
     fn unlock(&self) -> io::Result<()> {
         self.file.unlock()
     }
+}
+
+// Tries once to lock an open file.
+fn try_lock(file: &File, lock: Lock) -> io::Result<()> {
+    match lock {
+        Lock::Shared => file.try_lock_shared()?,
+        Lock::Own => file.try_lock()?,
+    }
+    Ok(())
 }
 
 // Moves a file that took the number of a standard stream to a higher number. If the stream is closed, what the program
@@ -46,38 +55,40 @@ fn above_streams(file: File) -> io::Result<File> {
     file.try_clone()
 }
 
-/// The files of the system, with the record of the calls on the file of a run.
+/// The file at a path, by calls of the runtime, with the record of the calls on the file of a run.
 #[derive(Drop)]
 pub(crate) struct Host<'a> {
     rt: &'a HostRuntime,
+    path: &'a str,
     pub(crate) record: Record,
     /// The first bytes of the file, as far as the run has read them.
     pub(crate) front: Front,
 }
 
 impl<'a> Host<'a> {
-    /// Creates the system whose files the runtime opens. No call is noted so far.
-    pub(crate) fn new(rt: &'a HostRuntime) -> Host<'a>
+    /// Creates the system whose runtime opens the file at `path`. No call is noted so far.
+    pub(crate) fn new(rt: &'a HostRuntime, path: &'a str) -> Host<'a>
         ensures { result.record.events ≡ [] }
     {
         Host {
             rt,
-            record: Record::new(),
+            path,
+            record: Record::of_program(rt),
             front: Front::new(),
         }
     }
 
-    // Returns the kind of the file at a path, of which the system reports `known`.
-    fn kind_at(&self, path: &str, known: &Metadata) -> Kind {
-        if known.file_type().is_fifo() && self.is_without_name(path) {
+    // Returns the kind of the file, of which the system reports `known`.
+    fn kind_at(&self, known: &Metadata) -> Kind {
+        if known.file_type().is_fifo() && self.is_without_name() {
             return Kind::Pipe;
         }
         kind_of(known)
     }
 
-    // Checks whether a path, such as `/dev/stdin`, leads to an open file that has no name of its own.
-    fn is_without_name(&self, path: &str) -> bool {
-        match fs::canonicalize(self.rt, path) {
+    // Checks whether the path, such as `/dev/stdin`, leads to an open file that has no name of its own.
+    fn is_without_name(&self) -> bool {
+        match fs::canonicalize(self.rt, self.path) {
             Ok(_) => false,
             Err(error) => error.kind() == ErrorKind::NotFound,
         }
@@ -106,16 +117,14 @@ fn facts_of(kind: Kind, known: &Metadata) -> Facts {
 }
 
 // Opens the file at `path`. Returns `None` if there is no file, or no directory for a new one.
-fn open(rt: &HostRuntime, path: &str, opening: Opening) -> io::Result<Option<HostFile>> {
+fn open(rt: &HostRuntime, path: &str, opening: Opening) -> io::Result<Option<File>> {
     let found = File::options()
         .read(true)
         .write(opening != Opening::Read)
         .create(opening == Opening::Make)
         .open(rt, path);
     match found {
-        Ok(file) => Ok(Some(HostFile {
-            file: above_streams(file)?,
-        })),
+        Ok(file) => Ok(Some(above_streams(file)?)),
         Err(error) if error.kind() == ErrorKind::NotFound => Ok(None),
         Err(error) => Err(error),
     }
@@ -126,18 +135,39 @@ impl<'a> Disk for Host<'a> {
 
     type File = HostFile;
 
+    type Pipe = HostPipe;
+
     fn alloc(&self) -> Global {
         self.rt.alloc()
     }
 
-    fn open(&mut self, path: &str, opening: Opening) -> io::Result<Option<HostFile>> {
-        let found = open(self.rt, path, opening)?;
-        match (&found, opening) {
-            (None, _) => self.record.note(&Noted::Missing),
-            (Some(_), Opening::Make) => self.record.note(&Noted::Made),
-            (Some(_), Opening::Read | Opening::Write) => self.record.note(&Noted::Found),
+    fn open(&mut self, opening: Opening) -> io::Result<Option<HostFile>> {
+        let Some(file) = open(self.rt, self.path, opening)? else {
+            self.record.note(&Noted::Missing);
+            return Ok(None);
+        };
+        match opening {
+            Opening::Make => self.record.note(&Noted::Made),
+            Opening::Read | Opening::Write => self.record.note(&Noted::Found),
         }
-        Ok(found)
+        Ok(Some(HostFile { file }))
+    }
+
+    fn open_pipe(&mut self) -> io::Result<Option<HostPipe>> {
+        let Some(pipe) = open(self.rt, self.path, Opening::Read)? else {
+            self.record.note(&Noted::Missing);
+            return Ok(None);
+        };
+        // Another program may have put another file at the path since the run looked.
+        if !pipe.metadata()?.file_type().is_fifo() {
+            return Err(Error::from(ErrorKind::ResourceBusy));
+        }
+        self.record.note(&Noted::Found);
+        Ok(Some(HostPipe { pipe }))
+    }
+
+    fn try_lock(&mut self, file: &HostFile, lock: Lock) -> io::Result<LockResult> {
+        note_lock(&mut self.record, lock, try_lock(&file.file, lock))
     }
 
     fn facts(&mut self, file: &HostFile) -> io::Result<Facts> {
@@ -147,9 +177,9 @@ impl<'a> Disk for Host<'a> {
         Ok(facts)
     }
 
-    fn facts_at(&mut self, path: &str) -> io::Result<Option<Facts>> {
-        match fs::metadata(self.rt, path) {
-            Ok(known) => Ok(Some(facts_of(self.kind_at(path, &known), &known))),
+    fn facts_at(&mut self) -> io::Result<Option<Facts>> {
+        match fs::metadata(self.rt, self.path) {
+            Ok(known) => Ok(Some(facts_of(self.kind_at(&known), &known))),
             Err(error) if error.kind() == ErrorKind::NotFound => {
                 self.record.note(&Noted::Missing);
                 Ok(None)
@@ -158,8 +188,14 @@ impl<'a> Disk for Host<'a> {
         }
     }
 
-    fn is_there(&self, path: &str) -> bool {
-        match fs::metadata(self.rt, path) {
+    fn has_directory(&self) -> bool {
+        let Some(directory) = directory_of(self.path) else {
+            return false;
+        };
+        if directory.is_empty() {
+            return true;
+        }
+        match fs::metadata(self.rt, directory) {
             Ok(_) => true,
             // If the run may not look at it, something may be there.
             Err(error) => error.kind() != ErrorKind::NotFound,
@@ -180,8 +216,8 @@ impl<'a> Disk for Host<'a> {
         Ok(count)
     }
 
-    fn read_pipe(&mut self, file: &mut HostFile, bytes: &mut [u8]) -> io::Result<usize> {
-        let count = file.file.read(bytes)?;
+    fn read_pipe(&mut self, pipe: &mut HostPipe, bytes: &mut [u8]) -> io::Result<usize> {
+        let count = pipe.pipe.read(bytes)?;
         self.record.note(&Noted::Streamed);
         Ok(count)
     }

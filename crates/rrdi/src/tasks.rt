@@ -12,7 +12,7 @@ use crate::usage::text_of;
 use crate::{NO_MEMORY, USAGE_ERROR};
 use rrd_disk::{Cause, Place, run_batch_at, run_command_at};
 use rrd_fixed::write_bytes;
-use rrd_store::{TaskFault, USAGE, report_batch, report_command, report_file_batch};
+use rrd_store::{Always, TaskFault, USAGE, report_batch, report_command, report_file_batch};
 use rrd_tool::{Words, run_batch, write_error};
 use std::alloc::AllocError;
 use std::io::{BufWriter, Error, ErrorKind, Stdout};
@@ -114,7 +114,6 @@ where
     let cause = Cause::new();
     let ended = run(
         Place {
-            path,
             settings,
             cause: &cause,
         },
@@ -136,12 +135,13 @@ pub(crate) fn file_batch(rt: &HostRuntime, path: &str, words: &[String]) -> u8 {
     on_file(rt, path, words, |place, out| {
         let ran = run_batch_at(
             rt.alloc(),
-            Host::new(rt),
+            Host::new(rt, path),
             place,
             seconds_now(rt),
             0,
             &mut rt.stdin(),
             out,
+            &Always,
         );
         let fault = match &ran.end {
             Ok(end) => end.unstored,
@@ -168,7 +168,7 @@ pub(crate) fn single(rt: &HostRuntime, path: &str, command: &Words<'_>, words: &
     on_file(rt, path, words, |place, out| {
         let ran = run_command_at(
             rt.alloc(),
-            Host::new(rt),
+            Host::new(rt, path),
             place,
             command,
             seconds_now(rt),

@@ -2,7 +2,7 @@
 use super::single::{CREATE, assert_step};
 use super::storage::InMemory;
 use rrd_file::FileFault;
-use rrd_store::{Access, FileBatchEnd, TaskFault, run_file_batch};
+use rrd_store::{Access, Always, FileBatchEnd, TaskFault, run_file_batch};
 use rrd_tool::StreamFault;
 use std::alloc::Global;
 use std::test::Fail;
@@ -28,7 +28,15 @@ fn a_batch_over_a_place(rt: HostRuntime) -> Result<(), Fail> {
     let mut storage = InMemory::missing(alloc);
     let lines = format!(in alloc; "{CREATE}\nupdate 10:1\nlast\nnothing\n")?;
     let mut out = Vec::new(alloc);
-    let end = run_file_batch(alloc, 0, 0, &mut storage, &mut lines.as_bytes(), &mut out);
+    let end = run_file_batch(
+        alloc,
+        0,
+        0,
+        &mut storage,
+        &mut lines.as_bytes(),
+        &mut out,
+        &Always,
+    );
     assert_eq!(&rt; end.ok(), ended(alloc, 1, None, None));
     assert_eq!(&rt; out.as_slice(), b"10\nERROR: usage\n".as_slice());
     assert_eq!(&rt; storage.bytes.len(), 309);
@@ -44,7 +52,7 @@ fn a_batch_over_a_place(rt: HostRuntime) -> Result<(), Fail> {
         },
     );
     let mut out = Vec::new(alloc);
-    let end = run_file_batch(alloc, 0, 0, &mut storage, &mut input, &mut out);
+    let end = run_file_batch(alloc, 0, 0, &mut storage, &mut input, &mut out, &Always);
     assert_eq!(&rt; end.ok(), ended(alloc, 0, Some(StreamFault::Read), None));
     assert_eq!(&rt; out.as_slice(), b"10\n0\n".as_slice());
     assert_eq!(&rt; storage.bytes.len(), 224);
@@ -63,6 +71,7 @@ fn a_batch_that_stores_nothing(rt: HostRuntime) -> Result<(), Fail> {
         &mut storage,
         &mut b"last\n".as_slice(),
         &mut out,
+        &Always,
     );
     assert_eq!(&rt; end.ok(), ended(alloc, 1, None, None));
     assert!(&rt; storage.bytes.is_empty());
@@ -75,6 +84,7 @@ fn a_batch_that_stores_nothing(rt: HostRuntime) -> Result<(), Fail> {
         &mut storage,
         &mut b"last\n".as_slice(),
         &mut out,
+        &Always,
     );
     assert_eq!(&rt;
         end.ok(),
@@ -90,10 +100,10 @@ fn a_batch_over_other_bytes(rt: HostRuntime) -> Result<(), Fail> {
     let mut storage = InMemory::with(alloc, b"other bytes")?;
     let mut input = b"last\n".as_slice();
     let mut out = Vec::new(alloc);
-    let end = run_file_batch(alloc, 0, 0, &mut storage, &mut input, &mut out);
+    let end = run_file_batch(alloc, 0, 0, &mut storage, &mut input, &mut out, &Always);
     assert_eq!(&rt; end.err(), Some(TaskFault::File(FileFault::NotOurs)));
     storage.opens = false;
-    let end = run_file_batch(alloc, 0, 0, &mut storage, &mut input, &mut out);
+    let end = run_file_batch(alloc, 0, 0, &mut storage, &mut input, &mut out, &Always);
     assert_eq!(&rt; end.err(), Some(TaskFault::CannotOpen));
     assert_eq!(&rt; input.len(), 5);
     assert!(&rt; out.is_empty());
@@ -108,7 +118,15 @@ fn numbers_of_refused_lines(rt: HostRuntime) -> Result<(), Fail> {
     let mut storage = InMemory::missing(alloc);
     let lines = format!(in alloc; "{CREATE}\n\nupdate 5\nlast\nnothing\n")?;
     let mut out = Vec::new(alloc);
-    let end = run_file_batch(alloc, 0, 8, &mut storage, &mut lines.as_bytes(), &mut out)?;
+    let end = run_file_batch(
+        alloc,
+        0,
+        8,
+        &mut storage,
+        &mut lines.as_bytes(),
+        &mut out,
+        &Always,
+    )?;
     assert_eq!(&rt; end.refused, 2);
     assert_eq!(&rt; end.lines.as_slice(), [3, 5].as_slice());
     Ok(())

@@ -2,7 +2,7 @@
 //! batches and single commands, they tell the same and leave the same bytes. In a session, which keeps the bytes in
 //! memory and changes a few of them, each line leaves the bytes that it leaves alone.
 use super::storage::InMemory;
-use rrd_store::{report_command, run_file_batch, run_file_command};
+use rrd_store::{Always, report_command, run_file_batch, run_file_command};
 use std::alloc::{AllocError, Global};
 use std::process::Abort;
 use std::test::Fail;
@@ -182,6 +182,7 @@ impl Session {
             &mut self.storage,
             &mut input,
             &mut self.told,
+            &Always,
         )?;
         if end.stream.is_some() || end.unstored.is_some() {
             return Err(Fail::from("a batch ended early"));

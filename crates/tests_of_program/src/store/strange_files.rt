@@ -1,7 +1,7 @@
 //! Batches over the file of a database that no run makes, and files that a revert gives back.
 use super::storage::InMemory;
 use crate::shared::assert_bytes;
-use rrd_store::run_file_batch;
+use rrd_store::{Always, run_file_batch};
 use std::alloc::Global;
 use std::process::Abort;
 use std::test::Fail;
@@ -15,7 +15,15 @@ fn printed(
     lines: &str,
 ) -> Result<Vec<u8>, Fail> {
     let mut out = Vec::new(alloc);
-    let end = run_file_batch(alloc, 0, 0, storage, &mut lines.as_bytes(), &mut out)?;
+    let end = run_file_batch(
+        alloc,
+        0,
+        0,
+        storage,
+        &mut lines.as_bytes(),
+        &mut out,
+        &Always,
+    )?;
     assert_eq!(rt;
         (end.refused, end.stream, end.unstored),
         (0, None, None),

@@ -21,6 +21,6 @@ returns g c =
     ap (λ (l : List Event). l ++ g.D.Disk.events c.new-killed.result.system) c.new-killed.ensures.missed
     ∙ ap g.D.Disk.events c.new-killed.ensures.system ∙ none in
     record {
-      between = λ none. killed_run killed.missed.events events run killed.failed (c.run_batch_at.ensures (begun none));
-      within = λ none. interrupted_run killed.missed.events events run killed.failed (c.run_batch_at.ensures (begun none));
+      between = λ none. killed_run killed.missed.events events run killed.failed (c.run_batch_at.ensures.run (begun none));
+      within = λ none. interrupted_run killed.missed.events events run killed.failed (c.run_batch_at.ensures.run (begun none));
     }

@@ -16,6 +16,7 @@ loop-count-preserved g c =
       falls = search rules;
       same = search rules;
       power = search rules;
+      guard = search rules;
       got = λ s honest. rw all (more_so_far _ c.args.at c.loop-count.count more c.loop-count.bytes rest _ inv.few few
           (take-put_mid c.loop-count.count (length c.loop-count.bytes - c.loop-count.count) c.loop-count.bytes rest _ refl inv.few)
           (inv.got s (search rules)) (rw (from, inv.same s) at (c.in_ok-more.ensures.ok s honest)));

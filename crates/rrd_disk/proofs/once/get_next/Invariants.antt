@@ -1,6 +1,7 @@
 use Rattle.std.proofs.Common.{◌≡◌, ◌≤◌, ◌<◌, ◌-◌, length, IsTrue}
 use Rattle.rrd_disk.specs.Calls.{Falls, KeepsHeld}
 use Rattle.rrd_disk.specs.Replayed.{World, is_honest_after}
+use Rattle.rrd_disk.specs.Locks.{KeepsGuard}
 use Rattle.rrd_disk.specs.Power.{KeepsDisk}
 use Rattle.rrd_disk.proofs.once.get_next.Given as goal
 
@@ -11,6 +12,7 @@ invariant-loop-count g l = record {
   falls : Falls (g.D.Disk.events l.fn.disk) (g.D.Disk.events l.disk);
   same : KeepsHeld (g.D.Disk.events l.fn.disk) (g.D.Disk.events l.disk);
   power : KeepsDisk (g.D.Disk.events l.fn.disk) (g.D.Disk.events l.disk);
+  guard : KeepsGuard (g.D.Disk.events l.fn.disk) (g.D.Disk.events l.disk);
   none : 0 < l.count → (s : World) → IsTrue (is_honest_after s (g.D.Disk.events l.disk)) → ⊥;
 }
 

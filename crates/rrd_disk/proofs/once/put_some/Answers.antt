@@ -20,6 +20,7 @@ loop-preserved g c =
       leaves = put_again old mid new c.args.at c.args.bytes.now c.loop.invariant.leaves c.in-Err.ensures.err;
       place = put_again_place old mid new c.args.at c.args.bytes.now c.loop.invariant.place c.in-Err.ensures.err;
       power = put_failed_again old mid new c.args.at c.args.bytes.now c.loop.invariant.power c.in-Err.ensures.err;
+      guard = search rules;
     }
 
 pub loop-init : goal.loop-init
@@ -28,6 +29,7 @@ loop-init g c = record {
   leaves = search rules;
   place = search rules;
   power = leaves_none (AreTorn c.args.at c.args.bytes.now) (g.D.Disk.events c.args.disk.now) (g.D.Disk.events c.args.disk.now) (torn_none c.args.at c.args.bytes.now) (λ d w honest b left. left);
+  guard = search rules;
 }
 
 pub returns-in_default-clause-power : goal.returns-in_default-clause-power

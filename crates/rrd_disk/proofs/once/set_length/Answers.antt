@@ -1,3 +1,4 @@
+use Rattle.std.proofs.Common.{rules}
 use Rattle.rrd_disk.proofs.Calling.{sized_again, sized_again_falls, sized_again_place, sized_once}
 use Rattle.rrd_disk.proofs.Powering.{size_ended, size_failed_again}
 use Rattle.rrd_disk.proofs.once.set_length.Goals as goal
@@ -18,6 +19,7 @@ loop-preserved g c =
       leaves = sized_again old mid new c.args.length c.loop.invariant.leaves c.in-Err.ensures.err;
       place = sized_again_place old mid new c.args.length c.loop.invariant.place c.in-Err.ensures.err;
       power = size_failed_again old mid new c.args.length c.loop.invariant.power c.in-Err.ensures.err;
+      guard = search rules;
     }
 
 pub returns-in_default-clause-power : goal.returns-in_default-clause-power

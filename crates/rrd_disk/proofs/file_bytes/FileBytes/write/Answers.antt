@@ -13,4 +13,5 @@ invariant_of-self-in-Ok g c =
       measured = measures_longer c.args.self.now.length c.longer-self.result c.args.at c.in-Some.end c.args.bytes.now old new c.longer-self.ensures ends c.put.ensures.falls
           c.args.self.now.measured (λ s h. c.in-Ok.ensures.ok s h);
       owing = λ owes is s h. c.args.self.now.owing owes is s (c.put.ensures.falls s h);
+      guarded = search rules;
     }

@@ -6,6 +6,7 @@ use Rattle.rrd_disk.specs.Replayed.{bytes_after, held_after}
 use Rattle.rrd_disk.specs.Storing.{TellsMark}
 use Rattle.rrd_disk.proofs.Contents.{Laws}
 use Rattle.rrd_disk.proofs.Storing.{if_ok_at, there_standing, told_unmarked}
+use Rattle.rrd_disk.proofs.Surviving.{syncs_twice}
 use Rattle.rrd_disk.proofs.storage.FileStorage.keep.Goals as goal
 
 -- a file that represents a database, and has no mark, has this database
@@ -24,6 +25,8 @@ invariant_of-self g c =
       standing = λ stayed s honest.
           there_standing laws (held_after s (g.D.Disk.events c.is_marked.new.file.disk)) (λ denied.
           c.requires.has s (c.is_marked.ensures.falls s honest) (subst (λ (b : List ℕ). IsNoFile (settled b)) (c.is_marked.ensures.bytes s honest) denied));
+      syncing = syncs_twice (g.L.Location.syncs c.args.self.now.place) c.args.self.now.bytes.syncs c.is_marked.new.file.syncs (g.D.Disk.events c.args.self.now.bytes.disk) (g.D.Disk.events c.is_marked.new.file.disk)
+          c.is_marked.ensures.falls c.args.self.now.syncing c.is_marked.ensures.syncs;
     }
 
 -- the same file, which may have a mark
@@ -35,4 +38,6 @@ invariant_of-self-in-Ok-true g c =
       standing = λ stayed s honest.
           there_standing laws (held_after s (g.D.Disk.events c.is_marked.new.file.disk)) (λ denied.
           c.requires.has s (c.is_marked.ensures.falls s honest) (subst (λ (b : List ℕ). IsNoFile (settled b)) (c.is_marked.ensures.bytes s honest) denied));
+      syncing = syncs_twice (g.L.Location.syncs c.args.self.now.place) c.args.self.now.bytes.syncs c.is_marked.new.file.syncs (g.D.Disk.events c.args.self.now.bytes.disk) (g.D.Disk.events c.is_marked.new.file.disk)
+          c.is_marked.ensures.falls c.args.self.now.syncing c.is_marked.ensures.syncs;
     }

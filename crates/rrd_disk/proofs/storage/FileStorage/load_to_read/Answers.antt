@@ -11,7 +11,7 @@ returns-in-Ok-Pipe-clause-loads g c = rw c.leave-in-Ok-Pipe.ensures.disk (λ s h
     let new = g.D.Disk.events c.load_pipe-loaded.new.file.disk in
     let before = c.load_pipe-loaded.ensures.falls s honest in
     let same = c.open.ensures.same s in
-    let was : c.open.result ≡ Ok (Pipe c.in-Ok-Pipe.file) = cc in
-    let there = says_at c.open.result (Pipe c.in-Ok-Pipe.file) mid was c.open.ensures.says s before in
+    let was : c.open.result ≡ Ok (Pipe c.in-Ok-Pipe.pipe) = cc in
+    let there = says_at c.open.result (Pipe c.in-Ok-Pipe.pipe) mid was c.open.ensures.says s before in
     loaded_same c.load_pipe-loaded.result (held_after s old) (held_after s new) (c.load_pipe-loaded.ensures.same s ∙ same) sound
     (finds_there c.load_pipe-loaded.result (held_after s old) (open_kept (held_after s mid) (held_after s old) (sym same) there) (c.load_pipe-loaded.ensures.finds s honest)))

@@ -81,3 +81,11 @@ returns-clause-syncs g c =
 
 pub returns-in_err-open_to_write-clause-power : goal.returns-in_err-open_to_write-clause-power
 returns-in_err-open_to_write-clause-power g c = λ ordered d w honest is P holds all. c.open_to_write.ensures.power ordered d w honest is P all
+
+-- the run syncs as before
+pub invariant_of-self-clause-syncing : goal.invariant_of-self-clause-syncing
+invariant_of-self-clause-syncing g c =
+    let mid = g.D.Disk.events c.open_to_write.new.self.bytes.disk in
+    let new = g.D.Disk.events c.replace.new.file.disk in
+    syncs_twice (g.L.Location.syncs c.open_to_write.new.self.place) c.open_to_write.new.self.bytes.syncs c.replace.new.file.syncs mid new (falls_asked mid new (λ q. c.replace.ensures.falls (0 ∷ q)))
+    c.open_to_write.new.self.syncing (syncs_stay c.open_to_write.new.self.bytes.syncs c.replace.new.file.syncs mid new c.replace.ensures.falls)

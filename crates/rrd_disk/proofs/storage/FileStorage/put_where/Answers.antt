@@ -13,7 +13,7 @@ use Rattle.rrd_disk.proofs.Asking.{bytes_there, of_start, there_bytes}
 use Rattle.rrd_disk.proofs.Contents.{Laws, itself}
 use Rattle.rrd_disk.proofs.Spans.{agrees_there, differs_there}
 use Rattle.rrd_disk.proofs.Storing.{after_replacing, on_err, on_ok}
-use Rattle.rrd_disk.proofs.Surviving.{change_stored, change_survives}
+use Rattle.rrd_disk.proofs.Surviving.{change_stored, change_survives, syncs_twice}
 use Rattle.rrd_disk.proofs.storage.FileStorage.put_where.Goals as goal
 
 pub returns-clause-falls : goal.returns-clause-falls
@@ -88,3 +88,11 @@ returns-clause-stored g c = on_ok c.replace_where.result _ _ (λ safe ordered d 
 pub returns-clause-syncs : goal.returns-clause-syncs
 returns-clause-syncs g c =
     syncs_stay c.args.self.now.bytes.syncs c.replace_where.new.file.syncs (g.D.Disk.events c.args.self.now.bytes.disk) (g.D.Disk.events c.replace_where.new.file.disk) c.replace_where.ensures.falls
+
+-- the run syncs as before
+pub invariant_of-self-2-clause-syncing : goal.invariant_of-self-2-clause-syncing
+invariant_of-self-2-clause-syncing g c =
+    let old = g.D.Disk.events c.args.self.now.bytes.disk in
+    let new = g.D.Disk.events c.replace_where.new.file.disk in
+    syncs_twice (g.L.Location.syncs c.args.self.now.place) c.args.self.now.bytes.syncs c.replace_where.new.file.syncs old new (falls_asked old new (λ q. c.replace_where.ensures.falls (0 ∷ q)))
+    c.args.self.now.syncing (syncs_stay c.args.self.now.bytes.syncs c.replace_where.new.file.syncs old new c.replace_where.ensures.falls)

@@ -2,6 +2,7 @@ use Rattle.std.proofs.Common.{Err, ap, refl, subst, sym}
 use Rattle.rrd_disk.specs.Contents.{IsSound}
 use Rattle.rrd_disk.specs.Replayed.{bytes_after, bytes_of, held_after}
 use Rattle.rrd_disk.proofs.Storing.{finds_there, loaded_from, loaded_same, loaded_standing, open_kept, readable_kept, some_kept, standing_kept}
+use Rattle.rrd_disk.proofs.Surviving.{syncs_twice}
 use Rattle.rrd_disk.proofs.storage.FileStorage.read_marked.Goals as goal
 
 pub invariant_of-self : goal.invariant_of-self
@@ -10,6 +11,8 @@ invariant_of-self g c = record {
       c.find_standing.ensures.falls (λ s honest. ap bytes_of (c.find_standing.ensures.same s honest)) c.args.self.now.readable;
   standing = standing_kept c.args.self.now.found (g.D.Disk.events c.args.self.now.bytes.disk) (g.D.Disk.events c.find_standing.new.file.disk)
       c.find_standing.ensures.falls (λ s honest there. c.find_standing.ensures.same s honest) c.args.self.now.standing;
+  syncing = syncs_twice (g.L.Location.syncs c.args.self.now.place) c.args.self.now.bytes.syncs c.find_standing.new.file.syncs (g.D.Disk.events c.args.self.now.bytes.disk) (g.D.Disk.events c.find_standing.new.file.disk)
+      c.find_standing.ensures.falls c.args.self.now.syncing c.find_standing.ensures.syncs;
 }
 
 pub returns-in-Ok-clause-loads : goal.returns-in-Ok-clause-loads

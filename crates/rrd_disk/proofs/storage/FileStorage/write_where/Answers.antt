@@ -2,7 +2,7 @@ use Rattle.rrd_disk.proofs.Storing.{readable_kept, standing_kept}
 use Rattle.std.proofs.Common.{IsTrue, subst, sym}
 use Rattle.rrd_disk.specs.Power.{DiffersIn}
 use Rattle.rrd_disk.specs.Replayed.{World, held_after, is_honest_after}
-use Rattle.rrd_disk.proofs.Surviving.{became_after, became_where, changes_after, changes_where, differs_there}
+use Rattle.rrd_disk.proofs.Surviving.{became_after, became_where, changes_after, changes_where, differs_there, syncs_twice}
 use Rattle.rrd_disk.proofs.storage.FileStorage.write_where.Goals as goal
 
 pub invariant_of-self : goal.invariant_of-self
@@ -11,6 +11,8 @@ invariant_of-self g c = record {
       c.is_marked.ensures.falls c.is_marked.ensures.bytes c.args.self.now.readable;
   standing = standing_kept c.args.self.now.found (g.D.Disk.events c.args.self.now.bytes.disk) (g.D.Disk.events c.is_marked.new.file.disk)
       c.is_marked.ensures.falls c.is_marked.ensures.same c.args.self.now.standing;
+  syncing = syncs_twice (g.L.Location.syncs c.args.self.now.place) c.args.self.now.bytes.syncs c.is_marked.new.file.syncs (g.D.Disk.events c.args.self.now.bytes.disk) (g.D.Disk.events c.is_marked.new.file.disk)
+      c.is_marked.ensures.falls c.args.self.now.syncing c.is_marked.ensures.syncs;
 }
 
 pub returns-then-not-is_open-clause-power : goal.returns-then-not-is_open-clause-power
