@@ -219,7 +219,8 @@ class NoMemory(FaultCase):
             self.fed_to_its_end()
 
     def test_again_after_it_ran_out(self) -> None:
-        with mock.patch.object(self.feeder, "start_one", side_effect=MemoryError), self.failing(self.feeder, "start_due", 2):
+        self.feeder.start_one = mock.Mock(side_effect=MemoryError)  # type: ignore[method-assign]
+        with self.failing(self.feeder, "start_due", 2):
             self.fed_to_its_end()
 
     def test_no_memory_for_the_time(self) -> None:
@@ -230,7 +231,7 @@ class NoMemory(FaultCase):
 
             def read_all() -> None:
                 read()
-                enter.enter_context(self.failing(feeders.time, "monotonic", after))
+                enter.enter_context(self.failing(time, "monotonic", after))
             with contextlib.ExitStack() as enter, mock.patch.object(self.feeder, "read", read_all):
                 self.fed_to_its_end()
             self.assertIs(time.monotonic, real)
@@ -284,7 +285,7 @@ class Threads(FaultCase):
         self.with_start(refuse)
 
     def test_no_lock_for_a_thread(self) -> None:
-        with mock.patch.object(workers.threading, "Thread", side_effect=RuntimeError("can't allocate lock")):
+        with mock.patch("rrdi.feeding.workers.threading.Thread", side_effect=RuntimeError("no lock")):
             self.fed_to_its_end()
 
     def test_a_thread_that_begins_with_an_error(self) -> None:
