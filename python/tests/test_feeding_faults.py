@@ -219,7 +219,7 @@ class NoMemory(FaultCase):
             self.fed_to_its_end()
 
     def test_again_after_it_ran_out(self) -> None:
-        self.feeder.start_one = mock.Mock(side_effect=MemoryError)  # type: ignore[method-assign]
+        self.feeder.start_one = mock.Mock(side_effect=MemoryError)  # type: ignore[assignment]
         with self.failing(self.feeder, "start_due", 2):
             self.fed_to_its_end()
 
