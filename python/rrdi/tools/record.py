@@ -214,7 +214,8 @@ def keep_copies(file: str, last: int) -> None:
     """Copies the file if the newest copy is at least an hour older; renames the older copies.
 
     # Errors
-    Those of `last_of_copy`, and `OSError` if the file cannot be copied: the copies then stay as they are.
+    Those of `last_of_copy`, and `OSError` if the file cannot be copied, where the copies stay as they are, or if a copy
+    cannot be renamed, where the oldest may be gone.
     """
     if last - max(last_of_copy(f"{file}.1"), 0) < HOUR:
         return
