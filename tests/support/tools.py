@@ -27,8 +27,9 @@ class Tools:
     def run(self, *words: object, given: str = "", **env: str) -> Answer:
         """Runs a command. The name of one of rrdi's tools stands for the tool, and `rrdi` for the program."""
         name, *others = map(str, words)
-        tool = TOP / "tools" / name
-        command = [self.program.path] if name == "rrdi" else [sys.executable, str(tool)] if tool.is_file() else [name]
+        command = [self.program.path] if name == "rrdi" else [name]
+        if name.startswith("rrdi-"):
+            command = [sys.executable, str(TOP / "tools" / name)]
         with lines_in_memory(given) as source:
             try:
                 ran = subprocess.run([*command, *others], cwd=self.folder, env={**self.env, **env}, stdin=source,
