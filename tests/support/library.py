@@ -19,14 +19,16 @@ USAGE = TOP / "crates/rrd_store/src/usage.rt"
 EXPORTS = frozenset({"rrdi_run", "rrdi_batch", "rrdi_run_file", "rrdi_batch_file", "rrdi_open", "rrdi_run_open",
                      "rrdi_batch_open", "rrdi_update_open", "rrdi_fetch_open", "rrdi_close"})
 # The C functions that a library may call: memory, bytes, files, and errno. None ends the process or handles signals.
-MAY_CALL = frozenset({"malloc", "realloc", "free", "memcpy", "memmove", "memset", "memcmp", "bcmp", "strlen", "__errno_location",
+MAY_CALL = frozenset({"malloc", "realloc", "free", "memcpy", "memmove", "memset", "memcmp", "bcmp", "strlen",
+                      "__errno_location",
                       "open", "open64", "close", "read", "pread", "pread64", "pwrite", "pwrite64", "lseek", "lseek64",
                       "ftruncate", "ftruncate64", "fdatasync", "flock", "fcntl", "fcntl64", "statx", "realpath",
                       "nanosleep"})
 # What precedes the name of a system call that may have a bug.
 PLANTED = "planted_"
 # The functions of the compiler's own library, the linker and the start files: division of 128 bits, and those of each shared object.
-OF_LINKER = frozenset({"__udivti3", "__cxa_finalize", "__gmon_start__", "_ITM_deregisterTMCloneTable", "_ITM_registerTMCloneTable"})
+OF_LINKER = frozenset({"__udivti3", "__cxa_finalize", "__gmon_start__", "_ITM_deregisterTMCloneTable",
+                       "_ITM_registerTMCloneTable"})
 
 
 @dataclass(frozen=True)
@@ -42,12 +44,14 @@ class Library:
     def static(self) -> Path:
         return self.folder / "librrdi.a"
 
-    def program(self, name: str, source: str, *, static: bool = False, flags: tuple[str, ...] = (), more: tuple[str, ...] = ()
+    def program(self, name: str, source: str, *, static: bool = False, flags: tuple[str, ...] = (),
+                more: tuple[str, ...] = ()
                 ) -> Path:
         """Builds a program that uses the library, from a source in this folder."""
         path = self.folder / name
         linked = [str(self.static)] if static else [f"-L{self.folder}", "-lrrdi", f"-Wl,-rpath,{self.folder}"]
-        subprocess.run(["cc", "-Wall", "-Wextra", "-Werror", "-O1", "-g", *flags, f"-I{TOP / 'include'}", str(HERE / source), *linked,
+        subprocess.run(["cc", "-Wall", "-Wextra", "-Werror", "-O1", "-g", *flags, f"-I{TOP / 'include'}",
+                        str(HERE / source), *linked,
                         "-lpthread", *more, "-o", str(path)], check=True)
         return path
 
@@ -55,9 +59,11 @@ class Library:
         """Builds a copy of the static library that makes its system calls by planted_calls.c, in a new folder."""
         folder.mkdir()
         copy, calls = Library(folder), folder / "planted_calls.o"
-        subprocess.run(["cc", "-Wall", "-Wextra", "-Werror", "-O1", "-c", str(HERE / "planted_calls.c"), "-o", str(calls)], check=True)
+        subprocess.run(["cc", "-Wall", "-Wextra", "-Werror", "-O1", "-c", str(HERE / "planted_calls.c"), "-o",
+                        str(calls)], check=True)
         renamed = {name[len(PLANTED):] for name in names(calls, "--defined-only") if name.startswith(PLANTED)}
-        words = [f"--redefine-sym={name}={PLANTED}{name}" for name in sorted(renamed & names(self.static, "-g", "--undefined-only"))]
+        words = [f"--redefine-sym={name}={PLANTED}{name}" for name in sorted(renamed & names(self.static, "-g",
+                                                                                             "--undefined-only"))]
         subprocess.run(["objcopy", *words, str(self.static), str(copy.static)], check=True)
         subprocess.run(["ar", "rs", str(copy.static), str(calls)], check=True, stderr=subprocess.DEVNULL)
         return copy
