@@ -125,6 +125,7 @@ class Comparison:
         cut.batch(lines[:begun])
         data, cut.program = cut.held(), self.program
         if data and self.old is None:
+            same(data[:6], b"RRDI\0\2", "the mark and the version")
             data = as_version(1, data)
             put(cut.file, data)
         self.check.count("files of the first version", int(bool(data) and data[5] == 1))

@@ -108,8 +108,16 @@ def read_rrd(file: Path) -> RrdFile:
     return old
 
 
-def compared(move: Move, spoil: Callable[[RrdFile], None] = lambda old: None) -> Differing:
-    """Moves a file, and compares all its cells. `spoil` may change a cell of what is compared."""
+# Changes what a file of RRDtool is said to hold: a test of the comparison itself.
+Spoil = Callable[[RrdFile], None]
+
+
+def leave(old: RrdFile) -> None:
+    """Changes nothing."""
+
+
+def compared(move: Move, spoil: Spoil) -> Differing:
+    """Moves a file, and compares all its cells."""
     old, kind, differing = move.create(), move.case.kind, Differing()
     move.batch(batch_of(read_rrd(move.old), None, lambda note: None))
     spoil(old)
@@ -134,10 +142,14 @@ def pytest_generate_tests(metafunc: pytest.Metafunc) -> None:
 
 def test_files(numbers: range, program: Program, needs: Callable[..., None], tmp_path: Path, check: Check) -> None:
     needs("rrdtool")
+    move_files(numbers, program, tmp_path, check)
+
+
+def move_files(numbers: range, program: Program, folder: Path, check: Check, spoil: Spoil = leave) -> None:
     for number in numbers:
         case = random_case(number)
-        differing = compared(Move(program, case, tmp_path))
+        differing = compared(Move(program, case, folder), spoil)
         check.count(FILES)
         check.count(CELLS, differing.cells)
-        check(not differing.wrong,
-              f"file {number} ({case.kind}): {len(differing.wrong)} of {differing.cells} cells differ; {differing.wrong[:1]}")
+        check(not differing.wrong, f"file {number} ({case.kind}): {len(differing.wrong)} of {differing.cells} cells "
+                                   f"differ; {differing.wrong[:1]}")

@@ -126,7 +126,7 @@ def agree(tools: Tools, file: File, old: str) -> None:
         return
     said = tools.run("rrdi-compare", old, "new.rrdi").out
     found = re.findall(r"^(?:AVERAGE|MIN|MAX) \d+ s: ([1-9]\d*) cells, \1 agree$", said, re.MULTILINE)
-    tools.check(len(found) == file.agreeing, f"{len(found)} of {file.agreeing} archives agree: {said}")
+    tools.check.same(len(found), file.agreeing, f"the archives that agree: {said}")
 
 
 def rows(tools: Tools, file: str) -> "list[object]":
@@ -146,7 +146,8 @@ def test_there_and_back(name: str, tools: Tools, check: Check) -> None:
         batch = tools.expect(int(bool(file.notes)), note, "rrdi-import", *file.options.split(), "old.rrd")
     check.same(tools.run("rrdi", "batch", "new.rrdi", given=batch), (0, "", ""), "the batch")
     if file.options:
-        check("COUNTER" not in batch.replace("DS:", "") and f" {file.options} " in batch, f"the journal: {batch[:500]}")
+        shown = [word for word in ("--journal 3", "counter:COUNTER", "absolute:ABSOLUTE") if f" {word} " in batch]
+        check.same(len(shown), 3, f"the journal, and types that are set at the end: {batch}")
     agree(tools, file, "old.rrd")
     xml = tools.expect(0, "<rrd>", "rrdi-export", "new.rrdi")
     tools.expect(0, "", "rrdtool", "restore", "/dev/stdin", "back.rrd", given=xml)
@@ -192,7 +193,7 @@ def test_lines_of_rrdtool(tools: Tools, check: Check) -> None:
     check.same(printed["new"], printed["old"], "the output of the lines")
     check.count("lines of RRDtool", len(re.findall(r"^\$RRDTOOL", script.read_text(), re.MULTILINE)))
     files = sorted((tools.folder / "old").glob("*.rrd"))
-    check(len(files) > 5, f"files: {files}")
+    check.same([file.stem for file in files], ["df", "load", "requests", "temp", "test", "traffic"], "the files")
     for file in files:
         tools.expect(0, "agree", "rrdi-compare", f"old/{file.name}", f"new/{file.name}")
 
@@ -257,4 +258,4 @@ def test_the_reader_as_a_script(tools: Tools, check: Check) -> None:
     fetched = tools.expect(0, "", "rrdi", "fetch", "day.rrdi", "AVERAGE", "-r", 300, "-s", first - 300, "-e", last)
     wanted = re.findall(r"(?m)^(\d+): ([-0-9].*)$", fetched)
     check.same([(at, cells.replace(",", " ")) for at, cells in rows], wanted, "the rows of the reader")
-    check(len(wanted) == 249, f"{len(wanted)} known rows")
+    check.same(len(wanted), 249, "the number of known rows")

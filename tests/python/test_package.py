@@ -21,12 +21,17 @@ OF_TOOLS = ("test_feed_processes::Lines", "test_feed_processes::InProcess", "tes
 
 
 def test_tools_by_the_library(program: Program, library: Path, check: Check) -> None:
-    names = [f"{PACKAGE}/tests/{name.replace('::', '.py::')}" for name in OF_TOOLS]
-    words = ["-q", "--lacking", "-p", "no:xdist", f"--program={program.path}", f"--library={library}", *names]
-    # The tests of a process that xdist started would report to xdist.
+    check_tools(program.path, str(library), OF_TOOLS, check)
+
+
+def check_tools(program: str, library: str, names: "tuple[str, ...]", check: Check) -> None:
+    """Runs tests of tools by a library, in a process of pytest's own."""
+    tests = [f"{PACKAGE}/tests/{name.replace('::', '.py::')}" for name in names]
+    words = ["-q", "--lacking", f"--program={program}", f"--library={library}", *tests]
+    # Of a process of xdist they would take that they are one too.
     env = {name: value for name, value in os.environ.items() if not name.startswith("PYTEST_")}
-    ran = subprocess.run([sys.executable, "-m", "pytest", *words], cwd=TOP, env={**env, "RRDI_TOOLS_BY": str(library)},
-                         capture_output=True, text=True)
+    ran = subprocess.run([sys.executable, "-m", "pytest", *words], cwd=TOP, env={**env, "RRDI_TOOLS_BY": library},
+                         stdin=subprocess.DEVNULL, capture_output=True, text=True)
     passed = re.search(r"^(\d+) passed", ran.stdout, re.MULTILINE)
     check.count("tests of tools by the library", int(passed[1]) if passed else 0)
     check(ran.returncode == 0, f"{ran.stdout[-3_500:]}{ran.stderr[-500:]}")

@@ -21,7 +21,7 @@ class Tools:
     tools do."""
 
     def __init__(self, program: Program, folder: Path, check: Check) -> None:
-        self.program, self.folder, self.check = program, folder, check
+        self.program, self.folder, self.check, self.tools = program, folder, check, TOP / "tools"
         self.env = environment({"RRDI": program.path, "TZ": "UTC", "LC_ALL": "C", "PERL5LIB": str(TOP / "perl")})
 
     def run(self, *words: object, given: str = "", **env: str) -> Answer:
@@ -29,7 +29,7 @@ class Tools:
         name, *others = map(str, words)
         command = [self.program.path] if name == "rrdi" else [name]
         if name.startswith("rrdi-"):
-            command = [sys.executable, str(TOP / "tools" / name)]
+            command = [sys.executable, str(self.tools / name)]
         with lines_in_memory(given) as source:
             try:
                 ran = subprocess.run([*command, *others], cwd=self.folder, env={**self.env, **env}, stdin=source,
