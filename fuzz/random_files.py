@@ -11,8 +11,9 @@ SMALL, LARGE = (1, 2, 4, 9), (100, 240, 300, 700)
 # The limits of fields, and of amounts.
 EDGES = [0, 1, 2, 5, 6, 16, 63, 64, 65, 127, 128, 129, 1_000, 1_001, 100_000, 100_001, 999_999, 10**6, 10**6 + 1,
          9_999_999_999, 10**10, 2**15, 2**16 - 1, 2**31, 2**32 - 1, 2**63 - 1, 2**63, 2**64 - 1]
-AMOUNTS = [0, 1, -1, reader.TOP, reader.TOP + 1, -reader.TOP, -reader.TOP - 1, reader.UNKNOWN, reader.UNKNOWN + 1, 10**24,
-           10**24 - 1, -(10**24), 2**64, 2**64 - 1, 2**63, 2**63 - 1, -(2**63), -(2**63) - 1, 2 * reader.TOP, 10**6]
+AMOUNTS = [0, 1, -1, reader.TOP, reader.TOP + 1, -reader.TOP, -reader.TOP - 1, reader.UNKNOWN, reader.UNKNOWN + 1,
+           10**24, 10**24 - 1, -(10**24), 2**64, 2**64 - 1, 2**63, 2**63 - 1, -(2**63), -(2**63) - 1,
+           2 * reader.TOP, 10**6]
 NAME, AMOUNT = 20, 16  # bytes of such a field
 Field = "tuple[int, int]"  # where it begins, and its bytes
 
@@ -25,8 +26,8 @@ class RandomDatabase:
         self.last = chance.choice([0, 0, 999, 1_600_000_000])
         self.kinds = [chance.choice(reader.TYPES) for _ in range(sources)]
         self.names = [f"{'abc'[at]}{'x' * chance.choice([0, 3, 18])}" for at in range(sources)]
-        kinds = chance.sample([(function, steps) for function in reader.FUNCTIONS for steps in (1, 2, 5)], chance.randint(1, 3))
-        self.archives = [(*kind, chance.choice(lengths)) for kind in kinds]
+        kinds = [(function, steps) for function in reader.FUNCTIONS for steps in (1, 2, 5)]
+        self.archives = [(*kind, chance.choice(lengths)) for kind in chance.sample(kinds, chance.randint(1, 3))]
         self.rows = [rows for _, _, rows in self.archives]
 
     def create(self) -> str:
@@ -40,7 +41,9 @@ class RandomDatabase:
 
     def change(self) -> str:
         way = self.chance.random()
-        return (self.update if way < 0.6 else self.tune if way < 0.85 else self.archive if way < 0.92 else self.resize)()
+        if way < 0.85:
+            return self.update() if way < 0.6 else self.tune()
+        return self.archive() if way < 0.92 else self.resize()
 
     def update(self) -> str:
         return "update " + " ".join([self.sample() for _ in range(self.chance.randint(1, 4))])
@@ -140,7 +143,7 @@ def other_field(chance: random.Random, field: bytes) -> bytes:
 
 
 def damaged(chance: random.Random, data: bytes, fields: "list[Field]", others: "list[bytes]") -> bytes:
-    """Returns a file in which a byte or a field was changed, or bytes are missing, too many, or of another place or file."""
+    """Returns a file in which a byte or a field was changed, or bytes are missing, too many, or of another place."""
     way, (at, size) = chance.random(), chance.choice(fields)
     if way < 0.2:
         at = chance.randrange(len(data))

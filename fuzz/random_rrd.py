@@ -3,8 +3,8 @@
 Its kind says which cells must agree after a move to rrdi:
 
 - whole: no step is unknown. All archives have the same functions, and each row length divides the next one.
-- steps: steps are unknown because of U, gaps and bounds, and an archive of single steps has the whole time. All functions
-  but LAST.
+- steps: steps are unknown because of U, gaps and bounds, and an archive of single steps has the whole time. All
+  functions but LAST.
 - reach: as steps, but the archive of single steps is short: the rows that it covers.
 - munin: Munin's layout, with a DERIVE in bursts."""
 from __future__ import annotations

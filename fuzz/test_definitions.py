@@ -1,8 +1,9 @@
-"""Random batches print what docs/definitions.md says: in memory, and on a file, whole and cut into batches and commands.
+"""Random batches print what docs/definitions.md says: in memory, and on a file, whole and cut into batches and
+commands.
 
-`support/definitions.py` computes the definitions without any code of the program. The number of a batch is its seed, the
-same on each machine. A batch that differs is shown with as few commands as still differ. --seeds=FIRST:COUNT tries other
-batches. With --old-program=PATH an older program begins the files of the first version, in place of the layout."""
+`support/definitions.py` computes the definitions without any code of the program. The number of a batch is its seed,
+the same on each machine. A batch that differs is shown with as few commands as still differ. --seeds=FIRST:COUNT tries
+other batches. With --old-program=PATH an older program begins the files of the first version, not the layout."""
 from __future__ import annotations
 
 import random
@@ -86,8 +87,8 @@ class Session:
 
 
 class Comparison:
-    """Holds a program against the definitions. Each way of comparing takes the number of a batch, its lines, and the lines
-    that the definitions print; it raises `Differs`."""
+    """Holds a program against the definitions. Each way of comparing takes the number of a batch, its lines, and the
+    lines that the definitions print; it raises `Differs`."""
 
     def __init__(self, program: Program, old: Program | None, folder: Path, check: Check) -> None:
         self.program, self.old, self.folder, self.check = program, old, folder, check
@@ -117,8 +118,8 @@ class Comparison:
         self.check.count("bytes of files", len(cut.held() or b""))
 
     def on_an_older_file(self, number: int, lines: list[str], wanted: list[str]) -> None:
-        """A batch that began on a file of the first version leaves the file of a new batch, and so does each revert. The
-        first version knows no added or removed archive, so it has no lines after the first one that adds or removes."""
+        """A batch that began on a file of the first version leaves the file of a new batch, and so does each revert.
+        The first version knows no added or removed archive, so it has no line after one that adds or removes."""
         known = min([len(lines), *(at for at, line in enumerate(lines) if line.startswith("tune") and "RRA:" in line)])
         begun = random.Random(f"before {number}").randrange(known + 1)
         whole, cut = self.whole(lines, wanted), Session(self.old or self.program, self.folder / "cut")
@@ -140,7 +141,8 @@ class Comparison:
 
 
 WAYS: dict[str, Callable[[Comparison, int, list[str], list[str]], None]] = {
-    "in memory": Comparison.in_memory, "on a file": Comparison.on_a_file, "on an older file": Comparison.on_an_older_file}
+    "in memory": Comparison.in_memory, "on a file": Comparison.on_a_file,
+    "on an older file": Comparison.on_an_older_file}
 
 
 def difference(way: str, comparison: Comparison, number: int, commands: Sequence[Any]) -> str:

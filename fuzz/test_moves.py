@@ -1,7 +1,7 @@
 """Random files of RRDtool lose no row on the way to rrdi and back.
 
-Each cell must agree to a millionth and to the eleventh digit: in the new file, in the file that `rrdtool restore` creates
-from it, and, of gauges, in both after more samples. --seeds=FIRST:COUNT tries other files."""
+Each cell must agree to a millionth and to the eleventh digit: in the new file, in the file that `rrdtool restore`
+creates from it, and, of gauges, in both after more samples. --seeds=FIRST:COUNT tries other files."""
 from __future__ import annotations
 
 import math
@@ -34,15 +34,16 @@ class Differing:
 
     def compare(self, what: str, old: RrdFile, database: dict[str, Any], kind: str) -> None:
         for archive, new in zip(old.archives, database["archives"], strict=True):
-            assert (archive.function, archive.steps, archive.row_count) == (new["function"], new["steps"], len(new["rows"]))
+            wanted = archive.function, archive.steps, archive.row_count
+            assert wanted == (new["function"], new["steps"], len(new["rows"]))
             if kind in ("steps", "reach") and archive.function == "LAST":
                 continue
             for time, column, cell in cells_of(old, archive, new["rows"], kind):
-                wanted, found = archive.cell(time, column), None if cell is None else int(cell) / 1e6
+                before, after = archive.cell(time, column), None if cell is None else int(cell) / 1e6
                 self.cells += 1
-                if not agrees(wanted, found):
+                if not agrees(before, after):
                     self.wrong.append(f"{what}, {archive.function} of {archive.seconds} s at {time}, source {column}: "
-                                      f"{wanted!r} became {found!r}")
+                                      f"{before!r} became {after!r}")
 
 
 def cells_of(old: RrdFile, archive: Any, rows: list[dict[str, Any]], kind: str) -> Iterator[tuple[int, int, Any]]:
@@ -89,7 +90,8 @@ class Move:
 
     def restore(self) -> RrdFile:
         text = "\n".join(as_xml(rrdi.read(self.new.read_bytes())))
-        ran = subprocess.run(["rrdtool", "restore", "/dev/stdin", self.back], input=text, capture_output=True, text=True)
+        words = ["rrdtool", "restore", "/dev/stdin", self.back]
+        ran = subprocess.run(words, input=text, capture_output=True, text=True)
         assert (ran.returncode, ran.stderr) == (0, ""), f"rrdtool restore: {ran}"
         return read_rrd(self.back)
 

@@ -17,8 +17,8 @@ from support.random_batches import batch, text_of
 
 # ---- the definitions
 
-# Definitions that compute otherwise: halves go down, a counter wraps once only, a long name is good, the second bound of a
-# source does not count, and a sign is lost.
+# Definitions that compute otherwise: halves go down, a counter wraps once only, a long name is good, the second bound
+# of a source does not count, and a sign is lost.
 WRONG: "dict[str, Callable[..., Any]]" = {
     "near": lambda a, b: a // b,
     "rise": lambda old, new: new - old + (2**32 if new < old else 0),
@@ -77,8 +77,8 @@ NOT_OURS = error("file: not ours")
     (b"RRDX and more", (0, "", ""), "", False), (b"RRDCached notes of a user", (1, "", NOT_OURS), "", True),
     # A program that repairs a file that is not rrdi's.
     (b"RRDCached notes of a user", (1, "", NOT_OURS), 'printf RRDI | dd of="$2" conv=notrunc 2>/dev/null', False)))
-def test_wrong_readers(data: bytes, told: "tuple[int, str, str]", more: str, is_right: bool, tmp_path: Path, planted: Check
-                       ) -> None:
+def test_wrong_readers(data: bytes, told: "tuple[int, str, str]", more: str, is_right: bool, tmp_path: Path,
+                       planted: Check) -> None:
     fake = test_readers.Comparison(answering(tmp_path / "fake", *told, more), tmp_path / "file", planted)
     test_readers.compare_file(fake, "a", data, False)
     assert bool(planted.faults) != is_right
@@ -94,8 +94,8 @@ def spoil(old: RrdFile) -> None:
 
 
 @pytest.mark.parametrize("number", range(1, 5))
-def test_a_cell_that_was_changed(number: int, program: Program, needs: Callable[..., None], tmp_path: Path, planted: Check
-                                 ) -> None:
+def test_a_cell_that_was_changed(number: int, program: Program, needs: Callable[..., None], tmp_path: Path,
+                                 planted: Check) -> None:
     needs("rrdtool")
     test_moves.move_files(range(number, number + 1), program, tmp_path, planted, spoil)
     assert len(planted.faults) == 1

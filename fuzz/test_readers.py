@@ -91,13 +91,14 @@ class Comparison:
             same(f"a reverted {before['journal'][0]['change']}", after, reverted(before))
             self.check.count("reverts")
             before = after
-        same("one revert more than changes", self.program.run(["revert", self.file]), (1, "", "ERROR: nothing to revert\n"))
+        told = self.program.run(["revert", self.file])
+        same("one revert more than changes", told, (1, "", "ERROR: nothing to revert\n"))
 
 
 def reverted(before: "dict[str, Any]") -> "dict[str, Any]":
     """Returns a database without its newest change, by the entry of this change."""
     entry, *older = before["journal"]
-    sources, archives = [dict(source) for source in before["sources"]], [dict(archive) for archive in before["archives"]]
+    sources, archives = ([dict(part) for part in before[name]] for name in ("sources", "archives"))
     after = {**before, "version": 2, "journal": older, "sources": sources, "archives": archives}
     if entry["change"] == "update":
         after["last_time"] = entry["last_time"]
@@ -112,7 +113,8 @@ def reverted(before: "dict[str, Any]") -> "dict[str, Any]":
     elif entry["change"] == "addition":
         archives.pop()
     elif entry["change"] == "removal":
-        archives.insert(entry["archive"], {name: entry[name] for name in ("function", "steps", "xff", "preparations", "rows")})
+        names = ("function", "steps", "xff", "preparations", "rows")
+        archives.insert(entry["archive"], {name: entry[name] for name in names})
     else:
         archives[entry["archive"]]["rows"] = entry["rows"]
     return after
@@ -171,7 +173,8 @@ def files_of(seed: int, program: Program, file: Path) -> "Iterator[tuple[str, by
         yield f"damaged file {number}", data, chance.random() < 0.3
     for number in range(MARKED):
         old, new = chance.choice([whole, large]), chance.choice([whole, large])
-        yield f"file with a mark {number}", forged(chance, chance.choice(old), chance.choice(new)), chance.random() < 0.3
+        data = forged(chance, chance.choice(old), chance.choice(new))
+        yield f"file with a mark {number}", data, chance.random() < 0.3
 
 
 def compare_file(comparison: Comparison, name: str, data: bytes, reverts: bool) -> None:
@@ -186,8 +189,8 @@ def compare_file(comparison: Comparison, name: str, data: bytes, reverts: bool) 
 def pytest_generate_tests(metafunc: pytest.Metafunc) -> None:
     if "seed" in metafunc.fixturenames:
         first, _, count = metafunc.config.getoption("seeds").partition(":")
-        begin = int(first or 0)
-        metafunc.parametrize("seed", range(begin, begin + int(count or (10 if metafunc.config.getoption("long") else 2))))
+        begin, usual = int(first or 0), 10 if metafunc.config.getoption("long") else 2
+        metafunc.parametrize("seed", range(begin, begin + int(count or usual)))
 
 
 def test_files(seed: int, program: Program, tmp_path: Path, check: Check) -> None:

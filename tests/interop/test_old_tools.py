@@ -1,9 +1,9 @@
 """Programs that were written for RRDtool record and draw on rrdi what they do on rrdtool.
 
 MRTG, munin-update and Smokeping run by perl/RRDs.pm, in four rounds at intervals of ten seconds, and then munin-graph,
-munin-cgi-graph (perl -T) and the pages of Smokeping. collectd records by its own plugin rrdtool, with the recorder before
-RRDtool's library. The calls of each go to rrdtool too: all rows of all files must agree, and all pictures must be equal,
-pixel by pixel, to those that rrdtool draws from the same rows."""
+munin-cgi-graph (perl -T) and the pages of Smokeping. collectd records by its own plugin rrdtool, with the recorder
+before RRDtool's library. The calls of each go to rrdtool too: all rows of all files must agree, and all pictures must
+be equal, pixel by pixel, to those that rrdtool draws from the same rows."""
 from __future__ import annotations
 
 import os
@@ -120,8 +120,8 @@ class Munin:
         return self.run("munin", "munin-update", "--nofork", "--config_file")
 
     def graph(self) -> None:
-        """Draws the pictures that munin-html requests from munin-graph. If the node was too slow in a round, a plugin is
-        missing."""
+        """Draws the pictures that munin-html requests from munin-graph. If the node was too slow in a round, a plugin
+        is missing."""
         for tries in range(3):
             (self.folder / "db/graphs").write_text("/local/here/usual-day.png\n/local/here/fast-day.png\n")
             if self.run("muningraph", "munin-graph", "--cron", "--nolazy", "--nofork", "--config", may_fail=tries < 2):
@@ -137,9 +137,11 @@ class Munin:
 
 def ask_for_picture(recordings: Recordings, settings: str, scale: str) -> None:
     env = {**recordings.env, "CALLS": str(recordings.folder / "calls.municgi"), "GATEWAY_INTERFACE": "CGI/1.1",
-           "MUNIN_CONFIG": settings, "REQUEST_METHOD": "GET", "QUERY_STRING": "", "PATH_INFO": f"/local/here/usual-{scale}.png"}
+           "MUNIN_CONFIG": settings, "REQUEST_METHOD": "GET", "QUERY_STRING": "",
+           "PATH_INFO": f"/local/here/usual-{scale}.png"}
     words = ["runuser", "-u", "munin", "--", "perl", "-T", f"-I{recordings.installed}/perl", MUNIN_CGI]
-    ran = subprocess.run(words, cwd=recordings.folder, env=env, capture_output=True, stdin=subprocess.DEVNULL, timeout=PATIENCE)
+    ran = subprocess.run(words, cwd=recordings.folder, env=env, capture_output=True, stdin=subprocess.DEVNULL,
+                         timeout=PATIENCE)
     recordings.check.count("runs of programs")
     is_right = b"Status: 200\r\n" in ran.stdout and b"\r\n\r\n\x89PNG\r\n" in ran.stdout
     recordings.check(is_right, f"{MUNIN_CGI}: {scale}: {ran.stdout[:500]!r}{ran.stderr[-900:]!r}")
@@ -177,8 +179,8 @@ def judge_collectd(answer: Answer, check: Check) -> None:
 
 
 def test_collectd(recordings: Recordings, library: Path) -> None:
-    """Runs collectd's own plugin, with the recorder before RRDtool's library, and before both a library that records the
-    calls."""
+    """Runs collectd's own plugin, with the recorder before RRDtool's library, and before both a library that records
+    the calls."""
     collectd.skip_without()
     recorder = library.with_name("librrdi-record.so")
     if not recorder.exists():
@@ -190,12 +192,11 @@ def test_collectd(recordings: Recordings, library: Path) -> None:
 
 
 def answers(recordings: Recordings, program: str, folder: Path) -> "list[str]":
-    """Returns what a program answers to the lines of Cacti's poller, which end with CR LF. Each program has its own layout of
-    a file, and its own times."""
+    """Returns what a program answers to the lines of Cacti's poller, which end with CR LF. Each program has its own
+    layout of a file, and its own times."""
     folder.mkdir()
-    lines = (SETTINGS / "cacti-lines").read_text().replace("\\\n", "").splitlines()
-    found = []
-    told = recordings.run("sh", "-c", f'cd "{folder}" && exec "$0" -', program, given="".join(f"{line}\r\n" for line in lines))
+    lines, found = (SETTINGS / "cacti-lines").read_text().replace("\\\n", "").replace("\n", "\r\n"), []
+    told = recordings.run("sh", "-c", f'cd "{folder}" && exec "$0" -', program, given=lines)
     for line in told.out.splitlines():
         if not re.match(r"header_size|rra\[\d+\]\.cur_row|-1$", line):
             line = re.sub(r"(cdp_prep\[\d+\]\.value = )-?inf", r"\1NaN", line)

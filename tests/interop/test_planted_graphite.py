@@ -40,8 +40,9 @@ class Clock:
         self.now += seconds
 
 
-FAULTS = ("not-written", "lost-points", "other-value", "lacks-metric", "other-counts", "lost-good", "none-rewritten", "wrong-name",
-          "lacks-damaged", "shows-damaged", "other-database", "no-page", "silent", "lost-later", "kept", "fails")
+FAULTS = ("not-written", "lost-points", "other-value", "lacks-metric", "other-counts", "lost-good", "none-rewritten",
+          "wrong-name", "lacks-damaged", "shows-damaged", "other-database", "no-page", "silent", "lost-later", "kept",
+          "fails")
 
 
 class Remembered(Cluster):
@@ -103,7 +104,8 @@ class Remembered(Cluster):
             found[first] = {when: 0.5 for when in found[first]}
         if self.fault == "other-database" and name == "node1" and name_of(3) in found:
             found[name_of(3)] = {}
-        if self.fault == "lacks-metric" or self.fault == "lost-good" and first == "bad.good" or self.fault == "lacks-damaged" and hurt:
+        lacks = {"lacks-metric": True, "lost-good": first == "bad.good", "lacks-damaged": bool(hurt)}
+        if lacks.get(self.fault):
             found.pop(first, None)
         if self.fault == "lost-points" and name == "node2":
             found = {}
@@ -127,8 +129,8 @@ def clusters(folder: Path, planted: Check) -> Clusters:
 
 
 @pytest.mark.parametrize("status, port, is_right", ((1, 20_012, True), (1, 20_000, False), (0, 20_012, False)))
-def test_taken_ports(status: int, port: int, is_right: bool, clusters: Clusters, planted: Check, monkeypatch: pytest.MonkeyPatch
-                     ) -> None:
+def test_taken_ports(status: int, port: int, is_right: bool, clusters: Clusters, planted: Check,
+                     monkeypatch: pytest.MonkeyPatch) -> None:
     make = clusters.folder / "make-cluster"
     make.write_text(f"import sys\nsys.stderr.write('another program uses port {port};')\nsys.exit({status})\n")
     monkeypatch.setattr(graphite, "MAKE_CLUSTER", make)
@@ -137,8 +139,8 @@ def test_taken_ports(status: int, port: int, is_right: bool, clusters: Clusters,
 
 
 @pytest.mark.parametrize("size, is_right", ((30_000, True), (10_000, False)))
-def test_pictures_of_a_page(size: int, is_right: bool, clusters: Clusters, planted: Check, monkeypatch: pytest.MonkeyPatch
-                            ) -> None:
+def test_pictures_of_a_page(size: int, is_right: bool, clusters: Clusters, planted: Check,
+                            monkeypatch: pytest.MonkeyPatch) -> None:
     writes = f'for word; do case $word in --screenshot=*) head -c {size} /dev/zero > "${{word#*=}}";; esac; done'
     answering(clusters.folder / "chromium", more=writes)
     monkeypatch.setenv("PATH", str(clusters.folder), prepend=":")
@@ -163,8 +165,8 @@ def test_points() -> None:
     (Answer(0), 11, 0, "MAX 10 s: 9 cells, 9 agree\n", True), (Answer(1), 11, 0, "9 agree\n", False),
     (Answer(0, "samples lost"), 11, 0, "9 agree\n", False), (Answer(0), 10, 0, "9 agree\n", False),
     (Answer(0), 11, 1, "9 agree\n", False), (Answer(0), 11, 0, "", False)))
-def test_files_of_collectd(answer: Answer, count: int, status: int, said: str, is_right: bool, folder: Path, planted: Check
-                           ) -> None:
+def test_files_of_collectd(answer: Answer, count: int, status: int, said: str, is_right: bool, folder: Path,
+                           planted: Check) -> None:
     (folder / "rrdi").mkdir()
     for file in range(count):
         (folder / f"rrdi/{file}.rrdi").touch()
@@ -252,7 +254,8 @@ def test_a_closed_connection() -> None:
 
 
 def test_bases(silent_cluster: Cluster) -> None:
-    assert [silent_cluster.base(name) for name in ("relay", "front", "node1", "node12")] == [12_000, 12_000, 12_010, 12_120]
+    bases = [silent_cluster.base(name) for name in ("relay", "front", "node1", "node12")]
+    assert bases == [12_000, 12_000, 12_010, 12_120]
     assert Point("a.b", 1.25, 10).line == "a.b 1.25 10\n"
 
 

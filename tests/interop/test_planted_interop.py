@@ -46,8 +46,8 @@ def test_idle_moves(name: str, idle: Tools, planted: Check) -> None:
     assert len(planted.faults) > 2
 
 
-@pytest.mark.parametrize("name", ("all_digits_of_a_number", "what_cannot_be_moved", "lines_of_rrdtool", "times_of_rrdtool",
-                                  "refused_lines", "an_added_archive", "the_reader_as_a_script"))
+@pytest.mark.parametrize("name", ("all_digits_of_a_number", "what_cannot_be_moved", "lines_of_rrdtool",
+                                  "times_of_rrdtool", "refused_lines", "an_added_archive", "the_reader_as_a_script"))
 def test_idle_tools(name: str, idle: Tools, planted: Check, needs: Callable[..., None]) -> None:
     test = getattr(test_rrdtool, f"test_{name}")
     words = {"tools": idle, "check": planted, "needs": needs}
@@ -129,8 +129,9 @@ LINES = "".join(f"{number}\n" for number in range(120))
 @pytest.mark.parametrize("old, new, is_right", ((LINES, LINES, True), (LINES, LINES.replace("7", "8"), False),
                                                 (LINES, f"{LINES}x\n", False), ("OK\n", "OK\n", False)))
 def test_answers_that_differ(old: str, new: str, is_right: bool, recordings: Recordings, planted: Check) -> None:
-    programs = [answering(recordings.folder / f"{name}-program", 0, said).path for name, said in (("a", old), ("b", new))]
-    test_old_tools.compare_answers(recordings, *programs)
+    folder = recordings.folder
+    by_old, by_new = answering(folder / "by-old", 0, old), answering(folder / "by-new", 0, new)
+    test_old_tools.compare_answers(recordings, by_old.path, by_new.path)
     assert bool(planted.faults) != is_right
 
 
@@ -151,7 +152,8 @@ def test_pixels() -> None:
 
 def test_samples_one_by_one() -> None:
     assert one_by_one("update f 1:2 3:4") == ["update f 1:2", "update f 3:4"]
-    assert one_by_one("update f --template a:b 1:2 4:5") == ["update f --template a:b 1:2", "update f --template a:b 4:5"]
+    templates = ["update f --template a:b 1:2", "update f --template a:b 4:5"]
+    assert one_by_one("update f --template a:b 1:2 4:5") == templates
     assert one_by_one("create f DS:x") == ["create f DS:x"]
 
 
@@ -163,5 +165,6 @@ def test_outages() -> None:
     apart = "MAX {} s: 9 cells, 8 agree, 1 apart by up to 0.500000, the newest at 17"
     for lines, is_right in (([equal.format(10), only.format(10, "old file")], True), ([equal.format(10)], False),
                             ([equal.format(10), only.format(10, "new")], False), ([apart.format(10)], False),
-                            ([only.format(10, "old file"), apart.format(60)], True), ([equal.format(10), "other 5"], False)):
+                            ([only.format(10, "old file"), apart.format(60)], True),
+                            ([equal.format(10), "other 5"], False)):
         assert is_of_outage(lines) == is_right, lines

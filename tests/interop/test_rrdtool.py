@@ -32,8 +32,8 @@ class File(NamedTuple):
     """A file of RRDtool, and what comes of it in rrdi."""
     definitions: str
     samples: "list[str]"
-    # The line of rrdi-compare. The second number is that of all lines of averages, minimums and maximums that agree, for a
-    # file of which not every row can be moved.
+    # The line of rrdi-compare. Or, for a file of which not every row can be moved, the number of the lines of averages,
+    # minimums and maximums that agree.
     agreement: str = "agree"
     agreeing: int = 0
     # What rrdi-import says; its status is then 1.
@@ -43,7 +43,10 @@ class File(NamedTuple):
     is_whole: bool = False
 
 
-NO_COMPUTE, NO_PREDICTION = "skipped data source double: type COMPUTE is not supported", "HWPREDICT: this function is not supported"
+GAUGE, SOURCES = "DS:g:GAUGE:60:U:U", " ".join(f"DS:s{number}:GAUGE:60:U:U" for number in range(64))
+THREE = "RRA:AVERAGE:0.5:{0} RRA:MIN:0.5:{0} RRA:MAX:0.5:{0}"
+NO_COMPUTE = "skipped data source double: type COMPUTE is not supported"
+NO_PREDICTION = "HWPREDICT: this function is not supported"
 
 
 def of_all_kinds() -> File:
@@ -55,38 +58,38 @@ def of_all_kinds() -> File:
         at += 7 + at % 5
     archives = " ".join(f"RRA:{function}:{share}:{steps}:{rows}" for share, steps, rows in ((0.5, 6, 60), (0.3, 24, 30))
                         for function in ("AVERAGE", "MIN", "MAX", "LAST"))
-    return File("--step 10 --start 1600000000 DS:gauge:GAUGE:60:-50:U DS:counter:COUNTER:60:0:U DS:derive:DERIVE:60:U:U "
-                "DS:absolute:ABSOLUTE:60:0:1000 DS:a-b:GAUGE:60:U:U DS:double:COMPUTE:gauge,2,* RRA:AVERAGE:0.5:1:50 "
+    return File("--step 10 --start 1600000000 DS:gauge:GAUGE:60:-50:U DS:counter:COUNTER:60:0:U DS:derive:DERIVE:60:U:U"
+                " DS:absolute:ABSOLUTE:60:0:1000 DS:a-b:GAUGE:60:U:U DS:double:COMPUTE:gauge,2,* RRA:AVERAGE:0.5:1:50 "
                 f"{archives} RRA:HWPREDICT:100:0.1:0.1:10", samples, "LAST 240 s: 120 cells, 120 agree",
                 notes=("skipped data source a-b", NO_COMPUTE, f"skipped archive 9, {NO_PREDICTION}"),
                 options="--journal 3", is_whole=True)
 
 
 def with_holes(step: int) -> File:
-    """Returns a file with outages, rates outside their bounds, negative numbers, and a last update inside a step. As far as
-    the archive of one step reaches, all averages, minimums and maximums agree."""
+    """Returns a file with outages, rates outside their bounds, negative numbers, and a last update inside a step. As
+    far as the archive of one step reaches, all averages, minimums and maximums agree."""
     samples, at, counter = [], 0, 0.0
     for number in range(1, 500):
         at += step * (9 if number % 61 == 0 else 1) + (step > 1) * (number % 4)
         counter += at % 97 * step / 3
-        last = "U" if number % 37 == 0 else at % 1009
-        samples.append(f"{1600000007 + at}:{40 * math.sin(number / 9):.6f}:{counter:.0f}:{1000 * math.sin(number / 20):.0f}:{last}")
+        derive, last = 1000 * math.sin(number / 20), "U" if number % 37 == 0 else at % 1009
+        samples.append(f"{1600000007 + at}:{40 * math.sin(number / 9):.6f}:{counter:.0f}:{derive:.0f}:{last}")
     beat, six = 3 * step, " ".join(f"RRA:{function}:0.5:6:120" for function in ("AVERAGE", "MIN", "MAX", "LAST"))
     return File(f"--step {step} --start 1600000000 DS:gauge:GAUGE:{beat}:-30:U DS:counter:COUNTER:{beat}:0:40 "
                 f"DS:derive:DERIVE:{beat}:U:U DS:nineteen_characters:ABSOLUTE:{beat}:0:900 DS:double:COMPUTE:gauge,2,* "
-                f"RRA:AVERAGE:0.5:1:700 RRA:LAST:0.5:1:700 {six} RRA:AVERAGE:0.2:24:30 RRA:MIN:0.2:24:30 RRA:MAX:0.2:24:30 "
-                "RRA:HWPREDICT:100:0.1:0.1:10", samples, agreeing=7, notes=(NO_COMPUTE, NO_PREDICTION), is_whole=step == 1)
+                f"RRA:AVERAGE:0.5:1:700 RRA:LAST:0.5:1:700 {six} RRA:AVERAGE:0.2:24:30 RRA:MIN:0.2:24:30 "
+                "RRA:MAX:0.2:24:30 RRA:HWPREDICT:100:0.1:0.1:10", samples, agreeing=7,
+                notes=(NO_COMPUTE, NO_PREDICTION), is_whole=step == 1)
 
 
 def with_outages() -> File:
-    """Returns a file without an archive of single steps: its averages show outages within rows, over the end of a row, and
-    with unknown rows."""
+    """Returns a file without an archive of single steps: its averages show outages within rows, over the end of a row,
+    and with unknown rows."""
     outages = ((700, 730), (1450, 1500), (2000, 2160), (2810, 2960))
     samples = [f"{at}:{50 * math.sin(at / 200):.3f}:{at % 97:.2f}" for at in range(1600000030, 1600004300, 10)
                if not any(begin < at - 1600000000 < end for begin, end in outages)]
-    archives = " ".join(f"RRA:{function}:0.5:{shape}" for shape in ("6:100", "60:10") for function in ("AVERAGE", "MIN", "MAX"))
-    return File(f"--step 10 --start 1600000020 DS:g:GAUGE:15:U:U DS:h:GAUGE:15:U:U {archives}", samples,
-                "AVERAGE 600 s: 20 cells, 20 agree")
+    return File(f"--step 10 --start 1600000020 DS:g:GAUGE:15:U:U DS:h:GAUGE:15:U:U {THREE.format('6:100')} "
+                f"{THREE.format('60:10')}", samples, "AVERAGE 600 s: 20 cells, 20 agree")
 
 
 def with_a_share() -> File:
@@ -96,11 +99,9 @@ def with_a_share() -> File:
                 "AVERAGE 100 s: 3 cells, 3 agree")
 
 
-GAUGE = "DS:g:GAUGE:60:U:U"
-THREE = "RRA:AVERAGE:0.5:{0} RRA:MIN:0.5:{0} RRA:MAX:0.5:{0}"
 FILES = {
     "all kinds": of_all_kinds(), "holes 1": with_holes(1), "holes 60": with_holes(60), "holes 300": with_holes(300),
-    "64 sources": File(f"--step 10 --start 1600000000 {' '.join(f'DS:s{n}:GAUGE:60:U:U' for n in range(64))} RRA:AVERAGE:0.5:1:5", []),
+    "64 sources": File(f"--step 10 --start 1600000000 {SOURCES} RRA:AVERAGE:0.5:1:5", []),
     "minimums alone": File(f"--step 10 --start 1600000000 {GAUGE} RRA:MIN:0.5:6:20",
                            ["1600000010:-1.5", "1600000060:2.25", "1600000130:1", "1600000165:-7"],
                            "MIN 60 s: 20 cells, 20 agree", is_whole=True),
@@ -168,8 +169,7 @@ def test_all_digits_of_a_number(tools: Tools) -> None:
 
 
 def test_what_cannot_be_moved(tools: Tools) -> None:
-    sources = " ".join(f"DS:s{number}:GAUGE:60:U:U" for number in range(65))
-    tools.rrdtool(f"create more.rrd --step 10 --start 1600000000 {sources} RRA:AVERAGE:0.5:1:5")
+    tools.rrdtool(f"create more.rrd --step 10 --start 1600000000 {SOURCES} {GAUGE} RRA:AVERAGE:0.5:1:5")
     tools.expect(1, "more.rrd: there are 65 sources; rrdi has at most 64", "rrdi-import", "more.rrd")
     tools.expect(1, "rrdi-import: ERROR: ", "rrdi-import", "missing.rrd")
     tools.expect(2, "usage: rrdi-import", "rrdi-import")
@@ -222,9 +222,8 @@ def test_times_of_rrdtool(tools: Tools, needs: Callable[..., None], check: Check
 
 def test_refused_lines(tools: Tools) -> None:
     tools.expect(2, "usage: rrdi-rrdtool", WORDS)
-    tools.rrdtool("create load.rrd --step 300 --start 1704068100 DS:g:GAUGE:600:U:U RRA:AVERAGE:0.5:1:10")
-    tools.expect(0, "", "rrdi", "create", "load.rrd.new", "--start", 1704068100, "DS:g:GAUGE:600:U:U", "RRA:AVERAGE:0.5:1:10")
-    tools.expect(1, "ERROR: not later than 1704068100", WORDS, "update", "load.rrd.new", "20240101@1")
+    tools.expect(0, "", "rrdi", "create", "load.rrd", "--start", 1704068100, GAUGE, "RRA:AVERAGE:0.5:1:10")
+    tools.expect(1, "ERROR: not later than 1704068100", WORDS, "update", "load.rrd", "20240101@1")
 
 
 def test_an_added_archive(tools: Tools, check: Check) -> None:
@@ -246,9 +245,9 @@ def test_an_added_archive(tools: Tools, check: Check) -> None:
 def test_the_reader_as_a_script(tools: Tools, check: Check) -> None:
     """The reader prints what a fetch prints, and JSON."""
     reader = str(TOP / "examples/rrdi.py")
-    tools.expect(0, "", "rrdi", "create", "day.rrdi", "--step", 300, "--start", 1600000200, "DS:g:GAUGE:600:U:U", "DS:h:COUNTER:600:U:U",
-                 "RRA:AVERAGE:0.5:1:288", "RRA:MAX:0.5:12:24")
-    samples = [f"{1600000200 + 300 * number}:{100 * math.sin(number):.3f}:{number * number}" for number in range(1, 250)]
+    tools.expect(0, "", "rrdi", "create", "day.rrdi", "--step", 300, "--start", 1600000200, "DS:g:GAUGE:600:U:U",
+                 "DS:h:COUNTER:600:U:U", "RRA:AVERAGE:0.5:1:288", "RRA:MAX:0.5:12:24")
+    samples = [f"{1600000200 + 300 * at}:{100 * math.sin(at):.3f}:{at * at}" for at in range(1, 250)]
     tools.expect(0, "", "rrdi", "update", "day.rrdi", *samples)
     tools.expect(2, "usage: rrdi.py", reader, "csv")
     tools.expect(1, "rrdi.py: none.rrdi: No such file", reader, "json", "none.rrdi")

@@ -1,8 +1,8 @@
-"""Each bug that is planted in the Python package, the tools, RRDs.pm, librrd/record.c or examples/ is found by the tests of
-python/tests that must find it.
+"""Each bug that is planted in the Python package, the tools, RRDs.pm, librrd/record.c or examples/ is found by the
+tests of python/tests that must find it.
 
-The file `bugs` has the bugs, each with the name of its check. Without --long only a few are planted: all take over half an
-hour."""
+The file `bugs` has the bugs, each with the name of its check. Without --long only a few are planted: all take over half
+an hour."""
 from __future__ import annotations
 
 import ast
@@ -118,7 +118,8 @@ def copied(sources: Path) -> Path:
     """Copies what the tests of the package need into a folder."""
     for part in COPIED:
         if (TOP / part).is_dir():
-            shutil.copytree(TOP / part, sources / part, symlinks=True, ignore=shutil.ignore_patterns("__pycache__", "out"))
+            ignored = shutil.ignore_patterns("__pycache__", "out")
+            shutil.copytree(TOP / part, sources / part, symlinks=True, ignore=ignored)
         else:
             shutil.copy(TOP / part, sources / part)
     return sources
@@ -129,8 +130,9 @@ def link_recorder(sources: Path, library: str, recorder: Path) -> str:
     beside = recorder.with_name("librrdi.so.0")
     if not beside.exists():
         beside.symlink_to(library)
-    subprocess.run(["cc", "-std=c11", "-O2", "-fPIC", "-fvisibility=hidden", "-shared", "-o", recorder, "-I", sources / "include",
-                    sources / "librrd/record.c", beside, f"-Wl,-rpath,{recorder.parent}"], check=True)
+    subprocess.run(["cc", "-std=c11", "-O2", "-fPIC", "-fvisibility=hidden", "-shared", "-o", recorder,
+                    "-I", sources / "include", sources / "librrd/record.c", beside, f"-Wl,-rpath,{recorder.parent}"],
+                   check=True)
     return str(recorder)
 
 
@@ -138,8 +140,9 @@ def report_of(name: str, sources: Path, variables: "dict[str, str]") -> str:
     """Runs a check on some sources. Returns the end of what it reports; nothing if it finds nothing wrong."""
     file, *classes = CHECKS[name].split()
     try:
-        ran = subprocess.run([sys.executable, "-B", sources / f"python/tests/{file}.py", "-f", *classes], env=environment(variables),
-                             stdin=subprocess.DEVNULL, capture_output=True, text=True, errors="replace", timeout=PATIENCE)
+        ran = subprocess.run([sys.executable, "-B", sources / f"python/tests/{file}.py", "-f", *classes],
+                             env=environment(variables), stdin=subprocess.DEVNULL, capture_output=True, text=True,
+                             errors="replace", timeout=PATIENCE)
     except subprocess.TimeoutExpired:
         return "it does not end"
     found = re.search(r"^Ran ([1-9]\d*) tests?", ran.stderr, re.MULTILINE)
@@ -171,7 +174,8 @@ class Planting:
         check(not said, f"without a bug: {said}")
         check(bug.old in text, f"{bug.file} has no {bug.old!r}")
         (sources / bug.file).write_text(text.replace(bug.old, bug.new))
-        check(bool(self.report(bug.check, sources)), f"{bug.check} does not find it: {bug.old!r} became {bug.new!r} in {bug.file}")
+        is_found = bool(self.report(bug.check, sources))
+        check(is_found, f"{bug.check} does not find it: {bug.old!r} became {bug.new!r} in {bug.file}")
         check.count("bugs")
 
 

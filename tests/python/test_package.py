@@ -16,8 +16,9 @@ from support.program import TOP, Program
 PACKAGE = TOP / "python"
 LEAST = {"tests of tools by the library": 60, "typed files": 160}
 # The tests of tools that run by the library too.
-OF_TOOLS = ("test_feed_processes::Lines", "test_feed_processes::InProcess", "test_tools_feed::Files", "test_feeding_metrics::New",
-            "test_tools_rrdtool::RRDtoolOutput", "test_tools_rrdtool::PipeMode", "test_tools_program::InProcess")
+OF_TOOLS = ("test_feed_processes::Lines", "test_feed_processes::InProcess", "test_tools_feed::Files",
+            "test_feeding_metrics::New", "test_tools_rrdtool::RRDtoolOutput", "test_tools_rrdtool::PipeMode",
+            "test_tools_program::InProcess")
 
 
 def test_tools_by_the_library(program: Program, library: Path, check: Check) -> None:

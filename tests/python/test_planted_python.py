@@ -14,10 +14,9 @@ from tests.python.test_package import check_tools, check_types
 SAFELY = "examples/rrdi-safely"
 
 
-@pytest.mark.parametrize("bug", (Bug("rrdi-safely", SAFELY, "exec", "exec"), Bug("rrdi-safely", SAFELY, "no such text", "")),
-                         ids=("no bug", "no such text"))
-def test_a_bug_that_is_not_found(bug: Bug, program: Program, folder: Path, workshop: Path, planted: Check) -> None:
-    Planting(program.path, "", workshop).try_bug(bug, folder, planted)
+@pytest.mark.parametrize("old", ("exec", "no such text"))
+def test_a_bug_that_is_not_found(old: str, program: Program, folder: Path, workshop: Path, planted: Check) -> None:
+    Planting(program.path, "", workshop).try_bug(Bug("rrdi-safely", SAFELY, old, old), folder, planted)
     assert planted.faults
 
 
@@ -32,7 +31,8 @@ def test_a_library_that_is_missing(folder: Path, planted: Check) -> None:
     assert planted.faults
 
 
-@pytest.mark.parametrize("text, is_right", (("x: int = 1\n", True), ("x: int = ''\n", False), ("def f(): pass\n", False)))
+@pytest.mark.parametrize("text, is_right", (("x: int = 1\n", True), ("x: int = ''\n", False),
+                                            ("def f(): pass\n", False)))
 def test_wrong_types(text: str, is_right: bool, folder: Path, planted: Check, needs: Callable[..., None]) -> None:
     needs("mypy")
     (folder / "pyproject.toml").write_text("[tool.mypy]\nstrict = true\npackages = ['it']\n")

@@ -22,12 +22,14 @@ def skip_without(*files: str) -> None:
         pytest.skip(f"there is no {', '.join(lacking)}")
 
 
-def record(folder: Path, more: str = "", env: Mapping[str, str] | None = None, program: str = PROGRAM, seconds: float = SECONDS) -> Answer:
+def record(folder: Path, more: str = "", env: Mapping[str, str] | None = None, program: str = PROGRAM,
+           seconds: float = SECONDS) -> Answer:
     """Runs collectd in a folder, and then ends it. The files of the plugin rrdtool are in `rrdtool` below it. `more` is
     added to the settings. The answer has both streams in one."""
     folder.mkdir(parents=True, exist_ok=True)
     settings = folder / "collectd.conf"
-    settings.write_text(((TOP / "tests/interop/settings/collectd.conf").read_text() + more).replace("FOLDER", str(folder)))
+    usual = (TOP / "tests/interop/settings/collectd.conf").read_text()
+    settings.write_text((usual + more).replace("FOLDER", str(folder)))
     with subprocess.Popen([program, "-f", "-C", settings], env=env, stdin=subprocess.DEVNULL, stdout=subprocess.PIPE,
                           stderr=subprocess.STDOUT, text=True) as running:
         try:

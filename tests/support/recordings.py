@@ -29,8 +29,8 @@ sys.exit(child.wait())
 """
 # RRDtool keeps a step that was known for its first seconds before an outage; docs/differences.md has the rule. A row of
 # several steps, one of which is such a step, has another value.
-AFTER_OUTAGE = re.compile(r"\w+ (\d+) s: \d+ cells, \d+ agree(, \d+ only in the old file)?(, \d+ apart by up to [\d.]+)?, "
-                          r"the newest at \d+$")
+AFTER_OUTAGE = re.compile(r"\w+ (\d+) s: \d+ cells, \d+ agree(, \d+ only in the old file)?"
+                          r"(, \d+ apart by up to [\d.]+)?, the newest at \d+$")
 
 
 def pixels(picture: bytes) -> bytes:
@@ -97,11 +97,13 @@ class Recordings(Tools):
         """Runs a program, whose calls go to files calls.NAME.*, and returns whether it ended well."""
         command = ["runuser", "-u", user, "--", *words] if user else list(words)
         env = {**self.env, "CALLS": str(self.folder / f"calls.{name}")}
-        ran = subprocess.run(command, cwd=self.folder, env=env, stdin=subprocess.DEVNULL, capture_output=True, text=True, timeout=PATIENCE)
+        ran = subprocess.run(command, cwd=self.folder, env=env, stdin=subprocess.DEVNULL, capture_output=True,
+                             text=True, timeout=PATIENCE)
         self.check.count("runs of programs")
         if may_fail and ran.returncode != 0:
             return False
-        return self.check(ran.returncode == 0, f"{name}: status {ran.returncode}: {ran.stdout[-900:]}{ran.stderr[-900:]}")
+        said = ran.stdout[-900:] + ran.stderr[-900:]
+        return self.check(ran.returncode == 0, f"{name}: status {ran.returncode}: {said}")
 
     def calls(self, name: str) -> "list[str]":
         files = sorted(self.folder.glob(f"calls.{name}.*"), key=lambda path: path.stat().st_mtime)
@@ -114,8 +116,8 @@ class Recordings(Tools):
     # ---- files
 
     def compare_files(self, name: str, is_by_sample: bool = False) -> None:
-        """Passes the program's changes to rrdtool, each sample as an update if that is asked for, and compares all rows of
-        all files."""
+        """Passes the program's changes to rrdtool, each sample as an update if that is asked for, and compares all rows
+        of all files."""
         lines = [line for line in self.calls(name) if line.split(" ")[0] in CHANGES]
         if is_by_sample:
             lines = [one for line in lines for one in one_by_one(line)]
@@ -152,8 +154,8 @@ class Recordings(Tools):
     # ---- pictures
 
     def compare_pictures(self, name: str) -> None:
-        """Draws each picture again by both programs, with the same stopped clock; rrdtool draws from the same rows in an
-        .rrd."""
+        """Draws each picture again by both programs, with the same stopped clock; rrdtool draws from the same rows in
+        an .rrd."""
         words = [word for line in self.calls(name) for word in line.split() if word.startswith("DEF:")]
         for file in {word.split("=")[1].split(":")[0] for word in words}:
             there = Path(self.moved(file, "exported"))
@@ -174,7 +176,8 @@ class Recordings(Tools):
 
     def draw(self, by: str, line: str, now: int) -> "tuple[list[str], bytes | None]":
         """Draws a picture as of the time `now`. Returns the answer and the pixels."""
-        told, picture = self.run(by, "-", given=f"{line}\n", LD_PRELOAD=str(self.clock), CLOCK=str(now)), self.folder / "drawn.png"
+        told = self.run(by, "-", given=f"{line}\n", LD_PRELOAD=str(self.clock), CLOCK=str(now))
+        picture = self.folder / "drawn.png"
         drawn = pixels(picture.read_bytes()) if picture.exists() else None
         picture.unlink(missing_ok=True)
         return told.out.splitlines()[:-1], drawn

@@ -17,8 +17,8 @@ def build_preload(source: str, library: Path) -> Path:
 
 
 class Tools:
-    """A folder with files, a program, and the check of a test. Nothing that the caller's environment sets changes what the
-    tools do."""
+    """A folder with files, a program, and the check of a test. Nothing that the caller's environment sets changes what
+    the tools do."""
 
     def __init__(self, program: Program, folder: Path, check: Check) -> None:
         self.program, self.folder, self.check, self.tools = program, folder, check, TOP / "tools"
