@@ -15,13 +15,13 @@ AMOUNTS = [0, 1, -1, reader.TOP, reader.TOP + 1, -reader.TOP, -reader.TOP - 1, r
            10**24, 10**24 - 1, -(10**24), 2**64, 2**64 - 1, 2**63, 2**63 - 1, -(2**63), -(2**63) - 1,
            2 * reader.TOP, 10**6]
 NAME, AMOUNT = 20, 16  # bytes of such a field
-Field = "tuple[int, int]"  # where it begins, and its bytes
+Field = tuple[int, int]  # where it begins, and its bytes
 
 
 class RandomDatabase:
     """A random database with archives of some lengths, and random changes of all kinds, each as a line of a batch."""
 
-    def __init__(self, chance: random.Random, lengths: "tuple[int, ...]") -> None:
+    def __init__(self, chance: random.Random, lengths: tuple[int, ...]) -> None:
         self.chance, self.step, sources = chance, chance.choice([1, 7, 10, 60]), chance.randint(1, 3)
         self.last = chance.choice([0, 0, 999, 1_600_000_000])
         self.kinds = [chance.choice(reader.TYPES) for _ in range(sources)]
@@ -94,7 +94,7 @@ class RandomDatabase:
         return f"resize {at} GROW {count}"
 
 
-def random_lines(chance: random.Random, lengths: "tuple[int, ...]") -> str:
+def random_lines(chance: random.Random, lengths: tuple[int, ...]) -> str:
     database = RandomDatabase(chance, lengths)
     return "\n".join([database.create(), *(database.change() for _ in range(chance.randint(0, 6)))])
 
@@ -104,7 +104,7 @@ class FieldReader(reader.Reader):
 
     def __init__(self, data: bytes) -> None:
         super().__init__(data)
-        self.fields: "list[Field]" = []
+        self.fields: list[Field] = []
 
     def take(self, spelling):
         taken, at, number = super().take(spelling), self.piece_at, ""
@@ -124,7 +124,7 @@ class FieldReader(reader.Reader):
         return rows
 
 
-def fields_of(data: bytes) -> "list[Field]":
+def fields_of(data: bytes) -> list[Field]:
     pieces = FieldReader(data)
     pieces.database()
     return pieces.fields
@@ -142,7 +142,7 @@ def other_field(chance: random.Random, field: bytes) -> bytes:
     return (value % 2**(8 * size)).to_bytes(size, "big")
 
 
-def damaged(chance: random.Random, data: bytes, fields: "list[Field]", others: "list[bytes]") -> bytes:
+def damaged(chance: random.Random, data: bytes, fields: list[Field], others: list[bytes]) -> bytes:
     """Returns a file in which a byte or a field was changed, or bytes are missing, too many, or of another place."""
     way, (at, size) = chance.random(), chance.choice(fields)
     if way < 0.2:

@@ -73,7 +73,7 @@ class Session:
 
     def cut(self, number: int, lines: list[str]) -> None:
         """Runs some of the lines as single commands, and the lines between two single commands as a batch."""
-        chance, waiting = random.Random(f"cut {number}"), []
+        chance, waiting = random.Random(f"cut {number}"), list[str]()
         share = chance.choice([0.1, 0.3, 0.6, 1])
         for line in lines:
             if chance.random() < share:
@@ -127,9 +127,8 @@ class Comparison:
         data, cut.program = cut.held(), self.program
         if data and self.old is None:
             same(data[:6], b"RRDI\0\2", "the mark and the version")
-            data = as_version(1, data)
-            put(cut.file, data)
-        self.check.count("files of the first version", int(bool(data) and data[5] == 1))
+            put(cut.file, as_version(1, data))
+        self.check.count("files of the first version", int((cut.held() or b"RRDI\0\0")[5] == 1))
         cut.cut(number, lines[begun:])
         same(cut.told, wanted, "cut")
         same(cut.held(), whole.held(), "the file")

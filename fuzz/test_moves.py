@@ -90,8 +90,8 @@ class Move:
 
     def restore(self) -> RrdFile:
         text = "\n".join(as_xml(rrdi.read(self.new.read_bytes())))
-        words = ["rrdtool", "restore", "/dev/stdin", self.back]
-        ran = subprocess.run(words, input=text, capture_output=True, text=True)
+        ran = subprocess.run(["rrdtool", "restore", "/dev/stdin", str(self.back)], input=text, capture_output=True,
+                             text=True)
         assert (ran.returncode, ran.stderr) == (0, ""), f"rrdtool restore: {ran}"
         return read_rrd(self.back)
 

@@ -19,7 +19,7 @@ from support.random_batches import batch, text_of
 
 # Definitions that compute otherwise: halves go down, a counter wraps once only, a long name is good, the second bound
 # of a source does not count, and a sign is lost.
-WRONG: "dict[str, Callable[..., Any]]" = {
+WRONG: dict[str, Callable[..., Any]] = {
     "near": lambda a, b: a // b,
     "rise": lambda old, new: new - old + (2**32 if new < old else 0),
     "is_good": lambda name: 1 <= len(name) <= 20 and name.replace("_", "a").replace("-", "a").isalnum(),
@@ -77,7 +77,7 @@ NOT_OURS = error("file: not ours")
     (b"RRDX and more", (0, "", ""), "", False), (b"RRDCached notes of a user", (1, "", NOT_OURS), "", True),
     # A program that repairs a file that is not rrdi's.
     (b"RRDCached notes of a user", (1, "", NOT_OURS), 'printf RRDI | dd of="$2" conv=notrunc 2>/dev/null', False)))
-def test_wrong_readers(data: bytes, told: "tuple[int, str, str]", more: str, is_right: bool, tmp_path: Path,
+def test_wrong_readers(data: bytes, told: tuple[int, str, str], more: str, is_right: bool, tmp_path: Path,
                        planted: Check) -> None:
     fake = test_readers.Comparison(answering(tmp_path / "fake", *told, more), tmp_path / "file", planted)
     test_readers.compare_file(fake, "a", data, False)

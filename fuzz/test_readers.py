@@ -68,7 +68,7 @@ class Comparison:
             self.compare_reverts(database)
         return "read"
 
-    def compare_rows(self, database: "dict[str, Any]", names: str) -> None:
+    def compare_rows(self, database: dict[str, Any], names: str) -> None:
         seen = set()
         for number, archive in enumerate(database["archives"]):
             rows, length = archive["rows"], database["step"] * archive["steps"]
@@ -83,7 +83,7 @@ class Comparison:
             out = self.printed("fetch", archive["function"], "-r", length, "-s", begin, "-e", newest - 1)
             same(f"archive {number}", out.splitlines(), [f"time: {names}", *wanted])
 
-    def compare_reverts(self, before: "dict[str, Any]") -> None:
+    def compare_reverts(self, before: dict[str, Any]) -> None:
         """Reverts each change: its entry in the journal says what the file is afterwards."""
         while before["journal"]:
             self.printed("revert")
@@ -95,7 +95,7 @@ class Comparison:
         same("one revert more than changes", told, (1, "", "ERROR: nothing to revert\n"))
 
 
-def reverted(before: "dict[str, Any]") -> "dict[str, Any]":
+def reverted(before: dict[str, Any]) -> dict[str, Any]:
     """Returns a database without its newest change, by the entry of this change."""
     entry, *older = before["journal"]
     sources, archives = ([dict(part) for part in before[name]] for name in ("sources", "archives"))
@@ -120,11 +120,11 @@ def reverted(before: "dict[str, Any]") -> "dict[str, Any]":
     return after
 
 
-def raw_of(source: "dict[str, Any]") -> str:
+def raw_of(source: dict[str, Any]) -> str:
     return "U" if source["last_raw"] is None else str(source["last_raw"])
 
 
-def info(database: "dict[str, Any]") -> Iterator[str]:
+def info(database: dict[str, Any]) -> Iterator[str]:
     """Yields the lines that `rrdi info` prints of a database."""
     yield f"step = {database['step']}"
     yield f"last_update = {database['last_time']}"
@@ -153,7 +153,7 @@ def made(program: Program, lines: str, file: Path) -> bytes:
     return file.read_bytes()
 
 
-def files_of(seed: int, program: Program, file: Path) -> "Iterator[tuple[str, bytes, bool]]":
+def files_of(seed: int, program: Program, file: Path) -> Iterator[tuple[str, bytes, bool]]:
     """Yields files: the name of each one, its bytes, and whether its journal is compared."""
     chance, whole = random.Random(seed), []
     for number in range(DATABASES):

@@ -16,13 +16,13 @@ import subprocess
 import sys
 import time
 from pathlib import Path
-from typing import Callable, Dict, Iterator, List
+from typing import Callable, Iterator
 
 import pytest
 
 from support import collectd, graphite
 from support.check import Check
-from support.graphite import Cluster, Point, Values, apart, known
+from support.graphite import Cluster, Point, apart, known
 from support.program import TOP, Answer, environment
 
 LEAST = {"values": 60_000, "points": 20_000, "late points": 200, "bad lines": 20, "damaged files": 5,
@@ -59,27 +59,27 @@ def value_of(number: int, slot: int) -> float:
     return round(100 + 50 * math.sin(slot / 40 + number) + (number * 7919 + slot * 104729) % 1000 / 77, 6)
 
 
-def make_points(end: int) -> List[List[Point]]:
+def make_points(end: int) -> list[list[Point]]:
     """Returns points of all metrics in three parts: old ones, late ones of every tenth metric, and new ones. Some
     metrics have a point in each slot, others in each third one; each seventh slot of some is missing."""
     per_metric = POINTS // METRICS
-    parts: List[List[Point]] = [[], [], []]
+    parts: list[list[Point]] = [[], [], []]
     for number in range(METRICS):
-        stride, slots, slot = (3 if number % 4 == 3 else 1), [], 0
+        stride, slots, slot = (3 if number % 4 == 3 else 1), list[int](), 0
         while len(slots) < per_metric:
             slots.append(slot)
             slot += stride + (number % 3 == 1 and slot % 7 == 6)
         for index, slot in enumerate(slots):
             when = end - STEP * (slots[-1] - slot) + number % STEP
             is_late = number % 10 == 4 and per_metric // 2 - LATE <= index < per_metric // 2 - LATE // 2
-            part = 1 if is_late else 0 if index < per_metric // 2 else 2
-            parts[part].append(Point(name_of(number), value_of(number, slot), when))
+            place = 1 if is_late else 0 if index < per_metric // 2 else 2
+            parts[place].append(Point(name_of(number), value_of(number, slot), when))
     for part in parts:
         part.sort(key=lambda point: point.when)
     return parts
 
 
-def bad_lines(now: int) -> List[str]:
+def bad_lines(now: int) -> list[str]:
     """Returns lines that are no points, or no points of a file, and one good point."""
     return ["no metric\n", "\n", "bad.one\n", "bad.two x 1\n", f"bad.three 1 {now} 5\n", "\x00\x01\x02\n",
             f"bad.nan nan {now}\n", f"bad.inf inf {now}\n", f"bad.inf -inf {now - 10}\n", f"bad.large 1e300 {now}\n",
@@ -106,7 +106,7 @@ class Clusters:
         logs = sorted(self.rrdi.folder.glob("*/log/exception.log"))
         return "\n".join(f"{log.parent.parent.name}: {log.read_text(errors='replace')[-600:]}" for log in logs)
 
-    def send(self, points: List[Point]) -> None:
+    def send(self, points: list[Point]) -> None:
         lines = [point.line for point in points]
         self.rrdi.send("relay", lines)
         self.whisper.send("node1", lines)
@@ -166,7 +166,7 @@ class Clusters:
         now = int(time.time())
         self.rrdi.send("node1", bad_lines(now))
         self.check.count("bad lines", len(bad_lines(now)))
-        until, counts = time.monotonic() + PATIENCE, {}
+        until, counts = time.monotonic() + PATIENCE, dict[str, int]()
         while time.monotonic() < until and counts != EXPECTED:
             time.sleep(2)
             counts = self.losses(now)
@@ -177,14 +177,14 @@ class Clusters:
         rewritten, late = self.metrics(self.begun).get("rewritten", 0), self.check.tried["late points"]
         self.check(rewritten >= late, f"carbon's metrics count {rewritten} late points of {late}")
 
-    def metrics(self, begun: int) -> Dict[str, int]:
+    def metrics(self, begun: int) -> dict[str, int]:
         """Returns the sums of rrdi's own metrics of node1."""
         now = int(time.time())
         found = self.rrdi.render("node1", "carbon.agents.*.rrdi.*", begun - 60, now, now)
         return {metric.rpartition(".")[2]: int(sum(value or 0 for value in values.values()))
                 for metric, values in found.items()}
 
-    def losses(self, begun: int) -> Dict[str, int]:
+    def losses(self, begun: int) -> dict[str, int]:
         """Returns what was lost; the counts of the points that were sent before are 0."""
         return {kind: count for kind, count in self.metrics(begun).items()
                 if count and kind not in ("rewritten", "waiting")}
@@ -224,7 +224,7 @@ class Clusters:
         aside = sorted(path.name for path in files[0].parent.parent.rglob("*.damaged-*"))
         self.check(len(aside) == 3, f"files set aside: {aside}")
 
-    def check_pages(self, files: List[Path]) -> None:
+    def check_pages(self, files: list[Path]) -> None:
         """Each page is shown although some files are damaged, and the log names two of them."""
         for page in ("metrics/find?query=app.host00.*.*&format=treejson", "metrics/index.json",
                      "metrics/find?query=app.host00.**&format=json", "metrics/expand?query=app.*.m0.*"):
@@ -236,7 +236,8 @@ class Clusters:
 
     def try_taken_ports(self) -> None:
         """Starts a second cluster on the ports of the first one: that is refused with the port, and ends nothing."""
-        words = [sys.executable, graphite.MAKE_CLUSTER, "up", self.folder / "second", "--port", str(self.rrdi.port)]
+        words = [sys.executable, str(graphite.MAKE_CLUSTER), "up", str(self.folder / "second"), "--port",
+                 str(self.rrdi.port)]
         ran = subprocess.run(words, capture_output=True, text=True, timeout=graphite.PATIENCE)
         is_named = f"another program uses port {self.rrdi.port + 12};" in ran.stderr
         self.check(ran.returncode == 1 and is_named, f"ports that are taken: status {ran.returncode}: {ran.stderr}")

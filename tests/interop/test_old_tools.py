@@ -20,7 +20,7 @@ import pytest
 
 from support import collectd
 from support.check import Check
-from support.program import TOP, Answer, Program
+from support.program import Answer, Program
 from support.recordings import PATIENCE, Recordings, pixels
 from support.tools import build_preload
 
@@ -148,7 +148,7 @@ def ask_for_picture(recordings: Recordings, settings: str, scale: str) -> None:
 
 
 @pytest.fixture
-def node() -> "Iterator[int]":
+def node() -> Iterator[int]:
     """The port of a node."""
     with socketserver.ThreadingTCPServer(("127.0.0.1", 0), Node) as server:
         server.daemon_threads = True
@@ -191,7 +191,7 @@ def test_collectd(recordings: Recordings, library: Path) -> None:
     recordings.compare_files("collectd", is_by_sample=True)
 
 
-def answers(recordings: Recordings, program: str, folder: Path) -> "list[str]":
+def answers(recordings: Recordings, program: str, folder: Path) -> list[str]:
     """Returns what a program answers to the lines of Cacti's poller, which end with CR LF. Each program has its own
     layout of a file, and its own times."""
     folder.mkdir()

@@ -10,7 +10,7 @@ import subprocess
 import sys
 import threading
 from pathlib import Path
-from typing import Any, Callable
+from typing import Any
 
 import pytest
 
@@ -50,7 +50,7 @@ class Remembered(Cluster):
 
     def __init__(self, folder: Path, fault: str = "", ending: str = ".rrdi") -> None:
         self.folder, self.fault, self.port = folder, fault, 20_000
-        self.points: "dict[str, Values]" = {}
+        self.points: dict[str, Values] = {}
         self.files = [folder / "node1/data" / (name_of(number).replace(".", "/") + ending) for number in range(10)]
         for file in [*self.files, *([folder / "node1/outside.rrdi"] if fault == "wrong-name" else [])]:
             file.parent.mkdir(parents=True, exist_ok=True)
@@ -83,7 +83,7 @@ class Remembered(Cluster):
         file = self.folder / "node1/data" / (metric.replace(".", "/") + ".rrdi")
         return file in self.files and not (file.exists() and file.read_bytes()[:4] in (b"RRDI", b"RRDC"))
 
-    def render(self, name: str, target: str, begin: int, end: int, now: int) -> "dict[str, Values]":
+    def render(self, name: str, target: str, begin: int, end: int, now: int) -> dict[str, Values]:
         if target.startswith("carbon."):
             counts = {**EXPECTED, "rewritten": 0 if self.fault == "none-rewritten" else test_graphite.POINTS}
             return {f"carbon.agents.a.rrdi.{kind}": {now: float(count)} for kind, count in counts.items()
@@ -95,7 +95,7 @@ class Remembered(Cluster):
         return self.with_fault(name, {metric: points for metric, points in shown.items()
                                       if kinds == ["*"] or metric.rpartition(".")[2] in kinds})
 
-    def with_fault(self, name: str, found: "dict[str, Values]") -> "dict[str, Values]":
+    def with_fault(self, name: str, found: dict[str, Values]) -> dict[str, Values]:
         """Returns what a node shows of damaged files, or shows wrong."""
         first, hurt = min(found, default=""), {metric for metric in found if self.is_damaged(metric)}
         if name == "node1" and self.fault != "shows-damaged":
@@ -193,10 +193,10 @@ def test_the_end_of_collectd(folder: Path) -> None:
 
 
 def test_renders() -> None:
-    one: "dict[str, Values]" = {"a": {10: 1.0, 20: None}, "b": {10: 2.0}}
+    one: dict[str, Values] = {"a": {10: 1.0, 20: None}, "b": {10: 2.0}}
     assert apart(one, one, 0) == [] and known(one) == 2
     assert apart(one, {"a": {10: 1.001}, "b": {10: 2.0, 30: None}}, 0.01) == []
-    others: "tuple[tuple[dict[str, Values], str], ...]" = (
+    others: tuple[tuple[dict[str, Values], str], ...] = (
         ({"a": {10: 1.0}, "b": {10: 2.1}}, "b at 10: 2.0 and 2.1"), ({"a": {10: 1.0}}, "b: only in one"),
         ({"a": {10: None}, "b": {10: 2.0}}, "a at 10: 1.0 and None"),
         ({"a": {10: 1.0, 20: 3.0}, "b": {10: 2.0}}, "a at 20: None and 3.0"))
@@ -262,6 +262,6 @@ def test_bases(silent_cluster: Cluster) -> None:
 def test_runs_of_make_cluster_that_fail(silent_cluster: Cluster) -> None:
     with pytest.raises(RuntimeError, match="has no cluster"):
         silent_cluster.run("status")
-    for words in ([], ["up"], ["start", "/none"], ["down", "/none", "node1"], ["sideways", "/none"]):
-        ran = subprocess.run([sys.executable, graphite.MAKE_CLUSTER, *words], capture_output=True, text=True)
+    for words in ("", "up", "start /none", "down /none node1", "sideways /none"):
+        ran = subprocess.run([sys.executable, graphite.MAKE_CLUSTER, *words.split()], capture_output=True, text=True)
         assert ran.returncode == 2, words

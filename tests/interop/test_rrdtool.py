@@ -1,7 +1,6 @@
 """Files on the way from RRDtool to rrdi and back, and RRDtool's own lines and times, beside rrdtool."""
 from __future__ import annotations
 
-import json
 import math
 import re
 import time
@@ -31,13 +30,13 @@ def tools(program: Program, needs: Callable[..., None], folder: Path, check: Che
 class File(NamedTuple):
     """A file of RRDtool, and what comes of it in rrdi."""
     definitions: str
-    samples: "list[str]"
+    samples: list[str]
     # The line of rrdi-compare. Or, for a file of which not every row can be moved, the number of the lines of averages,
     # minimums and maximums that agree.
     agreement: str = "agree"
     agreeing: int = 0
     # What rrdi-import says; its status is then 1.
-    notes: "tuple[str, ...]" = ()
+    notes: tuple[str, ...] = ()
     options: str = ""
     # Checks whether the way back brings the same rows as the file in rrdi.
     is_whole: bool = False
@@ -130,7 +129,7 @@ def agree(tools: Tools, file: File, old: str) -> None:
     tools.check.same(len(found), file.agreeing, f"the archives that agree: {said}")
 
 
-def rows(tools: Tools, file: str) -> "list[object]":
+def rows(tools: Tools, file: str) -> list[object]:
     return [tools.run("rrdi", "fetch", file, function, "-s", 1600000000, "-e", 1600005000)
             for function in ("AVERAGE", "MIN", "MAX", "LAST")]
 
@@ -198,7 +197,7 @@ def test_lines_of_rrdtool(tools: Tools, check: Check) -> None:
         tools.expect(0, "agree", "rrdi-compare", f"old/{file.name}", f"new/{file.name}")
 
 
-def times() -> "Iterator[tuple[str, str]]":
+def times() -> Iterator[tuple[str, str]]:
     for line in (HERE / "rrdtool-times").read_text().splitlines():
         start, _, end = line.partition("|")
         yield start, end
@@ -237,24 +236,3 @@ def test_an_added_archive(tools: Tools, check: Check) -> None:
             tools.expect(0, "", name, *change.replace(" a ", f" a.{name} ").split())
         said = tools.expect(0, "", name, *f"fetch a.{name} AVERAGE -r 10 -s 1000000020 -e 1000000069".split())
         check.same(len(re.findall(r": \d", said)), known, f"{name}: the known rows of an added archive")
-
-
-# ---- the reader without the program
-
-
-def test_the_reader_as_a_script(tools: Tools, check: Check) -> None:
-    """The reader prints what a fetch prints, and JSON."""
-    reader = str(TOP / "examples/rrdi.py")
-    tools.expect(0, "", "rrdi", "create", "day.rrdi", "--step", 300, "--start", 1600000200, "DS:g:GAUGE:600:U:U",
-                 "DS:h:COUNTER:600:U:U", "RRA:AVERAGE:0.5:1:288", "RRA:MAX:0.5:12:24")
-    samples = [f"{1600000200 + 300 * at}:{100 * math.sin(at):.3f}:{at * at}" for at in range(1, 250)]
-    tools.expect(0, "", "rrdi", "update", "day.rrdi", *samples)
-    tools.expect(2, "usage: rrdi.py", reader, "csv")
-    tools.expect(1, "rrdi.py: none.rrdi: No such file", reader, "json", "none.rrdi")
-    json.loads(tools.expect(0, '"step": 300', reader, "json", "day.rrdi"))
-    rows = re.findall(r"(?m)^0,AVERAGE,300,(\d+),(.*)$", tools.expect(0, "", reader, "csv", "day.rrdi"))
-    first, last = (int(tools.expect(0, "", "rrdi", name, "day.rrdi")) for name in ("first", "last"))
-    fetched = tools.expect(0, "", "rrdi", "fetch", "day.rrdi", "AVERAGE", "-r", 300, "-s", first - 300, "-e", last)
-    wanted = re.findall(r"(?m)^(\d+): ([-0-9].*)$", fetched)
-    check.same([(at, cells.replace(",", " ")) for at, cells in rows], wanted, "the rows of the reader")
-    check.same(len(wanted), 249, "the number of known rows")

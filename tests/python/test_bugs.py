@@ -100,13 +100,13 @@ class Bug(NamedTuple):
     new: str
 
 
-def bugs() -> "list[Bug]":
+def bugs() -> list[Bug]:
     lines = (Path(__file__).parent / "bugs").read_text().splitlines()
     columns = [line.split(" | ") for line in lines if not line.startswith("#")]
     return [Bug(check, file, ast.literal_eval(old), ast.literal_eval(new)) for check, file, old, new in columns]
 
 
-def cases() -> "Iterator[object]":
+def cases() -> Iterator[object]:
     """Yields the bugs. Those of one check come to one process, which first runs the check without a bug."""
     quick = [bug for bug in bugs() if bug.check in QUICK][::SHARE]
     for number, bug in enumerate(bugs()):
@@ -136,7 +136,7 @@ def link_recorder(sources: Path, library: str, recorder: Path) -> str:
     return str(recorder)
 
 
-def report_of(name: str, sources: Path, variables: "dict[str, str]") -> str:
+def report_of(name: str, sources: Path, variables: dict[str, str]) -> str:
     """Runs a check on some sources. Returns the end of what it reports; nothing if it finds nothing wrong."""
     file, *classes = CHECKS[name].split()
     try:

@@ -27,7 +27,7 @@ def test_a_check_that_fails_without_a_bug(folder: Path, workshop: Path, planted:
 
 
 def test_a_library_that_is_missing(folder: Path, planted: Check) -> None:
-    check_tools("/bin/true", f"{folder}/librrdi.so", ("test_feed_processes::Lines",), planted)
+    check_tools("/bin/true", f"{folder}/librrdi.so", ("test_tools_rrdtool::RRDtoolOutput",), planted)
     assert planted.faults
 
 

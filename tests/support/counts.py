@@ -20,8 +20,8 @@ MEMORY = "too little free memory:"
 
 class Counts:
     def __init__(self, config: pytest.Config) -> None:
-        chosen = any("::" in word for word in config.args) or any(
-            config.getoption(name, None) for name in ("keyword", "markexpr", "maxfail", "deselect", "collectonly", "seeds"))
+        options = ("keyword", "markexpr", "maxfail", "deselect", "collectonly", "seeds")
+        chosen = any("::" in word for word in config.args) or any(config.getoption(name, None) for name in options)
         self.is_whole, self.may_lack = not chosen, config.getoption("lacking")
         self.tried: dict[str, Counter[str]] = defaultdict(Counter)
         self.least: dict[str, dict[str, int]] = {}

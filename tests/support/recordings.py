@@ -45,14 +45,14 @@ def pixels(picture: bytes) -> bytes:
     return zlib.decompress(data)
 
 
-def is_of_outage(lines: "list[str]") -> bool:
+def is_of_outage(lines: list[str]) -> bool:
     """Checks whether an outage explains how archives differ, in what rrdi-compare prints."""
     finest = min(int(line.split()[1]) for line in lines)
     found = [AFTER_OUTAGE.match(line) for line in lines if not line.endswith(" agree")]
     return bool(found) and all(match and (not match[3] or int(match[1]) > finest) for match in found)
 
 
-def has_outage(lines: "list[str]") -> bool:
+def has_outage(lines: list[str]) -> bool:
     """Checks whether two samples of a file are farther apart than its heartbeat, as on a machine that is too busy."""
     words = [word for line in lines for word in line.split()]
     heartbeat = min(int(word.split(":")[3]) for word in words if word.startswith("DS:"))
@@ -60,7 +60,7 @@ def has_outage(lines: "list[str]") -> bool:
     return any(later - sooner > heartbeat for sooner, later in zip(times, times[1:]))
 
 
-def one_by_one(line: str) -> "list[str]":
+def one_by_one(line: str) -> list[str]:
     """Splits an update into updates of one sample each. The recorder stores each sample that rrdi accepts; of several
     samples in one update, rrdtool stores none after a refused one, such as a second sample of one second."""
     words = line.split(" ")
@@ -105,7 +105,7 @@ class Recordings(Tools):
         said = ran.stdout[-900:] + ran.stderr[-900:]
         return self.check(ran.returncode == 0, f"{name}: status {ran.returncode}: {said}")
 
-    def calls(self, name: str) -> "list[str]":
+    def calls(self, name: str) -> list[str]:
         files = sorted(self.folder.glob(f"calls.{name}.*"), key=lambda path: path.stat().st_mtime)
         return [line for path in files for line in path.read_text().splitlines() if not line.startswith("cd ")]
 
@@ -131,7 +131,7 @@ class Recordings(Tools):
         for file in files:
             self.compare_file(file, [line for line in lines if line.split()[1] == file])
 
-    def compare_file(self, file: str, made: "list[str]") -> None:
+    def compare_file(self, file: str, made: list[str]) -> None:
         """Compares a file with the one that rrdtool made by the same calls."""
         old = self.moved(file, "replayed")
         told = self.run(self.compare, old, file)
@@ -174,7 +174,7 @@ class Recordings(Tools):
             is_alike = old == new and "x" in str(old[0][:1]) and (old[1] is not None or old[0][0] == "0x0")
             self.check(is_alike, f"{name}: the pictures differ: {old[0]} by rrdtool, {new[0]}: {line[:200]}")
 
-    def draw(self, by: str, line: str, now: int) -> "tuple[list[str], bytes | None]":
+    def draw(self, by: str, line: str, now: int) -> tuple[list[str], bytes | None]:
         """Draws a picture as of the time `now`. Returns the answer and the pixels."""
         told = self.run(by, "-", given=f"{line}\n", LD_PRELOAD=str(self.clock), CLOCK=str(now))
         picture = self.folder / "drawn.png"

@@ -1,7 +1,6 @@
 """Runs rrdi's tools, rrdtool and other programs in a folder, beside the program that is tried."""
 from __future__ import annotations
 
-import os
 import subprocess
 import sys
 from pathlib import Path
