@@ -47,7 +47,9 @@ def test_idle_moves(name: str, idle: Tools, planted: Check) -> None:
 
 @pytest.mark.parametrize("name", ("all_digits_of_a_number", "what_cannot_be_moved", "lines_of_rrdtool",
                                   "times_of_rrdtool", "refused_lines", "an_added_archive"))
-def test_idle_tools(name: str, idle: Tools, planted: Check, needs: Callable[..., None]) -> None:
+def test_idle_tools(name: str, idle: Tools, planted: Check, needs: Callable[..., None], monkeypatch: pytest.MonkeyPatch
+                    ) -> None:
+    monkeypatch.setattr(test_rrdtool, "times", lambda: [("now", "now"), ("-1h", "start+1h")])
     test = getattr(test_rrdtool, f"test_{name}")
     words = {"tools": idle, "check": planted, "needs": needs}
     test(**{word: words[word] for word in test.__code__.co_varnames[:test.__code__.co_argcount]})

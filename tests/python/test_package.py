@@ -24,8 +24,8 @@ OF_TOOLS = ("test_feed_processes::Lines", "test_feed_processes::InProcess", "tes
 def pytest_said(*words: str, **variables: str) -> subprocess.CompletedProcess[str]:
     """Runs pytest in a process of its own, which does not take itself for one of xdist."""
     env = {name: value for name, value in os.environ.items() if not name.startswith("PYTEST_")}
-    return subprocess.run([sys.executable, "-m", "pytest", "-q", "--lacking", *words], cwd=TOP, env={**env, **variables},
-                          stdin=subprocess.DEVNULL, capture_output=True, text=True)
+    return subprocess.run([sys.executable, "-m", "pytest", "-q", "--lacking", *words], cwd=TOP,
+                          env={**env, **variables}, stdin=subprocess.DEVNULL, capture_output=True, text=True)
 
 
 def test_number_of_tests(check: Check) -> None:

@@ -8,7 +8,7 @@ import pytest
 
 from support.check import Check
 from support.program import Program
-from tests.python.test_bugs import Bug, Planting, bugs
+from tests.python.test_bugs import QUICK, Bug, Planting, bugs
 from tests.python.test_package import check_tools, check_types
 
 SAFELY = "examples/rrdi-safely"
@@ -16,12 +16,12 @@ SAFELY = "examples/rrdi-safely"
 
 @pytest.mark.parametrize("old", ("exec", "no such text"))
 def test_a_bug_that_is_not_found(old: str, program: Program, folder: Path, workshop: Path, planted: Check) -> None:
-    Planting(program.path, "", workshop).try_bug(Bug("rrdi-safely", SAFELY, old, old), folder, planted)
+    Planting(program.path, "", workshop).try_bug(Bug("test_scripts Safely", SAFELY, old, old), folder, planted)
     assert planted.faults
 
 
 def test_a_check_that_fails_without_a_bug(folder: Path, workshop: Path, planted: Check) -> None:
-    bug = next(bug for bug in bugs() if bug.check == "to-rrdtool")
+    bug = next(bug for bug in bugs() if bug.tests == QUICK[0])
     Planting("/bin/true", "", workshop).try_bug(bug, folder, planted)
     assert planted.faults
 
