@@ -144,12 +144,17 @@ WAYS: dict[str, Callable[[Comparison, int, list[str], list[str]], None]] = {
     "on an older file": Comparison.on_an_older_file}
 
 
-def difference(way: str, comparison: Comparison, number: int, commands: Sequence[Any]) -> str:
-    """Returns how the results of these commands differ; nothing if they do not."""
-    database, wanted = None, []
+def printed(commands: Sequence[Any]) -> list[str]:
+    """Returns the lines that the definitions print."""
+    database, wanted = None, list[str]()
     for command in commands:
         database, told = run(database, command)
         wanted += told
+    return wanted
+
+
+def difference(way: str, comparison: Comparison, number: int, commands: Sequence[Any], wanted: list[str]) -> str:
+    """Returns how the results of these commands differ from the lines that are wanted; nothing if they do not."""
     try:
         WAYS[way](comparison, number, [str(command) for command in commands], wanted)
     except Differs as differs:
@@ -193,10 +198,11 @@ def test_batches(way: str, numbers: range, program: Program, tmp_path: Path, che
 def compare_batches(way: str, numbers: range, comparison: Comparison) -> None:
     """Compares batches until one differs, and then leaves out what does not matter."""
     for number in numbers:
-        commands, _ = commands_and_texts(number)
-        if difference(way, comparison, number, commands):
-            alone = Comparison(comparison.program, comparison.old, comparison.folder, Check())
-            least = fewest(commands, lambda some: difference(way, alone, number, some))
+        commands, texts = commands_and_texts(number)
+        if difference(way, comparison, number, commands, sum(texts, [])):
+            uncounted = Comparison(comparison.program, comparison.old, comparison.folder, Check())
+            differs = lambda some: difference(way, uncounted, number, some, printed(some))
+            least = fewest(commands, differs)
             comparison.check(False, f"batch {number}, of whose {len(commands)} commands these {len(least)} differ:\n"
-                                    f"{text_of(map(str, least))}--- {difference(way, alone, number, least)}")
+                                    f"{text_of(map(str, least))}--- {differs(least)}")
             break

@@ -112,18 +112,20 @@ class Clusters:
         self.whisper.send("node1", lines)
         self.check.count("points", len(points))
 
-    def wait(self, *nodes: str) -> None:
+    def wait(self, count: int, *nodes: str) -> None:
+        """Waits until whisper and nodes show all points and have written them. The relay connects to a node that was
+        started again after some seconds, and sends what it kept."""
         for cluster, names in ((self.rrdi, nodes), (self.whisper, ("node1",))):
             for name in names:
-                self.check(cluster.wait_until_written(name, self.names, PATIENCE), f"{name} has not written all points")
+                until, found = time.monotonic() + PATIENCE, 0
+                while time.monotonic() < until and found < count:
+                    time.sleep(1)
+                    found = known(cluster.render(name, "app.*.*.*", self.begun - 3_600, self.begun, self.begun))
+                self.check(found == count, f"{name} shows {found} values of {count} points")
+                self.wait_until_written(cluster, name)
 
-    def wait_for_points(self, name: str, count: int) -> None:
-        """Waits until a node shows all points: the relay connects again after some seconds, and sends what it kept."""
-        until, found = time.monotonic() + PATIENCE, 0
-        while time.monotonic() < until and found < count:
-            time.sleep(1)
-            found = known(self.rrdi.render(name, "app.*.*.*", self.begun - 3_600, self.begun, self.begun))
-        self.check(found == count, f"{name} shows {found} values of {count} points")
+    def wait_until_written(self, cluster: Cluster, name: str) -> None:
+        self.check(cluster.wait_until_written(name, self.names, PATIENCE), f"{name} has not written all points")
 
     def compare(self, what: str, sent: int) -> None:
         """Compares what the front over rrdi and whisper's page show, by archive."""
@@ -142,20 +144,19 @@ class Clusters:
         """Sends points, ends a node in the middle and asks again, starts it, ends the other one and asks again."""
         old, late, new = make_points(self.begun)
         self.send(old)
-        self.wait("node1", "node2")
+        self.wait(len(old), "node1", "node2")
         self.compare("old points", len(old))
         self.send(late)
-        self.wait("node1", "node2")
+        self.wait(len(old) + len(late), "node1", "node2")
         self.compare("late points", len(old) + len(late))
         self.check.count("late points", len(late))
         self.rrdi.run("stop", "node2")
         self.compare("a node is ended", len(old) + len(late))
         self.send(new)
-        self.wait("node1")
+        self.wait(POINTS, "node1")
         self.compare("points without a node", POINTS)
         self.rrdi.run("start", "node2")
-        self.wait_for_points("node2", POINTS)
-        self.wait("node1", "node2")
+        self.wait(POINTS, "node1", "node2")
         time.sleep(RETRY)
         self.rrdi.run("stop", "node1")
         self.compare("the other node is ended", POINTS)
@@ -215,14 +216,21 @@ class Clusters:
         self.check(ours.get(name_of(3)) == whole[name_of(3)], "a broken-off change is another database")
         self.check_pages(files)
         # The next points make new files of those that are no databases.
-        now = int(time.time())
-        self.rrdi.send("node1", [f"{name_of(number)} 5 {now}\n" for number in range(5)])
-        self.wait("node1")
-        shown = self.rrdi.render("node1", "app.host00.*.*", now - 60, now + 10, now + 10)
-        self.check(all(5 in shown.get(name_of(number), {}).values() for number in (3, 4)),
-                   "points after damage are lost")
+        self.check(self.shows_new_points(), "points after damage are lost")
+        self.wait_until_written(self.rrdi, "node1")
         aside = sorted(path.name for path in files[0].parent.parent.rglob("*.damaged-*"))
         self.check(len(aside) == 3, f"files set aside: {aside}")
+
+    def shows_new_points(self) -> bool:
+        """Sends a point of each damaged file to node1. Returns whether node1 shows two of them."""
+        now = int(time.time())
+        self.rrdi.send("node1", [f"{name_of(number)} 5 {now}\n" for number in range(5)])
+        until, is_shown = time.monotonic() + PATIENCE, False
+        while time.monotonic() < until and not is_shown:
+            time.sleep(1)
+            shown = self.rrdi.render("node1", "app.host00.*.*", now - 60, now + 10, now + 10)
+            is_shown = all(5 in shown.get(name_of(number), {}).values() for number in (3, 4))
+        return is_shown
 
     def check_pages(self, files: list[Path]) -> None:
         """Each page is shown although some files are damaged, and the log names two of them."""
@@ -291,8 +299,9 @@ def test_cluster(clusters: Clusters) -> None:
 def test_page_of_the_composer(needs: Callable[..., None], request: pytest.FixtureRequest) -> None:
     needs("chromium")
     clusters = request.getfixturevalue("clusters")
-    clusters.send(make_points(clusters.begun)[0])
-    clusters.wait("node1", "node2")
+    points = make_points(clusters.begun)[0]
+    clusters.send(points)
+    clusters.wait(len(points), "node1", "node2")
     clusters.look_at_page(clusters.folder / "page.png")
 
 
