@@ -171,6 +171,7 @@ def test_other_lengths(t):
         words = ["create", f"{rows} rows", *CREATE[:-1], f"RRA:LAST:0.5:1:{rows}"]
         t.run(words)
         new[rows] = t.held(words[1])
+        t.check.same(new[rows] is not None, True, f"a file of {rows} rows is made")
     for old, held in new.items():
         for rows, wanted in new.items():
             t.put(held, "replaced")

@@ -185,8 +185,8 @@ class Faults:
 
     def try_error_stream(self, number: int, what: str) -> None:
         """Lets the report of a refusal fail, which nothing can report: the status and FILE must be as without a fault."""
-        more: dict[str, Any]
-        for more in ({}, {"MOVES": [1, -1]}, {"INTERRUPTS": 1_001}):
+        settings: list[dict[str, Any]] = [{}, {"MOVES": [1, -1]}, {"INTERRUPTS": 1_001}]
+        for more in settings:
             ran = self.place.run(self.task, self.old, **self.always, CALL=number, **more)
             _, now = self.place.after_next()
             is_right = ran.answer.status == self.plain.answer.status and self.plain.answer.err.startswith(ran.answer.err)
@@ -320,8 +320,8 @@ class Faults:
 
 def try_piece(place: Place, task: Task, piece: int, check: Check, has_syncs: bool) -> None:
     """Tries a part of the calls of a task, without syncs and perhaps with them."""
-    always: dict[str, Any]
-    for always in ({}, {"RRDI_SYNC": 1})[:1 + has_syncs]:
+    settings: list[dict[str, Any]] = [{}, {"RRDI_SYNC": 1}]
+    for always in settings[:1 + has_syncs]:
         faults = Faults(place, task, check, **always)
         if piece == 0:
             faults.try_plain()

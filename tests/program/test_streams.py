@@ -188,12 +188,12 @@ def test_writes(t, between_all):
         log = t.folder / "log"
         old = len(t.held("large") or b"")
         status, _, err = t.told(words, LD_PRELOAD=between_all, LOG=str(log))
-        events, new = events_of(log), len(t.held("large"))
+        events, new = events_of(log), len(t.held("large") or b"")
         printed = [event.size for event in events if event.kind == "write"]
         stored = [event.size for event in events if event.kind == "pwrite"]
         few = all(size >= 16_384 for size in printed[:-1])
         most = 3 * (max(new, old) // 4_096) + 12 if stored else 0
-        t.check.same((status, err, few, len(stored) <= most), (0, "", True, True),
+        t.check.same((status, err, new > 0, few, len(stored) <= most), (0, "", True, True, True),
                f"{words}: {len(printed)} writes printed, {len(stored)} of FILE, at most {most}")
 
 
