@@ -1,7 +1,8 @@
 """Each check of the program fails on wrong answers: a check that cannot fail is worth nothing.
 
-`support/fake.c` is a small program that keeps rrdi's promises on files, or breaks the one that FAKE_BUG names; other checks
-get programs with fixed answers. Each judgement must reject something here (`Counts.blind` in support/counts.py)."""
+`support/fake.c` is a small program that keeps rrdi's promises on files, or breaks the one that FAKE_BUG names; other
+checks get programs with fixed answers. Each judgement must reject something here (`Counts.blind` in
+support/counts.py)."""
 from __future__ import annotations
 
 import fcntl
@@ -49,8 +50,9 @@ def rejects(planted: Check, is_wrong: object) -> None:
 
 # ---- failing calls and kills
 
-LONGER, LARGER, MANY = "update that lengthens 4 rows", "update that lengthens 1000 rows", "update of many pages, the journal full"
-PAGES, LAST, NEW, SMALLER = "update of many pages", "last of 4 rows", "create of 4 rows over nothing", "resize down of 1000 rows"
+LONGER, LARGER, SMALLER = "update that lengthens 4 rows", "update that lengthens 1000 rows", "resize down of 1000 rows"
+PAGES, MANY = "update of many pages", "update of many pages, the journal full"
+LAST, NEW = "last of 4 rows", "create of 4 rows over nothing"
 MARKED = "last over a change without its last two calls, 1000 rows"
 REFUSED = "a refused update over a change without its last three calls, 4 rows"
 # A fault of the small program, and the task that finds it.
@@ -70,8 +72,8 @@ CALLS = {
 KILLS = {"no-tail": LARGER, "marks-late": LARGER, "commits-early": LARGER, "cuts-early": SMALLER,
          "takes-head-first": LARGER,
          "stays-marked": LARGER, "recovers-shared": LARGER, "forgets-change": LONGER, "fails-to-read": LONGER}
-# Faults that only a power failure finds: a lack of syncs, a length that is trusted without its bytes, a page that is written
-# as a whole, and trust in what only the cache may have, after a kill and after a failed sync.
+# Faults that only a power failure finds: a lack of syncs, a length that is trusted without its bytes, a page that is
+# written as a whole, and trust in what only the cache may have, after a kill and after a failed sync.
 POWER = {"no-sync-1": LARGER, "no-sync-2": LARGER, "no-sync-3": LARGER, "no-sync-4": SMALLER,
          "no-sync-to-recover": LARGER,
          "marks-by-length": LONGER, "first-page-at-once": PAGES, "stays-marked": LARGER, "trusts-cache": LARGER,
@@ -122,8 +124,8 @@ def test_power_finds(bug: str, name: str, fake: Program, bugs: Any, between: str
 
 
 def test_other_kills(fake: Program, bugs: Any, between: str, folder: Path, planted: Check) -> None:
-    """A run that is not killed, a next command that does otherwise, a change with syncs that answers otherwise, and a file
-    that is found though the disk has not stored its name."""
+    """A run that is not killed, a next command that does otherwise, a change with syncs that answers otherwise, and a
+    file that is found though the disk has not stored its name."""
     bugs("")
     place, task = Place(fake, between, folder), test_kills.TASKS[LONGER]
     kills, cuts = test_kills.Kills(place, task, planted, False), Cuts(place, task, planted, EFFORT)
@@ -257,7 +259,8 @@ def test_memory_finds(source: str, wrong: int, between_all: str, folder: Path, p
     assert len(planted.faults) == wrong and planted.tried == {test_growths.SIZES: 7}
 
 
-# A program of three tests: the first passes whatever is refused, the second ends with an error, and the third has a fault.
+# A program of three tests: the first passes whatever is refused, the second ends with an error, and the third has a
+# fault.
 TESTS = """
 #include <stdio.h>
 #include <stdlib.h>
@@ -309,8 +312,9 @@ MOVED = [partial(test_names.test_a_file_moved_meanwhile, move=move, words=words)
          for move in (test_names.replace, test_names.unlink) for words in test_names.COMMANDS]
 CROWD = [partial(test_locks.crowd, has_reader=True, writers=12)]
 EXCLUSION, WAITING = [test_locks.test_exclusion], [test_locks.test_waiting]
-FULL, READ_ONLY, ODD = [test_full_disks.test_a_full_disk], [test_full_disks.test_a_read_only_mount], [test_full_disks.test_what_is_no_file]
-LINKS, DANGLING, MADE = [test_names.test_links], [test_names.test_a_dangling_link], [test_names.test_a_file_made_meanwhile]
+FULL, READ_ONLY = [test_full_disks.test_a_full_disk], [test_full_disks.test_a_read_only_mount]
+ODD, LINKS = [test_full_disks.test_what_is_no_file], [test_names.test_links]
+DANGLING, MADE = [test_names.test_a_dangling_link], [test_names.test_a_file_made_meanwhile]
 COPIES, LONG = [test_names.test_copies], [partial(test_locks.test_long_pauses, value="60")]
 # A fault of the small program, and the tests of which each list finds it.
 LOST: dict[str, Sequence[list[Any]]] = {

@@ -46,8 +46,8 @@ def test_numbers_of_streams(t, between):
 
 
 def test_closed_streams(t):
-    """Checks that a run without some of the standard streams leaves the right bytes in FILE: no text of the run, and none
-    of FILE's bytes taken for lines."""
+    """Checks that a run without some of the standard streams leaves the right bytes in FILE: no text of the run, and
+    none of FILE's bytes taken for lines."""
     t.run(["create", FILE, *CREATE])
     new = t.held()
     t.run(["update", FILE, "10:1"])
@@ -224,7 +224,8 @@ def is_cheap(cost, share):
 
 
 def as_nobody(t, between_all):
-    """Returns the program where a user without rights can run it, a library to measure memory, and the place of its log."""
+    """Returns the program where a user without rights can run it, a library to measure memory, and the place of its
+    log."""
     t.folder.chmod(0o777)
     program, library = (shutil.copy(path, t.folder) for path in (t.program.path, between_all))
     for path in (program, library):
@@ -233,8 +234,8 @@ def as_nobody(t, between_all):
 
 
 def touched(program, library, log, begun, length, may_write):
-    """Returns the answer of a run on a file that begins with these bytes, and the kilobytes that the run touched. The run's
-    user may only read the file, or also write it."""
+    """Returns the answer of a run on a file that begins with these bytes, and the kilobytes that the run touched. The
+    run's user may only read the file, or also write it."""
     file = log.with_name("file")
     put(file, begun)
     if length:
