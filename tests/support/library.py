@@ -26,7 +26,8 @@ MAY_CALL = frozenset({"malloc", "realloc", "free", "memcpy", "memmove", "memset"
                       "nanosleep"})
 # What precedes the name of a system call that may have a bug.
 PLANTED = "planted_"
-# The functions of the compiler's own library, the linker and the start files: division of 128 bits, and those of each shared object.
+# The functions of the compiler's own library, the linker and the start files: division of 128 bits, and those of each
+# shared object.
 OF_LINKER = frozenset({"__udivti3", "__cxa_finalize", "__gmon_start__", "_ITM_deregisterTMCloneTable",
                        "_ITM_registerTMCloneTable"})
 
