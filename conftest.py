@@ -40,12 +40,14 @@ def pytest_addoption(parser: pytest.Parser) -> None:
 @pytest.hookimpl(tryfirst=True)
 def pytest_cmdline_main(config: pytest.Config) -> None:
     """Keeps tests of one group in one process of xdist."""
-    if getattr(config.option, "numprocesses", None) and config.option.dist == "no":
+    if getattr(config.option, "numprocesses", None) and config.option.dist in ("no", "load"):
         config.option.dist = "loadgroup"
 
 
 def pytest_configure(config: pytest.Config) -> None:
-    if not hasattr(config, "workerinput"):  # xdist's workers report to the first process, which judges
+    if hasattr(config, "workerinput"):
+        config.option.loadgroup = True  # a worker of xdist does not know what the first process has chosen
+    else:  # the workers report to this process, which judges
         config.pluginmanager.register(Counts(config), "counts")
 
 
