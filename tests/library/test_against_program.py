@@ -14,20 +14,16 @@ import pytest
 from support import between
 from support.changes import FILE
 from support.check import Check
+from support.library import STACK, WAYS
 from support.program import TOP, Answer, Program, error, held, parted, put, status_of
 from support.random_batches import batch, text_of
 
 LEAST = {"commands": 2_000, "openings": 18, "refused allocations": 300, "faults of memory": 100,
          "calls on a small stack": 150}
-# The ways in which by_library.c runs a command.
-WAYS = {"over a file": {}, "on an open file": {"OPEN": "1"}, "in numbers": {"OPEN": "1", "NUMBERS": "1"},
-        "in memory": {"IN_MEMORY": "1"}}
 NO_MEMORY = error("out of memory")
 # The results that are right if memory runs out, beside a refused line of a batch: `write failed` is for the memory of
 # the output.
 FAULTS = {NO_MEMORY, *map(error, ("write failed", "cannot open", "cannot write"))}
-# The maximum number of bytes of stack that a call may use.
-STACK = 65_536
 WORKED = TOP / "crates/rrdi/cases"
 BATCHES, PART = 40, 5
 

@@ -14,12 +14,10 @@ from program import test_kills as kills
 from support.changes import Place
 from support.check import Check
 from support.cuts import LONG, SHORT, Cuts
+from support.library import ON_FILES, STACK, WAYS
 from support.program import Answer, Program
 
 LEAST = {"runs": 1_000, kills.KILLS: 60, failing.FAILED: 100}
-# The environment of by_library.c by the ways to run a command.
-WAYS = {"over a file": {}, "on an open file": {"OPEN": "1"}}
-STACK = {"STACK": "65536"}
 ONLY = ("update that lengthens 1000 rows", "batch over 1000 rows")
 CALLS, KILLS = "failing calls", "kills"
 
@@ -49,10 +47,10 @@ def pytest_generate_tests(metafunc: pytest.Metafunc) -> None:
     metafunc.parametrize("kind, name, part", list(parts(metafunc.config.getoption("long"))))
 
 
-@pytest.mark.parametrize("way", WAYS)
+@pytest.mark.parametrize("way", ON_FILES)
 def test_disturbed(way: str, kind: str, name: str, part: int, by_library: Program, between: str, folder: Path,
                    check: Check, is_long: bool) -> None:
-    place = Place(InWay(by_library.path, {**STACK, **WAYS[way]}), between, folder)
+    place = Place(InWay(by_library.path, {"STACK": str(STACK), **WAYS[way]}), between, folder)
     if kind == CALLS:
         task = failing.TASKS[name]
         has_syncs = not task.reads and (is_long or name.endswith("lengthens 1000 rows"))

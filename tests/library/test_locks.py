@@ -15,12 +15,10 @@ from support import locks
 from support.between import calls_of, events_of, settings
 from support.changes import FILE, PAGE, PAGES, Place, changes, create, locks_of, made, over_interrupted, readings
 from support.check import Check
-from support.library import SOURCES, Library, run_checks
+from support.library import ON_FILES, SOURCES, WAYS, Library, run_checks
 from support.program import Answer, Program
 
 LEAST = {"logs of commands": 182, "logs of an open file": 1, "planted bugs": 24}
-# The environment of by_library.c by the ways to run a command.
-WAYS = {"over a file": {}, "on an open file": {"OPEN": "1"}}
 # Lines for an open file, each with the number of its fault.
 OPENED = (("last", 0), ("update 20:2", 0), ("update 5:1", 13), ("update 30", 11), ("nothing", 10), ("tune -i g:1", 0),
           ("resize 0 GROW 300", 0), ("revert", 0), ("+update 40:1", 0), ("+nothing", 0), ("create DS:g", 11),
@@ -60,7 +58,7 @@ def place(by_library: Program, between: str, folder: Path) -> Place:
     return Place(by_library, between, folder)
 
 
-@pytest.mark.parametrize("way", WAYS)
+@pytest.mark.parametrize("way", ON_FILES)
 def test_a_command(way: str, place: Place, check: Check) -> None:
     check_logs(place, way, check)
 
@@ -86,7 +84,7 @@ def tried(bug: str, programs: dict[str, Path], preload: str, folder: Path) -> It
         run_checks([programs[source]], folder / source, found, bug)
         yield found
     found, place = Check(), Place(Program(str(programs["by_library.c"])), preload, folder)
-    for way in WAYS:
+    for way in ON_FILES:
         check_logs(place, way, found, bug)
     check_open_file(Program(str(programs["opened.c"])), place, found, bug)
     yield found

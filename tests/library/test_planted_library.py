@@ -7,15 +7,14 @@ from typing import Callable
 
 import pytest
 
-from library.test_against_program import (FILE, STACK, Growth, Growths, check_commands_on_stack, compare_batch,
-                                          compare_openings)
+from library.test_against_program import Growth, Growths, check_commands_on_stack, compare_batch, compare_openings
 from library.test_creating import IS_THERE, MADE, NEW, RACES, Creator, Left, judge_fault, judge_kill, judge_race
 from library.test_functions import OF_VALGRIND, WORKED, run_case
 from library.test_locks import ANSWERS, check_logs, check_open_file
-from support.changes import Place
+from support.changes import FILE, Place
 from support.check import Check
 from support.doubles import answering, compiled, fake
-from support.library import run_checks
+from support.library import STACK, run_checks
 from support.program import Program
 
 
@@ -40,9 +39,10 @@ def test_programs_of_checks(folder: Path, rejects: Callable[..., bool]) -> None:
 def test_worked_batches(folder: Path, rejects: Callable[..., bool]) -> None:
     name = OF_VALGRIND[0]
     text = (WORKED / f"{name}.stdout").read_text()
-    for answer, is_right in (((0, text), True), ((1, text), True), ((9, text), False), ((0, text + "x"), False),
-                             ((0, text, "==1== lost"), False)):
-        assert rejects(run_case, [answering(folder, "valgrind", *answer)], name, folder) != is_right, answer
+    for status, out, err, is_right in ((0, text, "", True), (1, text, "", True), (9, text, "", False),
+                                       (0, text + "x", "", False), (0, text, "==1== lost", False)):
+        words = [answering(folder, "valgrind", status, out, err)]
+        assert rejects(run_case, words, name, folder) != is_right, (status, err)
 
 
 def test_logs(folder: Path, between: str, rejects: Callable[..., bool], monkeypatch: pytest.MonkeyPatch) -> None:

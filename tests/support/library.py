@@ -18,6 +18,12 @@ EXPORTS = frozenset({"rrdi_run", "rrdi_batch", "rrdi_run_file", "rrdi_batch_file
 COMPILE = ("cc", "-Wall", "-Wextra", "-Werror", "-O1", "-g")
 # What precedes the name of a system call that may have a bug.
 PLANTED = "planted_"
+# The ways in which by_library.c runs a command, with their environment; and those on the file itself.
+WAYS: dict[str, dict[str, str]] = {"over a file": {}, "on an open file": {"OPEN": "1"},
+                                   "in numbers": {"OPEN": "1", "NUMBERS": "1"}, "in memory": {"IN_MEMORY": "1"}}
+ON_FILES = ("over a file", "on an open file")
+# The maximum number of bytes of stack that a call may use.
+STACK = 65_536
 # The seconds after which a program hangs, also on a busy machine and under valgrind.
 PATIENCE = 3_600
 
