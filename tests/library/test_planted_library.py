@@ -10,7 +10,7 @@ import pytest
 from library.test_against_program import Growth, Growths, check_commands_on_stack, compare_batch, compare_openings
 from library.test_creating import IS_THERE, MADE, NEW, RACES, Creator, Left, judge_fault, judge_kill, judge_race
 from library.test_functions import OF_VALGRIND, WORKED, run_case
-from library.test_locks import ANSWERS, check_logs, check_open_file
+from library.test_lock_order import ANSWERS, check_logs, check_open_file
 from support.changes import FILE, Place
 from support.check import Check
 from support.doubles import answering, compiled, fake
