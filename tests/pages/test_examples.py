@@ -106,6 +106,6 @@ def test_a_plot(day: Path, environment: Mapping[str, str], needs: Callable[..., 
 @pytest.mark.parametrize("name", MANUALS)
 def test_a_manual_page_is_well_formed(name: str, needs: Callable[..., None]) -> None:
     needs("mandoc")
-    words = ["mandoc", "-T", "lint", "-W", "warning", TOP / "docs" / name]
+    words = ["mandoc", "-T", "lint", "-W", "warning", str(TOP / "docs" / name)]
     told = subprocess.run(words, capture_output=True, text=True)
     assert (told.returncode, told.stdout) == (0, "")

@@ -46,7 +46,7 @@ def test_sessions(folder: Path, planted: Check) -> None:
 
 def test_what_is_left_out(folder: Path, planted: Check, monkeypatch: pytest.MonkeyPatch) -> None:
     command = Command("rrdi-import a\n", "", 7)
-    monkeypatch.setattr(tests.shutil, "which", lambda tool: None)
+    monkeypatch.setattr("shutil.which", lambda tool: None)
     told = tests.run_session("a.md", [command, command], folder, dict(os.environ), planted)
     assert told == "a.md: 2 of 2 commands, from line 7 on: rrdtool not installed"
     assert planted.tried["commands"] == 0 and len(tests.other_drawers()) == 2
