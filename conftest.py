@@ -26,9 +26,11 @@ BUILT, LIBRARY = "rrdi/out/rrdi", TOP / "out/librrdi.so.0"
 
 def pytest_addoption(parser: pytest.Parser) -> None:
     group = parser.getgroup("rrdi")
-    group.addoption("--crates", default=str(TOP / "crates"), metavar="FOLDER", help="the crates that were built (crates)")
+    group.addoption("--crates", default=str(TOP / "crates"), metavar="FOLDER",
+                    help="the crates that were built (crates)")
     group.addoption("--program", default="", metavar="PATH", help=f"the program that is tried (of the crates, {BUILT})")
-    group.addoption("--library", default=str(LIBRARY), metavar="PATH", help="the C library that is tried (out/librrdi.so.0)")
+    group.addoption("--library", default=str(LIBRARY), metavar="PATH",
+                    help="the C library that is tried (out/librrdi.so.0)")
     group.addoption("--long", action="store_true", help="try everything, also what takes hours")
     group.addoption("--lacking", action="store_true", help="pass although something was left out")
     group.addoption("--seeds", default="", metavar="FIRST:COUNT", help="the numbers of the random batches")
@@ -61,7 +63,8 @@ def pytest_runtest_call(item: pytest.Item) -> None:
     check = getattr(item, "funcargs", {}).get("check")
     if check is not None:
         module = getattr(item, "module", None)
-        least = {**getattr(module, "LEAST", {}), **(getattr(module, "LEAST_LONG", {}) if item.config.getoption("long") else {})}
+        least = {**getattr(module, "LEAST", {}),
+                 **(getattr(module, "LEAST_LONG", {}) if item.config.getoption("long") else {})}
         item.user_properties.append(("tried", (getattr(module, "__name__", ""), dict(check.tried), least)))
         check.end()
 

@@ -20,7 +20,8 @@ LAST_STREAM = 2
 # A change of many pages and of the length, which is interrupted before one of its last calls that change the file; and the
 # number of that call, counted from the end.
 INTERRUPTED = ("resize", FILE, "0", "GROW", "300")
-FORMS = {"a change without its last call": 1, "a change without its last two calls": 2, "a change without its last three calls": 3}
+FORMS = {"a change without its last call": 1, "a change without its last two calls": 2,
+         "a change without its last three calls": 3}
 
 
 def create(rows: int, journal: int = 16, value: str = "U") -> str:
@@ -96,7 +97,8 @@ def changes() -> list[Task]:
         tasks.append(single(f"create of {new} rows over a database of {old}", create(new, value="0"), made=made(old)))
     for foreign in (b"RRD", b"twelve bytes", b"no database\n" * 500, b"no database\n" * 9_000):
         for rows in (PAGE, PAGES):
-            tasks.append(single(f"create of {rows} rows over {len(foreign)} other bytes", create(rows), foreign=foreign))
+            tasks.append(single(f"create of {rows} rows over {len(foreign)} other bytes", create(rows),
+                                foreign=foreign))
     for rows in (PAGE, PAGES, MANY):
         full = made(rows, 1)
         tasks += [
@@ -106,17 +108,20 @@ def changes() -> list[Task]:
             single(f"resize up of {rows} rows", "resize 0 GROW 1", made=made(rows)),
             single(f"resize down of {rows} rows", "resize 0 SHRINK 1", made=made(rows)),
             single(f"revert of {rows} rows", "revert", made=made(rows)),
-            Task(f"batch over {rows} rows", ("batch", FILE), "last\nupdate 20:2\nnothing\nlast\nupdate 30:1\n", made(rows)),
+            Task(f"batch over {rows} rows", ("batch", FILE), "last\nupdate 20:2\nnothing\nlast\nupdate 30:1\n",
+                 made(rows)),
         ]
     many = samples(2, 900)
     tasks += [
         single("update of many pages", f"update {many}", made=made(MANY)),
-        single("update of many pages, the journal full", f"update {samples(902, 900)}", made=f"{made(MANY, 1)}update {many}\n"),
+        single("update of many pages, the journal full", f"update {samples(902, 900)}",
+               made=f"{made(MANY, 1)}update {many}\n"),
         single("revert of many pages", "revert", made=f"{made(MANY)}update {many}\n"),
         single("resize far up", "resize 0 GROW 900", made=made(PAGES)),
         single("resize far down", "resize 0 SHRINK 900", made=made(PAGES)),
         Task("batch over nothing", ("batch", FILE), f"{made(PAGE)}last\n"),
-        Task("batch of many pages", ("batch", FILE), f"update {many}\nrevert\nupdate {many}\ntune -i g:5\n", made(MANY)),
+        Task("batch of many pages", ("batch", FILE), f"update {many}\nrevert\nupdate {many}\ntune -i g:5\n",
+             made(MANY)),
         Task("batch that changes nothing", ("batch", FILE), "last\n", made(PAGES)),
     ]
     return tasks
@@ -242,6 +247,8 @@ def locks_of(calls: list[between.Event], file: str, changes: bool) -> list[str]:
 def calls_on_streams(calls: list[between.Event], file: str) -> list[str]:
     """Returns the calls on a file by the number of a standard stream, by which a text for the stream would go into the file.
     After such a number was closed, calls by it fail."""
-    low = {call.got for call in calls if call.kind == "open" and call.words[4:] == [file] and 0 <= call.got <= LAST_STREAM}
+    low = {call.got for call in calls if call.kind == "open" and call.words[4:] == [file]
+           and 0 <= call.got <= LAST_STREAM}
     return [f"{call.kind} {' '.join(call.words)}" for call in calls
-            if call.kind in ("flock", "read", "pread", "write", "pwrite", "ftruncate") and call.file in low and call.got >= 0]
+            if call.kind in ("flock", "read", "pread", "write", "pwrite", "ftruncate") and call.file in low
+            and call.got >= 0]

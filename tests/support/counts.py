@@ -12,7 +12,10 @@ import pytest
 
 from support.program import TOP
 
-JUDGES = re.compile(r"\bcheck\((?!self)[^)]")
+# A line with a judgement.
+JUDGES = re.compile(r"^(?!\s*def ).*\b(?:check|want)\([^)]")
+# How the reason of a test begins that is left out since memory is short: no verdict depends on that.
+MEMORY = "too little free memory:"
 
 
 class Counts:
@@ -26,7 +29,7 @@ class Counts:
         self.left_out = 0
 
     def pytest_runtest_logreport(self, report: pytest.TestReport) -> None:
-        self.left_out += report.skipped
+        self.left_out += report.skipped and MEMORY not in str(report.longrepr)
         value: Any
         for name, value in report.user_properties:
             if name == "tried" and report.when == "call":
@@ -39,7 +42,8 @@ class Counts:
     def blind(self) -> list[str]:
         """Returns the judgements that rejected no planted answer, though another one in their file did."""
         names = {place.partition(":")[0] for place in self.rejected}
-        paths = [path for folder in ("tests", "fuzz") for path in sorted(TOP.glob(f"{folder}/**/*.py")) if path.name in names]
+        paths = [path for folder in ("tests", "fuzz") for path in sorted(TOP.glob(f"{folder}/**/*.py"))
+                 if path.name in names]
         return [f"{path.name}:{number} rejects no planted answer: {line.strip()}"
                 for path in paths if not path.name.startswith("test_planted")
                 for number, line in enumerate(path.read_text().splitlines(), 1)
@@ -47,7 +51,8 @@ class Counts:
 
     def faults(self) -> list[str]:
         found = [f"{module} tried {self.tried[module][name]} {name}, but must try at least {least}"
-                 for module, wanted in self.least.items() for name, least in wanted.items() if self.tried[module][name] < least]
+                 for module, wanted in self.least.items() for name,
+                 least in wanted.items() if self.tried[module][name] < least]
         left_out = [f"{self.left_out} tests were left out, see above; --lacking allows it"]
         return (found + self.blind()) * self.is_whole + left_out * (self.left_out > 0 and not self.may_lack)
 

@@ -115,7 +115,8 @@ class Cuts:
         syncs = 0
         for number, change in enumerate(changes):
             if number >= first and change.name in ("fsync", "unsynced"):
-                self.want(name, disk.files(self.chance, self.effort.torn), self.either(), f"{what}, after {syncs} syncs")
+                self.want(name, disk.files(self.chance, self.effort.torn), self.either(),
+                          f"{what}, after {syncs} syncs")
             disk.apply(change)
             syncs += change.name == "fsync"
         self.want(name, disk.files(self.chance, self.effort.torn), ends, f"{what}, at the end")
@@ -135,13 +136,15 @@ class Cuts:
         put(self.place.file, None)
         answer, now = self.place.after_next()
         self.check.count(CUTS)
-        self.check(is_refused(answer) and now is None, f"{self.task.name}, a power cut, the name is not stored: {answer}")
+        self.check(is_refused(answer) and now is None,
+                   f"{self.task.name}, a power cut, the name is not stored: {answer}")
 
     def try_seconds(self, changes: list[Change]) -> None:
         """Cuts the power while a command recovers a file that a power cut left."""
         if not self.task.over_database:
             return
-        marked = [left for left in self.files_between(changes) if (found := self.find(left)).answer.status == 0 and found.held != left]
+        marked = [left for left in self.files_between(changes) if (found := self.find(left)).answer.status == 0
+                  and found.held != left]
         for left in self.chance.sample(marked, min(self.effort.seconds, len(marked))):
             _, changes = self.run(NEXT, left)
             self.want_one(SECOND, self.disk(left), changes, self.find(left).held, "a power cut in the next command")

@@ -1,5 +1,5 @@
-/* A small program with rrdi's arguments and a layout of its own, for the tests of the scripts. It keeps rrdi's promises on
-   files, locks, kills and syncs, unless the environment names faults:
+/* A small program with rrdi's arguments and a layout of its own, on which tests/test_planted.py tries the tests. It keeps
+   rrdi's promises on files, locks, kills and syncs, unless the environment names faults:
 
        FAKE_BUG=NAME[,NAME..] fake COMMAND FILE ..
 
@@ -176,7 +176,9 @@ static int locked_file = -1, lacks_locks;
 
 /* Checks whether an error of a lock says that the system has no locks. */
 static int has_no_locks(int number) {
-    return number == ENOSYS || number == EOPNOTSUPP || number == EINVAL || (has("goes-on-unlocked") && number != EWOULDBLOCK && number != EINTR);
+    int is_free = number != EWOULDBLOCK && number != EINTR;
+    return number == ENOSYS || number == EOPNOTSUPP || number == EINVAL || (has("goes-on-unlocked") && is_free)
+        || (has("ignores-holder") && number == EWOULDBLOCK);
 }
 
 static int lock(int file, int how) {
@@ -416,9 +418,11 @@ static int execute(struct base *base, char **words, int count) {
     if (!strcmp(words[0], "update")) {
         if (has("refuses-some") && atol(words[1]) % 40 == 0)
             return tell("no sample");
-        if (has("refuses-all") ||(uint64_t)atol(words[1]) <= head_of(*base)->last) {
-            fprintf(stderr, "ERROR: not later than %lu\n", head_of(*base)->last);
-            return 1;
+        if (has("refuses-all") || (uint64_t)atol(words[1]) <= head_of(*base)->last) {
+            /* By write, since the library between the program and the system does not see the calls of fprintf. */
+            char text[60];
+            int length = snprintf(text, sizeof text, "ERROR: not later than %lu\n", head_of(*base)->last);
+            return write(2, text, length) < length && has("needs-stderr") ? 3 : 1;
         }
         for (int word = 1; word < count; word++)
             *base = update(*base, words[word]);
@@ -565,6 +569,8 @@ static int over_file(char **words, int count, const char *path) {
         old = read_whole(file);
         if (reads && old.bytes && !is_settled(old)) {
             /* Without locks another program may be making the change. */
+            if (lacks_locks && has("spoils-unlocked"))
+                truncate(path, HEAD);
             if (lacks_locks && !has("settles-unlocked"))
                 return tell("file: not ours");
             int again = open(path, O_RDWR);
@@ -595,6 +601,8 @@ static int over_file(char **words, int count, const char *path) {
             memcpy(base.bytes, old.bytes, old.length);
         }
     }
+    if (!strcmp(words[0], "last") && has("reads-and-cuts"))
+        truncate(path, HEAD);
     if (is_batch && has("touches-file"))
         pwrite(file, "x", 1, old.length);
     if (is_kept && !reads && has("writes-first"))

@@ -14,7 +14,8 @@ CUT, LONG_CUT = marks.SHORT_CUT, marks.LONG_CUT
 
 def any_cut(rng: random.Random, old: bytes, new: bytes) -> bytes:
     """A cut mark without a record, and often bytes after the database: a length that was stored before the record."""
-    rest = rng.choice([b"", b"", b"x", bytes(64), bytes(rng.randrange(1, PAGE)), rng.randbytes(rng.randrange(1, 200)), None])
+    rest = rng.choice([b"", b"", b"x", bytes(64), bytes(rng.randrange(1, PAGE)), rng.randbytes(rng.randrange(1, 200)),
+                       None])
     data = rng.choice([CUT, CUT, CUT, LONG_CUT]) + old[4:]
     return data.ljust(marks.tail_of(len(data)) + rng.choice([SHORT, LONG]), b"\0") if rest is None else data + rest
 
@@ -58,7 +59,8 @@ def any_undone(rng: random.Random, old: bytes, new: bytes) -> bytes:
 def any_other(rng: random.Random, old: bytes, new: bytes) -> bytes:
     """A file that is not rrdi's and begins like a mark."""
     mark = rng.choice([CUT, LONG_CUT, UNDO, UNDO + number(rng.choice([0, PAGE, 2**63, 2**64 - 1])), b"RRDU", b"RRDX"])
-    return mark + rng.choice([b"", b"ached notes of a user\n", bytes(rng.randrange(40)), rng.randbytes(rng.randrange(200)), old[4:20]])
+    return mark + rng.choice([b"", b"ached notes of a user\n", bytes(rng.randrange(40)),
+                              rng.randbytes(rng.randrange(200)), old[4:20]])
 
 
 WAYS: tuple[Callable[[random.Random, bytes, bytes], bytes], ...] = (any_cut, any_record, any_undone, any_other)

@@ -73,5 +73,6 @@ def faults_of_open(events: Iterable[Event], file: str) -> list[str]:
     """Returns the calls that open the file again, or touch its lock, while the file stays open; the first part opens the file,
     and the last one closes it."""
     parts = list(parts_of(events))
-    return [f"call {number} of the open file: {call.kind} {' '.join(call.words)}" for number, part in enumerate(parts[1:-1], 1)
+    return [f"call {number} of the open file: {call.kind} {' '.join(call.words)}" for number,
+            part in enumerate(parts[1:-1], 1)
             for call in part if call.kind == "flock" or call.kind == "open" and call.words[4:] == [file]]

@@ -121,7 +121,8 @@ class Disk:
         if change.name == "fsync":
             self.sync()
         elif change.name == "unsynced":
-            self.waiting = [replace(event, is_lost=True) if isinstance(event, Part) else event for event in self.waiting]
+            self.waiting = [replace(event, is_lost=True) if isinstance(event, Part) else event
+                            for event in self.waiting]
         elif change.name == "ftruncate":
             self.cache = change.over(self.cache)
             self.waiting.append(Length(change.at))
@@ -141,7 +142,8 @@ class Disk:
 
     def sync(self) -> None:
         """Stores what is waiting, except what a failed sync has lost."""
-        sure = {number: [event] for number, event in enumerate(self.waiting) if isinstance(event, Part) and not event.is_lost}
+        sure = {number: [event] for number, event in enumerate(self.waiting) if isinstance(event, Part)
+                and not event.is_lost}
         pages = {parts[0].page for parts in sure.values()}
         self.stored = self.left(sure, len(self.waiting))
         end = len(self.stored)

@@ -7,7 +7,7 @@ import subprocess
 from contextlib import contextmanager
 from dataclasses import dataclass
 from pathlib import Path
-from typing import BinaryIO, Callable, Iterator, Mapping, NamedTuple, Sequence
+from typing import Any, BinaryIO, Callable, Iterator, Mapping, NamedTuple, Sequence
 
 TOP = Path(__file__).resolve().parent.parent.parent
 # The seconds after which a run hangs, also on a busy machine.
@@ -76,7 +76,8 @@ class Program:
             env: Mapping[str, str] | None = None, before: Callable[[], None] | None = None,
             seconds: float = PATIENCE, name: str | None = None) -> Answer:
         """Runs the program with arguments and standard input. If a run does not end in time, its answer says so."""
-        told: list[str | bytes] = [name or self.path, *(word if isinstance(word, bytes) else str(word) for word in words)]
+        told: list[Any] = [name or self.path,
+                                   *(word if isinstance(word, bytes) else str(word) for word in words)]
         with lines_in_memory(lines) as source:
             try:
                 ran = subprocess.run(told, executable=self.path, stdin=source, capture_output=True, timeout=seconds,

@@ -34,7 +34,8 @@ class Runs:
     def put(self, held: bytes | None, name: str = FILE) -> None:
         programs.put(self.folder / name, held)
 
-    def run(self, words: Sequence[Any], status: int = 0, out: str = "", err: str = "", lines: str = "", **streams: Any) -> None:
+    def run(self, words: Sequence[Any], status: int = 0, out: str = "", err: str = "", lines: str = "",
+            **streams: Any) -> None:
         """Runs the program and compares its answer. If the expected error begins with the line of the usage fault, more
         text may follow."""
         told = self.told(words, lines, **streams)
@@ -42,14 +43,16 @@ class Runs:
             told = told._replace(err=told.err[:len(MISUSE)])
         self.check.same(told, Answer(status, out, err), words)
 
-    def told(self, words: Sequence[Any], lines: str = "", to: str | None = None, stdin: int | None = None, **env: str) -> Answer:
+    def told(self, words: Sequence[Any], lines: str = "", to: str | None = None, stdin: int | None = None,
+             **env: str) -> Answer:
         """Returns the answer of a run, whose output may go to a file, and whose lines may come from an open one."""
         self.check.count(RUNS)
         with ExitStack() as streams:
             source = stdin if stdin is not None else streams.enter_context(lines_in_memory(lines)).fileno()
             sink = streams.enter_context(open(to, "wb")).fileno() if to else subprocess.PIPE
             try:
-                ran = subprocess.run([self.program.path, *words], cwd=self.folder, timeout=PATIENCE, env=environment(env),
+                ran = subprocess.run([self.program.path, *words], cwd=self.folder, timeout=PATIENCE,
+                                     env=environment(env),
                                      stdin=source, stdout=sink, stderr=subprocess.PIPE)
             except subprocess.TimeoutExpired:
                 return Answer(f"no end in {PATIENCE} seconds")

@@ -21,7 +21,8 @@ class SizedFile(NamedTuple):
     def create(self, program: Program, path: Path) -> Answer:
         """Creates the file and fills its journal."""
         updates = (f"update {STEP * n}:{n}" for n in range(1, self.updates() + 1))
-        return program.run(["batch", path], "\n".join([f"{CREATE} {self.journal} {ONE} {self.archives}", *updates]) + "\n")
+        return program.run(["batch", path], "\n".join([f"{CREATE} {self.journal} {ONE} {self.archives}", *updates])
+                           + "\n")
 
     def updates(self) -> int:
         """Returns the number of updates of a new file."""
@@ -62,7 +63,8 @@ class Kind(NamedTuple):
 
     def sample(self, number: int, more: int = 0) -> str:
         """Returns the sample of step `number`. The values of files with another `more` differ."""
-        return ":".join([str(START + STEP * number), *(f"{(number + more + source) % 1000}.5" for source in range(self.sources))])
+        return ":".join([str(START + STEP * number), *(f"{(number + more + source) % 1000}.5"
+                                                       for source in range(self.sources))])
 
 
 SMALL = Kind("3 KB", ("DS:a:GAUGE:60:U:U", "RRA:AVERAGE:0.5:1:100"))
