@@ -67,8 +67,8 @@ def judge_fault(what: str, said: str, left: Left, whole: bytes, why: int, keeps:
 class Creator:
     """The program that makes a file, in a folder of its own."""
 
-    def __init__(self, path: str, preload: str, folder: Path) -> None:
-        self.program, self.preload, self.log, self.place = Program(path), preload, folder / "log", folder / "place"
+    def __init__(self, program: Program, preload: str, folder: Path) -> None:
+        self.program, self.preload, self.log, self.place = program, preload, folder / "log", folder / "place"
 
     def run(self, **more: object) -> str:
         env = settings(self.preload, LOG=self.log, **more)
@@ -127,7 +127,7 @@ class Creator:
 
 @pytest.fixture
 def creator(built: Library, between: str, folder: Path) -> Creator:
-    return Creator(str(built.program("creator.c")), between, folder)
+    return Creator(Program(str(built.program("creator.c"))), between, folder)
 
 
 @pytest.mark.parametrize("count", RACES)

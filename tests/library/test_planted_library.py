@@ -13,9 +13,8 @@ from library.test_functions import OF_VALGRIND, WORKED, run_case
 from library.test_lock_order import ANSWERS, check_logs, check_open_file
 from support.changes import FILE, Place
 from support.check import Check
-from support.doubles import answering, compiled, fake
+from support.fakes import answering, build, compiled
 from support.library import STACK, run_checks
-from support.program import Program
 
 
 @pytest.fixture
@@ -32,7 +31,7 @@ def test_programs_of_checks(folder: Path, rejects: Callable[..., bool]) -> None:
     for number, (status, out, is_right) in enumerate((
             (0, "3 tests: 0 wrong\n", True), (1, "3 tests: 0 wrong\n", False), (0, "3 tests: 1 wrong\n", False),
             (0, "0 tests: 0 wrong\n", False), (0, "3 tests: 0 wrong\nmore\n", False), (0, "", False))):
-        words = [answering(folder, "tests", status, out)]
+        words = [answering(folder / "tests", status, out).path]
         assert rejects(run_checks, words, folder / str(number)) != is_right, (status, out)
 
 
@@ -41,18 +40,18 @@ def test_worked_batches(folder: Path, rejects: Callable[..., bool]) -> None:
     text = (WORKED / f"{name}.stdout").read_text()
     for status, out, err, is_right in ((0, text, "", True), (1, text, "", True), (9, text, "", False),
                                        (0, text + "x", "", False), (0, text, "==1== lost", False)):
-        words = [answering(folder, "valgrind", status, out, err)]
+        words = [answering(folder / "valgrind", status, out, err).path]
         assert rejects(run_case, words, name, folder) != is_right, (status, err)
 
 
 def test_logs(folder: Path, between: str, rejects: Callable[..., bool], monkeypatch: pytest.MonkeyPatch) -> None:
     """Finds a call without its lock in the log, and an open file that others could lock."""
-    place = Place(Program(fake(folder)), between, folder)
+    place = Place(build(folder / "fake"), between, folder)
     monkeypatch.setenv("FAKE_BUG", "reads-without-lock")
     assert rejects(check_logs, place, "over a file")
     monkeypatch.setenv("FAKE_BUG", "")
     for answers in (ANSWERS, ANSWERS.replace("13 held", "13 free")):
-        assert rejects(check_open_file, Program(answering(folder, "opened", 0, answers)), place)
+        assert rejects(check_open_file, answering(folder / "opened", 0, answers), place)
 
 
 # The answers of processes that make one file, what they leave, and whether that is right.
@@ -85,26 +84,26 @@ def test_files_that_are_made(rejects: Callable[..., bool]) -> None:
 
 
 def test_a_program_that_makes_no_file(folder: Path, between: str, rejects: Callable[..., bool]) -> None:
-    idle = Creator(answering(folder, "idle", 0, LATE), between, folder)
+    idle = Creator(answering(folder / "idle", 0, LATE), between, folder)
     assert rejects(idle.try_races, max(RACES)) and rejects(idle.try_disturbed, "with links")
 
 
 def test_batches(folder: Path, rejects: Callable[..., bool]) -> None:
-    right = Program(answering(folder, "right", 0, "1\n"))
+    right = answering(folder / "right", 0, "1\n")
     for status, out, is_right in ((0, "1\n", True), (0, "2\n", False), (1, "1\n", False)):
-        other = Program(answering(folder, "other", status, out))
+        other = answering(folder / "other", status, out)
         assert rejects(compare_batch, right, other, folder, 1) != is_right, (status, out)
 
 
 def test_open_files(folder: Path, rejects: Callable[..., bool]) -> None:
-    same, other = (Program(answering(folder, text, more=f"echo {text} >{FILE}")) for text in ("a", "b"))
+    same, other = (answering(folder / text, more=f"echo {text} >{FILE}") for text in ("a", "b"))
     assert not rejects(compare_openings, 1, same, same, folder) and rejects(compare_openings, 1, same, other, folder)
 
 
 def test_stacks(folder: Path, rejects: Callable[..., bool]) -> None:
     for count, is_right in ((STACK, True), (STACK + 1, False), (0, False)):
-        deep = answering(folder, "deep", more=f'[ -z "$STACK_USED" ] || echo {count} > "$STACK_USED"')
-        assert rejects(check_commands_on_stack, Program(deep), folder) != is_right, count
+        deep = answering(folder / "deep", more=f'[ -z "$STACK_USED" ] || echo {count} > "$STACK_USED"')
+        assert rejects(check_commands_on_stack, deep, folder) != is_right, count
 
 
 # A program that allocates memory twice, and frees the memory; or has a fault when an allocation fails.
@@ -128,7 +127,7 @@ FAULTS = ((TOLD, True), (f"first = {TOLD} ? malloc(7) : first", False), ('fputs(
 
 def test_allocations(folder: Path, between_all: str, rejects: Callable[..., bool]) -> None:
     for number, (fault, is_right) in enumerate(FAULTS):
-        program = Program(compiled(folder / str(number), ALLOCATES.replace("FAULT", fault)))
+        program = compiled(folder / str(number), ALLOCATES.replace("FAULT", fault))
         task = Growth("a task", ["last", FILE], "", "")
         growths = Growths(program, program, between_all, folder, task, "over a file")
         assert rejects(growths.try_all) != is_right, fault

@@ -11,7 +11,7 @@ import pytest
 from pages import test_sessions as tests
 from support import pixels
 from support.check import Check
-from support.doubles import answering
+from support.fakes import answering
 from support.pixels import Picture, picture, share_apart
 from support.program import TOP
 from support.sessions import Command, commands_of, count_shown, of_manual, of_program, sessions
@@ -34,7 +34,7 @@ PAGE = """# A page
 
 def test_sessions(folder: Path, planted: Check) -> None:
     """Runs a page that shows what its commands print, and pages that show something else."""
-    answering(folder, "rrdi", out="2 words\n")
+    answering(folder / "rrdi", out="2 words\n")
     environment = {**os.environ, "PATH": f"{folder}:{os.environ['PATH']}"}
     for shown, is_right, count in (("2 words", True, 3), ("2 word", False, 1), ("2 words\n    more", False, 1),
                                    ("", False, 1)):
@@ -114,8 +114,8 @@ def test_plots(folder: Path, planted: Check, monkeypatch: pytest.MonkeyPatch) ->
 
 @pytest.mark.parametrize("version, lacks", (("5.4 patchlevel 4", []), ("6.0 patchlevel 0", ["gnuplot 5.4"])))
 def test_drawers(version: str, lacks: list[str], folder: Path, monkeypatch: pytest.MonkeyPatch) -> None:
-    answering(folder, "gnuplot", out=f"gnuplot {version}\n")
-    answering(folder, "rrdtool", out="RRDtool 1.7.2  Copyright\n")
+    answering(folder / "gnuplot", out=f"gnuplot {version}\n")
+    answering(folder / "rrdtool", out="RRDtool 1.7.2  Copyright\n")
     monkeypatch.setenv("PATH", str(folder))
     assert tests.other_drawers() == lacks
 
