@@ -5,7 +5,6 @@ redirect their calls."""
 from __future__ import annotations
 
 import re
-import shutil
 import subprocess
 from pathlib import Path
 from typing import Callable
@@ -13,7 +12,7 @@ from typing import Callable
 import pytest
 
 from support.check import Check
-from support.library import EXPORTS, Library, names
+from support.library import EXPORTS, Library, as_built, names
 from support.program import TOP
 
 LEAST = {"comparisons": 30}
@@ -184,8 +183,7 @@ def test_libraries(built: Library, check: Check) -> None:
 def test_the_library_for_programs_that_record(built: Library, folder: Path, needs: Callable[..., None],
                                               check: Check) -> None:
     needs("make")
-    shutil.copy(built.static, folder)
-    printed("make", "-s", "-C", TOP, "record", f"BUILD={folder}", f"--old-file={folder}/librrdi.a")
+    printed("make", "-s", "-C", TOP, "record", *as_built(built.shared, folder))
     compare_linking(folder / "librrdi-record.so", check)
 
 

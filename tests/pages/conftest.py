@@ -2,12 +2,12 @@
 from __future__ import annotations
 
 import os
-import shutil
 import subprocess
 from pathlib import Path
 
 import pytest
 
+from support.library import as_built
 from support.program import TOP, Program
 
 
@@ -37,13 +37,11 @@ def place(folder: Path) -> Path:
 
 @pytest.fixture(scope="session")
 def installed(library: Path, workshop: Path) -> Path:
-    """The C library, installed as `make` does, and not built again however old it is."""
+    """The C library, installed as `make` does."""
     if not library.with_name("librrdi.a").is_file():
         pytest.skip(f"librrdi.a is not beside {library}")
-    built = workshop / "built"
+    built, place = workshop / "built", workshop / "installed"
     built.mkdir()
-    files = [shutil.copy(path, built) for path in (library, library.with_name("librrdi.a"))]
-    kept = [f"--old-file={path}" for path in ("built", *files)]
-    subprocess.run(["make", "--no-print-directory", "-s", "-C", str(TOP), *kept, "install-library", "ARCHIVE=built",
-                    f"BUILD={built}", f"PREFIX={workshop / 'installed'}", "LDCONFIG=:"], check=True)
-    return workshop / "installed"
+    subprocess.run(["make", "--no-print-directory", "-s", "-C", str(TOP), "install-library", *as_built(library, built),
+                    f"PREFIX={place}", "LDCONFIG=:"], check=True)
+    return place

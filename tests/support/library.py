@@ -3,6 +3,7 @@ from __future__ import annotations
 
 import os
 import re
+import shutil
 import subprocess
 from dataclasses import dataclass
 from pathlib import Path
@@ -67,6 +68,17 @@ def run_checks(words: Sequence[object], folder: Path, check: Check, bug: str = "
     check.count("checks", int(counted[1]) if counted else 0)
     check(ran.returncode == 0 and counted is not None,
           f"{words[-1]}: status {ran.returncode}\n{ran.stdout}{ran.stderr[-3000:]}")
+
+
+def as_built(library: Path, folder: Path) -> list[str]:
+    """Returns the variables by which `make` takes a copy of a library that was built, in a folder, and does not build
+    it again, however old it is: the archive seems to be older."""
+    for path in (library, library.with_name("librrdi.a")):
+        shutil.copy(path, folder)
+    archive = folder / "older.a"
+    archive.touch()
+    os.utime(archive, (0, 0))
+    return [f"ARCHIVE={archive}", f"BUILD={folder}"]
 
 
 def usage_text() -> str:
