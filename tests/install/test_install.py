@@ -131,7 +131,8 @@ CONTROL: dict[str, dict[str, str]] = {
     "rrdi": {"postinst": "systemd-sysusers rrdi.conf", "prerm": "find /usr/share/rrdi/python -name __pycache__"},
     "librrdi0": {"shlibs": "librrdi 0 librrdi0 (>= {VERSION})\n", "triggers": "activate-noawait ldconfig\n"},
     "librrdi-dev": {}, "python3-rrdi": {}, "librrds-perl-rrdi": {}}
-IN_PLACE: dict[str, str | None] = {"Provides": "librrds-perl (= 1.7.2)", "Conflicts": "librrds-perl", "Replaces": "librrds-perl"}
+IN_PLACE: dict[str, str | None] = {"Provides": "librrds-perl (= 1.7.2)", "Conflicts": "librrds-perl",
+                                   "Replaces": "librrds-perl"}
 
 
 def printed(*words: object) -> str:

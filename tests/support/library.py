@@ -26,7 +26,7 @@ ON_FILES = ("over a file", "on an open file")
 # The maximum number of bytes of stack that a call may use.
 STACK = 65_536
 # The seconds after which a program hangs, also on a busy machine and under valgrind.
-PATIENCE = 3_600
+PATIENCE = 1_800
 
 
 @dataclass(frozen=True)

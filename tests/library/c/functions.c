@@ -82,49 +82,67 @@ ssize_t pwrite(int to, const void *bytes, size_t size, off_t at) {
     return pwrite64(to, bytes, size, at);
 }
 
-/* ---- in memory */
+/* ---- commands, in each way */
 
-static void run(const uint8_t *words, size_t words_length, size_t room) {
-    rrdi_run(has_file, file, length, words, words_length, 0, new_file, room, output, sizeof output, &answer);
+/* A command, its fault, its output, and the length of the file after it. A command without output changes the file. */
+static const struct step {
+    struct words words;
+    uint32_t fault;
+    const char *text;
+    size_t length;
+} steps[] = {
+    {{WORDS("last")}, RRDI_CANNOT_OPEN, "cannot open", 0},
+    {{WORDS(CREATE)}, RRDI_OK, "", 224},
+    {{WORDS("update\00010:1")}, RRDI_OK, "", 309},
+    {{WORDS("last")}, RRDI_OK, "10\n", 309},
+    {{WORDS("fetch\0LAST\0-s\0000\0-e\00019")}, RRDI_OK, "time: g\n10: 1.000000\n20: nan\n", 309},
+    {{WORDS("update\00010:1")}, RRDI_REFUSED, "not later than 10", 309},
+    {{WORDS("update\0005:1")}, RRDI_REFUSED, "not later than 10", 309},
+    {{WORDS("update")}, RRDI_REFUSED, "no sample", 309},
+    {{WORDS("update\00010")}, RRDI_BAD_WORD, "unreadable sample 1", 309},
+    {{WORDS("nothing")}, RRDI_USAGE, "usage", 309},
+    {{WORDS("last\0more")}, RRDI_USAGE, "usage", 309},
+    {{WORDS("last\0")}, RRDI_USAGE, "usage", 309},
+    {{WORDS("last\0\xff")}, RRDI_USAGE, "usage", 309},
+    {{WORDS("revert")}, RRDI_OK, "", 224},
+};
+
+/* Runs the commands from one on by a function that returns the length of the file after a command, whose output has so
+   much room. */
+static void test_steps(size_t first, size_t (*run)(const uint8_t *words, size_t words_length, size_t room)) {
+    for (const struct step *step = steps + first; step < steps + sizeof steps / sizeof *steps; step++) {
+        size_t size = strlen(step->text), left = run(step->words.bytes, step->words.length, sizeof output);
+        want(gave(step->fault, !step->fault && !size, step->text) && left == step->length,
+             (const char *)step->words.bytes);
+        want(step->fault == RRDI_CANNOT_OPEN || !answer.system_error, "the error of a call that worked");
+        if (step->fault || !size)
+            continue;
+        run(step->words.bytes, step->words.length, 2);
+        want(!answer.fault && answer.is_cut && answer.output_length == size, "an output with room for two bytes");
+    }
 }
 
-static void take(void) {
+static size_t run_in_memory(const uint8_t *words, size_t words_length, size_t room) {
+    rrdi_run(has_file, file, length, words, words_length, 0, new_file, sizeof new_file, output, room, &answer);
     if (answer.is_changed) {
         memcpy(file, new_file, answer.file_length);
         length = answer.file_length;
         has_file = true;
     }
+    return length;
+}
+
+static void run_in_room(size_t room) {
+    rrdi_run(false, file, 0, WORDS(CREATE), 0, new_file, room, output, sizeof output, &answer);
 }
 
 static void test_run(void) {
-    run(WORDS("last"), sizeof new_file);
-    want(gave(RRDI_CANNOT_OPEN, false, "cannot open"), "last without a file");
-    run(WORDS(CREATE), 100);
+    run_in_room(100);
     want(answer.fault == RRDI_NO_ROOM && !answer.is_changed && answer.file_length == 224,
          "create with room for 100 bytes");
-    run(WORDS(CREATE), 224);
+    run_in_room(224);
     want(gave(RRDI_OK, true, "") && answer.file_length == 224 && !memcmp(new_file, "RRDI", 4), "create");
-    take();
-    run(WORDS("update\00010:1"), sizeof new_file);
-    want(gave(RRDI_OK, true, "") && answer.file_length == 309, "update");
-    take();
-    run(WORDS("fetch\0LAST\0-s\0000\0-e\00019"), sizeof new_file);
-    want(gave(RRDI_OK, false, "time: g\n10: 1.000000\n20: nan\n"), "fetch");
-    rrdi_run(true, file, length, WORDS("last"), 0, new_file, sizeof new_file, output, 2, &answer);
-    want(answer.fault == RRDI_OK && answer.is_cut && answer.output_length == 3, "last with room for two bytes");
-    run(WORDS("update\0005:1"), sizeof new_file);
-    want(gave(RRDI_REFUSED, false, "not later than 10"), "an update of the past");
-    run(WORDS("update\00010"), sizeof new_file);
-    want(gave(RRDI_BAD_WORD, false, "unreadable sample 1"), "a sample without a value");
-    run(WORDS("nothing"), sizeof new_file);
-    want(gave(RRDI_USAGE, false, "usage"), "no command");
-    run(WORDS("last\0"), sizeof new_file);
-    want(gave(RRDI_USAGE, false, "usage"), "a word after the last one");
-    run(WORDS("last\0\xff"), sizeof new_file);
-    want(gave(RRDI_USAGE, false, "usage"), "a word that is no text");
-    run(WORDS("revert"), sizeof new_file);
-    want(gave(RRDI_OK, true, "") && answer.file_length == 224, "revert");
-    take();
+    test_steps(0, run_in_memory);
 }
 
 static void test_bytes(uint8_t *bytes, size_t size, uint32_t fault, uint64_t at, const char *text) {
@@ -181,26 +199,15 @@ static void batch_file(const uint8_t *lines, size_t lines_length, size_t room, u
     rrdi_batch_file(WORDS(PATH), lines, lines_length, 0, 0, true, output, room, refused, refused_room, &answer);
 }
 
+static size_t run_at_path(const uint8_t *words, size_t words_length, size_t room) {
+    rrdi_run_file(WORDS(PATH), words, words_length, 0, 0, false, output, room, &answer);
+    return held(PATH);
+}
+
 static void test_run_file(void) {
     run_file(PATH, WORDS("last"), 0);
     want(cannot_open(ENOENT), "last of no file");
-    run_file(PATH, WORDS(CREATE), 0);
-    want(gave(RRDI_OK, true, "") && held(PATH) == 224 && !answer.system_error, "create of a file");
-    run_file(PATH, WORDS("update\00010:1"), 0);
-    want(gave(RRDI_OK, true, "") && held(PATH) == 309, "update of a file");
-    run_file(PATH, WORDS("last"), 0);
-    want(gave(RRDI_OK, false, "10\n"), "last of a file");
-    rrdi_run_file(WORDS(PATH), WORDS("last"), 0, 0, false, output, 2, &answer);
-    want(answer.fault == RRDI_OK && answer.is_cut && answer.output_length == 3,
-         "last of a file with room for two bytes");
-    run_file(PATH, WORDS("update\00010:1"), 0);
-    want(gave(RRDI_REFUSED, false, "not later than 10") && held(PATH) == 309, "an update that the file refuses");
-    run_file(PATH, WORDS("update"), 0);
-    want(gave(RRDI_REFUSED, false, "no sample"), "an update without a sample");
-    run_file(PATH, WORDS("update\00010"), 0);
-    want(gave(RRDI_BAD_WORD, false, "unreadable sample 1"), "an unreadable word, for a file");
-    run_file(PATH, WORDS("last\0more"), 0);
-    want(gave(RRDI_USAGE, false, "usage"), "no command for a file");
+    test_steps(0, run_at_path);
     run_file("\xff", WORDS("last"), 0);
     want(gave(RRDI_CANNOT_OPEN, false, "cannot open"), "a path that is no text");
     run_file("nowhere/file", WORDS(CREATE), 0);
@@ -214,8 +221,6 @@ static void test_run_file(void) {
     put("bad", "RRDI", 4);
     run_file("bad", WORDS("last"), 0);
     want(gave(RRDI_TRUNCATED, false, "file: truncated at 4") && answer.at == 4, "a file that is too short");
-    run_file(PATH, WORDS("revert"), 0);
-    want(gave(RRDI_OK, true, "") && held(PATH) == 224, "revert of a file");
 }
 
 static void test_batch_file(void) {
@@ -426,23 +431,14 @@ static void test_opening(void) {
     want(gave(RRDI_OK, false, "0\n"), "a file that was let go of");
 }
 
+static size_t run_opened(const uint8_t *words, size_t words_length, size_t room) {
+    rrdi_run_open(&opened, words, words_length, 0, output, room, &answer);
+    return held("kept");
+}
+
 static void test_run_open(void) {
     open_file("kept");
-    run_open(WORDS("update\00010:1"));
-    want(gave(RRDI_OK, true, "") && held("kept") == 309, "update of an open file");
-    run_open(WORDS("last"));
-    want(gave(RRDI_OK, false, "10\n"), "last of an open file");
-    rrdi_run_open(&opened, WORDS("last"), 0, output, 2, &answer);
-    want(answer.fault == RRDI_OK && answer.is_cut && answer.output_length == 3,
-         "last of an open file with room for two bytes");
-    run_open(WORDS("update\00010:1"));
-    want(gave(RRDI_REFUSED, false, "not later than 10") && held("kept") == 309, "an update that an open file refuses");
-    run_open(WORDS("update\00010"));
-    want(gave(RRDI_BAD_WORD, false, "unreadable sample 1"), "an unreadable word, for an open file");
-    run_open(WORDS("last\0\xff"));
-    want(gave(RRDI_USAGE, false, "usage"), "a word that is no text, for an open file");
-    run_open(WORDS("revert"));
-    want(gave(RRDI_OK, true, "") && held("kept") == 224, "revert of an open file");
+    test_steps(2, run_opened);
     run_open(WORDS("create\0DS:g:GAUGE:100:U:U"));
     want(answer.fault && held("kept") == 224, "a create that is refused, on an open file");
     run_open(WORDS("last"));
