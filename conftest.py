@@ -127,7 +127,8 @@ def workshop() -> Iterator[Path]:
 
 @pytest.fixture(scope="session")
 def between(needs: Callable[..., None], workshop: Path) -> str:
-    """The value of LD_PRELOAD for the library that counts system calls, lets them fail, and kills (support/between.c)."""
+    """The value of LD_PRELOAD for the library that counts system calls, lets them fail, and kills
+    (support/between.c)."""
     needs("cc")
     return between_calls.build(workshop / "between.so", only_calls=True)
 

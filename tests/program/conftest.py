@@ -1,5 +1,5 @@
-"""Fixtures of the tests of the program, all in an empty folder: `t` has runs, `net` the same with a new file, and `losses`
-runs beside others."""
+"""Fixtures of the tests of the program, all in an empty folder: `t` has runs, `net` the same with a new file, and
+`losses` runs beside others."""
 from __future__ import annotations
 
 from pathlib import Path

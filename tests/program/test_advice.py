@@ -1,4 +1,5 @@
-"""The line after a fault says what was wrong, and a command that is misused is followed by its usage (docs/commands.md)."""
+"""The line after a fault says what was wrong, and a command that is misused is followed by its usage
+(docs/commands.md)."""
 from __future__ import annotations
 
 import re
@@ -39,13 +40,14 @@ MISTAKES = [
     (["first", FILE, "--rraindex=0", "--", "-x"], "", "first")]
 # What the program says if something is missing.
 NO_SAMPLE, NO_OPTION = "a sample is missing, such as N:21.5", "an option, or RRA: or DELRRA:, is missing"
-NO_SOURCE, NO_ARCHIVE = "a data source is missing, such as DS:temp:GAUGE:600:U:U", "an archive is missing, such as RRA:AVERAGE:0.5:1:1440"
+NO_SOURCE = "a data source is missing, such as DS:temp:GAUGE:600:U:U"
+NO_ARCHIVE = "an archive is missing, such as RRA:AVERAGE:0.5:1:1440"
 TOO_LONG = "it would be over 1000000 rows; raise --start or --resolution"
 A_NAME = "a name has 1 to 19 characters of a-z A-Z 0-9 _"
 A_COUNTER = "of type COUNTER, which takes whole numbers without a point from 0 to 2^64 - 1"
 A, LAST = "DS:a:GAUGE:60:U:U", "RRA:LAST:0.5:1:4"
-# Arguments of refused commands on a file with the gauge a, the counter b and an archive of LAST with 4 rows, the fault, and what
-# the program says of them.
+# Arguments of refused commands on a file with the gauge a, the counter b and an archive of LAST with 4 rows, the
+# fault, and what the program says of them.
 LONG_TEXT = "9" * 50
 ADVICE = [
     (["update", "10"], "unreadable sample 1", "'10' has no value; write TIME:VALUE"),
@@ -88,7 +90,8 @@ ADVICE = [
     (["fetch", "-s", "now", "LAST"], "unreadable start", "it is 'now', not whole seconds since 1970"),
     (["fetch", "LAST", "-r=5m"], "unreadable resolution", "it is '5m', not a whole number of seconds"),
     (["create", "DS:a:GAUGE:60:U:U", "RRA:AVG:0.5:1:1"], "unreadable definition 2",
-     "it is 'RRA:AVG:0.5:1:1', not DS:name:GAUGE|COUNTER|DERIVE|ABSOLUTE:heartbeat:min:max or RRA:AVERAGE|MIN|MAX|LAST:xff:steps:rows"),
+     "it is 'RRA:AVG:0.5:1:1', not DS:name:GAUGE|COUNTER|DERIVE|ABSOLUTE:heartbeat:min:max "
+     "or RRA:AVERAGE|MIN|MAX|LAST:xff:steps:rows"),
     (["tune", "-i", "g"], "unreadable minimum", "it is 'g', not NAME:MIN"),
     (["tune", "RRA:LAST"], "unreadable definition 1",
      "it is 'RRA:LAST', not RRA:AVERAGE|MIN|MAX|LAST:xff:steps:rows or DELRRA:ARCHIVE"),
@@ -194,7 +197,8 @@ def test_files_of_other_programs(t, held, name, other):
 
 
 def test_advice_on_other_files(t):
-    """Checks what the line after a fault says of files with many sources and archives, of version 1, and ahead of the clock."""
+    """Checks what the line after a fault says of files with many sources and archives, of version 1, and ahead of the
+    clock."""
     names = ["traffic", *(f"s{number}" for number in range(1, 9))]
     t.run(["create", FILE, "--start", "0", *(f"DS:{name}:DERIVE:100:U:U" for name in names), "RRA:MAX:0:1:4",
            "RRA:AVERAGE:0:2:4", "RRA:MAX:0:2:5"])
@@ -203,7 +207,8 @@ def test_advice_on_other_files(t):
     t.same(["update", FILE, "-t", "s1:trafic", "10:1"], 1, error("no such data source")
            + "rrdi: there is no data source trafic; did you mean traffic?\n")
     t.same(["update", FILE, "-t", "s8", "10:0.5"], 1, error("bad value") + (
-        "rrdi: value 1 of sample 1 is 0.5; s8 is of type DERIVE, which takes whole numbers without a point from -2^63 to 2^63 - 1\n"))
+        "rrdi: value 1 of sample 1 is 0.5; s8 is of type DERIVE, which takes whole numbers without a point from -2^63 "
+        "to 2^63 - 1\n"))
     t.same(["first", FILE, "--rraindex", "3"], 1, error("no such archive") + "rrdi: the file has 3 archives, 0 to 2\n")
     t.same(["fetch", FILE, "MIN"], 1, error("no archive for this function") + "rrdi: the archives have AVERAGE, MAX\n")
     t.same(["resize", FILE, "2", "SHRINK", "5"], 1, error("shrinks too far")
@@ -215,6 +220,6 @@ def test_advice_on_other_files(t):
     last = int(time.time()) + 3_600
     t.run(["create", FILE, "--start", str(last), A, LAST])
     status, out, err = t.told(["update", FILE, "N:1"])
-    t.check.same((status, out, re.sub(r" 3[56]\d\d seconds", " 3600 seconds", err)),
-                 (1, "", error(f"not later than {last}") + (
-        f"rrdi: {last} is 3600 seconds ahead of the clock; if a sample has this wrong time, rrdi revert takes it back\n")), "a sample before the last one")
+    says = f"rrdi: {last} is 3600 seconds ahead of the clock; if a sample has this wrong time, rrdi revert takes it back\n"
+    told = status, out, re.sub(r" 3[56]\d\d seconds", " 3600 seconds", err)
+    t.check.same(told, (1, "", error(f"not later than {last}") + says), "a sample before the last one")

@@ -1,5 +1,5 @@
-"""The program, without proofs, prints the output of the batches that are worked by hand (crates/rrdi/cases), and what the
-definitions compute of random batches. This needs `rt`, and no built program."""
+"""The program, without proofs, prints the output of the batches that are worked by hand (crates/rrdi/cases), and what
+the definitions compute of random batches. This needs `rt`, and no built program."""
 from __future__ import annotations
 
 import re

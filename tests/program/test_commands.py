@@ -1,5 +1,5 @@
-"""The commands and batches of the program on files do what the manual says (docs/commands.md): statuses, texts, files. So do
-the longest lines and the deepest journal; and the usage text says what both manuals say."""
+"""The commands and batches of the program on files do what the manual says (docs/commands.md): statuses, texts, files.
+So do the longest lines and the deepest journal; and the usage text says what both manuals say."""
 from __future__ import annotations
 
 import os
@@ -171,6 +171,7 @@ def test_other_lengths(t):
         words = ["create", f"{rows} rows", *CREATE[:-1], f"RRA:LAST:0.5:1:{rows}"]
         t.run(words)
         new[rows] = t.held(words[1])
+        t.check.same(new[rows] is not None, True, f"a file of {rows} rows is made")
     for old, held in new.items():
         for rows, wanted in new.items():
             t.put(held, "replaced")
@@ -272,8 +273,8 @@ def test_the_usage_text(t):
 
 
 def the_words_of_the_usage_text(t, text, pages):
-    """Compares the usage text with the manuals: each word is in a manual or in the README, and each statement is the one
-    that stands for words of docs/commands.md."""
+    """Compares the usage text with the manuals: each word is in a manual or in the README, and each statement is the
+    one that stands for words of docs/commands.md."""
     known = set(re.findall(r"[A-Za-z]+", pages))
     told = [word for word in re.findall(r"[A-Za-z]+", text) if not {word, word.lower()} & known]
     t.check.same(told, [], "words of the usage text that are missing from the manuals")

@@ -13,10 +13,10 @@ For each call that opens, locks, queries, truncates, syncs, reads or writes:
 - The file system has no locks: the run goes on. A lock that fails for any other reason ends the run.
 - The process is forked while it holds the lock: the child that lives on must not keep the lock.
 
-All this also on files whose last change was interrupted. If FILE cannot be opened, read or written, one more line gives
-the reason. After a fault the next command must find the old database, and without a fault the new one, but a call after
-the commit may fail without a report; and if all later writes failed too, the next command may find either. The log of the
-calls must show that the program reads and writes only under the lock that the call needs."""
+All this also on files whose last change was interrupted. If FILE cannot be opened, read or written, one more line
+gives the reason. After a fault the next command must find the old database, and without a fault the new one, but a
+call after the commit may fail without a report; and if all later writes failed too, the next command may find either.
+The log of the calls must show that the program reads and writes only under the lock that the call needs."""
 from __future__ import annotations
 
 import errno
@@ -28,7 +28,9 @@ from typing import Any
 import pytest
 
 from support import between as calls_between
-from support.changes import FILE, LOCK_SH, LOCK_UN, SYNCS, Place, Ran, Task, changes, is_refused, locks_of, over_interrupted, readings
+from support.changes import (FILE, LOCK_SH, LOCK_UN, SYNCS, Place, Ran, Task, changes, is_refused, locks_of,
+                             over_interrupted,
+                             readings)
 from support.check import Check
 from support.program import KILLED, WITH_REASON, Answer, Program, error, parted, put
 
@@ -52,10 +54,11 @@ PIECES = 3
 NO_LOCKS, LOCK_FAILS = (errno.ENOSYS, errno.EOPNOTSUPP, errno.EINVAL), (errno.ENOLCK, errno.EIO, errno.EBADF)
 # The first bytes of a file, which a kill leaves whole.
 FIRST = 16
-# How often a call is interrupted before the program gives up, and the numbers of calls after that before which a kill comes.
+# How often a call is interrupted before the program gives up, and the numbers of calls after that before which a kill
+# comes.
 GIVES_UP, KILLS_AFTER = 1_001, (1, 2, 4, 7)
-# The changes of a short run have names that begin so: one change of each kind, on a file of one page and on a file of many
-# pages, and the readings.
+# The changes of a short run have names that begin so: one change of each kind, on a file of one page and on a file of
+# many pages, and the readings.
 SHORT = ("create of 4 rows over", "create of 4000 rows over nothing", "create of 4000 rows over a database of 4000",
          "create of 1000 rows over a database of 4000", "update of many pages", "update that lengthens 4",
          "update of 4 rows",
@@ -143,7 +146,9 @@ class Faults:
         return is_refused(answer) and (not self.task.over_database or may_be_refused)
 
     def same(self, now: bytes | None) -> str:
-        return "the old file" if now == self.old else "the new file" if now == self.new else f"another file: {(now or b'')[:16]!r}"
+        if now in (self.old, self.new):
+            return "the old file" if now == self.old else "the new file"
+        return f"another file: {(now or b'')[:16]!r}"
 
     # ---- the faults of a call
 
@@ -184,12 +189,14 @@ class Faults:
                 self.check(ran.answer != self.plain.answer, f"{self.task.name}, {what} fails: not reported")
 
     def try_error_stream(self, number: int, what: str) -> None:
-        """Lets the report of a refusal fail, which nothing can report: the status and FILE must be as without a fault."""
-        more: dict[str, Any]
-        for more in ({}, {"MOVES": [1, -1]}, {"INTERRUPTS": 1_001}):
+        """Lets the report of a refusal fail, which nothing can report: the status and FILE must be as without a
+        fault."""
+        settings: list[dict[str, Any]] = [{}, {"MOVES": [1, -1]}, {"INTERRUPTS": 1_001}]
+        for more in settings:
             ran = self.place.run(self.task, self.old, **self.always, CALL=number, **more)
             _, now = self.place.after_next()
-            is_right = ran.answer.status == self.plain.answer.status and self.plain.answer.err.startswith(ran.answer.err)
+            plain = self.plain.answer
+            is_right = ran.answer.status == plain.status and plain.err.startswith(ran.answer.err)
             self.check(is_right and now == self.new,
                        f"{self.task.name}, {what} fails {more}: {ran.answer}, {self.same(now)}")
             self.check.count(FAILED)
@@ -204,11 +211,13 @@ class Faults:
         return self.after_kill(number) == self.old != self.new
 
     def is_new_before(self, number: int) -> bool:
-        """Checks whether a kill before this call leaves the new database: with RRDI_SYNC=1 a failure is still reported."""
+        """Checks whether a kill before this call leaves the new database: with RRDI_SYNC=1 a failure is still
+        reported."""
         return not self.task.reads and self.after_kill(number) == self.new != self.old
 
     def try_lock(self, number: int, what: str) -> None:
-        """Checks that a run waits for another program's lock for as long as the manual says, and goes on without locks."""
+        """Checks that a run waits for another program's lock for as long as the manual says, and goes on without
+        locks."""
         lock = {"cannot open", "cannot write"}
         for times in (1, 10):
             self.run(f"{what} is held by another {times} times", lock, must_be_whole=True, CALL=number,
@@ -244,9 +253,9 @@ class Faults:
         self.check.count(FAILED, len(NO_LOCKS))
 
     def leave_alone(self, what: str, number: int, why: int) -> None:
-        """Checks a run that only reads a file whose change was interrupted. If its shared lock finds no locks, it leaves the
-        file as it is, and finds the database in it or refuses the file. If it has read the mark under a lock, and then finds
-        none for its own lock, it repairs the file as another run would."""
+        """Checks a run that only reads a file whose change was interrupted. If its shared lock finds no locks, it
+        leaves the file as it is, and finds the database in it or refuses the file. If it has read the mark under a
+        lock, and then finds none for its own lock, it repairs the file as another run would."""
         ran = self.place.run(self.task, self.old, **self.always, CALL=number, WHY=why)
         answer, now = self.place.after_next()
         if self.plain.calls[number - 1].size & LOCK_SH:
@@ -266,9 +275,9 @@ class Faults:
                 children = [event.file for event in ran.events if event.kind == "fork"]
                 for child in children:
                     os.kill(child, signal.SIGKILL)
-                is_right = len(children) == 1 and ran.answer == self.plain.answer and not answer.err.startswith(error("cannot open"))
-                self.check(is_right,
-                           f"{self.task.name}, a child forked before call {number + 1} lives on: {ran.answer}, then {answer}")
+                is_free = not answer.err.startswith(error("cannot open"))
+                what = f"{self.task.name}, a child that was forked lives on, {number}: {ran.answer}, then {answer}"
+                self.check(len(children) == 1 and ran.answer == self.plain.answer and is_free, what)
                 self.check.count("children that live on", len(children))
 
     def try_short(self, number: int, call: calls_between.Event, what: str, faults: set[str]) -> None:
@@ -298,7 +307,8 @@ class Faults:
             is_right = answer.status == 0 and now in (self.old,
                                                       self.new) or not self.task.over_database and is_refused(answer)
             self.check(is_right,
-                       f"{self.task.name}, {what}, {later} calls later killed: {ran.answer}, then {answer}, {self.same(now)}")
+                       f"{self.task.name}, {what}, {later} calls later killed: {ran.answer}, then {answer}, "
+                       f"{self.same(now)}")
             self.check.count("kills after interrupted calls", ran.answer.status == KILLED)
 
     def try_interrupts(self, number: int, what: str, faults: set[str]) -> None:
@@ -320,8 +330,8 @@ class Faults:
 
 def try_piece(place: Place, task: Task, piece: int, check: Check, has_syncs: bool) -> None:
     """Tries a part of the calls of a task, without syncs and perhaps with them."""
-    always: dict[str, Any]
-    for always in ({}, {"RRDI_SYNC": 1})[:1 + has_syncs]:
+    settings: list[dict[str, Any]] = [{}, {"RRDI_SYNC": 1}]
+    for always in settings[:1 + has_syncs]:
         faults = Faults(place, task, check, **always)
         if piece == 0:
             faults.try_plain()

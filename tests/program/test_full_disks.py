@@ -1,5 +1,5 @@
-"""Files that cannot be written, on a full disk, under a limit, on a read-only mount, or that are no files: the old file stays
-as it was (docs/files.md). A full disk and a read-only mount need root."""
+"""Files that cannot be written, on a full disk, under a limit, on a read-only mount, or that are no files: the old
+file stays as it was (docs/files.md). A full disk and a read-only mount need root."""
 from __future__ import annotations
 
 import os

@@ -1,20 +1,20 @@
 """Each allocation is refused in turn: the program says `out of memory`, and changes nothing (docs/commands.md).
 
-- An allocation before the first line is read, or of a single command, is refused: the program prints the line
-  `ERROR: out of memory` on standard error, ends with status 1, reads nothing from standard input, prints nothing else, and
-  leaves the file unchanged. If the allocation is for the bytes that are read when FILE is opened, the line is
-  `ERROR: cannot open` (of a create, `ERROR: cannot write`), and the reason follows.
+- An allocation before the first line is read, or of a single command, is refused: the program prints the line `ERROR:
+  out of memory` on standard error, ends with status 1, reads nothing from standard input, prints nothing else, and
+  leaves the file unchanged. If the allocation is for the bytes that are read when FILE is opened, the line is `ERROR:
+  cannot open` (of a create, `ERROR: cannot write`), and the reason follows.
 - An allocation of a line is refused: the output and the file are those of the batch without that line, except that
   `ERROR: out of memory` is the output of that line, and the status is 1. For random batches the definitions say the
   expected output; for others the program runs without the line.
 - The program tries a refused allocation again, with success: everything is as without a refusal.
-- An allocation after the line of a fault is refused: the line that says more may be missing, and after a usage fault the
-  usage may be that of all commands. Everything else is as without a refusal.
-- An allocation for the bytes that replace those of the file is refused: the program reports `ERROR: cannot write` and the
-  reason, and ends with status 1. The file is unchanged. If there was no file, there is none or an empty one.
-- In every run the program frees as many blocks as without a refusal. After the last line it allocates only for the bytes of
-  the file. The lines first, last, lastupdate, info, revert, fetch, and a tune that adds no archive, allocate only to be
-  parsed, with and without a database.
+- An allocation after the line of a fault is refused: the line that says more may be missing, and after a usage fault
+  the usage may be that of all commands. Everything else is as without a refusal.
+- An allocation for the bytes that replace those of the file is refused: the program reports `ERROR: cannot write` and
+  the reason, and ends with status 1. The file is unchanged. If there was no file, there is none or an empty one.
+- In every run the program frees as many blocks as without a refusal. After the last line it allocates only for the
+  bytes of the file. The lines first, last, lastupdate, info, revert, fetch, and a tune that adds no archive, allocate
+  only to be parsed, with and without a database.
 
 The memory that a run holds at a time is at most that of a small run, and what the manual states for cells and journal
 entries. In batches with thousands of samples or entries only some allocations are refused."""
@@ -40,7 +40,8 @@ NOT_OPENED = f"ERROR: cannot open\nrrdi: {FILE}: out of memory\n"
 NOT_STORED = f"ERROR: cannot write\nrrdi: {FILE}: out of memory\n"
 # The commands that allocate only to be parsed, except a tune that adds an archive.
 FREE = {"first", "last", "lastupdate", "info", "tune", "revert", "fetch"}
-# Which growths a run refuses, and whether a block that is made smaller counts as one. The first way is the short mode's.
+# Which growths a run refuses, and whether a block that is made smaller counts as one. The first way is the short
+# mode's.
 WAYS = {"one": ("REFUSE", False), "one and all after it": ("REFUSE_FROM", False),
         "one, or a block made smaller": ("REFUSE", True)}
 
@@ -214,8 +215,8 @@ class Growths:
         self.want(number == len(self.places) + 1, f"{number - 1} refusals of {len(self.places)} growths")
 
     def wanted(self, place: Where, from_on: bool) -> Told | str | None:
-        """Returns the expected output and file if a growth in this part of the run is refused; REPORT if it is in the lines
-        after a fault."""
+        """Returns the expected output and file if a growth in this part of the run is refused; REPORT if it is in the
+        lines after a fault."""
         if place == STORE:
             return Told(1, self.plain.told.out, NOT_STORED, self.old or b"")
         if place == REPORT:
@@ -275,8 +276,8 @@ def try_task(runner: Runner, task: Task, setting: str, check: Check) -> None:
 
 
 def create(sources: int = 1, archives: int = 1, rows: int = 4, depth: int = 1, more: str = "") -> str:
-    return (f"create --step 10 --start 0 --journal {depth} {' '.join(f'DS:s{n}:GAUGE:100:U:U' for n in range(sources))} "
-            f"{' '.join([f'RRA:LAST:0.5:1:{rows}'] * archives)}\n{more}")
+    words = [f"DS:s{number}:GAUGE:100:U:U" for number in range(sources)] + [f"RRA:LAST:0.5:1:{rows}"] * archives
+    return f"create --step 10 --start 0 --journal {depth} {' '.join(words)}\n{more}"
 
 
 UPDATES = "".join(f"update {10 * number}:1\n" for number in range(1, 1_001))

@@ -1,7 +1,9 @@
-"""Each allocation is refused in the unit tests whose names have the word `growth`: also in functions that no command reaches.
+"""Each allocation is refused in the unit tests whose names have the word `growth`: also in functions that no command
+reaches.
 
-After a refusal a test must pass, or end with an error of its own. A failed assertion, a signal, or a test that does not end is
-wrong. So a call that runs out of memory either changes nothing, or the test repeats the call and the call then succeeds."""
+After a refusal a test must pass, or end with an error of its own. A failed assertion, a signal, or a test that does
+not end is wrong. So a call that runs out of memory either changes nothing, or the test repeats the call and the call
+then succeeds."""
 from __future__ import annotations
 
 import subprocess

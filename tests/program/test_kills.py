@@ -1,9 +1,10 @@
 """A kill before each call of a change, and before each call of the next command: the command after those finds the old
 database or the new one (docs/file-format.md). So it is after power failures with RRDI_SYNC=1 (support/cuts.py).
 
-Changes of every kind: create with no file, on a database and on other bytes; updates that lengthen the file or keep its
-length, of one page and of many; tune; resize up and down; revert; batches. The next command is `last`, and others too. If
-there was no file, or the file was not a database, a killed create may leave bytes that the next command refuses."""
+Changes of every kind: create with no file, on a database and on other bytes; updates that lengthen the file or keep
+its length, of one page and of many; tune; resize up and down; revert; batches. The next command is `last`, and others
+too. If there was no file, or the file was not a database, a killed create may leave bytes that the next command
+refuses."""
 from __future__ import annotations
 
 from pathlib import Path
@@ -26,8 +27,8 @@ NEXT = [("update", FILE, "1000000:7"), ("create", FILE, *create(3).split()[1:]),
 FEW = 3
 # The kinds of power failures, and the number of parts in which those of a task are tried.
 POWER = {CUTS: 1, AFTER_KILL: 2, AFTER_SYNC: 2}
-# The tasks whose power failures after a kill or after a failed sync a short run tries, and how those begin of which it tries
-# none at all.
+# The tasks whose power failures after a kill or after a failed sync a short run tries, and how those begin of which it
+# tries none at all.
 SHORT_TASKS = frozenset({"update that lengthens 1000 rows", "update of 4 rows, the journal full", "resize far down",
                          "revert of 1000 rows",
                          "create of 4 rows over a database of 4000", "update of many pages, the journal full"})

@@ -107,8 +107,8 @@ def held_for_a_while(losses: Losses, file: Path, words: Sequence[str], refused: 
 
 @pytest.mark.parametrize("words", WORDS, ids=lambda words: words[0])
 def test_pauses(losses: Losses, words: Sequence[str]) -> None:
-    """Checks for how long a run waits for a lock that another program holds, and that it takes the lock at its first try
-    after that program has given it up."""
+    """Checks for how long a run waits for a lock that another program holds, and that it takes the lock at its first
+    try after that program has given it up."""
     file = new_file(losses, "pauses.rrdi")
     for value, milliseconds in waits.WAITS.items():
         held_for_good(losses, file, words, value, milliseconds)
@@ -143,8 +143,8 @@ def test_waiting(losses: Losses) -> None:
 
 
 def at_once(losses: Losses, file: Path, times: range) -> list[tuple[int, int, str]]:
-    """Starts updates at one time: they wait until the pipe is closed. Returns their times, statuses and faults. They wait
-    for the lock for as long as it takes, so that no load of the machine refuses one."""
+    """Starts updates at one time: they wait until the pipe is closed. Returns their times, statuses and faults. They
+    wait for the lock for as long as it takes, so that no load of the machine refuses one."""
     read, write = os.pipe()
     script = 'read go; exec "$0" update "$1" "$2:1"'
     env = environment({"RRDI_WAIT": "3600"})

@@ -1,5 +1,5 @@
-"""Links, second names, files that others move or make meanwhile, and copies: a change goes to the file that has the name
-(docs/files.md)."""
+"""Links, second names, files that others move or make meanwhile, and copies: a change goes to the file that has the
+name (docs/files.md)."""
 from __future__ import annotations
 
 import fcntl
@@ -97,7 +97,8 @@ COMMANDS = (["update", "40:5"], ["tune", "-i", "g:7"], ["batch"], ["last"], ["cr
 @pytest.mark.parametrize("words", COMMANDS, ids=lambda words: words[0])
 @pytest.mark.parametrize("move", MOVES)
 def test_a_file_moved_meanwhile(losses: Losses, move: Move, words: list[str]) -> None:
-    """Checks that a run that waited for a lock uses the file that has the name FILE then, and no file that has lost it."""
+    """Checks that a run that waited for a lock uses the file that has the name FILE then, and no file that has lost
+    it."""
     file, other, kept = (losses.folder / name for name in ("net.rrdi", "other", "second name"))
     old, new = losses.make(file, 1_000, 3), losses.make(other, 300, 2)
     os.link(file, kept)

@@ -1,5 +1,5 @@
-"""Files at their limits and one past each, files with one byte changed, small files whose headers announce much, and a file
-of over 4 GB: the program reads what docs/file-format.md allows, refuses the rest, and needs little memory."""
+"""Files at their limits and one past each, files with one byte changed, small files whose headers announce much, and a
+file of over 4 GB: the program reads what docs/file-format.md allows, refuses the rest, and needs little memory."""
 from __future__ import annotations
 
 import re
@@ -44,8 +44,8 @@ def as_written(held: bytes) -> bytes:
 
 
 def change(program: Program, folder: Path, right: bytes, at: int, check: Check) -> None:
-    """Changes byte `at` of a file to each other value. A batch without lines refuses the file and leaves it, or reads it and
-    writes the same database."""
+    """Changes byte `at` of a file to each other value. A batch without lines refuses the file and leaves it, or reads
+    it and writes the same database."""
     file = folder / f"{at}.rrdi"
     for byte in {*range(256)} - {right[at]}:
         held = right[:at] + bytes([byte]) + right[at + 1:]
@@ -133,8 +133,8 @@ NO_ENTRY, A_RESIZE = "the deepest journal, no entry", "the deepest journal, a re
 
 
 def announcing(version: int) -> Iterator[tuple[str, bytes]]:
-    """Yields the name of each file, and its bytes: headers of the largest archives, a resize that removed the most rows, and
-    the deepest journal."""
+    """Yields the name of each file, and its bytes: headers of the largest archives, a resize that removed the most
+    rows, and the deepest journal."""
     deepest, many, most = LIMITS[version]
     new = lambda **more: heads(version, named(1), [4], **more) + 4 * UNKNOWN
     fewest = heads(version, named(most // MILLION), [1], entries=1) + most // MILLION * UNKNOWN

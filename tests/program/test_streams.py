@@ -46,8 +46,8 @@ def test_numbers_of_streams(t, between):
 
 
 def test_closed_streams(t):
-    """Checks that a run without some of the standard streams leaves the right bytes in FILE: no text of the run, and none
-    of FILE's bytes taken for lines."""
+    """Checks that a run without some of the standard streams leaves the right bytes in FILE: no text of the run, and
+    none of FILE's bytes taken for lines."""
     t.run(["create", FILE, *CREATE])
     new = t.held()
     t.run(["update", FILE, "10:1"])
@@ -188,12 +188,12 @@ def test_writes(t, between_all):
         log = t.folder / "log"
         old = len(t.held("large") or b"")
         status, _, err = t.told(words, LD_PRELOAD=between_all, LOG=str(log))
-        events, new = events_of(log), len(t.held("large"))
+        events, new = events_of(log), len(t.held("large") or b"")
         printed = [event.size for event in events if event.kind == "write"]
         stored = [event.size for event in events if event.kind == "pwrite"]
         few = all(size >= 16_384 for size in printed[:-1])
         most = 3 * (max(new, old) // 4_096) + 12 if stored else 0
-        t.check.same((status, err, few, len(stored) <= most), (0, "", True, True),
+        t.check.same((status, err, new > 0, few, len(stored) <= most), (0, "", True, True, True),
                f"{words}: {len(printed)} writes printed, {len(stored)} of FILE, at most {most}")
 
 
@@ -224,7 +224,8 @@ def is_cheap(cost, share):
 
 
 def as_nobody(t, between_all):
-    """Returns the program where a user without rights can run it, a library to measure memory, and the place of its log."""
+    """Returns the program where a user without rights can run it, a library to measure memory, and the place of its
+    log."""
     t.folder.chmod(0o777)
     program, library = (shutil.copy(path, t.folder) for path in (t.program.path, between_all))
     for path in (program, library):
@@ -233,8 +234,8 @@ def as_nobody(t, between_all):
 
 
 def touched(program, library, log, begun, length, may_write):
-    """Returns the answer of a run on a file that begins with these bytes, and the kilobytes that the run touched. The run's
-    user may only read the file, or also write it."""
+    """Returns the answer of a run on a file that begins with these bytes, and the kilobytes that the run touched. The
+    run's user may only read the file, or also write it."""
     file = log.with_name("file")
     put(file, begun)
     if length:

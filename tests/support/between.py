@@ -14,8 +14,8 @@ CHANGING = frozenset({"pwrite", "ftruncate", "fsync", "fdatasync", "rename", "un
 
 
 def build(library: Path, only_calls: bool = False) -> str:
-    """Builds the library at a path, and returns the value of LD_PRELOAD. With calls only, the library leaves allocations
-    alone, also those of a program that has a malloc of its own."""
+    """Builds the library at a path, and returns the value of LD_PRELOAD. With calls only, the library leaves
+    allocations alone, also those of a program that has a malloc of its own."""
     source = Path(__file__).resolve().with_name("between.c")
     flags = ["-DCALLS_ONLY"] * only_calls
     subprocess.run(["cc", "-O1", "-shared", "-fPIC", *flags, str(source), "-o", str(library)], check=True)
@@ -82,8 +82,8 @@ def pauses_of(events: Iterable[Event]) -> list[int]:
 
 @dataclass(frozen=True)
 class Change:
-    """A change of a file that succeeded: bytes written at an offset, a new length, or a sync, which has neither; or a sync
-    that failed."""
+    """A change of a file that succeeded: bytes written at an offset, a new length, or a sync, which has neither; or a
+    sync that failed."""
     name: str
     at: int = 0
     data: bytes = b""

@@ -17,8 +17,8 @@ PAGE, PAGES, MANY = 4, 1_000, 4_000
 LOCK_SH, LOCK_EX, LOCK_UN = 1, 2, 8
 SYNCS = ("fsync", "fdatasync")
 LAST_STREAM = 2
-# A change of many pages and of the length, which is interrupted before one of its last calls that change the file; and the
-# number of that call, counted from the end.
+# A change of many pages and of the length, which is interrupted before one of its last calls that change the file; and
+# the number of that call, counted from the end.
 INTERRUPTED = ("resize", FILE, "0", "GROW", "300")
 FORMS = {"a change without its last call": 1, "a change without its last two calls": 2,
          "a change without its last three calls": 3}
@@ -224,9 +224,9 @@ def is_refused(answer: Answer) -> bool:
 
 
 def locks_of(calls: list[between.Event], file: str, changes: bool) -> list[str]:
-    """Returns the calls on a file without the necessary lock. Each read needs a shared lock, and each change an exclusive
-    lock; a command that changes the file also reads the file under an exclusive lock. A copy of a handle shares the
-    handle's lock."""
+    """Returns the calls on a file without the necessary lock. Each read needs a shared lock, and each change an
+    exclusive lock; a command that changes the file also reads the file under an exclusive lock. A copy of a handle
+    shares the handle's lock."""
     faults, handles, kinds = [], {}, {}
     for number, call in enumerate(calls, 1):
         if call.kind == "open" and call.got >= 0 and call.words[4:] == [file]:
@@ -245,8 +245,8 @@ def locks_of(calls: list[between.Event], file: str, changes: bool) -> list[str]:
 
 
 def calls_on_streams(calls: list[between.Event], file: str) -> list[str]:
-    """Returns the calls on a file by the number of a standard stream, by which a text for the stream would go into the file.
-    After such a number was closed, calls by it fail."""
+    """Returns the calls on a file by the number of a standard stream, by which a text for the stream would go into the
+    file. After such a number was closed, calls by it fail."""
     low = {call.got for call in calls if call.kind == "open" and call.words[4:] == [file]
            and 0 <= call.got <= LAST_STREAM}
     return [f"{call.kind} {' '.join(call.words)}" for call in calls

@@ -1,7 +1,8 @@
 """The counts of a whole run, over all its processes: whether enough was tried, and nothing left out.
 
-A module may have the dictionary LEAST (and LEAST_LONG for --long): how much all its tests together must try. A judgement,
-`check(..)`, must reject a planted answer if another one in its file does: one that never rejects may be blind."""
+A module may have the dictionary LEAST (and LEAST_LONG for --long): how much all its tests together must try. A
+judgement, `check(..)`, must reject a planted answer if another one in its file does: one that never rejects may be
+blind."""
 from __future__ import annotations
 
 import re

@@ -1,5 +1,5 @@
-"""Power failures during a change, and during the command that recovers a file: the files that they may leave, by the model
-of `power.py`, and whether the next command finds the right database in each file."""
+"""Power failures during a change, and during the command that recovers a file: the files that they may leave, by the
+model of `power.py`, and whether the next command finds the right database in each file."""
 from __future__ import annotations
 
 import random
@@ -32,13 +32,15 @@ class Wanted(NamedTuple):
     may_be_refused: bool = False
 
     def has(self, found: Found) -> bool:
-        return found.held in self.found if found.answer.status == 0 else self.may_be_refused and is_refused(found.answer)
+        if found.answer.status == 0:
+            return found.held in self.found
+        return self.may_be_refused and is_refused(found.answer)
 
 
 class Effort(NamedTuple):
-    """How much of a task is tried: the number of torn writes between two syncs, of second power cuts, and of the moments
-    of a kill and the failing syncs after which the power fails (all if None); and how many bytes at the start of the file
-    a disk stores together."""
+    """How much of a task is tried: the number of torn writes between two syncs, of second power cuts, and of the
+    moments of a kill and the failing syncs after which the power fails (all if None); and how many bytes at the start
+    of the file a disk stores together."""
     torn: int
     seconds: int
     kills: int | None
@@ -110,8 +112,8 @@ class Cuts:
         return Wanted((self.new,), may_be_refused=True)
 
     def follow(self, name: str, disk: Disk, changes: list[Change], ends: Wanted, what: str, first: int = 0) -> None:
-        """Tries the files that a power failure may leave while a command makes these changes, from a change on, and after
-        its end."""
+        """Tries the files that a power failure may leave while a command makes these changes, from a change on, and
+        after its end."""
         syncs = 0
         for number, change in enumerate(changes):
             if number >= first and change.name in ("fsync", "unsynced"):

@@ -287,8 +287,7 @@ static int store(int file, struct base old, struct base new, int is_database) {
         || put(file, new.bytes, front, 0) || settle_on_disk(file))
         return take_back(file, old, new, &marked);
     cut(file, new.length);
-    settle_on_disk(file);
-    return 0;
+    return settle_on_disk(file);
 }
 
 /* Returns whether a file is complete. If not, its change has to be taken back, or the file truncated. */

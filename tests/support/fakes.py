@@ -16,7 +16,8 @@ def build(path: Path) -> Program:
 
 def answering(path: Path, status: int = 0, out: str = "", err: str = "", more: str = "") -> Program:
     """Creates a program that gives the same answer to all arguments. Its shell runs `more` first."""
-    path.write_text(f"#!/bin/sh\n{more}\nprintf %s {shlex.quote(out)}\nprintf %s {shlex.quote(err)} >&2\nexit {status}\n")
+    says = f"printf %s {shlex.quote(out)}\nprintf %s {shlex.quote(err)} >&2"
+    path.write_text(f"#!/bin/sh\n{more}\n{says}\nexit {status}\n")
     path.chmod(0o755)
     return Program.at(path)
 

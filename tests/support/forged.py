@@ -36,7 +36,8 @@ def any_record(rng: random.Random, old: bytes, new: bytes) -> bytes:
 
 
 def any_undone(rng: random.Random, old: bytes, new: bytes) -> bytes:
-    """An undo mark, the record of the old database, and its slots, one of which may be missing, twice there or wrong."""
+    """An undo mark, the record of the old database, and its slots, one of which may be missing, twice there or
+    wrong."""
     slots, length, first = pages(old), len(old), old[:SIXTEEN]
     wrong = rng.random()
     if wrong < 0.15:
@@ -67,7 +68,8 @@ WAYS: tuple[Callable[[random.Random, bytes, bytes], bytes], ...] = (any_cut, any
 
 
 def forged(rng: random.Random, old: bytes, new: bytes) -> bytes:
-    """Returns a file with a mark, whole or forged, and now and then with a byte that was changed, or without its end."""
+    """Returns a file with a mark, whole or forged, and now and then with a byte that was changed, or without its
+    end."""
     data = rng.choice(WAYS)(rng, old, new)
     way = rng.random()
     if data and way < 0.1:

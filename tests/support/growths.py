@@ -21,8 +21,8 @@ Where = Union[int, str]
 
 @dataclass
 class Task:
-    """The program's arguments, its standard input, and the lines that create its file, if it has one. A batch may have its
-    commands and its output, as the definitions have them."""
+    """The program's arguments, its standard input, and the lines that create its file, if it has one. A batch may have
+    its commands and its output, as the definitions have them."""
     name: str
     words: list[str]
     lines: str = ""

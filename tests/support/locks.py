@@ -1,7 +1,8 @@
-"""The order of the calls on a file, by a log of between.c: the lock first, then what is known of the file, then its bytes.
+"""The order of the calls on a file, by a log of between.c: the lock first, then what is known of the file, then its
+bytes.
 
-`changes.locks_of` finds a call without its lock. This module finds what a lock alone does not prevent: a length from before
-the lock, a file that has lost its name, a lock that is given up and taken again in between."""
+`changes.locks_of` finds a call without its lock. This module finds what a lock alone does not prevent: a length from
+before the lock, a file that has lost its name, a lock that is given up and taken again in between."""
 from __future__ import annotations
 
 from dataclasses import dataclass
@@ -17,8 +18,8 @@ PATH = -100
 
 @dataclass
 class Opened:
-    """What a run has done to an open file: its lock, and whether it has asked for the file's length, and which file has the
-    name, under this lock."""
+    """What a run has done to an open file: its lock, and whether it has asked for the file's length, and which file
+    has the name, under this lock."""
     lock: int = 0
     is_measured: bool = False
     is_named: bool = False
@@ -36,8 +37,8 @@ class Opened:
 
 
 def faults_of(calls: Iterable[Event], file: str) -> list[str]:
-    """Returns the calls on the bytes of a file before its lock, its length or its name was known, or after the lock was given
-    up. A copy of a descriptor is the same open file."""
+    """Returns the calls on the bytes of a file before its lock, its length or its name was known, or after the lock
+    was given up. A copy of a descriptor is the same open file."""
     faults: list[str] = []
     handles: dict[int, Opened] = {}
     for number, call in enumerate(calls, 1):
@@ -70,8 +71,8 @@ def parts_of(events: Iterable[Event]) -> Iterator[list[Event]]:
 
 
 def faults_of_open(events: Iterable[Event], file: str) -> list[str]:
-    """Returns the calls that open the file again, or touch its lock, while the file stays open; the first part opens the file,
-    and the last one closes it."""
+    """Returns the calls that open the file again, or touch its lock, while the file stays open; the first part opens
+    the file, and the last one closes it."""
     parts = list(parts_of(events))
     return [f"call {number} of the open file: {call.kind} {' '.join(call.words)}" for number,
             part in enumerate(parts[1:-1], 1)

@@ -1,15 +1,15 @@
 """What a power failure may leave of a file: a model of a disk below the system's cache.
 
-The cache has every change of a file at once. The disk stores a change at some time, in any order, and has it for sure only
-after a sync:
+The cache has every change of a file at once. The disk stores a change at some time, in any order, and has it for sure
+only after a sync:
 
-- Of a write the disk stores each page by itself. A part of a page may be torn at each multiple of 512 bytes; in the model
-  a tear may lie at any other byte too. Only the first 16 bytes of a file are always stored together.
+- Of a write the disk stores each page by itself. A part of a page may be torn at each multiple of 512 bytes; in the
+  model a tear may lie at any other byte too. Only the first 16 bytes of a file are always stored together.
 - A write that lengthens the file changes the length by itself: before its bytes, after them, and first to the end of a
   page in between. Where the bytes were not stored, the file has zeros. The lengths are stored in their order, a
   truncation too, whatever was stored of the bytes.
-- After a sync that failed, the system takes the waiting pages for stored: a later sync does not store them. A later write
-  to such a page stores the whole page, as the cache has it."""
+- After a sync that failed, the system takes the waiting pages for stored: a later sync does not store them. A later
+  write to such a page stores the whole page, as the cache has it."""
 from __future__ import annotations
 
 import random

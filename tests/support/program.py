@@ -39,9 +39,9 @@ MORE = "rrdi: "
 
 
 def parted(err: str) -> tuple[str, str]:
-    """Returns the specified lines of standard error, and what the line after them says. That line, `rrdi: FILE: REASON`,
-    must follow if FILE cannot be opened, read or written; it gives the reason. After any other fault it may follow, and
-    gives advice. If it is missing, or another line follows, it says nothing."""
+    """Returns the specified lines of standard error, and what the line after them says. That line, `rrdi: FILE:
+    REASON`, must follow if FILE cannot be opened, read or written; it gives the reason. After any other fault it may
+    follow, and gives advice. If it is missing, or another line follows, it says nothing."""
     *lines, last = err.splitlines(keepends=True) or [""]
     if not (lines and lines[-1].startswith(error("")[:-1]) and last.startswith(MORE) and last.endswith("\n")):
         return err, ""
@@ -56,8 +56,8 @@ def waited(seconds: int) -> str:
 
 @contextmanager
 def lines_in_memory(lines: str | bytes) -> Iterator[BinaryIO]:
-    """Opens lines for a standard input. This is a file, and no pipe, which gives a read fewer bytes on a busy machine: then
-    the calls of a run would have other numbers."""
+    """Opens lines for a standard input. This is a file, and no pipe, which gives a read fewer bytes on a busy machine:
+    then the calls of a run would have other numbers."""
     with open(os.memfd_create("lines"), "w+b", buffering=0) as source:
         source.write(lines if isinstance(lines, bytes) else lines.encode())
         source.seek(0)

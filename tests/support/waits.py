@@ -1,5 +1,5 @@
-"""How a run waits for a lock that another program holds: its tries and its pauses, in a log of `between.c`. The pauses take
-no time there, so that no clock is asked."""
+"""How a run waits for a lock that another program holds: its tries and its pauses, in a log of `between.c`. The pauses
+take no time there, so that no clock is asked."""
 from __future__ import annotations
 
 from support.between import Event, calls_of, pauses_of
@@ -19,8 +19,8 @@ def tries(events: list[Event]) -> int:
 
 
 def pauses(count: int, milliseconds: int) -> list[int]:
-    """Returns the first pauses of a run that waits for so long: each is twice as long as the one before, up to the longest,
-    and the last one ends the time."""
+    """Returns the first pauses of a run that waits for so long: each is twice as long as the one before, up to the
+    longest, and the last one ends the time."""
     found: list[int] = []
     pause = SHORTEST
     while milliseconds and len(found) < count:
@@ -31,13 +31,14 @@ def pauses(count: int, milliseconds: int) -> list[int]:
 
 
 def faults(events: list[Event], milliseconds: int, refused: int | None = None) -> list[str]:
-    """Returns what is wrong with a run that may wait for so long. It gets the lock after so many refused tries, or never:
-    then it must use the whole time. After each refusal it pauses and tries again."""
+    """Returns what is wrong with a run that may wait for so long. It gets the lock after so many refused tries, or
+    never: then it must use the whole time. After each refusal it pauses and tries again."""
     made = pauses_of(events)
     wanted = [MILLION * pause for pause in pauses(10**9 if refused is None else refused, milliseconds)]
     found = []
     if made != wanted:
-        found.append(f"{len(made)} pauses of {sum(made) / MILLION:g} ms, {made[:9]}.., not {len(wanted)} of {sum(wanted) / MILLION:g} ms")
+        found.append(f"{len(made)} pauses of {sum(made) / MILLION:g} ms, {made[:9]}.., not {len(wanted)} of "
+                     f"{sum(wanted) / MILLION:g} ms")
     if tries(events) != len(made) + 1:
         found.append(f"{tries(events)} tries with {len(made)} pauses")
     return found
