@@ -4,12 +4,7 @@ python/tests/test_completion.py tries the words of bash in full."""
 from __future__ import annotations
 
 import os
-import pty
-import re
-import select
-import signal
 import subprocess
-import time
 from pathlib import Path
 from typing import Callable, Mapping, Sequence
 
@@ -35,14 +30,7 @@ line=$2; words=(${(s: :)line}); [[ $line != *' ' ]] || words+=('')
 CURRENT=${#words}; PREFIX=$words[CURRENT]
 _rrdi
 """
-# In a terminal zsh itself writes what is completed, with quotes where its own syntax needs them.
-ZSHRC = """
-fpath=({} $fpath); autoload -Uz compinit; compinit -u -D
-show() {{ zle complete-word; print -r -- "<$BUFFER>"; exit }}
-zle -N show; bindkey '^T' show
-"""
-TYPED = {"rrdi info ": r"<rrdi info \$\(touch\ run\).rrdi >", "rrdi la": "<rrdi last>"}
-PATIENCE = 600
+PATIENCE, LEAST = 600, {"lines": 11}
 SHELLS: dict[str, Callable[[Path], list[str]]] = {
     "bash": lambda place: [f"{place}/share/rrdi/tools/completion/offers"],
     "zsh": lambda place: ["zsh", "-f", "-c", ZSH, "zsh", f"{place}/share/zsh/site-functions"],
@@ -69,7 +57,7 @@ def rooms(folder: Path, place: Path) -> Path:
 
 def environment(place: Path, home: Path) -> dict[str, str]:
     return {**os.environ, "PATH": f"{place}/bin:{os.environ['PATH']}", "XDG_DATA_DIRS": f"{place}/share:/usr/share",
-            "HOME": str(home), "LC_ALL": "C.UTF-8", "RRDI": "true", "ZDOTDIR": str(home), "TERM": "dumb"}
+            "HOME": str(home), "LC_ALL": "C.UTF-8", "RRDI": "true"}
 
 
 def check_offers(words: Sequence[str], folder: Path, env: Mapping[str, str], check: Check) -> None:
@@ -98,37 +86,3 @@ def test_bash_knows_each_tool(place: Path) -> None:
     assert {path.name for path in files} == {"rrdi", *(path.name for path in (TOP / "tools").glob("rrdi-*"))}
     for path in files:
         subprocess.run(["bash", "-c", '. "$1" && complete -p "$2"', "bash", path, path.name], check=True)
-
-
-def typed(words: Sequence[str], folder: Path, env: Mapping[str, str], line: str) -> str:
-    """Types a line and a key into a program in a terminal, and returns the text in angle brackets that it prints."""
-    child, terminal = pty.fork()
-    if child == 0:
-        os.chdir(folder)
-        os.execvpe(words[0], list(words), dict(env))
-    os.write(terminal, f"{line}\x14".encode())
-    text, end = "", time.monotonic() + PATIENCE
-    while not re.search(r"<.*>", text) and time.monotonic() < end and select.select([terminal], [], [], PATIENCE)[0]:
-        try:
-            text += os.read(terminal, 4_096).decode(errors="replace")
-        except OSError:
-            break
-    os.kill(child, signal.SIGKILL)
-    os.waitpid(child, 0)
-    os.close(terminal)
-    found = re.search(r"<.*>", text)
-    return found[0] if found else text
-
-
-@pytest.mark.long
-@pytest.mark.parametrize("line", TYPED)
-def test_what_zsh_writes(line: str, place: Path, folder: Path, needs: Callable[..., None]) -> None:
-    """zsh quotes names of files that its syntax would run."""
-    needs("zsh")
-    (folder / "home").mkdir()
-    (folder / "home/.zshrc").write_text(ZSHRC.format(place / "share/zsh/site-functions"))
-    (folder / "typed").mkdir()
-    (folder / "typed" / ODD).touch()
-    env = environment(place, folder / "home")
-    assert typed(["zsh", "-d", "-i"], folder / "typed", env, line) == TYPED[line]
-    assert not (folder / "typed/run").exists()
