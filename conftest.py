@@ -13,6 +13,8 @@ from typing import Callable, Iterator
 
 sys.dont_write_bytecode = True
 os.environ["PYTHONDONTWRITEBYTECODE"] = "1"
+for of_make in ("MAKEFLAGS", "MFLAGS", "MAKELEVEL"):  # what a `make` that runs the tests says to those that tests run
+    os.environ.pop(of_make, None)
 
 import pytest
 
