@@ -11,7 +11,7 @@ from support import layout
 from support.program import error
 from support.runs import CREATE, FILE, RUNS
 
-LEAST = {RUNS: 200}
+LEAST = {RUNS: 245}
 # Arguments that are not a command, what the program says of them, and the command whose usage follows; without one, the
 # whole usage.
 MISTAKES = [

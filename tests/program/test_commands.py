@@ -10,7 +10,7 @@ from support import definitions, layout, manual, marks, random_batches
 from support.program import TOP, error
 from support.runs import CREATE, FILE, MISUSE, RUNS, refused
 
-LEAST = {RUNS: 800}
+LEAST = {RUNS: 950}
 NO_SAMPLE, NO_OPTION = "a sample is missing, such as N:21.5", "an option, or RRA: or DELRRA:, is missing"
 NO_SOURCE = "a data source is missing, such as DS:temp:GAUGE:600:U:U"
 TOO_LONG = "it would be over 1000000 rows; raise --start or --resolution"

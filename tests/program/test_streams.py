@@ -14,7 +14,7 @@ from support.changes import calls_on_streams
 from support.program import PATIENCE, Program, error, put
 from support.runs import CREATE, FILE, RUNS, refused
 
-LEAST = {RUNS: 470}
+LEAST = {RUNS: 280}
 MISSING = "no such file or directory"
 # The standard streams that a run lacks, in every way.
 CLOSED = [[stream for stream in (0, 1, 2) if number >> stream & 1] for number in range(1, 8)]
