@@ -136,19 +136,21 @@ def rows(tools: Tools, file: str) -> list[object]:
 
 @pytest.mark.parametrize("name", FILES)
 def test_there_and_back(name: str, tools: Tools, check: Check) -> None:
-    """A file of RRDtool is moved to rrdi and back. The tools pass over a link with rrdtool's name to rrdi's own."""
-    file = FILES[name]
+    """A file of RRDtool is moved to rrdi and back. On the way there the tools pass over a link with rrdtool's name to
+    rrdi's own."""
+    file, usual = FILES[name], tools.env["PATH"]
     create(tools, file)
     (tools.folder / "bin").mkdir()
     (tools.folder / "bin/rrdtool").symlink_to(WORDS)
-    tools.env["PATH"] = f"{tools.folder}/bin:{tools.env['PATH']}"
+    tools.env["PATH"] = f"{tools.folder}/bin:{usual}"
     for note in file.notes or ("",):
         batch = tools.expect(int(bool(file.notes)), note, "rrdi-import", *file.options.split(), "old.rrd")
     check.same(tools.run("rrdi", "batch", "new.rrdi", given=batch), (0, "", ""), "the batch")
     if file.options:
-        shown = [word for word in ("--journal 3", "counter:COUNTER", "absolute:ABSOLUTE") if f" {word} " in batch]
+        shown = re.findall(r"--journal 3 |counter:COUNTER\n|absolute:ABSOLUTE\n", batch)
         check.same(len(shown), 3, f"the journal, and types that are set at the end: {batch}")
     agree(tools, file, "old.rrd")
+    tools.env["PATH"] = usual
     xml = tools.expect(0, "<rrd>", "rrdi-export", "new.rrdi")
     tools.expect(0, "", "rrdtool", "restore", "/dev/stdin", "back.rrd", given=xml)
     tools.expect(0, "agree", "rrdi-compare", "back.rrd", "new.rrdi")

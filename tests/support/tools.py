@@ -21,7 +21,8 @@ class Tools:
 
     def __init__(self, program: Program, folder: Path, check: Check) -> None:
         self.program, self.folder, self.check, self.tools = program, folder, check, TOP / "tools"
-        self.env = environment({"RRDI": program.path, "TZ": "UTC", "LC_ALL": "C", "PERL5LIB": str(TOP / "perl")})
+        self.env = environment({"RRDI": program.path, "PERL5LIB": str(TOP / "perl"), "TZ": "UTC", "LANG": "C",
+                                "LC_ALL": "C"})
 
     def run(self, *words: object, given: str = "", **env: str) -> Answer:
         """Runs a command. The name of one of rrdi's tools stands for the tool, and `rrdi` for the program."""
