@@ -42,12 +42,14 @@ def pytest_addoption(parser: pytest.Parser) -> None:
 @pytest.hookimpl(tryfirst=True)
 def pytest_cmdline_main(config: pytest.Config) -> None:
     """Keeps tests of one group in one process of xdist."""
-    if getattr(config.option, "numprocesses", None) and config.option.dist == "no":
+    if getattr(config.option, "numprocesses", None) and config.option.dist in ("no", "load"):
         config.option.dist = "loadgroup"
 
 
 def pytest_configure(config: pytest.Config) -> None:
-    if not hasattr(config, "workerinput"):  # xdist's workers report to the first process, which judges
+    if hasattr(config, "workerinput"):
+        config.option.loadgroup = True  # a worker of xdist does not know what the first process has chosen
+    else:  # the workers report to this process, which judges
         config.pluginmanager.register(Counts(config), "counts")
 
 
@@ -79,34 +81,44 @@ def is_long(pytestconfig: pytest.Config) -> bool:
     return bool(pytestconfig.getoption("long"))
 
 
+def found(path: Path, hint: str) -> Path:
+    """Skips a test if a built file is missing. One in this repository must be newer than its sources."""
+    if not path.is_file():
+        pytest.skip(f"{path} not found; {hint}")
+    built, is_own = path.stat().st_mtime, TOP in path.resolve().parents
+    if is_own and any(source.stat().st_mtime > built for source in TOP.glob("crates/*/src/**/*.rt")):
+        pytest.skip(f"{path} is older than a source; {hint}")
+    return path.resolve()
+
+
 @pytest.fixture(scope="session")
 def program(pytestconfig: pytest.Config) -> Program:
-    """The built program. One that no option names must be newer than its sources."""
-    named = pytestconfig.getoption("program")
-    path = Path(named or Path(pytestconfig.getoption("crates"), BUILT))
-    if not path.is_file():
-        pytest.skip(f"{path} not found; run make, or name a program: --program=PATH")
-    if not named and any(source.stat().st_mtime > path.stat().st_mtime for source in TOP.glob("crates/*/src/**/*.rt")):
-        pytest.skip(f"{path} is older than a source; run make")
-    return Program.at(path)
+    path = Path(pytestconfig.getoption("program") or Path(pytestconfig.getoption("crates"), BUILT))
+    return Program.at(found(path, "run make, or name a program: --program=PATH"))
+
+
+@pytest.fixture(scope="session")
+def unit_tests(pytestconfig: pytest.Config) -> Callable[[str], Program]:
+    """Returns the built tests of a crate."""
+    def of(crate: str) -> Program:
+        path = Path(pytestconfig.getoption("crates"), crate, "out", f"{crate}_tests")
+        return Program.at(found(path, f"run rt test in crates/{crate}, or name the crates: --crates=FOLDER"))
+    return of
 
 
 @pytest.fixture(scope="session")
 def library(pytestconfig: pytest.Config) -> Path:
-    path = Path(pytestconfig.getoption("library"))
-    if not path.is_file():
-        pytest.skip(f"{path} not found; run make library, or name a library: --library=PATH")
-    return path.resolve()
+    return found(Path(pytestconfig.getoption("library")), "run make library, or name a library: --library=PATH")
 
 
 @pytest.fixture(scope="session")
 def needs() -> Callable[..., None]:
     """Skips a test if one of the tools is missing: needs("cc", "strace")."""
-    def found(*tools: str) -> None:
+    def has(*tools: str) -> None:
         lacks = [tool for tool in tools if not shutil.which(tool)]
         if lacks:
             pytest.skip(f"not installed: {', '.join(lacks)}")
-    return found
+    return has
 
 
 def open_folder() -> Iterator[Path]:

@@ -38,9 +38,9 @@ def run(folder: Path, text: str, *words: str) -> subprocess.CompletedProcess[str
                           env={**env, "PYTHONPATH": f"{TOP}:{TOP / 'tests'}"})
 
 
-@pytest.mark.parametrize("jobs", [[], ["-n", "2"]], ids=["one process", "two processes"])
-@pytest.mark.parametrize("name", TESTS)
-def test_verdicts(name: str, jobs: list[str], folder: Path) -> None:
+@pytest.mark.parametrize("name, jobs", [*((name, ()) for name in TESTS),
+                                        *((name, ("-n", "2")) for name in ("a right one", "a fault", "too little"))])
+def test_verdicts(name: str, jobs: tuple[str, ...], folder: Path) -> None:
     text, is_right = TESTS[name]
     ran = run(folder, text, *jobs)
     assert (ran.returncode == 0) == is_right, ran.stdout + ran.stderr

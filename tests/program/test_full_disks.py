@@ -15,7 +15,7 @@ from support import losses as support_losses
 from support.losses import CANNOT_OPEN, CANNOT_WRITE, CREATE, FEW, OTHER_BYTES, TRIED, Losses
 from support.program import Answer, error, held, lines_in_memory, parted, put
 
-LEAST = {TRIED: 700}
+LEAST = {TRIED: 760}
 # The reasons on a full disk, and under a limit on the size of files.
 PARTLY = "no space left, or a limit on the size of files"
 NO_SPACE, TOO_LARGE = ("no space left on device", PARTLY), ("file too large", PARTLY)

@@ -6,8 +6,8 @@ not end is wrong. So a call that runs out of memory either changes nothing, or t
 then succeeds."""
 from __future__ import annotations
 
-import subprocess
 from pathlib import Path
+from typing import Callable
 
 import pytest
 
@@ -58,9 +58,6 @@ def try_tests(tests: Program, library: str, folder: Path, check: Check) -> None:
 
 
 @pytest.mark.parametrize("crate", CRATES)
-def test_growths_in_tests(crate: str, between_all: str, folder: Path, check: Check,
-                          pytestconfig: pytest.Config) -> None:
-    path = Path(pytestconfig.getoption("crates"), crate, "out", f"{crate}_tests")
-    if not path.is_file():
-        pytest.skip(f"{path} not found; run rt test there, or name the crates: --crates=FOLDER")
-    try_tests(Program.at(path), between_all, folder, check)
+def test_growths_in_tests(crate: str, unit_tests: Callable[[str], Program], between_all: str, folder: Path,
+                          check: Check) -> None:
+    try_tests(unit_tests(crate), between_all, folder, check)

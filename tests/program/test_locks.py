@@ -20,7 +20,7 @@ from support.changes import LOCK_UN
 from support.losses import CANNOT_OPEN, CANNOT_WRITE, FEW, TRIED, Losses, line_of
 from support.program import Answer, environment, parted, put, waited
 
-LEAST = {TRIED: 2_000 + 70}
+LEAST = {TRIED: 2_070}
 WRITERS, ROUNDS = 200, 10
 # The values of `RRDI_WAIT` for which a lock that is held for good is tried by each of these commands.
 WORDS = (["update", "10:1"], ["last"], ["create", *FEW])

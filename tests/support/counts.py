@@ -21,16 +21,20 @@ MEMORY = "too little free memory:"
 
 class Counts:
     def __init__(self, config: pytest.Config) -> None:
-        chosen = any("::" in word for word in config.args) or any(
-            config.getoption(name, None) for name in ("keyword", "markexpr", "maxfail", "deselect", "collectonly"))
+        options = ("keyword", "markexpr", "maxfail", "deselect", "collectonly", "seeds")
+        chosen = any("::" in word for word in config.args) or any(config.getoption(name, None) for name in options)
         self.is_whole, self.may_lack = not chosen, config.getoption("lacking")
         self.tried: dict[str, Counter[str]] = defaultdict(Counter)
         self.least: dict[str, dict[str, int]] = {}
         self.rejected: set[str] = set()
         self.left_out = 0
+        # The modules of which a test was left out.
+        self.partial: set[str] = set()
 
     def pytest_runtest_logreport(self, report: pytest.TestReport) -> None:
-        self.left_out += report.skipped and MEMORY not in str(report.longrepr)
+        if report.skipped and MEMORY not in str(report.longrepr):
+            self.left_out += 1
+            self.partial.add(report.nodeid.partition(".py::")[0].replace("/", "."))
         value: Any
         for name, value in report.user_properties:
             if name == "tried" and report.when == "call":
@@ -42,6 +46,8 @@ class Counts:
 
     def blind(self) -> list[str]:
         """Returns the judgements that rejected no planted answer, though another one in their file did."""
+        if self.may_lack and any("test_planted" in module for module in self.partial):
+            return []
         names = {place.partition(":")[0] for place in self.rejected}
         paths = [path for folder in ("tests", "fuzz") for path in sorted(TOP.glob(f"{folder}/**/*.py"))
                  if path.name in names]
@@ -52,8 +58,8 @@ class Counts:
 
     def faults(self) -> list[str]:
         found = [f"{module} tried {self.tried[module][name]} {name}, but must try at least {least}"
-                 for module, wanted in self.least.items() for name,
-                 least in wanted.items() if self.tried[module][name] < least]
+                 for module, wanted in self.least.items() if not (self.may_lack and module in self.partial)
+                 for name, least in wanted.items() if self.tried[module][name] < least]
         left_out = [f"{self.left_out} tests were left out, see above; --lacking allows it"]
         return (found + self.blind()) * self.is_whole + left_out * (self.left_out > 0 and not self.may_lack)
 

@@ -90,7 +90,7 @@ class Program:
 def environment(more: Mapping[str, str] | None) -> dict[str, str]:
     """Returns the environment of a run, without the caller's variables that the program reads."""
     kept = {name: value for name, value in os.environ.items()
-            if not name.startswith("RRDI_") and name not in ("LD_PRELOAD", "LOG", "RECORD")}
+            if not name.startswith("RRDI") and name not in ("LD_PRELOAD", "LOG", "RECORD")}
     return {**kept, **(more or {})}
 
 
