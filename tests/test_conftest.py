@@ -2,6 +2,7 @@
 from __future__ import annotations
 
 import os
+import re
 import subprocess
 import sys
 from pathlib import Path
@@ -70,3 +71,10 @@ def test_where_a_check_failed() -> None:
     check = Check()
     check(False, "it")
     assert check.faults[0].startswith("test_conftest.py:") and check.places
+
+
+def test_the_list_of_modules() -> None:
+    """No module of tests can go unseen: README.md names each."""
+    named = re.findall(r"`[\w/]*?(test_\w+\.py)`", (TOP / "tests/README.md").read_text())
+    there = [path.name for folder in ("tests", "fuzz") for path in (TOP / folder).rglob("test_*.py")]
+    assert sorted({*named}) == sorted(there)
