@@ -18,8 +18,8 @@ from support.library import STACK, WAYS
 from support.program import TOP, Answer, Program, error, held, parted, put, status_of
 from support.random_batches import batch, text_of
 
-LEAST = {"commands": 2_000, "openings": 18, "refused allocations": 300, "faults of memory": 100,
-         "calls on a small stack": 150}
+LEAST = {"commands": 1_500, "openings": 18, "refused allocations": 3_100, "faults of memory": 1_100,
+         "calls on a small stack": 206}
 NO_MEMORY = error("out of memory")
 # The results that are right if memory runs out, beside a refused line of a batch: `write failed` is for the memory of
 # the output.

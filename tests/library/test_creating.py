@@ -19,7 +19,7 @@ from support.check import Check
 from support.library import Library
 from support.program import Program, held
 
-LEAST = {"races": 44, "kills": 20, "calls that failed": 60}
+LEAST = {"races": 44, "kills": 35, "calls that failed": 100}
 NEW, OTHER = "new.rrdi", re.compile(r"new\.rrdi\.new-\d+-\d+")
 MADE, IS_THERE = "0 0\n", f"15 {errno.EEXIST}\n"
 # How often so many processes make one file.

@@ -13,11 +13,12 @@ from program import test_failing_calls as failing
 from program import test_kills as kills
 from support.changes import Place
 from support.check import Check
-from support.cuts import LONG, SHORT, Cuts
+from support.cuts import AFTER_KILL, AFTER_SYNC, CUTS, LONG, SHORT, Cuts
 from support.library import ON_FILES, STACK, WAYS
 from support.program import Answer, Program
 
-LEAST = {"runs": 1_000, kills.KILLS: 60, failing.FAILED: 100}
+LEAST = {"runs": 6_800, kills.KILLS: 68, kills.NEXT_KILLS: 1_300, failing.FAILED: 240, "short calls": 550, CUTS: 170,
+         AFTER_KILL: 200, AFTER_SYNC: 900}
 ONLY = ("update that lengthens 1000 rows", "batch over 1000 rows")
 CALLS, KILLS = "failing calls", "kills"
 

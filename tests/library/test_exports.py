@@ -15,7 +15,7 @@ from support.check import Check
 from support.library import EXPORTS, Library, as_built, names
 from support.program import TOP
 
-LEAST = {"comparisons": 30}
+LEAST = {"comparisons": 84}
 # The C functions that a library may call: memory, bytes, files, and errno.
 MAY_CALL = frozenset({
     "malloc", "realloc", "free", "memcpy", "memmove", "memset", "memcmp", "bcmp", "strlen", "__errno_location", "open",

@@ -16,7 +16,7 @@ from support.check import Check
 from support.program import TOP
 from support.sessions import Command, sessions
 
-LEAST = {"commands": 140, "plots": 3}
+LEAST = {"commands": 190, "plots": 3}
 SESSIONS = sessions(TOP)
 # The pages whose sessions need the C library: installed, or for the Python package.
 OF_C, OF_PYTHON = ("docs/embedding.md", "docs/rrdi.3"), "docs/python.md"

@@ -17,6 +17,8 @@
 #define NOBODY 65534
 #define UPDATE "update\00030:3"
 
+/* A reader, a change, and the change that takes it back. */
+static const struct words calls[] = {{WORDS("last")}, {WORDS(UPDATE)}, {WORDS("revert")}};
 static uint8_t old[1 << 16], new[1 << 16];
 static size_t old_size, new_size;
 
@@ -153,7 +155,6 @@ static void test_changed(void (*act)(void), const char *what) {
 
 /* A file that is taken away stays as it is, and a create makes another one. */
 static void test_taken_away(void) {
-    static const struct words calls[] = {{WORDS("last")}, {WORDS(UPDATE)}, {WORDS("revert")}};
     for (size_t at = 0; at < sizeof calls / sizeof *calls; at++) {
         wait_while(take_away, calls[at].bytes, calls[at].length);
         want(cannot_open(ENOENT) && access(PATH, F_OK), "a file that is taken away");
@@ -172,7 +173,6 @@ static void remove_file(void) {
 
 /* A file that is removed before it is opened is not made again, except by a create. */
 static void test_removed(void) {
-    static const struct words calls[] = {{WORDS("last")}, {WORDS(UPDATE)}, {WORDS("revert")}};
     for (size_t at = 0; at < sizeof calls / sizeof *calls; at++) {
         put(PATH, old, old_size);
         before_opening = remove_file;
