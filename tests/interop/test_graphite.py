@@ -217,15 +217,28 @@ class Clusters:
         self.check_pages(files)
         # The next points make new files of those that are no databases.
         self.check(self.shows_new_points(), "points after damage are lost")
-        self.wait_until_written(self.rrdi, "node1")
-        aside = sorted(path.name for path in files[0].parent.parent.rglob("*.damaged-*"))
+        aside = self.files_set_aside(3)
         self.check(len(aside) == 3, f"files set aside: {aside}")
 
-    def shows_new_points(self) -> bool:
-        """Sends a point of each damaged file to node1. Returns whether node1 shows two of them."""
+    def send_new_points(self) -> int:
+        """Sends a point of each damaged file to node1. Returns its time."""
         now = int(time.time())
         self.rrdi.send("node1", [f"{name_of(number)} 5 {now}\n" for number in range(5)])
-        until, is_shown = time.monotonic() + PATIENCE, False
+        return now
+
+    def files_set_aside(self, count: int) -> list[str]:
+        """Sends points until some files were set aside: an empty one only after ten seconds, since another program may
+        be about to fill it."""
+        until, found = time.monotonic() + PATIENCE, list[str]()
+        while time.monotonic() < until and len(found) < count:
+            self.send_new_points()
+            time.sleep(2)
+            found = sorted(path.name for path in (self.rrdi.folder / "node1/data").rglob("*.damaged-*"))
+        return found
+
+    def shows_new_points(self) -> bool:
+        """Returns whether node1 shows points of files that can be read or made."""
+        until, is_shown, now = time.monotonic() + PATIENCE, False, self.send_new_points()
         while time.monotonic() < until and not is_shown:
             time.sleep(1)
             shown = self.rrdi.render("node1", "app.host00.*.*", now - 60, now + 10, now + 10)
@@ -317,16 +330,24 @@ def test_collectd(folder: Path, library: Path, check: Check) -> None:
     compare_collectd(folder, answer, str(library), str(TOP / "tools/rrdi-compare"), check)
 
 
+# On a busy machine collectd reads twice in a second. Then both refuse the second sample, and rrdtool also the later ones
+# of the same update, which rrdi stores: what rrdtool says, and what rrdi-compare then says of an archive.
+REFUSED = re.compile(r"rrd_update_r \((\S+)\) failed: .*illegal attempt to update using time")
+STORED = re.compile(r"\w+ \d+ s: \d+ cells, \d+ agree(, \d+ only in the new, the newest at \d+)?$")
+
+
 def compare_collectd(folder: Path, answer: Answer, library: str, compare: str, check: Check) -> None:
-    # On a busy machine collectd reads twice in a second; then its own plugin and rrdi refuse the second sample.
     lost = [line for line in answer.out.splitlines() if "samples lost" in line and "not later than" not in line]
     check(answer.status == 0 and not lost, f"collectd: {lost} status {answer.status}: {answer.out[-900:]}")
     files = sorted(folder.glob("rrdi/**/*.rrdi"))
     check(len(files) > 10, f"collectd: {len(files)} files")
+    refused = set(REFUSED.findall(answer.out))
     for file in files:
         old = folder / "rrdtool" / file.relative_to(folder / "rrdi").with_suffix(".rrd")
         env = environment({"RRDI_LIBRARY": library})
         ran = subprocess.run([compare, old, file], env=env, text=True, capture_output=True)
         check.count("files of collectd")
         check.count("cells of collectd", sum(int(count) for count in re.findall(r": (\d+) cells", ran.stdout)))
-        check(ran.returncode == 0 and "agree" in ran.stdout, f"{file}: {ran.stdout}{ran.stderr}")
+        is_lacking = str(old) in refused and all(map(STORED.match, ran.stdout.splitlines()))
+        check.count("files of which rrdtool refused samples", int(is_lacking))
+        check((ran.returncode == 0 or is_lacking) and "agree" in ran.stdout, f"{file}: {ran.stdout}{ran.stderr}")

@@ -160,13 +160,21 @@ def test_points() -> None:
 
 # ---- collectd
 
+STORED = "1 only in the new, the newest at 17"
+SAID_REFUSED = "".join(f"rrdtool plugin: rrd_update_r (FOLDER/rrdtool/{file}.rrd) failed: illegal attempt to update "
+                       "using time 17 when last update time is 17 (minimum one second step)\n" for file in range(11))
+
 
 @pytest.mark.parametrize("answer, count, status, said, is_right", (
     (Answer(0), 11, 0, "MAX 10 s: 9 cells, 9 agree\n", True), (Answer(1), 11, 0, "9 agree\n", False),
     (Answer(0, "samples lost"), 11, 0, "9 agree\n", False), (Answer(0), 10, 0, "9 agree\n", False),
-    (Answer(0), 11, 1, "9 agree\n", False), (Answer(0), 11, 0, "", False)))
+    (Answer(0), 11, 1, "9 agree\n", False), (Answer(0), 11, 0, "", False),
+    (Answer(0, SAID_REFUSED), 11, 1, f"MAX 10 s: 9 cells, 8 agree, {STORED}\n", True),
+    (Answer(0, SAID_REFUSED), 11, 1, "MAX 10 s: 9 cells, 8 agree, 1 only in the old file, the newest at 17\n", False),
+    (Answer(0), 11, 1, f"MAX 10 s: 9 cells, 8 agree, {STORED}\n", False)))
 def test_files_of_collectd(answer: Answer, count: int, status: int, said: str, is_right: bool, folder: Path,
                            planted: Check) -> None:
+    answer = answer._replace(out=answer.out.replace("FOLDER", str(folder)))
     (folder / "rrdi").mkdir()
     for file in range(count):
         (folder / f"rrdi/{file}.rrdi").touch()

@@ -14,7 +14,7 @@ from support.check import Check
 from support.program import TOP, Program
 
 PACKAGE = TOP / "python"
-LEAST = {"tests of the package": 780, "tests of tools by the library": 60, "typed files": 160}
+LEAST = {"tests of the package": 780, "tests of tools by the library": 28, "typed files": 160}
 # The tests of tools that run by the library too.
 OF_TOOLS = ("test_feed_processes::Lines", "test_feed_processes::InProcess", "test_tools_feed::Files",
             "test_feeding_metrics::New", "test_tools_rrdtool::RRDtoolOutput", "test_tools_rrdtool::PipeMode",
