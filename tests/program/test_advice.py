@@ -220,6 +220,7 @@ def test_advice_on_other_files(t):
     last = int(time.time()) + 3_600
     t.run(["create", FILE, "--start", str(last), A, LAST])
     status, out, err = t.told(["update", FILE, "N:1"])
-    says = f"rrdi: {last} is 3600 seconds ahead of the clock; if a sample has this wrong time, rrdi revert takes it back\n"
+    says = (f"rrdi: {last} is 3600 seconds ahead of the clock; if a sample has this wrong time, "
+            "rrdi revert takes it back\n")
     told = status, out, re.sub(r" 3[56]\d\d seconds", " 3600 seconds", err)
     t.check.same(told, (1, "", error(f"not later than {last}") + says), "a sample before the last one")
