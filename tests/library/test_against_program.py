@@ -20,6 +20,7 @@ from support.random_batches import batch, text_of
 
 LEAST = {"commands": 1_500, "openings": 18, "refused allocations": 3_100, "faults of memory": 1_100,
          "calls on a small stack": 206}
+LEAST_LONG = {"refused allocations": 5_500}
 NO_MEMORY = error("out of memory")
 # The results that are right if memory runs out, beside a refused line of a batch: `write failed` is for the memory of
 # the output.

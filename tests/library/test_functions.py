@@ -16,7 +16,7 @@ from support.library import PATIENCE, Library, run_checks
 from support.program import TOP
 
 PROGRAMS = ("functions.c", "inline.c", "numbers.c", "system.c")
-LEAST = {"checks": 4_700}
+LEAST, LEAST_LONG = {"checks": 4_700}, {"batches under valgrind": 4}
 VALGRIND = ("valgrind", "-q", "--error-exitcode=9", "--leak-check=full", "--show-leak-kinds=all",
             "--errors-for-leak-kinds=all")
 WORKED = TOP / "crates/rrdi/cases"

@@ -1,12 +1,12 @@
-/* A program that takes the arguments of rrdi and runs the command by the library, so that the scripts that try rrdi can
-   try the library. Its own reads of standard input and writes of output bypass the C library, so that the library
-   between.c sees only the calls of librrdi. The program allocates nothing.
+/* A program that takes the arguments of rrdi and runs the command by the library, so that the tests of rrdi can try the
+   library. Its own reads of standard input and writes of output bypass the C library, so that the library between.c
+   sees only the calls of librrdi. The program allocates nothing.
 
    RRDI_WAIT and RRDI_SYNC=1 have the same meaning as for rrdi. With IN_MEMORY=1 the program reads FILE itself, lets the
-   library run the command on the bytes, and writes the new file. With OPEN=1 the program opens FILE by rrdi_open, runs
-   the command on the open file, and closes it. With NUMBERS=1 too, an update by one sample goes by rrdi_update_open.
-   With ROOM=N the first call has room for N bytes of output, and the second call for all bytes. With STACK=N the calls
-   run in a thread with a stack of N bytes, and the file STACK_USED gets the number of bytes that were used. */
+   library run the command on the bytes, and writes the new file. With OPEN=1 it opens FILE by rrdi_open, runs the
+   command on the open file, and closes it; with NUMBERS=1 too, an update by one sample goes by rrdi_update_open. With
+   ROOM=N the first call has room for N bytes of output, and the second call for all bytes. With STACK=N the calls run
+   in a thread with a stack of N bytes, and the file STACK_USED gets the number of bytes that were used. */
 #define _GNU_SOURCE
 #include <errno.h>
 #include <fcntl.h>
