@@ -33,7 +33,8 @@ class Differing:
         self.cells, self.wrong = 0, list[str]()
 
     def compare(self, what: str, old: RrdFile, database: dict[str, Any], kind: str) -> None:
-        for archive, new in zip(old.archives, database["archives"], strict=True):
+        assert len(old.archives) == len(database["archives"])
+        for archive, new in zip(old.archives, database["archives"]):
             wanted = archive.function, archive.steps, archive.row_count
             assert wanted == (new["function"], new["steps"], len(new["rows"]))
             if kind in ("steps", "reach") and archive.function == "LAST":
