@@ -76,9 +76,11 @@ class _AtOnce:
         pass
 
     def end(self, is_whole: bool) -> None:
-        if self._file is not None:
-            self._file.close()
-        self._file = None
+        try:
+            if self._file is not None:
+                self._file.close()
+        finally:
+            self._file = None  # after an exception, too: a file that nobody uses is closed
 
 
 class Database:

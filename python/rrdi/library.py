@@ -240,7 +240,8 @@ class _OpenedByC:
         ctypes.memset(self.at, 0, ctypes.sizeof(_File))
 
     def __del__(self) -> None:
-        self.close()
+        if hasattr(self, "at"):  # otherwise an exception has cut `__init__` short, and no file is open
+            self.close()
 
 def _needs_room(rooms: _Rooms) -> bool:
     """Enlarges the buffers that were too small for the last call in memory. The caller can then repeat the call."""

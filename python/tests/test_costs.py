@@ -22,7 +22,7 @@ from rrdi.compat.syntax import LONGEST_NUMBER, read_number
 from rrdi.feeding import metrics
 from rrdi.feeding.rules import Names, read_rules, texts_of_stars
 from rrdi.graphite import finding
-from rrdi.graphite.globs import Globs
+from rrdi.graphite.globs import Globs, matcher
 from rrdi.graphite.names import LONGEST_PART
 from rrdi.importing.whisper import read_whisper, whisper_batch
 from rrdi.reader.selected import OpenFile
@@ -140,16 +140,41 @@ class Patterns(DataCase):
         chance, matched = random.Random(7), 0
         for _ in range(8_000):
             words = ["".join(chance.choice("ab*?[]!-^c&|~") for _ in range(chance.randrange(9))) for _ in range(chance.randrange(1, 4))]
-            globs, matches = Globs(words), [re.compile(fnmatch.translate(word)).match for word in words]
+            globs, plain = Globs(words), matcher(words)
+            matches = [re.compile(fnmatch.translate(word)).match for word in words]
             for _ in range(5):
                 name = "".join(chance.choice("abc-]![^\n&") for _ in range(chance.randrange(7)))
                 wanted = any(match(name) for match in matches)
                 self.assertEqual(globs.match(name), wanted, (words, name))
+                self.assertEqual(bool(plain(name)), wanted, (words, name))
                 matched += wanted
         self.assertGreater(matched, 1_000)
         longest = "x" * LONGEST_PART
+        self.assertTrue(matcher(["x" * LONGEST_PART + "*"])(longest))
         self.assertEqual([Globs([word]).match(longest) for word in ("?" * LONGEST_PART, "?" * LONGEST_PART + "*", "?" * 256)],
                          [True, True, False])
+
+    def test_plain_words_cost_little(self) -> None:
+        names = [f"web-{number:06}-cpu{number % 7}" for number in range(5_000)]
+        for words in (["*"], ["web-*-cpu3"], ["*0*1*"], ["web-[0-9]*"], [f"web-*{number}" for number in range(6)]):
+            costs, found = [], []
+            for match in (Globs(words).match, matcher(words)):
+                before = time.process_time()
+                found.append(list(filter(match, names)))
+                costs.append(time.process_time() - before)
+            self.assertEqual(*found)
+            self.assertLess(2 * costs[1], costs[0], words[0])
+
+    def test_words_that_a_regular_expression_matches_slowly(self) -> None:
+        """Each costs about as much as a step for each character of a name and each sign."""
+        names = ["a" * LONGEST_PART, "a" * 254 + "b", "ab" * 127]
+        for words in (["*a" * 60 + "b"], ["*" + "a" * 120 + "b*", "*" + "a" * 120 + "c"], ["*" + "?" * 200 + "b"],
+                      ["*" + "[!b]" * 80 + "b"], ["[!ace]*" + "a" * 126 + "b*"], [f"*a*{number}" for number in range(63)],
+                      [f"*{'?' * 120}{number}" for number in range(500)]):
+            match, before = matcher(words), time.process_time()
+            for _ in range(50):
+                self.assertEqual(len(list(map(match, names))), 3)
+            self.assertLess(time.process_time() - before, 1, words[0])
 
     def test_links_that_loop(self) -> None:
         self.put("x", "f/y")

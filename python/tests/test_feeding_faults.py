@@ -6,6 +6,7 @@ import contextlib
 import errno
 import io
 import os
+import signal
 import threading
 import time
 import unittest
@@ -63,6 +64,19 @@ class FaultCase(unittest.TestCase):
                 return None
             finally:
                 self.said = said.getvalue()
+
+
+    def fed_to_its_end(self, status: int = 0, said: str = "") -> None:
+        """Feeds the lines, and fails if that never ends."""
+        def end(*_: object) -> None:
+            raise AssertionError("feed does not end")
+        before = signal.signal(signal.SIGALRM, end)
+        signal.setitimer(signal.ITIMER_REAL, HANG, 1)
+        try:
+            self.assertEqual((self.fed(LINES, b""), self.stored(), self.said), (status, self.wanted(), said))
+        finally:
+            signal.setitimer(signal.ITIMER_REAL, 0)
+            signal.signal(signal.SIGALRM, before)
 
 
 class Reading(FaultCase):
@@ -194,6 +208,39 @@ class NoMemory(FaultCase):
             self.assertEqual(self.fed(b"1.rrdi 1:1\n", b""), 1)
         self.assertEqual(self.said, "rrdi-feed: 1.rrdi: out of memory; 1 samples may be lost\nrrdi-feed: may be lost: 1.rrdi 1:1\n")
 
+    def test_a_batch_that_cannot_be_given(self) -> None:
+        """It is given again, once there is memory."""
+        with self.failing(workers.Workers, "give", 0):
+            self.fed_to_its_end()
+
+    def test_a_thread_that_cannot_be_seen(self) -> None:
+        """The batch runs once, in some thread."""
+        with self.failing(threading.Thread, "is_alive", 0):
+            self.fed_to_its_end()
+
+    def test_again_after_it_ran_out(self) -> None:
+        self.feeder.start_one = mock.Mock(side_effect=MemoryError)  # type: ignore[assignment]
+        with self.failing(self.feeder, "start_due", 2):
+            self.fed_to_its_end()
+
+    def test_no_memory_for_the_time(self) -> None:
+        """That at which the patience ends, or that at which it is over."""
+        for after in (0, 1, 2):
+            self.setUp()
+            read, real = self.feeder.read, time.monotonic
+
+            def read_all() -> None:
+                read()
+                enter.enter_context(self.failing(time, "monotonic", after))
+            with contextlib.ExitStack() as enter, mock.patch.object(self.feeder, "read", read_all):
+                self.fed_to_its_end()
+            self.assertIs(time.monotonic, real)
+
+    def test_the_end_of_threads(self) -> None:
+        """All samples are stored by then."""
+        with self.failing(workers.Workers, "shutdown", 0):
+            self.fed_to_its_end()
+
     def test_the_end_of_a_batch(self) -> None:
         """A thread tells it in any case: feed waits for it."""
         real, failures = self.feeder.ended, [3]
@@ -236,6 +283,22 @@ class Threads(FaultCase):
         def refuse(thread: threading.Thread) -> None:
             raise RuntimeError("can't start new thread")
         self.with_start(refuse)
+
+    def test_no_lock_for_a_thread(self) -> None:
+        with mock.patch("rrdi.feeding.workers.threading.Thread", side_effect=RuntimeError("no lock")):
+            self.fed_to_its_end()
+
+    def test_a_thread_that_begins_with_an_error(self) -> None:
+        """It runs, and feed ends all the same."""
+        real, count = threading.Thread.start, [0]
+
+        def start(thread: threading.Thread) -> None:
+            real(thread)
+            count[0] += 1
+            if count[0] == 2:
+                raise RuntimeError("can't allocate lock")
+        with mock.patch.object(threading.Thread, "start", start):
+            self.fed_to_its_end()
 
     def test_no_memory_for_a_thread(self) -> None:
         """Before the first line, nothing is read; later the present thread runs the batches."""

@@ -198,6 +198,17 @@ class Handlers(KeptCase):
         between_all(self.kept.close, self.kept.close)
         self.assertFalse(is_locked(self.path))
 
+    def test_an_exception_at_the_end_of_a_block(self) -> None:
+        """The file is closed all the same, although the program keeps the database."""
+        database = rrdi.Database(self.path)
+
+        def interrupted() -> None:
+            with database:
+                database.last()
+        with mock.patch.object(KeptFile, "close", side_effect=KeyboardInterrupt):
+            self.assertRaises(KeyboardInterrupt, interrupted)
+        self.assertFalse(is_locked(self.path))
+
     def test_changes_that_come_while_others_run(self) -> None:
         """They wait, and run afterwards: with `collect=True` no change is lost, and none runs twice."""
         database = rrdi.Database(self.path, collect=True)

@@ -157,6 +157,12 @@ class Opened(unittest.TestCase):
                                         ("rrdi_batch_open", 4711, b"last\nupdate x", 7),
                                         ("rrdi_close", True, 4711), ("rrdi_close", False, 4711)])
 
+    def test_an_exception_while_it_is_made(self) -> None:
+        called = Called()
+        with mock.patch.object(library, "_OwnFile", side_effect=MemoryError), mock.patch("sys.unraisablehook") as told:
+            self.assertRaises(MemoryError, called.library.open, b"f", 5_000, True)
+        told.assert_not_called()
+
     def test_rooms_that_grow(self) -> None:
         long = b"o" * (FIRST_ROOM + 1)
         calls: List[Any] = [lambda of: of.run(b"info", 0), lambda of: of.batch(b"info", 0)]

@@ -289,7 +289,11 @@ class Feeder:
             samples = waiting.samples + samples
         if samples:
             self.running.add(file)
-            left = self.threads.give((file, samples), len(self.running))
+            try:
+                left = self.threads.give((file, samples), len(self.running))
+            except MemoryError:  # nothing was given
+                self.running.discard(file)
+                raise
         self.waiting.pop(file, None)
         self.held.pop(file, None)
         self.since.pop(file, None)
@@ -370,26 +374,38 @@ class Feeder:
             self.write_held()
         if self.rest:  # a signal or a fault has cut the line: a number in it may be another one
             self.say(f"a line without its end may be lost, got: {line_text(self.rest)}")
-        self.threads.shutdown()
+        try:
+            self.threads.shutdown()
+        except MemoryError:  # all samples are stored or reported
+            pass
         if self.bad_lines:
             self.say(f"bad lines: {self.bad_lines}")
 
     def write_held(self) -> None:
         """Passes on all held samples, and gives up files that cannot be opened for too long."""
-        until, tries = time.monotonic() + self.options.patience, 0
+        until, is_over, tries = 0.0, False, 0
         while self.held or self.waiting or self.running:
-            is_over = time.monotonic() >= until
             try:
+                until = until or time.monotonic() + self.options.patience
+                is_over = time.monotonic() >= until
                 self.start_due()
                 for file in list(self.waiting) if is_over else []:
                     self.give_up(file)
                 self.end_batches(0.01)
             except MemoryError:  # each batch that ends leaves more
-                tries += 1
-                if is_over and tries >= MEMORY_TRIES:  # a thread may wait for memory to tell the end of its batch
-                    self.give_up_all()
-                if not self.start_one():
-                    time.sleep(MEMORY_PAUSE)
+                tries = min(tries + 1, MEMORY_TRIES)
+                # A thread may wait for memory to tell the end of its batch.
+                self.go_on_without_memory(is_over and tries == MEMORY_TRIES)
+
+    def go_on_without_memory(self, is_over: bool) -> None:
+        try:
+            if is_over:
+                self.give_up_all()
+            if self.start_one():
+                return
+        except MemoryError:  # again: the samples stay
+            pass
+        time.sleep(MEMORY_PAUSE)
 
     def start_one(self) -> bool:
         """Starts a batch for one held file: there may be memory for it if there is none for a list of all files."""

@@ -25,25 +25,31 @@ class Workers:
     def begin(self, wanted: int) -> None:
         """Begins threads, until there are as many as are wanted or the system refuses one."""
         while len(self.threads) < min(wanted, self.most) and time.monotonic() >= self.next_try:
-            # At the end of the process no thread is waited for that has no batch.
-            thread = threading.Thread(target=self.run, daemon=True)
-            self.threads.append(thread)
+            thread: Optional[threading.Thread] = None
             try:
+                # At the end of the process no thread is waited for that has no batch.
+                thread = threading.Thread(target=self.run, daemon=True)
+                self.threads.append(thread)
                 thread.start()
-            except RuntimeError:
+            except RuntimeError:  # no thread, or no memory for one of its locks: then it may run all the same
                 self.next_try = time.monotonic() + PAUSE
-                self.threads.remove(thread)
+                if thread in self.threads:
+                    self.threads.remove(thread)
 
     def give(self, batch: Batch, running: int) -> Optional[Batch]:
         """Gives a batch to the threads, of which `running` are wanted. Returns a batch for the caller to run if there is no
         thread, or none yet: one that begins late finds the batch taken, and waits for the next."""
         self.batches.put(batch)
-        with suppress(MemoryError):
+        has_threads = False
+        try:
             self.begin(running)
-        if not any(thread.is_alive() for thread in self.threads):
-            with suppress(Empty):
-                return self.batches.get_nowait()
-        return None
+            has_threads = any(thread.is_alive() for thread in self.threads)
+        except MemoryError:
+            pass
+        try:
+            return None if has_threads else self.batches.get_nowait()
+        except Empty:
+            return None
 
     def run(self) -> None:
         while self.run_one(self.batches.get()):
@@ -52,14 +58,14 @@ class Workers:
     def run_one(self, batch: Optional[Batch]) -> bool:
         """Runs a batch. Returns False if there are no more."""
         if batch is None:
+            self.batches.put(None)  # for the next thread: some may run that are not among `threads`
             return False
         self.work(*batch)
         return True
 
     def shutdown(self) -> None:
         """Ends the threads, once all batches have run."""
-        for _ in self.threads:
-            self.batches.put(None)
+        self.batches.put(None)
         for thread in self.threads:
             with suppress(RuntimeError):  # it never began
                 thread.join()

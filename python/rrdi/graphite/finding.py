@@ -5,7 +5,7 @@ import os
 import re
 from typing import Iterator, List, NamedTuple, Optional, Sequence, Set, Tuple
 
-from .globs import Globs
+from .globs import matcher
 from .names import SUFFIX, is_usable
 
 BRACES = re.compile(r"\{([^{}]*)\}")
@@ -88,7 +88,7 @@ class Part:
         signs = [word for word in words if has_signs(word)]
         limits.add(patterns=len(signs) if len(words) > 1 else 0)
         self.names = {word for word in words if not has_signs(word) and is_usable(word)}
-        self.globs = Globs(signs) if signs else None
+        self.match = matcher(signs) if signs else None
 
     def matches(self, folder: str) -> Tuple[Set[str], Set[str]]:
         """The files and the folders in a folder that the part matches."""
@@ -96,10 +96,10 @@ class Part:
         folders: Set[str] = set()
         # A folder that may be entered may be one that can't be listed.
         are_many = len(self.names) > MANY_NAMES and os.access(folder, os.R_OK)
-        there = entries(folder) if self.globs is not None or are_many else ([], [])
-        if self.globs is not None:
-            files.update(filter(self.globs.match, there[0]))
-            folders.update(filter(self.globs.match, there[1]))
+        there = entries(folder) if self.match is not None or are_many else ([], [])
+        if self.match is not None:
+            files.update(filter(self.match, there[0]))
+            folders.update(filter(self.match, there[1]))
         for name in self.names & {*there[0], *there[1]} if are_many else self.names:
             path = os.path.join(folder, name)
             files.update([name] if os.path.isfile(path + SUFFIX) else [])

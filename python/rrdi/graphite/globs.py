@@ -2,16 +2,20 @@
 
 All words are matched at once, by the bits of a number: a word of n signs has n + 1 bits, and bit k is set if its first k
 signs have the characters so far. So the cost is that of the signs once for each character of a name, whatever they are. A
-regular expression costs more than that for some patterns, and much to compile.
+regular expression costs more than that for some patterns, and much to compile. For plain ones, such as `web-*-cpu`, it
+costs much less, and then it is taken.
 """
 from __future__ import annotations
 
+import re
 from bisect import bisect_right
-from typing import Dict, Iterable, Iterator, List, Tuple
+from itertools import count
+from typing import Callable, Dict, Iterable, Iterator, List, Sequence, Tuple
 
 from .names import LONGEST_PART
 
 STAR, ANY = "*", "?"
+MOST_WEIGHT = 255  # of all signs in a regular expression: it may compare a name with each of them at each place
 
 
 def signs_of(word: str) -> Iterator[str]:
@@ -54,6 +58,52 @@ class Set:
     def has(self, letter: str) -> bool:
         is_listed = bisect_right(self.bounds, ord(letter)) % 2 == 1
         return is_listed != self.is_negated
+
+
+def weight_of(sign: str) -> int:
+    """Returns how much it costs to compare a character with a sign."""
+    return 1 if len(sign) == 1 else 1 + len(Set(sign).bounds)
+
+
+def expression_of_sign(sign: str) -> str:
+    """Returns what matches one character in a regular expression."""
+    if len(sign) == 1:
+        return "." if sign == ANY else re.escape(sign)
+    chosen = Set(sign)
+    bounds = iter(chosen.bounds)
+    ranges = "".join(f"\\U{first:08x}-\\U{end - 1:08x}" for first, end in zip(bounds, bounds))
+    if not ranges:
+        return "." if chosen.is_negated else "(?!)"
+    return f"[{'^' if chosen.is_negated else ''}{ranges}]"
+
+
+def expression_of(signs: Iterable[str], groups: Iterator[int]) -> str:
+    """Returns the regular expression of a word. A star before another one takes as little as it can and is not tried
+    again: in a group of its own, whose text is then repeated."""
+    first, *others = parts_between_stars(signs)
+    if not others:
+        return first
+    middle = [f"(?=(?P<g{group}>.*?{part}))(?P=g{group})" for part, group in zip(filter(None, others[:-1]), groups)]
+    return "".join([first, *middle, ".*", others[-1]])
+
+
+def parts_between_stars(signs: Iterable[str]) -> List[str]:
+    parts = [""]
+    for sign in signs:
+        if sign == STAR:
+            parts.append("")
+        else:
+            parts[-1] += expression_of_sign(sign)
+    return parts
+
+
+def matcher(words: Sequence[str]) -> Callable[[str], object]:
+    """Returns what checks whether a word matches a whole name."""
+    signs = [list(signs_of(word)) for word in words]
+    if sum(weight_of(sign) for one in signs for sign in one) > MOST_WEIGHT:
+        return Globs(words).match
+    groups = count()
+    return re.compile("|".join(expression_of(one, groups) for one in signs), re.DOTALL).fullmatch
 
 
 def bits(places: Iterable[int], size: int) -> int:
