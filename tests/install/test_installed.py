@@ -1,0 +1,96 @@
+"""The program, the library and the tools run from an installation, from the packages and from the wheel."""
+from __future__ import annotations
+
+import gzip
+import os
+import re
+import shutil
+import subprocess
+import sys
+from pathlib import Path
+from typing import Callable
+
+import pytest
+
+from support.library import as_built
+from support.program import TOP, Program
+
+CREATE = ("create", "net.rrdi", "--start", "0", "--step", "10", "DS:g:GAUGE:99:U:U", "RRA:MAX:0.5:1:3")
+SHOW = 'import rrdi; print(rrdi.info("net.rrdi")["step"], rrdi.load_library() is not None)'
+PATIENCE = 600
+
+
+@pytest.fixture
+def made(program: Program, library: Path, needs: Callable[..., None], folder: Path) -> Callable[..., None]:
+    """Runs `make` with the program and the library that were built."""
+    needs("make", "cc")
+    if not library.with_name("librrdi.a").is_file():
+        pytest.skip(f"librrdi.a is not beside {library}")
+    (folder / "built").mkdir()
+    words = [*as_built(library, folder / "built"), f"PROGRAM={program.path}", "LDCONFIG=:"]
+
+    def make(*more: str) -> None:
+        subprocess.run(["make", "-s", "-C", str(TOP), *more, *words], check=True, stdout=subprocess.DEVNULL)
+    return make
+
+
+def told(folder: Path, *words: object, status: int = 0, **env: object) -> str:
+    """Runs a command without the caller's settings, and returns what it prints."""
+    kept = {name: value for name, value in os.environ.items() if not name.startswith(("RRDI", "PYTHON"))}
+    ran = subprocess.run(list(map(str, words)), cwd=folder, capture_output=True, text=True, timeout=PATIENCE,
+                         env={**kept, **{name: str(value) for name, value in env.items()}})
+    assert ran.returncode == status, (words, ran)
+    return ran.stdout + ran.stderr
+
+
+def test_an_installation(made: Callable[..., None], folder: Path) -> None:
+    local = folder / "local"
+    made("install", f"PREFIX={local}")
+    told(folder, local / "bin/rrdi", *CREATE)
+    assert '"step": 10' in told(folder, local / "share/rrdi/examples/rrdi.py", "json", "net.rrdi")
+    modules, library = local / "lib/python3/dist-packages", local / "lib/librrdi.so.0"
+    assert told(folder, sys.executable, "-B", "-c", SHOW, PYTHONPATH=modules, RRDI_LIBRARY=library) == "10 True\n"
+    compat = told(folder, sys.executable, "-B", "-c", "import rrdtool; print(rrdtool.fetch.__module__)",
+                  PYTHONPATH=local / "share/rrdi/python/compat", RRDI_LIBRARY=library)
+    assert compat == "rrdi.compat.rrdtool\n"
+    path = f"{local}/bin:/usr/bin:/bin"
+    assert "<cf>MAX</cf>" in told(folder, "rrdi-export", "net.rrdi", PATH=path)
+    assert "rrdi-import: ERROR: " in told(folder, "rrdi-import", "none.rrd", status=1, PATH=path)
+    for tool in sorted((TOP / "tools").glob("rrdi-*")):
+        assert "Exit status:" in told(folder, tool.name, "--help", PATH=path)
+    for page in [*local.glob("share/man/man1/*.gz"), local / "share/man/man3/rrdi.3.gz"]:
+        text = gzip.decompress(page.read_bytes()).decode()
+        assert not re.search(r"(?m)(^|[ <])(docs|examples)/", text), f"{page.name} names a file that is elsewhere"
+
+
+def test_no_program(folder: Path, needs: Callable[..., None]) -> None:
+    needs("make")
+    words = ("make", "-s", "-C", TOP, "install", "PROGRAM=nowhere", f"DESTDIR={folder}")
+    assert "nowhere not found" in told(folder, *words, status=2)
+
+
+def test_packages(made: Callable[..., None], needs: Callable[..., None], folder: Path) -> None:
+    needs("dpkg-deb", "strip", "perl")
+    made("deb")
+    usr = folder / "unpacked/usr"
+    for package in folder.glob("built/*.deb"):
+        told(folder, "dpkg-deb", "-x", package, "unpacked")
+    told(folder, usr / "bin/rrdi", *CREATE)
+    assert "step = 10" in told(folder, usr / "bin/rrdi", "info", "net.rrdi")
+    library, = usr.glob("lib/*/librrdi.so.0")
+    assert library.with_name("librrdi.so").exists()
+    assert told(folder, sys.executable, "-B", "-c", SHOW, PYTHONPATH=usr / "lib/python3/dist-packages",
+                RRDI_LIBRARY=library) == "10 True\n"
+    times = 'print join " ", RRDs::times("epoch+1", "epoch+2")'
+    assert told(folder, "perl", "-T", f"-I{usr}/share/perl5", "-MRRDs", "-e", times) == "1 2"
+
+
+def test_the_library_of_a_wheel(library: Path, folder: Path) -> None:
+    tree = folder / "wheel/python"
+    shutil.copytree(TOP / "python", tree, ignore=shutil.ignore_patterns("__pycache__", "tests"))
+    code = f"import build_backend; print(build_backend.build_wheel({str(folder)!r}))"
+    told(tree, sys.executable, "-c", code, PYTHONPATH=".", RRDI_LIBRARY=library)
+    wheel, = folder.glob("*manylinux*.whl")
+    shutil.unpack_archive(wheel, folder / "site", "zip")
+    show = "import rrdi; print(rrdi.library_path(), rrdi.load_library() is not None)"
+    assert told(folder / "site", sys.executable, "-B", "-c", show) == f"{folder}/site/rrdi/librrdi.so.0 True\n"

@@ -1,0 +1,113 @@
+/* What the tests of rrdi.h and of rrdi_create.h have in common: an answer and its output, an open file, the count of
+   the checks, and files. */
+#ifndef CHECKS_H
+#define CHECKS_H
+
+#include <signal.h>
+#include <stdio.h>
+#include <stdlib.h>
+#include <string.h>
+#include <sys/resource.h>
+#include <sys/stat.h>
+
+#include "rrdi.h"
+
+#define WORDS(text) (const uint8_t *)(text), sizeof(text) - 1
+/* The words of a call, with their length. */
+struct words {
+    const uint8_t *bytes;
+    size_t length;
+};
+
+#define CREATE "create\0--step\00010\0--start\0000\0DS:g:GAUGE:100:U:U\0RRA:LAST:0.5:1:4"
+
+static int count, wrong;
+static uint8_t output[1 << 16];
+static struct rrdi_answer answer;
+static struct rrdi_file opened;
+
+static inline bool want(bool is_right, const char *what) {
+    count++;
+    if (!is_right) {
+        wrong++;
+        printf("%s: fault %u, error %u, %s%srefused %llu, file %llu, output %llu, at %llu\n", what, answer.fault,
+               answer.system_error, answer.is_changed ? "changed, " : "", answer.is_cut ? "cut, " : "",
+               (unsigned long long)answer.refused, (unsigned long long)answer.file_length,
+               (unsigned long long)answer.output_length, (unsigned long long)answer.at);
+    }
+    return is_right;
+}
+
+static inline bool gave(uint32_t fault, bool is_changed, const char *text) {
+    return answer.fault == fault && answer.is_changed == is_changed && !answer.is_cut &&
+           answer.output_length == strlen(text) && !memcmp(output, text, strlen(text));
+}
+
+/* Whether the call could not open or read its file, by this error of the system. */
+static inline bool cannot_open(int error) {
+    return gave(RRDI_CANNOT_OPEN, false, "cannot open") && answer.system_error == (uint32_t)error;
+}
+
+static inline bool cannot_write(int error) {
+    return gave(RRDI_CANNOT_WRITE, false, "cannot write") && answer.system_error == (uint32_t)error;
+}
+
+static inline void run_file(const char *path, const uint8_t *words, size_t words_length, uint64_t wait) {
+    rrdi_run_file((const uint8_t *)path, strlen(path), words, words_length, 0, wait, false, output, sizeof output,
+                  &answer);
+}
+
+static inline void open_file(const char *path) {
+    rrdi_open((const uint8_t *)path, strlen(path), 0, false, &opened, output, sizeof output, &answer);
+}
+
+static inline void run_open(const uint8_t *words, size_t words_length) {
+    rrdi_run_open(&opened, words, words_length, 0, output, sizeof output, &answer);
+}
+
+/* Makes a call while no file may be longer than so many bytes. */
+static inline void with_limit(size_t size, void (*call)(void)) {
+    struct rlimit limit, less;
+    getrlimit(RLIMIT_FSIZE, &limit);
+    less = (struct rlimit){size, limit.rlim_max};
+    signal(SIGXFSZ, SIG_IGN);
+    setrlimit(RLIMIT_FSIZE, &less);
+    call();
+    setrlimit(RLIMIT_FSIZE, &limit);
+}
+
+static inline size_t held(const char *path) {
+    struct stat found;
+    return stat(path, &found) ? 0 : (size_t)found.st_size;
+}
+
+static inline void put(const char *path, const void *bytes, size_t size) {
+    FILE *to = fopen(path, "wb");
+    if (!to || fwrite(bytes, 1, size, to) != size || fclose(to))
+        exit(3);
+}
+
+static inline bool has_bytes(const char *path, const uint8_t *bytes, size_t size) {
+    static uint8_t found[1 << 16];
+    FILE *from = fopen(path, "rb");
+    size_t got = from ? fread(found, 1, sizeof found, from) : 0;
+    if (from)
+        fclose(from);
+    return got == size && !memcmp(found, bytes, size);
+}
+
+static inline size_t bytes_of(const char *path, uint8_t *bytes) {
+    FILE *from = fopen(path, "rb");
+    size_t got = from ? fread(bytes, 1, 1 << 16, from) : 0;
+    if (from)
+        fclose(from);
+    return got;
+}
+
+/* Prints how much was tried. Returns the status of the program. */
+static inline int end(void) {
+    printf("%d tests: %d wrong\n", count, wrong);
+    return wrong != 0;
+}
+
+#endif

@@ -1,0 +1,55 @@
+"""One update writes few bytes, however large the file is (docs/performance.md): for the smallest file at most one page
+and the copy that protects it (8 KB), for 30 KB to 4 MB at most 24 KB, for 64 MB at most 48 KB."""
+from __future__ import annotations
+
+import re
+import subprocess
+from pathlib import Path
+from typing import Callable
+
+import pytest
+
+from support.check import Check
+from support.program import Answer, Program, environment
+from support.sizes import FILES, SizedFile
+
+MEASURED = "updates measured"
+UPDATES = 5
+LEAST = {MEASURED: UPDATES * len(FILES)}
+# A call that writes a file, or creates a second file: the name of the call, its arguments, and its result.
+CALL = re.compile(r"(?:\d+ +)?(\w+)\((.*)\) += (-?\d+)")
+WRITING = "trace=write,pwrite64,pwritev,writev,copy_file_range,sendfile"
+
+
+def written(trace: str) -> int:
+    """Returns the bytes that the calls of a trace wrote, without those to the program's standard streams."""
+    calls = [found for found in map(CALL.match, trace.splitlines()) if found]
+    return sum(max(int(call[3]), 0) for call in calls if call[2].split(",")[0] not in ("0", "1", "2"))
+
+
+def measure(program: Program, folder: Path, file: SizedFile, check: Check) -> None:
+    path, trace = folder / "net.rrdi", folder / "trace"
+    check.same(file.create(program, path), Answer(0), f"the creation of {file.name}")
+    for number in range(UPDATES):
+        sample = file.sample(number)
+        words = ["strace", "-f", "-qq", "-e", WRITING, "-o", str(trace), program.path, "update", str(path), sample]
+        ran = subprocess.run(words, capture_output=True, text=True, env=environment(None))
+        check(ran.returncode == 0, f"{file.name}: {ran.returncode}, {ran.stderr!r}")
+        count = written(trace.read_text())
+        check.count(MEASURED)
+        check(0 < count <= file.most, f"{file.name}: an update writes {count:,} bytes, at most {file.most:,}")
+    last = program.run(["last", path]).out
+    check(last == sample.split(":")[0] + "\n", f"{file.name}: the update is not in the file: {last!r}")
+
+
+@pytest.mark.parametrize("file", FILES, ids=lambda file: file.name)
+def test_writes(program: Program, folder: Path, file: SizedFile, check: Check, needs: Callable[..., None]) -> None:
+    needs("strace")
+    measure(program, folder, file, check)
+
+
+def test_the_calls_of_a_trace() -> None:
+    trace = ['12 pwrite64(3, "RRDI"..., 4096, 0) = 4096', 'pwrite64(3, "", 100, 4096) = 100', 'write(1, "0\\n", 2) = 2',
+             'write(4, "", 7) = 7', 'pwrite64(3, "", 9, 0) = -1 ENOSPC (No space left on device)',
+             "+++ exited with 0 +++"]
+    assert written("\n".join(trace)) == 4_203

@@ -1,0 +1,123 @@
+"""What the tests know of files and commands without the program: definitions, layout, marks, forms in the manual."""
+from __future__ import annotations
+
+import pytest
+
+from support import definitions, layout, manual, random_batches
+from support.layout import UNKNOWN, heads, known
+from support.marks import checksum, cut, cut_with_record, record, slot, undo
+from support.sizes import LARGE, SMALL, START
+
+
+def test_definitions() -> None:
+    """A gauge, and its steps."""
+    source = definitions.Source("g", "GAUGE", 100, None, None)
+    create = definitions.Create(10, 0, 16, [source], [definitions.Archive("LAST", 0, 1, 4)])
+    database, told = definitions.run(None, create)
+    assert told == []
+    database, told = definitions.run(database, definitions.Update(None, [(10, ["1"]), (25, ["7"])]))
+    assert (told, database.last) == ([], 25)
+    assert [database.step_cell(0, step) for step in (0, 1)] == [10**6, 7 * 10**6]
+    assert [definitions.near(*pair) for pair in ((7, 2), (-7, 2), (5, 3))] == [4, -3, 2]
+    assert definitions.shown(-1_500_000) == "-1.500000" and definitions.rise(5, 3) == 2**32 - 2
+    with pytest.raises(definitions.Refused):
+        definitions.admitted("COUNTER", "1.5")
+
+
+def test_random_batches_are_the_same_each_time() -> None:
+    assert random_batches.batch(7) == random_batches.batch(7) != random_batches.batch(8)
+
+
+# ---- the examples of docs/file-format.md: a gauge of four rows, which gets `update 10:1`
+
+OLD = heads(2, ["g"], [4]) + 4 * UNKNOWN
+
+
+def test_layout() -> None:
+    assert len(OLD) == 224 and OLD[:6] == b"RRDI\0\2"
+    first = layout.as_version(1, OLD)
+    assert (len(first), first[:6]) == (220, b"RRDI\0\1") and first == heads(1, ["g"], [4]) + 4 * UNKNOWN
+    assert layout.as_version(2, first) == OLD
+    assert [layout.size_of_header(version) for version in (1, 2)] == [26, 30]
+    assert known(1) == bytes(13) + b"\x0f\x42\x40" and layout.resized(5) == b"\3\0\0\0\0\0\5"
+    assert (len(layout.source("g")), len(layout.archive(4))) == (97, 33)
+
+
+def test_marks() -> None:
+    made = record(4_096, 224, OLD)
+    assert (len(made), made[56:].hex()) == (64, "9d3a5cc99937c8b7")
+    part = slot(4_096, 16, OLD[16:])
+    assert (part[:8].hex(), part[24:32].hex()) == ("0000000000000010", "46b1ef4ddb484cf4")
+    new = OLD[:176] + known(1) + OLD[192:] + bytes(85)
+    held = undo(OLD, new)
+    assert (len(held), held[:16].hex()) == (4_464, "525244556e646f000000000000001000") and held[16:309] == new[16:]
+    assert cut(OLD) == b"RRDC" + OLD[4:]
+    for data, size, mark in ((OLD, 4_160, b"RRDC\0\2"), (OLD[:64], 4_224, b"RRDc\0\2")):
+        assert (len(cut_with_record(data)), cut_with_record(data)[:6]) == (size, mark)
+    assert checksum(b"\1") == checksum(b"\1" + bytes(7)) != checksum(b"\2")
+
+
+# ---- the forms of commands
+
+USAGE = """ERROR: usage
+usage: rrdi COMMAND FILE ARGUMENT..
+       rrdi batch [FILE]
+
+Runs one
+command.
+
+commands:
+  create FILE [-s|--step SECONDS] DEFINITION..
+         creates it
+         a DEFINITION is DS:name
+         or RRA:AVERAGE
+  tune   FILE [-i NAME:MIN]
+         [-a NAME:MAX]
+         changes it
+
+FILE is a file.
+
+rrdi 0.2.0
+"""
+SOURCE = """.Sh NAME
+.Sh SYNOPSIS
+.Nm
+.Cm tune
+.Ar file
+.Op Fl s | -step Ar seconds
+.Op Fl t | -template Ar name Ns Oo : Ns Ar name ... Oc
+.Op Li RRA : Ns Ar function | Li DELRRA : Ns Ar archive
+.Ar time : Ns Ar value Ns Oo : Ns Ar value ... Oc ...
+.Nm
+.Cm last | info
+.Ar file
+.Sh DESCRIPTION
+"""
+TUNE = "tune [-s|--step SECONDS] [-t|--template NAME[:NAME..]] [RRA:FUNCTION | DELRRA:ARCHIVE] TIME:VALUE[:VALUE..].."
+PAGE = """x
+
+    rrdi create FILE [-s|--step SECONDS] D..
+    rrdi tune FILE [--a B]
+              [-c|--d E]
+
+more
+"""
+
+
+def test_manual() -> None:
+    assert manual.statements_of(USAGE) == "Runs one command. creates it changes it FILE is a file."
+    forms = {name: manual.plain(form) for name, form in manual.in_source(SOURCE).items()}
+    assert forms == {"tune": manual.plain(TUNE), "last": "LAST", "info": "INFO"}
+    found = manual.in_page(PAGE)
+    assert list(found) == ["create", "tune"] and manual.in_page("nothing") == {}
+    assert manual.options(found["tune"]) == [("", "a", "B"), ("c", "d", "E")]
+    text = "usage\n\ncommands:\n  create FILE [--a B]\n         a DEFINITION is\n  last   FILE\n\nend\n"
+    forms = {name: manual.plain(form) for name, form in manual.in_usage(text).items()}
+    assert forms == {"create": "CREATE[--AB]", "last": "LAST"}
+    assert manual.plain("a [-b|--c D]") != manual.plain("a [-b|--c E]")
+
+
+def test_sizes() -> None:
+    assert (SMALL.sources, LARGE.sources) == (1, 2)
+    assert (SMALL.sample(1), LARGE.sample(4, 3)) == (f"{START + 10}:1.5", f"{START + 40}:7.5:8.5")
+    assert LARGE.create[:4] == ["--step", "10", "--start", str(START)]
