@@ -46,9 +46,9 @@ _rrdi_tool() {
             esac
             ;;
         rrdi-record)
-            options+=' --load --memory --disk --network'
+            options+=' --load --memory --disk --network --journal'
             case ${COMP_WORDS[COMP_CWORD - 1]} in
-                --network) return 0 ;;
+                --network | --journal) return 0 ;;
                 --disk) ;;
                 *) ends='rrdi' ;;
             esac
@@ -69,6 +69,18 @@ _rrdi_tool() {
                     return 0
                     ;;
             esac
+            ;;
+        rrdi-fix)
+            options+=' --source --samples'
+            case ${COMP_WORDS[COMP_CWORD - 1]} in
+                --source) return 0 ;;
+                --samples)
+                    compopt -o filenames 2>/dev/null
+                    mapfile -t COMPREPLY < <(compgen -f -- "$current")
+                    return 0
+                    ;;
+            esac
+            ((COMP_CWORD > 1)) || ends='rrdi'
             ;;
         rrdi-graph)
             options='--help --version --start --end --title --vertical-label --width --height'
@@ -108,4 +120,4 @@ _rrdi_tool() {
     return 0
 }
 
-complete -F _rrdi_tool rrdi-carbon-cache rrdi-import rrdi-export rrdi-compare rrdi-feed rrdi-graph rrdi-plot rrdi-record rrdi-rrdtool rrdi-show
+complete -F _rrdi_tool rrdi-carbon-cache rrdi-import rrdi-export rrdi-compare rrdi-feed rrdi-fix rrdi-graph rrdi-plot rrdi-record rrdi-rrdtool rrdi-show

@@ -316,8 +316,9 @@ class Record(ToolCase):
                     start=start, step=60)
 
     def test_usage(self) -> None:
-        self.check_usage("rrdi-record", "[--load] [--memory] [--disk DIRECTORY] [--network INTERFACE] FILE",
-                         [[], ["a", "b"], ["-a"], [""], ["--memory"], ["--disk", "a"], ["--network", "", "a"],
+        self.check_usage("rrdi-record", "[--load] [--memory] [--disk DIRECTORY] [--network INTERFACE] [--journal N] FILE",
+                         [[], ["a", "b"], ["-a"], [""], ["--memory"], ["--disk", "a"], ["--network", "", "a"], ["--journal"],
+                          ["--journal", "3"], ["--journal", "3", "--journal", "3", "a"],
                           ["--load", "--load", "a"], ["a", "--load"]])
 
     def test_the_loads_in_their_order(self) -> None:
@@ -330,8 +331,15 @@ class Record(ToolCase):
     def test_a_new_file(self) -> None:
         self.assertEqual(self.record("new.rrdi"), Ran(0, "", ""))
         info = self.rrdi("info", "new.rrdi")
-        for line in ("step = 60", "rra[1].steps = 10", "rra[3].cf = MAX", "rra[2].rows = 3000"):
+        for line in ("step = 60", "journal = 60", "rra[1].steps = 10", "rra[3].cf = MAX", "rra[2].rows = 3000"):
             self.assertIn(line, info)
+
+    def test_a_journal(self) -> None:
+        self.assertEqual(self.tool("rrdi-record", "--journal", "1440", "new.rrdi"), Ran(0, "", ""))
+        self.assertIn("\njournal = 1440\n", self.rrdi("info", "new.rrdi"))
+        for depth, why in (("0", "1 to 100000, not 0"), ("100001", "1 to 100000, not 100001"), ("x", "a whole number, not 'x'")):
+            ran = self.tool("rrdi-record", "--journal", depth, "other.rrdi")
+            self.assertEqual(ran, Ran(2, "", f"rrdi-record: --journal must be {why}\n"))
 
     def test_other_numbers(self) -> None:
         """The machine's memory, a file system and an interface, in one file; what is expected was added up by hand."""
@@ -557,7 +565,8 @@ class CannotLook(unittest.TestCase):
                              (program.CommandFailed("f.1: cannot open"), "f.1: cannot open")):
             with mock.patch.multiple(record, make_ready=lambda file, fill: 7, update=mock.DEFAULT,
                                      keep_copies=mock.Mock(side_effect=failed)) as mocks, \
-                    mock.patch.dict(os.environ), contextlib.redirect_stderr(io.StringIO()) as said:
+                    mock.patch.dict(os.environ), mock.patch.object(sys, "argv", ["/bin/rrdi-record"]), \
+                    contextlib.redirect_stderr(io.StringIO()) as said:
                 self.assertEqual(record.record(["--disk", "/", self.file]), 0)
             self.assertEqual((mocks["update"].call_count, said.getvalue()), (1, f"rrdi-record: no copy was made: {text}\n"))
 

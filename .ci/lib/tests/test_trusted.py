@@ -35,7 +35,10 @@ def listed_modules() -> dict[str, set[str]]:
     """Returns the modules of each crate that docs/definitions.md asks its readers to believe."""
     part = (TOP / "docs/definitions.md").read_text().split("You have to believe that these modules")[1].split("These modules are not")[0]
     rows = re.findall(r"^\| `(\w+)` \| (.*) \|$", part, re.MULTILINE)
-    return {crate: set(re.findall(r"\b[A-Z]\w+", modules)) for crate, modules in rows}
+    listed: dict[str, set[str]] = {}
+    for crate, modules in rows:
+        listed.setdefault(crate, set()).update(re.findall(r"\b[A-Z]\w+", modules))
+    return listed
 
 
 def specified() -> Iterator[tuple[str, str, str]]:

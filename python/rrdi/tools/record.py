@@ -1,17 +1,20 @@
 """Records numbers of this machine, once; cron repeats it.
 
-usage: rrdi-record [--load] [--memory] [--disk DIRECTORY] [--network INTERFACE] FILE
+usage: rrdi-record [--load] [--memory] [--disk DIRECTORY] [--network INTERFACE]
+                   [--journal N] FILE
 
 examples, for crontab -e:
   * * * * * RRDI=/usr/local/bin/rrdi /usr/local/bin/rrdi-record $HOME/load.rrdi
   * * * * * RRDI=/usr/local/bin/rrdi /usr/local/bin/rrdi-record --memory --disk / $HOME/memory.rrdi
 
-options, which say what is recorded (default: --load):
+options, of which the first four say what is recorded (default: --load):
   --load               load1, load5 and load15, the load averages
   --memory             mem_used, mem_cached, mem_free and swap_used, in bytes
   --disk DIRECTORY     disk_used and disk_free of its file system, in bytes
   --network INTERFACE  net_in and net_out of eth0, for example, in bytes per
                        second
+  --journal N          how many samples rrdi-fix and rrdi revert can take back,
+                       if this run creates FILE (default: 60, an hour)
   -h, --help           show this help and exit
   --version            show the version and exit
 
@@ -47,18 +50,21 @@ from typing import Callable, Dict, Iterator, List, NamedTuple, Optional
 
 from ..damaged import held, is_being_made
 from ..errors import NOT_OURS, TRAILING, TRUNCATED, fault_of
+from ..limits import MOST_CHANGES
 from ..locks import EXCLUSIVE, close, lock, open_file
 from ..making import NewFile, is_there, make
 from ..reader.undo import MARK
 from . import machine, program
 from .command_line import Failure, Tool, WrongArguments, called_name, error_text, say
 from .machine import Number
+from .options import number_of
 
 WHAT = ("--load", "--memory", "--disk", "--network")  # the order of the sources
 COPIES = 3
 HOUR = 3_600  # seconds between copies
 PATIENCE = 30.0  # seconds for which a run waits for another run
 HEARTBEAT = 150  # seconds: one run that fails leaves no gap
+JOURNAL = "60"  # changes: an hour. Each update writes the journal anew, so a day of them would be dear
 ARCHIVES = ["RRA:AVERAGE:0.5:1:1440", "RRA:AVERAGE:0.5:10:1008", "RRA:AVERAGE:0.5:180:3000", "RRA:MAX:0.5:180:3000"]
 
 
@@ -94,10 +100,10 @@ def copy(old: str, new: str) -> None:
 Fill = Callable[[str], object]  # creates an empty database
 
 
-def fill_for(numbers: List[Number]) -> Fill:
+def fill_for(numbers: List[Number], journal: str) -> Fill:
     """Returns what creates an empty database for these numbers."""
     definitions = [f"DS:{number.name}:{number.type}:{HEARTBEAT}:0:U" for number in numbers]
-    return lambda new: program.ask(["create", new, "--step", "60", *definitions, *ARCHIVES])
+    return lambda new: program.ask(["create", new, "--step", "60", "--journal", journal, *definitions, *ARCHIVES])
 
 
 # ---- Damaged files
@@ -220,17 +226,21 @@ def keep_copies(file: str, last: int) -> None:
 
 
 class RecordArguments(NamedTuple):
-    """The arguments: what reads the numbers, in their order, and the database."""
+    """The arguments: what reads the numbers, in their order, the database, and how deep the journal of a new one is."""
 
     readers: List[Callable[[], List[Number]]]
     file: str
+    journal: str
 
 
 def read_arguments(words: List[str]) -> RecordArguments:
     readers: Dict[str, Callable[[], List[Number]]] = {}
-    words = list(words)
+    journal, words = "", list(words)
     while words and words[0].startswith("--"):
         option = words.pop(0)
+        if option == "--journal" and words and not journal:
+            journal = depth_of(words.pop(0))
+            continue
         if option in readers or option not in WHAT:
             raise WrongArguments
         if option in ("--load", "--memory"):
@@ -241,7 +251,20 @@ def read_arguments(words: List[str]) -> RecordArguments:
             raise WrongArguments
     if len(words) != 1 or not words[0] or words[0].startswith("-"):
         raise WrongArguments
-    return RecordArguments([readers[option] for option in WHAT if option in readers] or [machine.load], words[0])
+    return RecordArguments([readers[option] for option in WHAT if option in readers] or [machine.load], words[0],
+                           journal or JOURNAL)
+
+
+def depth_of(text: str) -> str:
+    """Returns the depth of a journal.
+
+    # Errors
+    `WrongArguments` if no journal has this depth.
+    """
+    depth = number_of({"journal": text}, "journal") or 0
+    if not 1 <= depth <= MOST_CHANGES:
+        raise WrongArguments(f"--journal must be 1 to {MOST_CHANGES}, not {depth}")
+    return str(depth)
 
 
 def record(words: List[str]) -> int:
@@ -250,7 +273,7 @@ def record(words: List[str]) -> int:
     os.environ["RRDI_SYNC"] = "1"
     with alone(file + ".lock"):
         numbers = [number for reader in arguments.readers for number in reader()]
-        last = make_ready(file, fill_for(numbers))
+        last = make_ready(file, fill_for(numbers, arguments.journal))
         try:
             keep_copies(file, last)
         except (program.CommandFailed, OSError) as failed:  # the sample is recorded all the same
@@ -274,5 +297,6 @@ def update(file: str, numbers: List[Number]) -> None:
         raise
 
 
-TOOL = Tool("rrdi-record", "[--load] [--memory] [--disk DIRECTORY] [--network INTERFACE] FILE", __doc__, record)
+TOOL = Tool("rrdi-record", "[--load] [--memory] [--disk DIRECTORY] [--network INTERFACE] [--journal N] FILE", __doc__,
+            record)
 main = TOOL.main

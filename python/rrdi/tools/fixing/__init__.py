@@ -1,0 +1,1 @@
+"""How rrdi-fix changes one old sample: the samples of a journal, and a file that stays locked."""
