@@ -1,0 +1,11 @@
+pub mod Options
+pub mod Fronts
+pub mod Standing
+pub mod Reading
+pub mod Chains
+pub mod Laying
+pub mod Logs
+pub mod Stepping
+pub mod Resumed
+pub mod Words
+pub mod Pieces
