@@ -9,3 +9,5 @@ pub mod Stepping
 pub mod Resumed
 pub mod Words
 pub mod Pieces
+pub mod Holding
+pub mod Marking

@@ -73,3 +73,8 @@ then_sync c e t (Err x) old mid new also m s = steps_then (Moves c t) IsUnsynced
 pub moves_fail : (c t : List ℕ → List ℕ → Type 0) (old new : View) → Steps (Moves c t) old new → Steps (Fails c t) old new
 moves_fail c t old new m = steps_as (Moves c t) (Fails c t) old new
     (λ u v n. record { held = n.held; leave = n.leave; keep = λ z kept. let h = n.keep z kept in (h.0, inl (h.1, h.2)) }) m
+
+pub seen_does : {A E : Type 0} (syncs : Syncs) (c e t : List ℕ → List ℕ → Type 0) (r : Result A E) (old new : View) → Does (λ x. Moves c t) (Moves e t) r old new →
+    Does (λ x. Moves c t) (Moves e t) r (seen syncs old) (seen syncs new)
+seen_does syncs c e t (Ok x) old new s = seen_moves syncs c t old new s
+seen_does syncs c e t (Err x) old new s = seen_moves syncs e t old new s

@@ -6,3 +6,4 @@ pub mod Laws
 pub mod Calls
 pub mod Views
 pub mod Spans
+pub mod States

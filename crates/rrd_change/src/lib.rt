@@ -7,8 +7,10 @@
 mod calls;
 mod checksum;
 mod encoding;
+mod log;
 mod span;
 mod writing;
 
 pub use calls::{Bytes, Syncs};
+pub use log::{Base, DATABASE_MARK, Log, mark, unmark};
 pub use span::Span;

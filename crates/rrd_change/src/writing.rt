@@ -7,8 +7,8 @@ ghost use Rattle.rrd_change.specs.declared.calls.Syncs.{Syncs};
 use crate::{Bytes, Syncs};
 use std::io::{self, Error, ErrorKind};
 
-// Syncs a file, if that is wanted.
-fn flush<F: Bytes>(file: &mut F, syncs: Syncs) -> io::Result<()>
+/// Syncs a file, if that is wanted.
+pub(crate) fn flush<F: Bytes>(file: &mut F, syncs: Syncs) -> io::Result<()>
     ensures { Does (λ _. IsSynced) IsUnsynced result (seen syncs (F.view file.old)) (seen syncs (F.view file.new)) }
 {
     match syncs {
@@ -17,8 +17,8 @@ fn flush<F: Bytes>(file: &mut F, syncs: Syncs) -> io::Result<()>
     }
 }
 
-// Writes all of these bytes: a write that was cut short is taken up again.
-fn write_all<F: Bytes>(file: &mut F, at: usize, bytes: &[u8], syncs: Syncs) -> io::Result<()>
+/// Writes all of these bytes: a write that was cut short is taken up again.
+pub(crate) fn write_all<F: Bytes>(file: &mut F, at: usize, bytes: &[u8], syncs: Syncs) -> io::Result<()>
     requires some { 0 < length bytes.now }
     requires fits { at + length bytes.now < 2 ^ 64 }
     ensures { Does (λ _. Moves (ArePut at bytes.now) (AreAny at (length bytes.now))) (Moves (IsCut at bytes.now) (AreAny at (length bytes.now))) result

@@ -1,0 +1,107 @@
+-- Definition: the states of a file while it is changed.
+use Rattle.std.specs.Prelude.{◌≡◌, ◌⊎◌, ℕ, ◌+◌, ◌<◌, ◌≤◌, List, [], ◌∷◌, ◌++◌, length, take, drop, slice_index, max}
+use Rattle.rrd_change.specs.Bytes.{StandsAt}
+use Rattle.rrd_change.specs.Changes.{Change}
+use Rattle.rrd_change.specs.Laws.{Fill, IsLogged, IsPrepared, IsUnderCut, Leads, TouchByte, chain_end, first_of}
+use Rattle.rrd_change.specs.Settled.{cut_mark, database_mark}
+use Rattle.rrd_change.specs.Spans.{IsIn}
+use Rattle.rrd_change.specs.Views.{All, IsHeld, World}
+use Rattle.rrd_change.specs.declared.log.Base.{Base}
+use Rattle.rrd_change.specs.declared.log.Log.{Log}
+use Rattle.rrd_change.specs.declared.span.Span.{Span}
+
+-- a database, as far as the first bytes show
+pub record IsDatabase (bytes : List ℕ) : Type 0 where
+  pub enough : 16 ≤ length bytes
+  pub begins : StandsAt bytes 0 database_mark
+
+-- a database began like this
+pub record Began (base : Base) (old : List ℕ) : Type 0 where
+  pub is : IsDatabase old
+  pub length : base.length ≡ length old
+  pub first : base.first ≡ take 16 old
+
+-- ---- what a file stands for, as it is written
+
+-- the bytes of a database under a cut mark
+abbrev pub cut_of : List ℕ → List ℕ
+cut_of bytes = cut_mark ++ drop 4 bytes
+
+-- a log leads to this database
+pub record IsLogFor (now file : List ℕ) : Type 0 where
+  pub old : List ℕ
+  pub tail : ℕ
+  pub changes : List Change
+  pub logged : IsLogged old tail changes file
+  pub leads : Leads old changes now
+
+-- the file stands for this database: it is the database, or has it under a cut mark, or by a log
+abbrev pub Represents : List ℕ → List ℕ → Type 0
+Represents now file = (file ≡ now) ⊎ (IsUnderCut now file ⊎ IsLogFor now file)
+
+abbrev pub RepresentsEither : List ℕ → List ℕ → List ℕ → Type 0
+RepresentsEither old new file = Represents old file ⊎ Represents new file
+
+-- ---- no change
+
+-- what the disk may have of a file that is a database: the database, perhaps with a cut mark still
+abbrev pub IsPlain : List ℕ → List ℕ → Type 0
+IsPlain bytes file = (file ≡ bytes) ⊎ (file ≡ cut_of bytes)
+
+-- the file is a database
+pub record IsAtRest (bytes : List ℕ) (w : World) : Type 0 where
+  pub is : IsDatabase bytes
+  pub world : IsHeld bytes (IsPlain bytes) w
+
+-- the file is a database under a cut mark, and so is what the disk may have
+pub record IsMarked (bytes : List ℕ) (w : World) : Type 0 where
+  pub is : IsDatabase bytes
+  pub world : All (λ c. c ≡ cut_of bytes) w
+
+-- ---- a log
+
+-- a log was written behind a database under a cut mark, and the file ends with the log
+pub record IsReady (old : List ℕ) (tail : ℕ) (changes : List Change) (file : List ℕ) : Type 0 where
+  pub prepared : IsPrepared old tail changes file
+  pub ends : length file ≡ chain_end tail (first_of old ∷ changes)
+
+-- a file with a log, which ends with the log
+pub record IsOpen (old : List ℕ) (tail : ℕ) (changes : List Change) (file : List ℕ) : Type 0 where
+  pub logged : IsLogged old tail changes file
+  pub ends : length file ≡ chain_end tail (first_of old ∷ changes)
+
+-- the changes of a log, from the old database to the one that the file stands for now; and what is known of them in memory
+pub record Follows (old now : List ℕ) (changes : List Change) (log : Log) : Type 0 where
+  pub is : IsDatabase now
+  pub leads : Leads old changes now
+  pub fill : Fill (length old) changes
+  pub below : length now ≤ log.tail
+  pub ends : log.end ≡ chain_end log.tail (first_of old ∷ changes)
+  pub each : (k : ℕ) → TouchByte k changes → IsIn k log.spans.items
+  pub only : (k : ℕ) → IsIn k log.spans.items → TouchByte k changes
+
+-- the file has this log, and stands for this database
+pub record IsLogOf (now : List ℕ) (log : Log) (w : World) : Type 0 where
+  pub old : List ℕ
+  pub changes : List Change
+  pub follows : Follows old now changes log
+  pub world : All (IsOpen old log.tail changes) w
+
+-- ---- bringing into place
+
+-- bytes of the spans were written, from the first sixteen on: these and no others
+pub record ArePutIn (spans : List Span) (new old file : List ℕ) : Type 0 where
+  pub longer : length old ≤ length file
+  pub bound : length file ≤ max (length old) (length new)
+  pub put : (k : ℕ) → 16 ≤ k → k < length new → IsIn k spans → slice_index file k ≡ slice_index new k
+  pub same : (k : ℕ) → (slice_index file k ≡ slice_index old k) ⊎ ((16 ≤ k) × (k < length new) × IsIn k spans)
+
+-- bytes of the spans may be any bytes now, from the first sixteen on
+pub record AreAnyIn (spans : List Span) (new old file : List ℕ) : Type 0 where
+  pub longer : length old ≤ length file
+  pub bound : length file ≤ max (length old) (length new)
+  pub same : (k : ℕ) → (slice_index file k ≡ slice_index old k) ⊎ ((16 ≤ k) × (k < length new) × IsIn k spans)
+
+-- the file has the bytes of a database, but for the first sixteen
+abbrev pub IsInPlace : List ℕ → List ℕ → Type 0
+IsInPlace new file = (k : ℕ) → 16 ≤ k → k < length new → slice_index file k ≡ slice_index new k

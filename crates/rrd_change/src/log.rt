@@ -1,0 +1,110 @@
+//! The log of a file that is changed.
+ghost use Rattle.std.specs.Prelude.{◌≡◌, ◌+◌, ◌-◌, ◌++◌, ◌∷◌, [], ◌≤◌, ◌<◌, ℕ, List, length, IfOk, OnOk, replicate, IsTrue};
+ghost use Rattle.rrd_change.specs.Changes.{change_bytes};
+ghost use Rattle.rrd_change.specs.Settled.{cut_mark, log_mark};
+ghost use Rattle.rrd_change.specs.Spans.{AgreesOutside, AreSpans, change_of};
+ghost use Rattle.rrd_change.specs.States.{AreAnyIn, ArePutIn, Began, IsAtRest, IsDatabase, IsLogOf, IsMarked, IsPlain, Represents, RepresentsEither, cut_of};
+ghost use Rattle.rrd_change.specs.Views.{All, Does, Fails, Moves, Stores, World, seen};
+
+use crate::encoding::push_change;
+use crate::writing::{flush, mark_and_sync, resize_and_sync, write_all, write_and_sync};
+use crate::{Bytes, Span, Syncs};
+use std::alloc::Global;
+use std::io::{self, Error, ErrorKind};
+
+/// The first four bytes of every database.
+pub const DATABASE_MARK: [u8; 4] = [b'R', b'R', b'D', b'I'];
+
+// The first four bytes of a file that is to be cut.
+const CUT_MARK: [u8; 4] = [b'R', b'R', b'D', b'C'];
+
+// The first eight bytes of a file with a log.
+const LOG_WORD: [u8; 8] = [b'R', b'R', b'D', b'L', b'o', b'g', 0, 0];
+
+// The size of the first change of a log: its head, and one piece of sixteen bytes.
+const BASE_SIZE: usize = 80;
+
+/// How a database began before a change.
+#[derive(Clone, Copy, PartialEq, Eq, Debug, Drop)]
+pub struct Base {
+    /// The length of the database in bytes.
+    pub length: usize,
+    /// The first 16 bytes of the database.
+    pub first: [u8; 16],
+}
+
+/// The log of a file that stays open: the changes that are stored, and wait to be brought into place.
+#[derive(Drop)]
+pub struct Log {
+    // The byte of the file at which the log begins.
+    tail: usize,
+    // The byte at which the log ends, and the file.
+    end: usize,
+    // The spans that the changes write.
+    spans: Vec<Span>,
+}
+
+// Returns the mark of a file with a log that begins at byte `tail`.
+fn log_mark(tail: usize) -> [u8; 16]
+    ensures { result ≡ log_mark tail }
+{
+    let mut mark = [0; 16];
+    mark[..8].copy_from_slice(&LOG_WORD);
+    mark[8..].copy_from_slice(&tail.to_be_bytes());
+    mark
+}
+
+// Encodes the beginning of a log behind a database: zeros up to byte `tail`, how the database began, and the change.
+fn encode_first(
+    alloc: Global,
+    base: &Base,
+    tail: usize,
+    new: &[u8],
+    changed: &[Span],
+) -> io::Result<Vec<u8>>
+    requires { base.now.length ≤ tail }
+    ensures ok { IfOk result (λ bytes. bytes.items ≡ replicate (tail - base.now.length) 0
+        ++ (change_bytes tail tail (change_of base.now.length base.now.first (record { start = 0; end = 16 } ∷ [])) ++ change_bytes tail (tail + 80) (change_of (length new.now) new.now changed.now))) }
+    ensures within { OnOk result (AreSpans (length new.now) changed.now) }
+{
+    let Some(at) = tail.checked_add(BASE_SIZE) else {
+        return Err(Error::from(ErrorKind::FileTooLarge));
+    };
+    let mut bytes = Vec::new(alloc);
+    bytes.resize(tail - base.length, 0)?;
+    let front = [Span { start: 0, end: 16 }];
+    push_change(alloc, &mut bytes, tail, tail, base.length, &base.first, &front)?;
+    push_change(alloc, &mut bytes, tail, at, new.len(), new, changed)?;
+    Ok(bytes)
+}
+
+// Checks whether bytes are a database, as far as the first ones show.
+fn is_database(bytes: &[u8]) -> bool
+    ensures { IsTrue result → IsDatabase bytes.now }
+{
+    16 <= bytes.len() && bytes.starts_with(&DATABASE_MARK)
+}
+
+/// Marks a file that is a database: its bytes from the fifth on, up to the end of a database, count from now on.
+///
+/// # Errors
+///
+/// A call of the file failed. The file then has the mark, or has not.
+pub fn mark<F: Bytes>(file: &mut F, syncs: Syncs) -> io::Result<()>
+    ensures { Does (λ _ (w v : World). (old : List ℕ) → IsAtRest old w → IsMarked old v) (λ (w v : World). (old : List ℕ) → IsAtRest old w → All (IsPlain old) v) result
+        (seen syncs (F.view file.old)) (seen syncs (F.view file.new)) }
+{
+    mark_and_sync(file, &CUT_MARK, syncs)
+}
+
+/// Removes the mark of a file. A sync is not needed: the file stands for the same bytes with the mark.
+///
+/// # Errors
+///
+/// A call of the file failed. The file then has the mark, or has not.
+pub fn unmark<F: Bytes>(file: &mut F, syncs: Syncs) -> io::Result<()>
+    ensures { Does (λ _ (w v : World). (old : List ℕ) → IsMarked old w → IsAtRest old v) (λ (w v : World). (old : List ℕ) → IsMarked old w → All (IsPlain old) v) result
+        (seen syncs (F.view file.old)) (seen syncs (F.view file.new)) }
+{
+    file.write_whole(0, &DATABASE_MARK)
+}
