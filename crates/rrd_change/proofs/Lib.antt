@@ -11,3 +11,5 @@ pub mod Words
 pub mod Pieces
 pub mod Holding
 pub mod Marking
+pub mod Spanned
+pub mod Beginning

@@ -78,3 +78,6 @@ pub seen_does : {A E : Type 0} (syncs : Syncs) (c e t : List ℕ → List ℕ �
     Does (λ x. Moves c t) (Moves e t) r (seen syncs old) (seen syncs new)
 seen_does syncs c e t (Ok x) old new s = seen_moves syncs c t old new s
 seen_does syncs c e t (Err x) old new s = seen_moves syncs e t old new s
+
+pub nothing : (e : Effect) (v : View) → ((w : World) → e w w) → Steps e v v
+nothing e v h = record { falls = λ x honest. honest; does = λ d x honest. h (v.world d x) }

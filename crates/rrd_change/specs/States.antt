@@ -1,7 +1,7 @@
 -- Definition: the states of a file while it is changed.
-use Rattle.std.specs.Prelude.{◌≡◌, ◌⊎◌, ℕ, ◌+◌, ◌<◌, ◌≤◌, List, [], ◌∷◌, ◌++◌, length, take, drop, slice_index, max}
+use Rattle.std.specs.Prelude.{◌≡◌, ◌⊎◌, ℕ, ◌+◌, ◌<◌, ◌≤◌, List, [], ◌∷◌, ◌++◌, length, take, drop, slice_index, max, replicate, true, ◌-◌}
 use Rattle.rrd_change.specs.Bytes.{StandsAt}
-use Rattle.rrd_change.specs.Changes.{Change}
+use Rattle.rrd_change.specs.Changes.{Change, are_within, change_bytes}
 use Rattle.rrd_change.specs.Laws.{Fill, IsLogged, IsPrepared, IsUnderCut, Leads, TouchByte, chain_end, first_of}
 use Rattle.rrd_change.specs.Settled.{cut_mark, database_mark}
 use Rattle.rrd_change.specs.Spans.{IsIn}
@@ -64,6 +64,16 @@ pub record IsMarked (bytes : List ℕ) (w : World) : Type 0 where
 pub record IsReady (old : List ℕ) (tail : ℕ) (changes : List Change) (file : List ℕ) : Type 0 where
   pub prepared : IsPrepared old tail changes file
   pub ends : length file ≡ chain_end tail (first_of old ∷ changes)
+
+-- the bytes with which a log begins, from the end of a database on: zeros, how the database began, and one change
+pub record IsFirst (old : List ℕ) (tail : ℕ) (c : Change) (at : ℕ) (bytes : List ℕ) : Type 0 where
+  pub is : IsDatabase old
+  pub behind : at ≡ length old
+  pub below : length old ≤ tail
+  pub enough : 16 ≤ c.size
+  pub within : c.size ≤ tail
+  pub pieces : are_within c.size c.pieces ≡ true
+  pub spelled : bytes ≡ replicate (tail - length old) 0 ++ (change_bytes tail tail (first_of old) ++ change_bytes tail (tail + 80) c)
 
 -- a file with a log, which ends with the log
 pub record IsOpen (old : List ℕ) (tail : ℕ) (changes : List Change) (file : List ℕ) : Type 0 where

@@ -12,5 +12,5 @@ mod span;
 mod writing;
 
 pub use calls::{Bytes, Syncs};
-pub use log::{Base, DATABASE_MARK, Log, mark, unmark};
+pub use log::{Base, DATABASE_MARK, Log, begin, mark, unmark};
 pub use span::Span;

@@ -1,9 +1,10 @@
 //! The log of a file that is changed.
 ghost use Rattle.std.specs.Prelude.{◌≡◌, ◌+◌, ◌-◌, ◌++◌, ◌∷◌, [], ◌≤◌, ◌<◌, ℕ, List, length, IfOk, OnOk, replicate, IsTrue};
-ghost use Rattle.rrd_change.specs.Changes.{change_bytes};
+ghost use Rattle.rrd_change.specs.Changes.{Change, change_bytes};
+ghost use Rattle.rrd_change.specs.Laws.{Leads};
 ghost use Rattle.rrd_change.specs.Settled.{cut_mark, log_mark};
 ghost use Rattle.rrd_change.specs.Spans.{AgreesOutside, AreSpans, change_of};
-ghost use Rattle.rrd_change.specs.States.{AreAnyIn, ArePutIn, Began, IsAtRest, IsDatabase, IsLogOf, IsMarked, IsPlain, Represents, RepresentsEither, cut_of};
+ghost use Rattle.rrd_change.specs.States.{AreAnyIn, ArePutIn, Began, IsAtRest, IsDatabase, IsFirst, IsOpen, IsLogOf, IsMarked, IsPlain, Represents, RepresentsEither, cut_of};
 ghost use Rattle.rrd_change.specs.Views.{All, Does, Fails, Moves, Stores, World, seen};
 
 use crate::encoding::push_change;
@@ -107,4 +108,59 @@ pub fn unmark<F: Bytes>(file: &mut F, syncs: Syncs) -> io::Result<()>
         (seen syncs (F.view file.old)) (seen syncs (F.view file.new)) }
 {
     file.write_whole(0, &DATABASE_MARK)
+}
+
+// Appends the beginning of a log to a file with a cut mark, and then writes the log mark, which commits the first change.
+// Returns the end of the file.
+fn commit_first<F: Bytes>(
+    file: &mut F,
+    at: usize,
+    bytes: &[u8],
+    tail: usize,
+    syncs: Syncs,
+) -> io::Result<usize>
+    requires { 0 < length bytes.now }
+    ensures end { IfOk result (λ end. end ≡ at + length bytes.now) }
+    ensures does { Does (λ _ (w v : World). (old : List ℕ) (c : Change) → IsFirst old tail c at bytes.now → IsMarked old w → All (IsOpen old tail (c ∷ [])) v)
+        (λ (w v : World). (old new : List ℕ) (c : Change) → IsFirst old tail c at bytes.now → Leads old (c ∷ []) new → IsMarked old w → All (RepresentsEither old new) v) result
+        (seen syncs (F.view file.old)) (seen syncs (F.view file.new)) }
+{
+    let Some(end) = at.checked_add(bytes.len()) else {
+        return Err(Error::from(ErrorKind::FileTooLarge));
+    };
+    write_and_sync(file, at, bytes, syncs)?;
+    mark_and_sync(file, &log_mark(tail), syncs)?;
+    Ok(end)
+}
+
+/// Begins a log in a file with a cut mark, and commits the first change: the file then stands for `new`.
+///
+/// Each byte of `new` that is in none of the spans `changed` must also be the byte of the database there, at the same
+/// offset. The spans may be in any order and overlap.
+///
+/// # Errors
+///
+/// A call of the file failed, memory ran out, `new` is no database, or a span is not within it. The file then stands for
+/// the old database or for the new one.
+pub fn begin<F: Bytes>(
+    alloc: Global,
+    file: &mut F,
+    base: &Base,
+    new: &[u8],
+    changed: &[Span],
+    syncs: Syncs,
+) -> io::Result<Log>
+    ensures { Does (λ log (w v : World). (old : List ℕ) → Began base.now old → AgreesOutside changed.now old new.now → IsMarked old w → IsLogOf new.now log v)
+        (λ (w v : World). (old : List ℕ) → Began base.now old → AgreesOutside changed.now old new.now → IsMarked old w → All (RepresentsEither old new.now) v) result
+        (seen syncs (F.view file.old)) (seen syncs (F.view file.new)) }
+{
+    if !is_database(new) {
+        return Err(Error::from(ErrorKind::InvalidInput));
+    }
+    let tail = base.length.max(new.len());
+    let bytes = encode_first(alloc, base, tail, new, changed)?;
+    let mut spans = Vec::new(alloc);
+    spans.extend_from_slice(changed)?;
+    let end = commit_first(file, base.length, &bytes, tail, syncs)?;
+    Ok(Log { tail, end, spans })
 }
