@@ -13,3 +13,5 @@ pub mod Holding
 pub mod Marking
 pub mod Spanned
 pub mod Beginning
+pub mod Placing
+pub mod Settling

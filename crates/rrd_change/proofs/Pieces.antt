@@ -13,7 +13,7 @@ pub three : (a b c d x y z : List ℕ) → x ≡ a ++ b → y ≡ x ++ c → z �
 three a b c d x y z e f g =
     g ∙ ap (λ xs. xs ++ d) f ∙ ap (λ xs. (xs ++ c) ++ d) e ∙ append_assoc (a ++ b) c d ∙ append_assoc a b (c ++ d)
 
-spans_more : (spans : List Span) (n : ℕ) (none : Span) → n < length spans → take (n + 1) spans ≡ take n spans ++ get_or spans n none ∷ []
+pub spans_more : (spans : List Span) (n : ℕ) (none : Span) → n < length spans → take (n + 1) spans ≡ take n spans ++ get_or spans n none ∷ []
 spans_more spans n none low = let e : n + 1 ≡ suc n = omega arith in ap (λ m. take m spans) e ∙ take-suc spans n none low
 
 pieces_join : (bytes : List ℕ) (xs : List Span) (s : Span) → pieces_of bytes (xs ++ s ∷ []) ≡ pieces_of bytes xs ++ piece_of bytes s ∷ []

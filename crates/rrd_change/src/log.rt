@@ -1,5 +1,5 @@
 //! The log of a file that is changed.
-ghost use Rattle.std.specs.Prelude.{◌≡◌, ◌+◌, ◌-◌, ◌++◌, ◌∷◌, [], ◌≤◌, ◌<◌, ℕ, List, length, IfOk, OnOk, replicate, IsTrue};
+ghost use Rattle.std.specs.Prelude.{◌≡◌, ◌+◌, ◌-◌, ◌++◌, ◌∷◌, [], ◌≤◌, ◌<◌, ℕ, List, length, IfOk, OnOk, replicate, slice_range, IsTrue};
 ghost use Rattle.rrd_change.specs.Changes.{Change, change_bytes};
 ghost use Rattle.rrd_change.specs.Laws.{Leads};
 ghost use Rattle.rrd_change.specs.Settled.{cut_mark, log_mark};
@@ -163,4 +163,50 @@ pub fn begin<F: Bytes>(
     spans.extend_from_slice(changed)?;
     let end = commit_first(file, base.length, &bytes, tail, syncs)?;
     Ok(Log { tail, end, spans })
+}
+
+// Brings the bytes of these spans into place, except the first sixteen bytes of the file. Then syncs the file.
+fn place<F: Bytes>(file: &mut F, new: &[u8], spans: &[Span], syncs: Syncs) -> io::Result<()>
+    ensures { Does (λ _. Stores (ArePutIn spans.now new.now)) (Fails (AreAnyIn spans.now new.now) (AreAnyIn spans.now new.now)) result (seen syncs (F.view file.old)) (seen syncs (F.view file.new)) }
+{
+    for number in 0..spans.len() {
+        let start = spans[number].start.max(16);
+        let end = spans[number].end.min(new.len());
+        if start < end {
+            write_all(file, start, &new[start..end], syncs)?;
+        }
+    }
+    flush(file, syncs)
+}
+
+// Returns the first sixteen bytes of a database, with a cut mark.
+fn cut_front(new: &[u8]) -> [u8; 16]
+    requires { 16 ≤ length new.now }
+    ensures { result ≡ cut_mark ++ slice_range new.now 4 16 }
+{
+    let mut front = [0; 16];
+    front[..4].copy_from_slice(&CUT_MARK);
+    front[4..].copy_from_slice(&new[4..16]);
+    front
+}
+
+impl Log {
+    /// Brings the changes of a log into place. The file then is the database `new` under a cut mark, and has no log.
+    ///
+    /// `new` is the database that the file stands for. Nothing is taken back after an error.
+    ///
+    /// # Errors
+    ///
+    /// A call of the file failed. The file stands for the same database.
+    pub fn settle<F: Bytes>(&self, file: &mut F, new: &[u8], syncs: Syncs) -> io::Result<()>
+        ensures { Does (λ _ (w v : World). IsLogOf new.now self.now w → IsMarked new.now v) (λ (w v : World). IsLogOf new.now self.now w → All (Represents new.now) v) result
+            (seen syncs (F.view file.old)) (seen syncs (F.view file.new)) }
+    {
+        if !is_database(new) {
+            return Err(Error::from(ErrorKind::InvalidInput));
+        }
+        place(file, new, &self.spans, syncs)?;
+        mark_and_sync(file, &cut_front(new), syncs)?;
+        resize_and_sync(file, new.len(), syncs)
+    }
 }
