@@ -15,3 +15,5 @@ pub mod Spanned
 pub mod Beginning
 pub mod Placing
 pub mod Settling
+pub mod Appending
+pub mod Outcomes

@@ -6,7 +6,7 @@ use Rattle.rrd_change.specs.Bytes.{StandsAt}
 use Rattle.rrd_change.specs.Calls.{AreAny, ArePut, AreWholeOrNot, IsTorn}
 use Rattle.rrd_change.specs.Laws.{IsUnderCut}
 use Rattle.rrd_change.specs.Settled.{cut_mark, database_mark}
-use Rattle.rrd_change.specs.States.{IsAtRest, IsDatabase, IsMarked, IsPlain, cut_of}
+use Rattle.rrd_change.specs.States.{IsAtRest, IsDatabase, IsMarked, IsPlain, Represents, cut_of}
 use Rattle.rrd_change.specs.Views.{All, Fails, FailsToWriteWhole, IsHeld, Moves, Stores, World, WritesWhole}
 use Rattle.rrd_change.proofs.Holding.{fails_all, held_all, moves_all, stores_all}
 
@@ -131,3 +131,7 @@ under_stays bytes old new at count is h behind a =
       reaches = omega (arith, h.reaches, a.longer);
       same = λ k low high. a.outside k (inl (omega (arith, high, behind))) ∙ h.same k low high;
     }
+
+pub plain_represents : (bytes file : List ℕ) → IsDatabase bytes → IsPlain bytes file → Represents bytes file
+plain_represents bytes file is (inl e) = inl e
+plain_represents bytes file is (inr e) = inr (inl (cut_under bytes file is e))

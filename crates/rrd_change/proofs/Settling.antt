@@ -130,3 +130,6 @@ cut_sized now x f is under s =
 
 pub log_stands_all : (now : List ℕ) (log : Log) (w : World) → IsLogOf now log w → All (Represents now) w
 log_stands_all now log w h = all_as (IsOpen h.old log.tail h.changes) (Represents now) w (λ f is. open_stands h.old now log.tail h.changes f h.follows.leads is) h.world
+
+pub reach_placed : (old now : List ℕ) (cs : List Change) (log : Log) (x : List ℕ) → Follows old now cs log → IsPlaced old now cs log x → length now ≤ length x
+reach_placed old now cs log x follows p = omega (arith, p.is.logged.log.begun, follows.below)

@@ -81,3 +81,8 @@ seen_does syncs c e t (Err x) old new s = seen_moves syncs e t old new s
 
 pub nothing : (e : Effect) (v : View) → ((w : World) → e w w) → Steps e v v
 nothing e v h = record { falls = λ x honest. honest; does = λ d x honest. h (v.world d x) }
+
+pub does_then : {X E : Type 0} (a : Effect) (b d : X → Effect) (e f : Effect) (r : Result X E) (old mid new : View) → ((x : X) (u v w : World) → a u v → b x v w → d x u w) →
+    ((u v w : World) → a u v → e v w → f u w) → Steps a old mid → Does b e r mid new → Does d f r old new
+does_then a b d e f (Ok x) old mid new well badly s t = steps_then a (b x) (d x) old mid new (well x) s t
+does_then a b d e f (Err x) old mid new well badly s t = steps_then a e f old mid new badly s t

@@ -7,3 +7,4 @@ pub mod Calls
 pub mod Views
 pub mod Spans
 pub mod States
+pub mod Outcomes

@@ -1,9 +1,10 @@
 -- Definition: the states of a file while it is changed.
-use Rattle.std.specs.Prelude.{◌≡◌, ◌⊎◌, ℕ, ◌+◌, ◌<◌, ◌≤◌, List, [], ◌∷◌, ◌++◌, length, take, drop, slice_index, max, replicate, true, ◌-◌}
+use Rattle.std.specs.Prelude.{◌≡◌, ◌⊎◌, ℕ, ◌+◌, ◌<◌, ◌≤◌, List, [], ◌∷◌, ◌++◌, length, take, drop, slice_index, max, replicate, true, ◌-◌, Some}
 use Rattle.rrd_change.specs.Bytes.{StandsAt}
-use Rattle.rrd_change.specs.Changes.{Change, are_within, change_bytes}
+use Rattle.rrd_change.specs.Changes.{Change, are_within, change_bytes, changes_in}
 use Rattle.rrd_change.specs.Laws.{Fill, IsLogged, IsPrepared, IsUnderCut, Leads, TouchByte, chain_end, first_of}
-use Rattle.rrd_change.specs.Settled.{cut_mark, database_mark}
+use Rattle.rrd_change.specs.Settled.{cut_mark, database_mark, mark_of}
+use Rattle.rrd_change.specs.Settled as settled
 use Rattle.rrd_change.specs.Spans.{IsIn}
 use Rattle.rrd_change.specs.Views.{All, IsHeld, World}
 use Rattle.rrd_change.specs.declared.log.Base.{Base}
@@ -115,3 +116,16 @@ pub record AreAnyIn (spans : List Span) (new old file : List ℕ) : Type 0 where
 -- the file has the bytes of a database, but for the first sixteen
 abbrev pub IsInPlace : List ℕ → List ℕ → Type 0
 IsInPlace new file = (k : ℕ) → 16 ≤ k → k < length new → slice_index file k ≡ slice_index new k
+
+-- ---- a change that failed
+
+-- the changes that are read from what the disk has are the first of those that are read from the file: no part of a change has a
+-- right checksum. That is a premise about the checksum, for failures of the power alone
+abbrev pub Tells : List ℕ → List ℕ → Type 0
+Tells file c = (tail : ℕ) → mark_of c ≡ Some (settled.Log tail) → (n : ℕ) × (changes_in tail c ≡ take n (changes_in tail file))
+
+-- a change of a log failed: the file stands for the database before or after it, and so does what the disk may have
+pub record IsBroken (now new : List ℕ) (w : World) : Type 0 where
+  pub held : RepresentsEither now new w.held
+  pub leave : (c : List ℕ) → w.may_leave c → Tells w.held c → RepresentsEither now new c
+  pub keep : (c : List ℕ) → w.may_keep c → Tells w.held c → RepresentsEither now new c

@@ -7,10 +7,11 @@
 mod calls;
 mod checksum;
 mod encoding;
+pub mod laws;
 mod log;
 mod span;
 mod writing;
 
 pub use calls::{Bytes, Syncs};
-pub use log::{Base, DATABASE_MARK, Log, begin, mark, unmark};
+pub use log::{Base, DATABASE_MARK, Log, begin, mark, replace, unmark};
 pub use span::Span;

@@ -4,7 +4,7 @@ ghost use Rattle.rrd_change.specs.Changes.{Change, change_bytes};
 ghost use Rattle.rrd_change.specs.Laws.{Leads};
 ghost use Rattle.rrd_change.specs.Settled.{cut_mark, log_mark};
 ghost use Rattle.rrd_change.specs.Spans.{AgreesOutside, AreSpans, change_of};
-ghost use Rattle.rrd_change.specs.States.{AreAnyIn, ArePutIn, Began, IsAtRest, IsDatabase, IsFirst, IsOpen, IsLogOf, IsMarked, IsPlain, Represents, RepresentsEither, cut_of};
+ghost use Rattle.rrd_change.specs.States.{AreAnyIn, ArePutIn, Began, IsAtRest, IsBroken, IsDatabase, IsFirst, IsOpen, IsLogOf, IsMarked, IsPlain, Represents, RepresentsEither, cut_of};
 ghost use Rattle.rrd_change.specs.Views.{All, Does, Fails, Moves, Stores, World, seen};
 
 use crate::encoding::push_change;
@@ -209,4 +209,72 @@ impl Log {
         mark_and_sync(file, &cut_front(new), syncs)?;
         resize_and_sync(file, new.len(), syncs)
     }
+}
+
+impl Log {
+    /// Appends a change to a log: this one write commits it. The file then stands for `new`.
+    ///
+    /// Each byte of `new` that is in none of the spans `changed` must also be the byte there of the database that the file
+    /// stands for, at the same offset. The spans may be in any order and overlap.
+    ///
+    /// # Errors
+    ///
+    /// A call of the file failed, memory ran out, `new` is no database or reaches into the log, or a span is not within
+    /// `new`. The file stands for the database before the change or after it, and the log must not be used any more.
+    pub fn append<F: Bytes>(
+        &mut self,
+        alloc: Global,
+        file: &mut F,
+        new: &[u8],
+        changed: &[Span],
+        syncs: Syncs,
+    ) -> io::Result<()>
+        ensures { Does (λ _ (w v : World). (now : List ℕ) → IsLogOf now self.old w → AgreesOutside changed.now now new.now → IsLogOf new.now self.new v)
+            (λ (w v : World). (now : List ℕ) → IsLogOf now self.old w → AgreesOutside changed.now now new.now → IsBroken now new.now v) result
+            (seen syncs (F.view file.old)) (seen syncs (F.view file.new)) }
+    {
+        if !is_database(new) {
+            return Err(Error::from(ErrorKind::InvalidInput));
+        }
+        if self.tail < new.len() {
+            return Err(Error::from(ErrorKind::FileTooLarge));
+        }
+        let mut bytes = Vec::new(alloc);
+        push_change(alloc, &mut bytes, self.tail, self.end, new.len(), new, changed)?;
+        let Some(end) = self.end.checked_add(bytes.len()) else {
+            return Err(Error::from(ErrorKind::FileTooLarge));
+        };
+        self.spans.extend_from_slice(changed)?;
+        write_and_sync(file, self.end, &bytes, syncs)?;
+        self.end = end;
+        Ok(())
+    }
+}
+
+/// Replaces a database by `new`: marks the file, writes a log of one change, brings the change into place, and removes the
+/// mark. The write of the log mark commits the change.
+///
+/// Each byte of `new` that is in none of the spans `changed` must also be the byte of the database there, at the same
+/// offset. The spans may be in any order and overlap.
+///
+/// # Errors
+///
+/// A call of the file failed, memory ran out, `new` is no database, or a span is not within it. The file then stands for
+/// the old database or for the new one.
+pub fn replace<F: Bytes>(
+    alloc: Global,
+    file: &mut F,
+    base: &Base,
+    new: &[u8],
+    changed: &[Span],
+    syncs: Syncs,
+) -> io::Result<()>
+    ensures { Does (λ _ (w v : World). (old : List ℕ) → Began base.now old → AgreesOutside changed.now old new.now → IsAtRest old w → IsAtRest new.now v)
+        (λ (w v : World). (old : List ℕ) → Began base.now old → AgreesOutside changed.now old new.now → IsAtRest old w → All (RepresentsEither old new.now) v) result
+        (seen syncs (F.view file.old)) (seen syncs (F.view file.new)) }
+{
+    mark(file, syncs)?;
+    let log = begin(alloc, file, base, new, changed, syncs)?;
+    log.settle(file, new, syncs)?;
+    unmark(file, syncs)
 }
