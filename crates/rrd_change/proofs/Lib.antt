@@ -17,3 +17,4 @@ pub mod Placing
 pub mod Settling
 pub mod Appending
 pub mod Outcomes
+pub mod Making

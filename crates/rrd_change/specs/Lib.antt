@@ -8,3 +8,4 @@ pub mod Views
 pub mod Spans
 pub mod States
 pub mod Outcomes
+pub mod Making

@@ -6,6 +6,7 @@
 
 mod calls;
 mod checksum;
+mod creation;
 mod encoding;
 pub mod laws;
 mod log;
@@ -13,5 +14,6 @@ mod span;
 mod writing;
 
 pub use calls::{Bytes, Syncs};
+pub use creation::create;
 pub use log::{Base, DATABASE_MARK, Log, begin, mark, replace, unmark};
 pub use span::Span;

@@ -79,8 +79,8 @@ fn encode_first(
     Ok(bytes)
 }
 
-// Checks whether bytes are a database, as far as the first ones show.
-fn is_database(bytes: &[u8]) -> bool
+/// Checks whether bytes are a database, as far as the first ones show.
+pub(crate) fn is_database(bytes: &[u8]) -> bool
     ensures { IsTrue result → IsDatabase bytes.now }
 {
     16 <= bytes.len() && bytes.starts_with(&DATABASE_MARK)
