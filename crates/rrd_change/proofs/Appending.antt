@@ -1,5 +1,5 @@
 -- Lemmas on a change that is appended to a log.
-use Rattle.std.proofs.Common.{◌≡◌, ℕ, zero, suc, ◌+◌, ◌-◌, ◌^◌, ◌<◌, ◌≤◌, max, List, [], ◌∷◌, ◌++◌, length, take, get_or, refl, sym, ◌∙◌, ap, subst, arith, inl, inr, ◌⊎◌}
+use Rattle.std.proofs.Common.{◌≡◌, ℕ, ◌+◌, ◌^◌, ◌<◌, ◌≤◌, List, [], ◌∷◌, ◌++◌, length, take, get_or, refl, sym, ◌∙◌, ap, subst, arith, inl, inr, ◌⊎◌}
 use Rattle.std.proofs.lemmas.Bool.{cases_lt}
 use Rattle.std.proofs.lemmas.List.{take_all, length-take, get_or-take, take-append-le}
 use Rattle.rrd_change.specs.Bytes.{StandsAt}
@@ -52,8 +52,8 @@ part_appended old tail cs c at n bytes x f next is few put =
     let size : length bytes ≡ change_size c = ap length next.spelled ∙ length-change tail at c in
     let took : length (take n bytes) ≡ n = omega (arith, length-take n bytes, few) in
     let front : (i : ℕ) → at + i < length f → get_or f (at + i) 0 ≡ get_or (change_bytes tail at c) i 0 = λ i k.
-        let low : i < n = omega (arith, k, put.len, took, is.ends, next.here) in
-        put.inside i (omega (arith, low, took)) ∙ get_or-take n bytes i 0 low ∙ ap (λ xs. get_or xs i 0) next.spelled in
+    let low : i < n = omega (arith, k, put.len, took, is.ends, next.here) in
+    put.inside i (omega (arith, low, took)) ∙ get_or-take n bytes i 0 low ∙ ap (λ xs. get_or xs i 0) next.spelled in
     let P : ℕ → Type 0 = λ m. (i : ℕ) → m + i < length f → get_or f (m + i) 0 ≡ get_or (change_bytes tail m c) i 0 in
     append_cut old tail cs c x f is.logged next.right (λ k low high. put.outside k (inl (omega (arith, high, next.here)))) (omega (arith, put.len, is.ends))
     (omega (arith, put.len, took, few, size, is.ends, next.here)) (subst P next.here front)

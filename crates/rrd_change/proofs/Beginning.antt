@@ -1,15 +1,15 @@
 -- Lemmas on the beginning of a log.
-use Rattle.std.proofs.Common.{◌≡◌, ℕ, zero, suc, ◌+◌, ◌-◌, ◌^◌, ◌<◌, ◌≤◌, max, true, List, [], ◌∷◌, ◌++◌, length, take, drop, get_or, refl, sym, ◌∙◌, ap, subst, arith, inl, inr, ◌⊎◌, zero-add, append_assoc}
+use Rattle.std.proofs.Common.{◌≡◌, ℕ, ◌+◌, ◌-◌, ◌^◌, ◌<◌, ◌≤◌, max, true, List, [], ◌∷◌, ◌++◌, length, take, get_or, refl, sym, ◌∙◌, ap, subst, arith, inl, inr, ◌⊎◌, append_assoc}
 use Rattle.std.specs.Prelude.{replicate, nat_le}
 use Rattle.std.proofs.lemmas.Bool.{and_from, le-leb}
 use Rattle.std.proofs.lemmas.List.{append-nil, length-append, length-replicate, length-take, get_or_append_left, get_or-append-add, take_all}
 use Rattle.rrd_change.specs.Bytes.{StandsAt}
-use Rattle.rrd_change.specs.Calls.{AreAny, ArePut, AreWholeOrNot, IsCut, IsTorn}
-use Rattle.rrd_change.specs.Changes.{Change, IsRight, body_bytes, change_bytes, change_size}
+use Rattle.rrd_change.specs.Calls.{AreAny, ArePut, AreWholeOrNot, IsTorn}
+use Rattle.rrd_change.specs.Changes.{Change, IsRight, change_bytes, change_size}
 use Rattle.rrd_change.specs.Laws.{IsUnderCut, Leads, chain_end, first_of}
-use Rattle.rrd_change.specs.Settled.{cut_mark, log_mark}
+use Rattle.rrd_change.specs.Settled.{log_mark}
 use Rattle.rrd_change.specs.Spans.{AgreesOutside, AreSpans, IsIn, change_of}
-use Rattle.rrd_change.specs.States.{Began, Follows, IsDatabase, IsFirst, IsLogFor, IsMarked, IsOpen, IsReady, Represents, RepresentsEither, cut_of}
+use Rattle.rrd_change.specs.States.{Began, Follows, IsDatabase, IsFirst, IsMarked, IsOpen, IsReady, Represents, RepresentsEither, cut_of}
 use Rattle.rrd_change.specs.Views.{All, World}
 use Rattle.rrd_change.specs.declared.log.Base.{Base}
 use Rattle.rrd_change.specs.declared.log.Log.{Log}
@@ -17,7 +17,7 @@ use Rattle.rrd_change.specs.declared.span.Span.{Span}
 use Rattle.rrd_change.proofs.Holding.{all_as}
 use Rattle.rrd_change.proofs.Spanned.{have_in, in_have, pieces_within, spans_fill, spans_make}
 use Rattle.rrd_change.proofs.Logs.{log_begins}
-use Rattle.rrd_change.proofs.Marking.{cut_under, length-cut, put_front, put_behind, under_stays}
+use Rattle.rrd_change.proofs.Marking.{cut_under, length-cut, put_behind, under_stays}
 use Rattle.rrd_change.proofs.Reading.{change_reads, length-change, past_read}
 use Rattle.rrd_change.proofs.Resumed.{put_any}
 

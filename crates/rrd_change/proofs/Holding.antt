@@ -1,5 +1,5 @@
 -- Lemmas on what calls leave of a property that the file has, and whatever the disk may have.
-use Rattle.std.proofs.Common.{◌≡◌, ℕ, List, inl, inr, ◌⊎◌, sym, subst}
+use Rattle.std.proofs.Common.{ℕ, List, inl, inr, sym, subst}
 use Rattle.std.specs.Prelude.{Result, Ok, Err}
 use Rattle.rrd_change.specs.Views.{All, Does, Effect, Fails, IsHeld, Moves, Stores, View, World}
 use Rattle.rrd_change.proofs.Stepping.{steps_as}

@@ -1,13 +1,12 @@
 -- Lemmas on the marks of a file.
-use Rattle.std.proofs.Common.{◌≡◌, ℕ, ◌+◌, ◌-◌, ◌<◌, ◌≤◌, max, List, ◌++◌, length, take, drop, get_or, refl, sym, ◌∙◌, ap, subst, arith, inl, inr, ◌⊎◌, zero-add}
+use Rattle.std.proofs.Common.{◌≡◌, ℕ, ◌+◌, ◌-◌, ◌<◌, ◌≤◌, List, length, drop, get_or, refl, sym, ◌∙◌, ap, subst, arith, inl, inr, zero-add}
 use Rattle.std.proofs.lemmas.Bool.{cases_lt}
 use Rattle.std.proofs.lemmas.List.{length-append, length-drop, get_or-drop, get_or_append_left, get_or-append_right, ext_get_or}
-use Rattle.rrd_change.specs.Bytes.{StandsAt}
 use Rattle.rrd_change.specs.Calls.{AreAny, ArePut, AreWholeOrNot, IsTorn}
 use Rattle.rrd_change.specs.Laws.{IsUnderCut}
 use Rattle.rrd_change.specs.Settled.{cut_mark, database_mark}
 use Rattle.rrd_change.specs.States.{IsAtRest, IsDatabase, IsMarked, IsPlain, Represents, cut_of}
-use Rattle.rrd_change.specs.Views.{All, Fails, FailsToWriteWhole, IsHeld, Moves, Stores, World, WritesWhole}
+use Rattle.rrd_change.specs.Views.{All, Fails, FailsToWriteWhole, Stores, World, WritesWhole}
 use Rattle.rrd_change.proofs.Holding.{fails_all, held_all, moves_all, stores_all}
 
 pub length-cut : (bytes : List ℕ) → 4 ≤ length bytes → length (cut_of bytes) ≡ length bytes

@@ -1,5 +1,5 @@
 -- Lemmas on what files represent, by what they stand for.
-use Rattle.std.proofs.Common.{◌≡◌, ℕ, List, refl, sym, ◌∙◌, subst, inl, inr, ◌⊎◌}
+use Rattle.std.proofs.Common.{◌≡◌, ℕ, List, refl, sym, ◌∙◌, subst, inl, inr}
 use Rattle.rrd_change.specs.Bytes.{StandsAt}
 use Rattle.rrd_change.specs.Outcomes.{AllStand, IsEither, IsWhole}
 use Rattle.rrd_change.specs.Settled.{database_mark, settled}

@@ -1,11 +1,11 @@
 -- Lemmas on bytes that are appended piece by piece, and on the pieces of a change.
-use Rattle.std.proofs.Common.{◌≡◌, ℕ, zero, suc, ◌+◌, ◌<◌, ◌≤◌, List, [], ◌∷◌, ◌++◌, length, take, get_or, refl, sym, ◌∙◌, ap, subst, arith, append_assoc}
+use Rattle.std.proofs.Common.{◌≡◌, ℕ, suc, ◌+◌, ◌<◌, ◌≤◌, List, [], ◌∷◌, ◌++◌, length, take, get_or, refl, sym, ◌∙◌, ap, subst, arith, append_assoc}
 use Rattle.std.specs.Int.{w64, to_be_bytes}
 use Rattle.std.specs.List.{flat_map}
 use Rattle.std.proofs.Math.Seq.{take-suc}
 use Rattle.std.proofs.lemmas.Grind.{flat_map-append}
 use Rattle.std.proofs.lemmas.List.{append-nil}
-use Rattle.rrd_change.specs.Changes.{Change, Piece, body_bytes, change_bytes, change_front, change_head, change_sum, piece_bytes}
+use Rattle.rrd_change.specs.Changes.{Change, body_bytes, change_bytes, change_front, change_head, change_sum, piece_bytes}
 use Rattle.rrd_change.specs.Spans.{AreSpans, piece_of, pieces_of}
 use Rattle.rrd_change.specs.declared.span.Span.{Span}
 

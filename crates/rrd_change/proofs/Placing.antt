@@ -6,7 +6,6 @@ use Rattle.rrd_change.specs.Calls.{AreAny, ArePut}
 use Rattle.rrd_change.specs.Spans.{IsIn}
 use Rattle.rrd_change.specs.States.{AreAnyIn, ArePutIn}
 use Rattle.rrd_change.specs.declared.span.Span.{Span}
-use Rattle.rrd_change.proofs.Resumed.{put_any}
 
 pub in_join : (k : ℕ) (xs ys : List Span) → IsIn k (xs ++ ys) → IsIn k xs ⊎ IsIn k ys
 in_join k [] ys h = inr h
@@ -72,9 +71,9 @@ put_in_more xs s new old mid file start end at_start at_end some was put =
     let size : length (take (end - start) (drop start new)) ≡ end - start = omega (arith, length-take (end - start) (drop start new), length-drop start new, at_end) in
     let reach : start + length (take (end - start) (drop start new)) ≡ end = omega (arith, size, some) in
     let value : (k : ℕ) → start ≤ k → k < end → get_or file k 0 ≡ get_or new k 0 = λ k from to.
-        let here : start + (k - start) ≡ k = omega (arith, from) in
-        ap (λ n. get_or file n 0) (sym here) ∙ put.inside (k - start) (omega (arith, from, to, size)) ∙ get_or-take (end - start) (drop start new) (k - start) 0 (omega (arith, from, to))
-        ∙ get_or-drop start new (k - start) 0 ∙ ap (λ n. get_or new n 0) here in
+    let here : start + (k - start) ≡ k = omega (arith, from) in
+    ap (λ n. get_or file n 0) (sym here) ∙ put.inside (k - start) (omega (arith, from, to, size)) ∙ get_or-take (end - start) (drop start new) (k - start) 0 (omega (arith, from, to))
+    ∙ get_or-drop start new (k - start) 0 ∙ ap (λ n. get_or new n 0) here in
     record {
       longer = omega (arith, was.longer, put.len);
       bound = omega (arith, was.bound, put.len, reach, at_end);

@@ -1,14 +1,13 @@
 -- Lemmas on bringing the changes of a log into place.
-use Rattle.std.proofs.Common.{◌≡◌, ℕ, zero, suc, ◌+◌, ◌-◌, ◌<◌, ◌≤◌, max, List, [], ◌∷◌, ◌++◌, length, take, drop, get_or, refl, sym, ◌∙◌, ap, subst, arith, inl, inr, ◌⊎◌, zero-add}
+use Rattle.std.proofs.Common.{◌≡◌, ℕ, ◌+◌, ◌-◌, ◌<◌, ◌≤◌, List, ◌++◌, length, drop, get_or, refl, sym, ◌∙◌, ap, subst, arith, inl, inr, ◌⊎◌, zero-add}
 use Rattle.std.specs.List.{slice_range}
 use Rattle.std.proofs.lemmas.Bool.{cases_lt}
-use Rattle.std.proofs.lemmas.List.{length-append, length-take, length-drop, get_or-take, get_or-drop, get_or_append_left, get_or-append_right, get_or_past, ext_get_or}
-use Rattle.rrd_change.specs.Bytes.{StandsAt}
+use Rattle.std.proofs.lemmas.List.{length-append, length-take, length-drop, get_or-take, get_or-drop, get_or_append_left, get_or-append_right, get_or_past}
 use Rattle.rrd_change.specs.Calls.{ArePut, AreWholeOrNot, IsSized, IsSizedOrNot, IsTorn}
 use Rattle.rrd_change.specs.Changes.{Change}
-use Rattle.rrd_change.specs.Laws.{AreSaid, IsUnderCut}
+use Rattle.rrd_change.specs.Laws.{IsUnderCut}
 use Rattle.rrd_change.specs.Settled.{cut_mark}
-use Rattle.rrd_change.specs.States.{AreAnyIn, ArePutIn, Follows, IsDatabase, IsInPlace, IsLogFor, IsLogOf, IsOpen, Represents, cut_of}
+use Rattle.rrd_change.specs.States.{AreAnyIn, ArePutIn, Follows, IsDatabase, IsInPlace, IsLogOf, IsOpen, Represents, cut_of}
 use Rattle.rrd_change.specs.Views.{All, World}
 use Rattle.rrd_change.specs.declared.log.Log.{Log}
 use Rattle.rrd_change.proofs.Beginning.{open_stands}

@@ -1,5 +1,5 @@
 -- Lemmas on calls one after another.
-use Rattle.std.proofs.Common.{◌≡◌, ℕ, List, IsTrue, sym, subst, inl, inr, ◌⊎◌}
+use Rattle.std.proofs.Common.{ℕ, List, sym, subst, inl, inr}
 use Rattle.std.specs.Prelude.{Result, Ok, Err}
 use Rattle.std.specs.Result.{IsErr}
 use Rattle.rrd_change.specs.Views.{Does, Effect, Fails, IsSynced, IsUnsynced, Moves, Steps, Stores, View, World, seen}
@@ -56,19 +56,19 @@ pub then_sync : {A E : Type 0} (c e t : List ℕ → List ℕ → Type 0) (r : R
     Steps (Moves c t) old mid → Does (λ x. IsSynced) IsUnsynced r mid new → Does (λ x. Stores c) (Fails e t) r old new
 then_sync c e t (Ok x) old mid new also m s = steps_then (Moves c t) IsSynced (Stores c) old mid new
     (λ u v w n k. let P : List ℕ → Type 0 = λ xs. c u.held xs in record {
-        held = subst P (sym k.held) n.held;
-        leave = λ z left. n.keep z (k.leave z left);
-        keep = λ z kept. n.keep z (k.keep z kept);
-      }) m s
+      held = subst P (sym k.held) n.held;
+      leave = λ z left. n.keep z (k.leave z left);
+      keep = λ z kept. n.keep z (k.keep z kept);
+    }) m s
 then_sync c e t (Err x) old mid new also m s = steps_then (Moves c t) IsUnsynced (Fails e t) old mid new
     (λ u v w n k. let P : List ℕ → Type 0 = λ xs. e u.held xs in record {
-        held = subst P (sym k.held) (also u.held v.held n.held);
-        leave = λ z left. n.leave z (k.leave z left);
-        keep = λ z kept. elim (k.keep z kept) [
-          | inl was ↦ let h = n.keep z was in (h.0, inl (h.1, also h.0 z h.2))
-          | inr left ↦ let h = n.leave z left in (h.0, inr (h.1, h.2))
-        ];
-      }) m s
+      held = subst P (sym k.held) (also u.held v.held n.held);
+      leave = λ z left. n.leave z (k.leave z left);
+      keep = λ z kept. elim (k.keep z kept) [
+        | inl was ↦ let h = n.keep z was in (h.0, inl (h.1, also h.0 z h.2))
+        | inr left ↦ let h = n.leave z left in (h.0, inr (h.1, h.2))
+      ];
+    }) m s
 
 pub moves_fail : (c t : List ℕ → List ℕ → Type 0) (old new : View) → Steps (Moves c t) old new → Steps (Fails c t) old new
 moves_fail c t old new m = steps_as (Moves c t) (Fails c t) old new

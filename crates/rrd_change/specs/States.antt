@@ -1,5 +1,5 @@
 -- Definition: the states of a file while it is changed.
-use Rattle.std.specs.Prelude.{◌≡◌, ◌⊎◌, ℕ, ◌+◌, ◌<◌, ◌≤◌, List, [], ◌∷◌, ◌++◌, length, take, drop, slice_index, max, replicate, true, ◌-◌, Some}
+use Rattle.std.specs.Prelude.{◌≡◌, ◌⊎◌, ℕ, ◌+◌, ◌<◌, ◌≤◌, List, ◌∷◌, ◌++◌, length, take, drop, slice_index, max, replicate, true, ◌-◌, Some}
 use Rattle.rrd_change.specs.Bytes.{StandsAt}
 use Rattle.rrd_change.specs.Changes.{Change, are_within, change_bytes, changes_in}
 use Rattle.rrd_change.specs.Laws.{Fill, IsLogged, IsPrepared, IsUnderCut, Leads, TouchByte, chain_end, first_of}

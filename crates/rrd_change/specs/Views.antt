@@ -1,5 +1,5 @@
 -- Definition: what is known of a file that is changed, and what calls do to it.
-use Rattle.std.specs.Prelude.{◌≡◌, ◌⊎◌, ℕ, ◌≤◌, Bool, IsTrue, List, length, Result, Ok, Err}
+use Rattle.std.specs.Prelude.{◌≡◌, ◌⊎◌, ℕ, Bool, IsTrue, List, length, Result, Ok, Err}
 use Rattle.rrd_change.specs.Calls.{AreAny, AreAt, ArePut, AreWholeOrNot, IsCut, IsFrontPut, IsSized, IsSizedOrNot, IsTorn}
 use Rattle.rrd_change.specs.declared.calls.Syncs.{Syncs}
 use Rattle.rrd_change.specs.declared.calls.Syncs.TheVariants.{Never, Ordered}

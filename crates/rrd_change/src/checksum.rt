@@ -8,6 +8,7 @@ pub(crate) const SEED: u64 = 0x9e37_79b9_7f4a_7c15;
 
 // Odd numbers with bits everywhere: no two words give the same product.
 const FIRST_FACTOR: u64 = 0xd6e8_feb8_6659_fd93;
+
 const SECOND_FACTOR: u64 = 0xbf58_476d_1ce4_e5b9;
 
 // Adds a word to a checksum.

@@ -71,9 +71,9 @@ pub fn changes_stand<F: Bytes>(
 ) -> io::Result<()>
     ensures { Does
         (λ _ (w v : World). (end_of : List ℕ → ℕ) (old : List ℕ) → IsWhole end_of old → IsWhole end_of new.now → Began base.now old → AgreesOutside changed.now old new.now → IsAtRest old w
-            → AllStand end_of (λ b. b ≡ new.now) v)
+        → AllStand end_of (λ b. b ≡ new.now) v)
         (λ (w v : World). (end_of : List ℕ → ℕ) (old : List ℕ) → IsWhole end_of old → IsWhole end_of new.now → Began base.now old → AgreesOutside changed.now old new.now → IsAtRest old w
-            → AllStand end_of (IsEither old new.now) v) result
+        → AllStand end_of (IsEither old new.now) v) result
         (seen syncs (F.view file.old)) (seen syncs (F.view file.new)) }
 {
     replace(alloc, file, base, new, changed, syncs)
@@ -98,9 +98,9 @@ pub fn appends_stand<F: Bytes>(
 ) -> io::Result<()>
     ensures { Does
         (λ _ (w v : World). (end_of : List ℕ → ℕ) (now : List ℕ) → IsWhole end_of now → IsWhole end_of new.now → IsLogOf now log.old w → AgreesOutside changed.now now new.now
-            → AllStand end_of (λ b. b ≡ new.now) v)
+        → AllStand end_of (λ b. b ≡ new.now) v)
         (λ (w v : World). (end_of : List ℕ → ℕ) (now : List ℕ) → IsWhole end_of now → IsWhole end_of new.now → IsLogOf now log.old w → AgreesOutside changed.now now new.now
-            → AllStand end_of (IsEither now new.now) v) result
+        → AllStand end_of (IsEither now new.now) v) result
         (seen syncs (F.view file.old)) (seen syncs (F.view file.new)) }
 {
     log.append(alloc, file, new, changed, syncs)

@@ -74,7 +74,15 @@ fn encode_first(
     let mut bytes = Vec::new(alloc);
     bytes.resize(tail - base.length, 0)?;
     let front = [Span { start: 0, end: 16 }];
-    push_change(alloc, &mut bytes, tail, tail, base.length, &base.first, &front)?;
+    push_change(
+        alloc,
+        &mut bytes,
+        tail,
+        tail,
+        base.length,
+        &base.first,
+        &front,
+    )?;
     push_change(alloc, &mut bytes, tail, at, new.len(), new, changed)?;
     Ok(bytes)
 }
@@ -240,7 +248,15 @@ impl Log {
             return Err(Error::from(ErrorKind::FileTooLarge));
         }
         let mut bytes = Vec::new(alloc);
-        push_change(alloc, &mut bytes, self.tail, self.end, new.len(), new, changed)?;
+        push_change(
+            alloc,
+            &mut bytes,
+            self.tail,
+            self.end,
+            new.len(),
+            new,
+            changed,
+        )?;
         let Some(end) = self.end.checked_add(bytes.len()) else {
             return Err(Error::from(ErrorKind::FileTooLarge));
         };

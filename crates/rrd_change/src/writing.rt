@@ -18,7 +18,12 @@ pub(crate) fn flush<F: Bytes>(file: &mut F, syncs: Syncs) -> io::Result<()>
 }
 
 /// Writes all of these bytes: a write that was cut short is taken up again.
-pub(crate) fn write_all<F: Bytes>(file: &mut F, at: usize, bytes: &[u8], syncs: Syncs) -> io::Result<()>
+pub(crate) fn write_all<F: Bytes>(
+    file: &mut F,
+    at: usize,
+    bytes: &[u8],
+    syncs: Syncs,
+) -> io::Result<()>
     requires some { 0 < length bytes.now }
     requires fits { at + length bytes.now < 2 ^ 64 }
     ensures { Does (λ _. Moves (ArePut at bytes.now) (AreAny at (length bytes.now))) (Moves (IsCut at bytes.now) (AreAny at (length bytes.now))) result

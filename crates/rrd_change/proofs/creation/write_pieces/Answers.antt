@@ -1,7 +1,6 @@
-use Rattle.std.proofs.Common.{◌≡◌, ◌≤◌, ◌<◌, ◌+◌, ◌-◌, ℕ, List, length, take, drop, arith, refl, max, min}
-use Rattle.rrd_change.specs.Calls.{AreAny, ArePut, IsCut}
+use Rattle.std.proofs.Common.{◌≡◌, ◌≤◌, ◌<◌, ◌+◌, ◌-◌, length, arith, refl, max, min}
 use Rattle.rrd_change.specs.Making.{IsMadeTo, StaysFirst}
-use Rattle.rrd_change.specs.Views.{Fails, Moves, Steps, Stores, World, seen}
+use Rattle.rrd_change.specs.Views.{Moves}
 use Rattle.rrd_change.proofs.Making.{any_first, first_then, made_end, made_more, made_none}
 use Rattle.rrd_change.proofs.Stepping.{failed, moves_as, moves_fail, moves_then, nothing, steps_as, steps_then, then_sync}
 use Rattle.rrd_change.proofs.creation.write_pieces.Goals as goal
@@ -11,10 +10,10 @@ loop-at-init g c = record {
   high = omega arith;
   few = omega arith;
   moves = nothing _ _ (λ w. record {
-      held = made_none c.args.new.now w.held;
-      leave = λ z left. (z, left, λ k low. refl);
-      keep = λ z kept. (z, kept, made_none c.args.new.now z);
-    });
+    held = made_none c.args.new.now w.held;
+    leave = λ z left. (z, left, λ k low. refl);
+    keep = λ z kept. (z, kept, made_none c.args.new.now z);
+  });
 }
 
 pub returns-in_err-write_all : goal.returns-in_err-write_all
@@ -24,9 +23,9 @@ returns-in_err-write_all g c =
     let high : 16 ≤ at = c.loop-at.invariant.high in
     failed _ _ c.from_residual.result _ _ c.from_residual.ensures.0
     (moves_fail StaysFirst StaysFirst _ _
-        (steps_then (Moves (IsMadeTo at new) StaysFirst) _ (Moves StaysFirst StaysFirst) _ _ _
-            (λ u v w m n. moves_then _ _ _ _ _ _ (λ x y z p cut. first_then x y z p.first (any_first at _ y z high cut.any)) (λ x y z a b. first_then x y z a (any_first at _ y z high b)) u v w m n)
-            c.loop-at.invariant.moves c.in_err-write_all.ensures))
+    (steps_then (Moves (IsMadeTo at new) StaysFirst) _ (Moves StaysFirst StaysFirst) _ _ _
+    (λ u v w m n. moves_then _ _ _ _ _ _ (λ x y z p cut. first_then x y z p.first (any_first at _ y z high cut.any)) (λ x y z a b. first_then x y z a (any_first at _ y z high b)) u v w m n)
+    c.loop-at.invariant.moves c.in_err-write_all.ensures))
 
 pub loop-at-preserved : goal.loop-at-preserved
 loop-at-preserved g c =

@@ -1,4 +1,4 @@
-use Rattle.std.proofs.Common.{◌≡◌, ◌++◌, List, ℕ, Vec, Global, length, ◌∙◌, ap, sym, arith}
+use Rattle.std.proofs.Common.{◌≡◌, ◌++◌, length, ◌∙◌, ap, sym, arith}
 use Rattle.std.specs.Int.{w64, to_be_bytes}
 use Rattle.rrd_change.specs.Changes.{body_bytes, change_front, front_bytes}
 use Rattle.rrd_change.specs.Checksum.{mix_bytes, seed}
@@ -25,4 +25,4 @@ returns-clause-ok c =
     change_pushed tail at change c.args.buffer.now.items c.front-front.result c.to_be_bytes.result c.deref-2.result.now c.extend_from_slice-3.new.self.items
     front (c.to_be_bytes.ensures ∙ ap (λ n. to_be_bytes w64 n) sum) seen_too
     (three c.args.buffer.now.items c.front-front.result c.to_be_bytes.result c.deref-2.result.now _ _ _
-        c.in_ok-extend_from_slice.ensures.items c.in_ok-extend_from_slice-2.ensures.items c.in_ok-extend_from_slice-3.ensures.items)
+    c.in_ok-extend_from_slice.ensures.items c.in_ok-extend_from_slice-2.ensures.items c.in_ok-extend_from_slice-3.ensures.items)

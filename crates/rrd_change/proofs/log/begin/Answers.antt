@@ -1,7 +1,6 @@
-use Rattle.std.proofs.Common.{rules, ◌≡◌, ◌+◌, ◌++◌, ℕ, List, [], ◌∷◌, length, arith, sym, ◌∙◌, ap, max, IsTrue}
-use Rattle.rrd_change.specs.Spans.{AgreesOutside, AreSpans, change_of}
-use Rattle.rrd_change.specs.States.{Began, IsDatabase, IsFirst, IsLogOf, IsMarked, IsOpen, RepresentsEither}
-use Rattle.rrd_change.specs.Views.{All, Steps, World, seen}
+use Rattle.std.proofs.Common.{rules, ◌≡◌, ◌++◌, List, [], ◌∷◌, length, ◌∙◌, ap, max}
+use Rattle.rrd_change.specs.Spans.{AreSpans, change_of}
+use Rattle.rrd_change.specs.States.{IsDatabase}
 use Rattle.rrd_change.specs.declared.log.Log.{Log}
 use Rattle.rrd_change.specs.declared.span.Span.{Span}
 use Rattle.rrd_change.proofs.Beginning.{first_made, follows_first, leads_first, marked_stands}
@@ -27,8 +26,8 @@ returns-in_err-end g c =
     let tail_is : c.max-tail.result ≡ max c.args.base.now.length (length new) = c.max-tail.ensures in
     failed _ _ c.from_residual-in_err-end.result _ _ c.from_residual-in_err-end.ensures.0
     (steps_as _ _ _ _ (λ u v s old began agrees marked.
-        s old new (change_of (length new) new changed) (first_made c.args.base.now old new changed c.max-tail.result _ began is are tail_is (c.deref.ensures.value ∙ c.in_ok-bytes.ensures.ok))
-        (leads_first old new changed are agrees) marked) c.in_err-end.ensures.does)
+    s old new (change_of (length new) new changed) (first_made c.args.base.now old new changed c.max-tail.result _ began is are tail_is (c.deref.ensures.value ∙ c.in_ok-bytes.ensures.ok))
+    (leads_first old new changed are agrees) marked) c.in_err-end.ensures.does)
 
 pub returns : goal.returns
 returns g c =
@@ -40,10 +39,10 @@ returns g c =
     let spans : c.extend_from_slice.new.self.items ≡ changed = c.in_ok-extend_from_slice.ensures.items ∙ ap (λ (xs : List Span). xs ++ changed) c.new-spans.ensures.items in
     let log : Log = record { tail = c.max-tail.result; end = c.in_ok-end.end; spans = c.extend_from_slice.new.self } in
     steps_as _ _ _ _ (λ u v s old began agrees marked.
-        let made = first_made c.args.base.now old new changed c.max-tail.result c.deref.result.now began is are tail_is (c.deref.ensures.value ∙ c.in_ok-bytes.ensures.ok) in
-        record {
-          old = old;
-          changes = change_of (length new) new changed ∷ [];
-          follows = follows_first c.args.base.now old new changed log c.deref.result.now is are agrees made c.in_ok-end.ensures.end spans;
-          world = s old (change_of (length new) new changed) made marked;
-        }) c.in_ok-end.ensures.does
+    let made = first_made c.args.base.now old new changed c.max-tail.result c.deref.result.now began is are tail_is (c.deref.ensures.value ∙ c.in_ok-bytes.ensures.ok) in
+    record {
+      old = old;
+      changes = change_of (length new) new changed ∷ [];
+      follows = follows_first c.args.base.now old new changed log c.deref.result.now is are agrees made c.in_ok-end.ensures.end spans;
+      world = s old (change_of (length new) new changed) made marked;
+    }) c.in_ok-end.ensures.does

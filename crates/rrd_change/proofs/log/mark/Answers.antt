@@ -1,4 +1,3 @@
-use Rattle.rrd_change.specs.Views.{seen}
 use Rattle.rrd_change.proofs.Holding.{does_as}
 use Rattle.rrd_change.proofs.Marking.{marked, not_marked}
 use Rattle.rrd_change.proofs.log.mark.Goals as goal

@@ -1,7 +1,7 @@
-use Rattle.std.proofs.Common.{◌≡◌, ℕ, List, [], ◌∷◌, length, inl, inr}
+use Rattle.std.proofs.Common.{ℕ, List, inl, inr}
 use Rattle.rrd_change.specs.Spans.{AgreesOutside}
 use Rattle.rrd_change.specs.States.{Began, IsAtRest, IsLogOf, IsMarked, IsPlain, Represents, RepresentsEither}
-use Rattle.rrd_change.specs.Views.{All, Effect, Steps, World, seen}
+use Rattle.rrd_change.specs.Views.{Effect}
 use Rattle.rrd_change.proofs.Holding.{all_as}
 use Rattle.rrd_change.proofs.Marking.{plain_represents}
 use Rattle.rrd_change.proofs.Stepping.{does_then, failed, steps_as, steps_then}
@@ -27,7 +27,7 @@ returns-in_err-settle g c =
     let Logged : Effect = λ u w. (old : List ℕ) → Began base old → AgreesOutside changed old new → IsAtRest old u → IsLogOf new log w in
     failed _ _ c.from_residual-in_err-settle.result _ _ c.from_residual-in_err-settle.ensures.0
     (steps_then Logged _ _ _ _ _ (λ u v w l s old began agrees rest. all_as (Represents new) (RepresentsEither old new) w (λ f is. inr is) (s (l old began agrees rest)))
-        (steps_then _ _ Logged _ _ _ (λ u v w m b old began agrees rest. b old began agrees (m old rest)) c.in_ok-mark.ensures c.in_ok-log.ensures) c.in_err-settle.ensures)
+    (steps_then _ _ Logged _ _ _ (λ u v w m b old began agrees rest. b old began agrees (m old rest)) c.in_ok-mark.ensures c.in_ok-log.ensures) c.in_err-settle.ensures)
 
 pub returns : goal.returns
 returns g c =
@@ -39,8 +39,8 @@ returns g c =
     let Placed : Effect = λ u w. (old : List ℕ) → Began base old → AgreesOutside changed old new → IsAtRest old u → IsMarked new w in
     does_then Placed _ _ _ _ c.unmark.result _ _ _ (λ x u v w p m old began agrees rest. m new (p old began agrees rest))
     (λ u v w p m old began agrees rest.
-        let marked = p old began agrees rest in
-        all_as (IsPlain new) (RepresentsEither old new) w (λ f plain. inr (plain_represents new f marked.is plain)) (m new marked))
+    let marked = p old began agrees rest in
+    all_as (IsPlain new) (RepresentsEither old new) w (λ f plain. inr (plain_represents new f marked.is plain)) (m new marked))
     (steps_then Logged _ Placed _ _ _ (λ u v w l s old began agrees rest. s (l old began agrees rest))
-        (steps_then _ _ Logged _ _ _ (λ u v w m b old began agrees rest. b old began agrees (m old rest)) c.in_ok-mark.ensures c.in_ok-log.ensures) c.in_ok-settle.ensures)
+    (steps_then _ _ Logged _ _ _ (λ u v w m b old began agrees rest. b old began agrees (m old rest)) c.in_ok-mark.ensures c.in_ok-log.ensures) c.in_ok-settle.ensures)
     c.unmark.ensures

@@ -1,7 +1,5 @@
-use Rattle.std.proofs.Common.{List, ℕ}
 use Rattle.rrd_change.specs.Calls.{ArePut, AreWholeOrNot, IsTorn}
 use Rattle.rrd_change.specs.Settled.{database_mark}
-use Rattle.rrd_change.specs.Views.{Does, FailsToWriteWhole, WritesWhole, seen}
 use Rattle.rrd_change.proofs.Holding.{does_as}
 use Rattle.rrd_change.proofs.Marking.{not_unmarked, unmarked}
 use Rattle.rrd_change.proofs.Stepping.{seen_does}

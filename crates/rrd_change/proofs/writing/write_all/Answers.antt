@@ -1,9 +1,9 @@
-use Rattle.std.proofs.Common.{◌+◌, ◌-◌, ◌≤◌, ◌<◌, ◌≡◌, ℕ, List, length, drop, take, arith, length-drop, length-take, subst}
+use Rattle.std.proofs.Common.{◌+◌, ◌-◌, ◌≤◌, ◌≡◌, ℕ, List, length, drop, take, arith, length-drop, length-take, subst}
 use Rattle.std.proofs.lemmas.List.{take_all}
-use Rattle.rrd_change.specs.Calls.{AreAny, ArePut, IsCut, IsFrontPut}
-use Rattle.rrd_change.specs.Views.{Does, FailsToWrite, Moves, Steps, Writes, seen}
-use Rattle.rrd_change.proofs.Resumed.{any_in, any_then, cut_then, front_then, front_whole}
-use Rattle.rrd_change.proofs.Stepping.{failed, moves_as, moves_then, seen_moves, steps_as, steps_then}
+use Rattle.rrd_change.specs.Calls.{AreAny, IsCut, IsFrontPut}
+use Rattle.rrd_change.specs.Views.{FailsToWrite, Moves, Steps, Writes, seen}
+use Rattle.rrd_change.proofs.Resumed.{any_in, any_then, cut_then, front_then}
+use Rattle.rrd_change.proofs.Stepping.{failed, moves_then, seen_moves, steps_then}
 use Rattle.rrd_change.proofs.writing.write_all.Goals as goal
 
 pub returns-in_err-count : goal.returns-in_err-count
@@ -21,11 +21,11 @@ returns-in_err-count g c =
     let size = length-drop done bytes in
     failed _ _ c.from_residual.result _ _ c.from_residual.ensures.0
     (steps_then (Moves (IsFrontPut at done bytes) (AreAny at (length bytes))) (Moves (IsCut (at + done) (drop done bytes)) (AreAny (at + done) (length (drop done bytes))))
-        (Moves (IsCut at bytes) (AreAny at (length bytes))) (seen syncs old) (seen syncs mid) (seen syncs new)
-        (λ u v w m n. moves_then _ _ _ _ _ _ (λ x y z p q. cut_then at done bytes x y z few p q)
-        (λ x y z p q. any_then at (length bytes) x y z p (any_in at (length bytes) done (length (drop done bytes)) y z (omega (arith, size, few)) q)) u v w m n)
-        c.loop-done.invariant.moves
-        (seen_moves syncs (IsCut (at + done) (drop done bytes)) (AreAny (at + done) (length (drop done bytes))) mid new (subst P rest c.in_err-count.ensures.does)))
+    (Moves (IsCut at bytes) (AreAny at (length bytes))) (seen syncs old) (seen syncs mid) (seen syncs new)
+    (λ u v w m n. moves_then _ _ _ _ _ _ (λ x y z p q. cut_then at done bytes x y z few p q)
+    (λ x y z p q. any_then at (length bytes) x y z p (any_in at (length bytes) done (length (drop done bytes)) y z (omega (arith, size, few)) q)) u v w m n)
+    c.loop-done.invariant.moves
+    (seen_moves syncs (IsCut (at + done) (drop done bytes)) (AreAny (at + done) (length (drop done bytes))) mid new (subst P rest c.in_err-count.ensures.does)))
 
 pub overflow_add-done : goal.overflow_add-done
 overflow_add-done g c =

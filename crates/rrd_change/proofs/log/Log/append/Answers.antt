@@ -1,11 +1,10 @@
-use Rattle.std.proofs.Common.{rules, ◌≡◌, ◌<◌, ◌≤◌, ◌+◌, ◌^◌, ◌++◌, ◌∙◌, sym, ap, ℕ, List, [], ◌∷◌, length, arith, IsTrue, refl}
+use Rattle.std.proofs.Common.{rules, ◌≡◌, ◌<◌, ◌≤◌, ◌+◌, ◌^◌, ◌++◌, ◌∙◌, ap, ℕ, List, [], ◌∷◌, length, arith, refl}
 use Rattle.rrd_change.specs.Calls.{AreAny, ArePut, IsCut}
-use Rattle.rrd_change.specs.Changes.{Change, change_bytes, change_size}
-use Rattle.rrd_change.specs.Spans.{AgreesOutside, AreSpans, change_of}
-use Rattle.rrd_change.specs.States.{IsBroken, IsDatabase, IsLogOf, IsOpen}
-use Rattle.rrd_change.specs.Views.{All, Fails, Steps, Stores, World, seen}
+use Rattle.rrd_change.specs.Changes.{change_bytes, change_size}
+use Rattle.rrd_change.specs.Spans.{AreSpans, change_of}
+use Rattle.rrd_change.specs.States.{IsDatabase, IsOpen}
+use Rattle.rrd_change.specs.Views.{Fails, Stores}
 use Rattle.rrd_change.specs.declared.log.Log.{Log}
-use Rattle.rrd_change.specs.declared.span.Span.{Span}
 use Rattle.rrd_change.proofs.Appending.{append_failed, follows_more, log_unbroken, next_made, whole_appended}
 use Rattle.rrd_change.proofs.Holding.{stores_all}
 use Rattle.rrd_change.proofs.Reading.{length-change}
@@ -47,9 +46,9 @@ returns-in_err-write_and_sync g c =
     let few : length bytes < 2 ^ 64 = omega (arith, c.deref.ensures.len, c.push_change.new.buffer.ok.0, ap length same, c.in-Some.ensures) in
     failed _ _ c.from_residual-in_err-write_and_sync.result _ _ c.from_residual-in_err-write_and_sync.ensures.0
     (steps_as (Fails (IsCut at bytes) (AreAny at (length bytes))) _ _ _ (λ u v f now is agrees.
-        append_failed is.old now new log.tail at is.changes (change_of (length new) new changed) bytes u v
-        (next_made is.old now new is.changes log changed bytes is.follows is_new are below spelled is.world.held.logged.log.fits few) is.follows.leads
-        (spans_make changed now new are agrees) is.world f) c.in_err-write_and_sync.ensures)
+    append_failed is.old now new log.tail at is.changes (change_of (length new) new changed) bytes u v
+    (next_made is.old now new is.changes log changed bytes is.follows is_new are below spelled is.world.held.logged.log.fits few) is.follows.leads
+    (spans_make changed now new are agrees) is.world f) c.in_err-write_and_sync.ensures)
 
 pub returns : goal.returns
 returns g c =
@@ -70,14 +69,14 @@ returns g c =
     omega (arith, c.in-Some.ensures, c.push_change.new.buffer.ok.0, ap length same, ap length spelled, length-change log.tail at change) in
     let next : Log = record { tail = log.tail; end = c.in-Some.end; spans = c.extend_from_slice.new.self } in
     steps_as (Stores (ArePut at bytes)) _ _ _ (λ u v s now is agrees.
-        record {
-          old = is.old;
-          changes = is.changes ++ change ∷ [];
-          follows = follows_more is.old now new is.changes log next changed is.follows is_new are agrees below refl end c.in_ok-extend_from_slice.ensures.items;
-          world = stores_all (IsOpen is.old log.tail is.changes) (IsOpen is.old log.tail (is.changes ++ change ∷ [])) (ArePut at bytes) u v
-              (λ x y is_open put. whole_appended is.old log.tail is.changes change at bytes x y
-              (next_made is.old now new is.changes log changed bytes is.follows is_new are below spelled is.world.held.logged.log.fits few) is_open put) s is.world;
-        }) c.in_ok-write_and_sync.ensures
+    record {
+      old = is.old;
+      changes = is.changes ++ change ∷ [];
+      follows = follows_more is.old now new is.changes log next changed is.follows is_new are agrees below refl end c.in_ok-extend_from_slice.ensures.items;
+      world = stores_all (IsOpen is.old log.tail is.changes) (IsOpen is.old log.tail (is.changes ++ change ∷ [])) (ArePut at bytes) u v
+          (λ x y is_open put. whole_appended is.old log.tail is.changes change at bytes x y
+          (next_made is.old now new is.changes log changed bytes is.follows is_new are below spelled is.world.held.logged.log.fits few) is_open put) s is.world;
+    }) c.in_ok-write_and_sync.ensures
 
 pub write_and_sync-requires-clause-some : goal.write_and_sync-requires-clause-some
 write_and_sync-requires-clause-some g c =

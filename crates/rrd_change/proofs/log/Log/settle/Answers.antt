@@ -1,8 +1,8 @@
-use Rattle.std.proofs.Common.{rules, ◌≡◌, ◌<◌, ◌≤◌, ◌+◌, ◌++◌, ℕ, List, [], ◌∷◌, length, arith, inl, inr, subst, IsTrue}
+use Rattle.std.proofs.Common.{rules, ◌≡◌, ℕ, List, length, inl, inr, subst}
 use Rattle.rrd_change.specs.Calls.{ArePut, AreWholeOrNot, IsSized, IsSizedOrNot, IsTorn}
 use Rattle.rrd_change.specs.Laws.{IsUnderCut}
-use Rattle.rrd_change.specs.States.{AreAnyIn, ArePutIn, IsDatabase, IsLogOf, IsMarked, IsOpen, Represents, cut_of}
-use Rattle.rrd_change.specs.Views.{All, Effect, Fails, Steps, Stores, World, seen}
+use Rattle.rrd_change.specs.States.{AreAnyIn, ArePutIn, IsDatabase, IsLogOf, IsOpen, Represents, cut_of}
+use Rattle.rrd_change.specs.Views.{All, Effect, Fails, Steps, Stores, seen}
 use Rattle.rrd_change.specs.declared.span.Span.{Span}
 use Rattle.rrd_change.proofs.Beginning.{open_stands}
 use Rattle.rrd_change.proofs.Holding.{all_as, fails_all, stores_all}
@@ -21,10 +21,10 @@ returns-in_err-place g c =
     let P : List Span → Type 0 = λ xs. Steps (Fails (AreAnyIn xs new) (AreAnyIn xs new)) (seen c.args.syncs (g.F.Bytes.view c.args.file.now)) (seen c.args.syncs (g.F.Bytes.view c.place.new.file)) in
     failed _ _ c.from_residual.result _ _ c.from_residual.ensures.0
     (steps_as (Fails (AreAnyIn spans new) (AreAnyIn spans new)) _ _ _ (λ u v s is.
-        all_as (IsOpen is.old log.tail is.changes) (Represents new) v (λ f is_open. open_stands is.old new log.tail is.changes f is.follows.leads is_open)
-        (fails_all (IsOpen is.old log.tail is.changes) (IsOpen is.old log.tail is.changes) (AreAnyIn spans new) (AreAnyIn spans new) u v
-            (λ x f is_open any. open_any is.old new is.changes log x f is.follows is_open any) (λ x f is_open any. open_any is.old new is.changes log x f is.follows is_open any) s is.world))
-        (subst P c.deref.ensures.value c.in_err-place.ensures))
+    all_as (IsOpen is.old log.tail is.changes) (Represents new) v (λ f is_open. open_stands is.old new log.tail is.changes f is.follows.leads is_open)
+    (fails_all (IsOpen is.old log.tail is.changes) (IsOpen is.old log.tail is.changes) (AreAnyIn spans new) (AreAnyIn spans new) u v
+    (λ x f is_open any. open_any is.old new is.changes log x f is.follows is_open any) (λ x f is_open any. open_any is.old new is.changes log x f is.follows is_open any) s is.world))
+    (subst P c.deref.ensures.value c.in_err-place.ensures))
 
 pub returns-in_err-mark_and_sync : goal.returns-in_err-mark_and_sync
 returns-in_err-mark_and_sync g c =
@@ -40,10 +40,10 @@ returns-in_err-mark_and_sync g c =
     let Q : List ℕ → Type 0 = λ m. Steps (Fails (AreWholeOrNot 0 m) (IsTorn 0 m)) mid after in
     failed _ _ c.from_residual-in_err-mark_and_sync.result _ _ c.from_residual-in_err-mark_and_sync.ensures.0
     (steps_then (Stores (ArePutIn spans new)) (Fails (AreWholeOrNot 0 front) (IsTorn 0 front)) _ old mid after (λ u v w s f is.
-        fails_all (IsPlaced is.old new is.changes log) (Represents new) (AreWholeOrNot 0 front) (IsTorn 0 front) v w
-        (λ x y placed put. cut_or_placed is.old new is.changes log x y is.follows placed put) (λ x y placed torn. cut_torn is.old new is.changes log x y is.follows placed torn) f
-        (stores_all (IsOpen is.old log.tail is.changes) (IsPlaced is.old new is.changes log) (ArePutIn spans new) u v (λ x y is_open put. placed_put is.old new is.changes log x y is.follows is_open put) s is.world))
-        (subst P c.deref.ensures.value c.in_ok-place.ensures) (subst Q c.cut_front.ensures c.in_err-mark_and_sync.ensures))
+    fails_all (IsPlaced is.old new is.changes log) (Represents new) (AreWholeOrNot 0 front) (IsTorn 0 front) v w
+    (λ x y placed put. cut_or_placed is.old new is.changes log x y is.follows placed put) (λ x y placed torn. cut_torn is.old new is.changes log x y is.follows placed torn) f
+    (stores_all (IsOpen is.old log.tail is.changes) (IsPlaced is.old new is.changes log) (ArePutIn spans new) u v (λ x y is_open put. placed_put is.old new is.changes log x y is.follows is_open put) s is.world))
+    (subst P c.deref.ensures.value c.in_ok-place.ensures) (subst Q c.cut_front.ensures c.in_err-mark_and_sync.ensures))
 
 pub returns : goal.returns
 returns g c =
@@ -63,10 +63,10 @@ returns g c =
     does_then Under _ _ _ _ c.resize_and_sync.result old cut after
     (λ x u v w under s is. record { is = is_new; world = stores_all (IsUnderCut new) (λ f. f ≡ cut_of new) (IsSized (length new)) v w (λ y z h sized. cut_sized new y z is_new h sized) s (under is) })
     (λ u v w under f is. all_as (IsUnderCut new) (Represents new) w (λ y h. inr (inl h))
-        (fails_all (IsUnderCut new) (IsUnderCut new) (IsSizedOrNot (length new)) (IsSizedOrNot (length new)) v w (λ y z h sized. sized_stands new y z h sized) (λ y z h sized. sized_stands new y z h sized) f (under is)))
+    (fails_all (IsUnderCut new) (IsUnderCut new) (IsSizedOrNot (length new)) (IsSizedOrNot (length new)) v w (λ y z h sized. sized_stands new y z h sized) (λ y z h sized. sized_stands new y z h sized) f (under is)))
     (steps_then (Stores (ArePutIn spans new)) (Stores (ArePut 0 front)) Under old mid cut (λ u v w s f is.
-        stores_all (IsPlaced is.old new is.changes log) (IsUnderCut new) (ArePut 0 front) v w
-        (λ x y placed put. cut_placed new x y is_new (reach_placed is.old new is.changes log x is.follows placed) placed.placed put) f
-        (stores_all (IsOpen is.old log.tail is.changes) (IsPlaced is.old new is.changes log) (ArePutIn spans new) u v (λ x y is_open put. placed_put is.old new is.changes log x y is.follows is_open put) s is.world))
-        (subst P c.deref.ensures.value c.in_ok-place.ensures) (subst Q c.cut_front.ensures c.in_ok-mark_and_sync.ensures))
+    stores_all (IsPlaced is.old new is.changes log) (IsUnderCut new) (ArePut 0 front) v w
+    (λ x y placed put. cut_placed new x y is_new (reach_placed is.old new is.changes log x is.follows placed) placed.placed put) f
+    (stores_all (IsOpen is.old log.tail is.changes) (IsPlaced is.old new is.changes log) (ArePutIn spans new) u v (λ x y is_open put. placed_put is.old new is.changes log x y is.follows is_open put) s is.world))
+    (subst P c.deref.ensures.value c.in_ok-place.ensures) (subst Q c.cut_front.ensures c.in_ok-mark_and_sync.ensures))
     c.resize_and_sync.ensures
