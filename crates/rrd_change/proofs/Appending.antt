@@ -8,7 +8,7 @@ use Rattle.rrd_change.specs.Changes.{Change, IsRight, change_bytes, change_size,
 use Rattle.rrd_change.specs.Laws.{ChangesTell, Fill, HaveByte, IsLogged, Leads, Makes, TouchByte, chain_end, first_of}
 use Rattle.rrd_change.specs.Settled.{log_mark}
 use Rattle.rrd_change.specs.Spans.{AgreesOutside, AreSpans, IsIn, change_of}
-use Rattle.rrd_change.specs.States.{Follows, IsBroken, IsDatabase, IsLogOf, IsOpen, RepresentsEither, Tells}
+use Rattle.rrd_change.specs.States.{Follows, IsBroken, IsDatabase, IsLogOf, IsOpen, Represents, RepresentsEither, Tells}
 use Rattle.rrd_change.specs.Views.{All, Fails, World}
 use Rattle.rrd_change.specs.declared.log.Log as logs
 use Rattle.rrd_change.specs.declared.span.Span.{Span}
@@ -196,3 +196,9 @@ log_unbroken now new log w h =
     let to : (x : List ℕ) → IsOpen h.old log.tail h.changes x → RepresentsEither now new x =
     λ x is. inl (inr (inr (record { old = h.old; tail = log.tail; changes = h.changes; logged = is.logged; leads = h.follows.leads }))) in
     record { held = to w.held h.world.held; leave = λ c left told. to c (h.world.leave c left); keep = λ c kept told. to c (h.world.keep c kept) }
+
+pub either_broken : (now new : List ℕ) (w : World) → All (RepresentsEither now new) w → IsBroken now new w
+either_broken now new w a = record { held = a.held; leave = λ c left told. a.leave c left; keep = λ c kept told. a.keep c kept }
+
+pub new_broken : (now new : List ℕ) (w : World) → All (Represents new) w → IsBroken now new w
+new_broken now new w a = record { held = inr a.held; leave = λ c left told. inr (a.leave c left); keep = λ c kept told. inr (a.keep c kept) }

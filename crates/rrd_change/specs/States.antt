@@ -1,5 +1,5 @@
--- Definition: the states of a file while it is changed.
-use Rattle.std.specs.Prelude.{◌≡◌, ◌⊎◌, ℕ, ◌+◌, ◌<◌, ◌≤◌, List, ◌∷◌, ◌++◌, length, take, drop, slice_index, max, replicate, true, ◌-◌, Some}
+-- Definition: the states of a file while it is changed; and, as glue, what its spans are while they are brought into place.
+use Rattle.std.specs.Prelude.{◌≡◌, ◌⊎◌, ℕ, ◌+◌, ◌<◌, ◌≤◌, List, ◌∷◌, ◌++◌, length, take, drop, slice_index, max, replicate, true, ◌-◌, Option, Some, None}
 use Rattle.rrd_change.specs.Bytes.{StandsAt}
 use Rattle.rrd_change.specs.Changes.{Change, are_within, change_bytes, changes_in}
 use Rattle.rrd_change.specs.Laws.{Fill, IsLogged, IsPrepared, IsUnderCut, Leads, TouchByte, chain_end, first_of}
@@ -97,6 +97,11 @@ pub record IsLogOf (now : List ℕ) (log : Log) (w : World) : Type 0 where
   pub changes : List Change
   pub follows : Follows old now changes log
   pub world : All (IsOpen old log.tail changes) w
+
+-- a file that stays open has a log, or a cut mark alone
+abbrev pub IsKept : List ℕ → Option Log → World → Type 0
+IsKept now None w = IsMarked now w
+IsKept now (Some log) w = IsLogOf now log w
 
 -- ---- bringing into place
 

@@ -10,10 +10,12 @@ mod creation;
 mod encoding;
 pub mod laws;
 mod log;
+mod opened;
 mod span;
 mod writing;
 
 pub use calls::{Bytes, Syncs};
 pub use creation::create;
 pub use log::{Base, DATABASE_MARK, Log, begin, mark, replace, unmark};
+pub use opened::change;
 pub use span::Span;

@@ -1,5 +1,5 @@
 //! The log of a file that is changed.
-ghost use Rattle.std.specs.Prelude.{◌≡◌, ◌+◌, ◌-◌, ◌++◌, ◌∷◌, [], ◌≤◌, ◌<◌, ℕ, List, length, IfOk, OnOk, replicate, slice_range, IsTrue};
+ghost use Rattle.std.specs.Prelude.{◌≡◌, ◌+◌, ◌-◌, ◌++◌, ◌∷◌, [], ◌≤◌, ◌<◌, ℕ, List, length, IfOk, OnOk, replicate, slice_range, IsTrue, ◌↔◌};
 ghost use Rattle.rrd_change.specs.Changes.{Change, change_bytes};
 ghost use Rattle.rrd_change.specs.Laws.{Leads};
 ghost use Rattle.rrd_change.specs.Settled.{cut_mark, log_mark};
@@ -22,6 +22,9 @@ const CUT_MARK: [u8; 4] = [b'R', b'R', b'D', b'C'];
 // The first eight bytes of a file with a log.
 const LOG_WORD: [u8; 8] = [b'R', b'R', b'D', b'L', b'o', b'g', 0, 0];
 
+// The number of changes that a log takes. More of them would make each reader of the file lay more over it.
+const MOST_CHANGES: usize = 16;
+
 // The size of the first change of a log: its head, and one piece of sixteen bytes.
 const BASE_SIZE: usize = 80;
 
@@ -43,6 +46,8 @@ pub struct Log {
     end: usize,
     // The spans that the changes write.
     spans: Vec<Span>,
+    // The number of the changes.
+    changes: usize,
 }
 
 // Returns the mark of a file with a log that begins at byte `tail`.
@@ -170,7 +175,12 @@ pub fn begin<F: Bytes>(
     let mut spans = Vec::new(alloc);
     spans.extend_from_slice(changed)?;
     let end = commit_first(file, base.length, &bytes, tail, syncs)?;
-    Ok(Log { tail, end, spans })
+    Ok(Log {
+        tail,
+        end,
+        spans,
+        changes: 1,
+    })
 }
 
 // Brings the bytes of these spans into place, except the first sixteen bytes of the file. Then syncs the file.
@@ -220,6 +230,20 @@ impl Log {
 }
 
 impl Log {
+    /// Checks whether a database of this length fits into the file without reaching into the log.
+    pub fn has_room(&self, length: usize) -> bool
+        ensures { IsTrue result ↔ length ≤ self.now.tail }
+    {
+        length <= self.tail
+    }
+
+    /// Checks whether the changes of the log are to be brought into place: there are enough of them.
+    pub fn is_due(&self) -> bool
+        ensures { IsTrue result ↔ 16 ≤ self.now.changes }
+    {
+        MOST_CHANGES <= self.changes
+    }
+
     /// Appends a change to a log: this one write commits it. The file then stands for `new`.
     ///
     /// Each byte of `new` that is in none of the spans `changed` must also be the byte there of the database that the file
@@ -263,6 +287,7 @@ impl Log {
         self.spans.extend_from_slice(changed)?;
         write_and_sync(file, self.end, &bytes, syncs)?;
         self.end = end;
+        self.changes = self.changes.saturating_add(1);
         Ok(())
     }
 }

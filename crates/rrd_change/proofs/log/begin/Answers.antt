@@ -37,7 +37,7 @@ returns g c =
     let are : AreSpans (length new) changed = c.in_ok-bytes.ensures.within in
     let tail_is : c.max-tail.result ≡ max c.args.base.now.length (length new) = c.max-tail.ensures in
     let spans : c.extend_from_slice.new.self.items ≡ changed = c.in_ok-extend_from_slice.ensures.items ∙ ap (λ (xs : List Span). xs ++ changed) c.new-spans.ensures.items in
-    let log : Log = record { tail = c.max-tail.result; end = c.in_ok-end.end; spans = c.extend_from_slice.new.self } in
+    let log : Log = record { tail = c.max-tail.result; end = c.in_ok-end.end; spans = c.extend_from_slice.new.self; changes = 1 } in
     steps_as _ _ _ _ (λ u v s old began agrees marked.
     let made = first_made c.args.base.now old new changed c.max-tail.result c.deref.result.now began is are tail_is (c.deref.ensures.value ∙ c.in_ok-bytes.ensures.ok) in
     record {

@@ -67,7 +67,7 @@ returns g c =
     let few : length bytes < 2 ^ 64 = omega (arith, c.deref.ensures.len, c.push_change.new.buffer.ok.0, ap length same, c.in-Some.ensures) in
     let end : c.in-Some.end ≡ log.end + change_size change =
     omega (arith, c.in-Some.ensures, c.push_change.new.buffer.ok.0, ap length same, ap length spelled, length-change log.tail at change) in
-    let next : Log = record { tail = log.tail; end = c.in-Some.end; spans = c.extend_from_slice.new.self } in
+    let next : Log = record { tail = log.tail; end = c.in-Some.end; spans = c.extend_from_slice.new.self; changes = c.saturating_add-self.result } in
     steps_as (Stores (ArePut at bytes)) _ _ _ (λ u v s now is agrees.
     record {
       old = is.old;
