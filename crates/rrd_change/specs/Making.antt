@@ -1,4 +1,4 @@
--- Definition: a file that is written for the first time.
+-- Definition: a file that is written for the first time; and, as glue, how far it is written.
 use Rattle.std.specs.Prelude.{◌≡◌, ◌⊎◌, ℕ, ◌<◌, ◌≤◌, max, List, [], length, slice_index}
 use Rattle.rrd_change.specs.Views.{All, World}
 

@@ -1,4 +1,4 @@
--- Definition: the change that spans of new bytes make.
+-- Definition: the change that spans of new bytes make; and, as glue, which spans lie within bytes.
 use Rattle.std.specs.Prelude.{◌≡◌, ◌⊎◌, ℕ, ◌<◌, ◌≤◌, List, [], ◌∷◌, length, slice_index, slice_range}
 use Rattle.rrd_change.specs.Changes.{Change, Piece}
 use Rattle.rrd_change.specs.declared.span.Span.{Span}
