@@ -1,0 +1,204 @@
+-- Lemmas on a change that is appended to a log.
+use Rattle.std.proofs.Common.{◌≡◌, ℕ, ◌+◌, ◌^◌, ◌<◌, ◌≤◌, List, [], ◌∷◌, ◌++◌, length, take, get_or, refl, sym, ◌∙◌, ap, subst, arith, inl, inr, ◌⊎◌}
+use Rattle.std.proofs.lemmas.Bool.{cases_lt}
+use Rattle.std.proofs.lemmas.List.{take_all, length-take, get_or-take, take-append-le}
+use Rattle.rrd_change.specs.Bytes.{StandsAt}
+use Rattle.rrd_change.specs.Calls.{AreAny, ArePut, IsCut}
+use Rattle.rrd_change.specs.Changes.{Change, IsRight, change_bytes, change_size, changes_in, last_size}
+use Rattle.rrd_change.specs.Laws.{ChangesTell, Fill, HaveByte, IsLogged, Leads, Makes, TouchByte, chain_end, first_of}
+use Rattle.rrd_change.specs.Settled.{log_mark}
+use Rattle.rrd_change.specs.Spans.{AgreesOutside, AreSpans, IsIn, change_of}
+use Rattle.rrd_change.specs.States.{Follows, IsBroken, IsDatabase, IsLogOf, IsOpen, Represents, RepresentsEither, Tells}
+use Rattle.rrd_change.specs.Views.{All, Fails, World}
+use Rattle.rrd_change.specs.declared.log.Log as logs
+use Rattle.rrd_change.specs.declared.span.Span.{Span}
+use Rattle.rrd_change.proofs.Chains.{chain_all}
+use Rattle.rrd_change.proofs.Laying.{leads_more, leads_size}
+use Rattle.rrd_change.proofs.Logs.{append_cut, append_whole, log_read, torn_counts}
+use Rattle.rrd_change.proofs.Placing.{in_join, in_left, in_right}
+use Rattle.rrd_change.proofs.Reading.{length-change}
+use Rattle.rrd_change.proofs.Spanned.{have_in, in_have, pieces_within, spans_fill, spans_make}
+
+pub end_more : (at : ℕ) (cs : List Change) (c : Change) → chain_end at (cs ++ c ∷ []) ≡ chain_end at cs + change_size c
+end_more at [] c = refl
+end_more at (d ∷ cs) c = end_more (at + change_size d) cs c
+
+-- these bytes are a change at the end of a log
+pub record IsNext (old : List ℕ) (tail : ℕ) (cs : List Change) (c : Change) (at : ℕ) (bytes : List ℕ) : Type 0 where
+  pub right : IsRight tail c
+  pub spelled : bytes ≡ change_bytes tail at c
+  pub here : at ≡ chain_end tail (first_of old ∷ cs)
+
+pub whole_appended : (old : List ℕ) (tail : ℕ) (cs : List Change) (c : Change) (at : ℕ) (bytes x f : List ℕ) → IsNext old tail cs c at bytes → IsOpen old tail cs x → ArePut at bytes x f →
+    IsOpen old tail (cs ++ c ∷ []) f
+whole_appended old tail cs c at bytes x f next is put =
+    let end = chain_end tail (first_of old ∷ cs) in
+    let size : length bytes ≡ change_size c = ap length next.spelled ∙ length-change tail at c in
+    let len : length f ≡ end + change_size c = omega (arith, put.len, next.here, size, is.ends) in
+    let stands : StandsAt f at (change_bytes tail at c) = record {
+      within = omega (arith, put.len, length-change tail at c, size);
+      each = λ i k. put.inside i (omega (arith, k, length-change tail at c, size)) ∙ ap (λ xs. get_or xs i 0) next.spelled;
+    } in
+    let P : ℕ → Type 0 = λ n. StandsAt f n (change_bytes tail n c) in
+    record {
+      logged = append_whole old tail cs c x f is.logged next.right (λ k low high. put.outside k (inl (omega (arith, high, next.here)))) (subst P next.here stands) len;
+      ends = len ∙ sym (end_more tail (first_of old ∷ cs) c);
+    }
+
+part_appended : (old : List ℕ) (tail : ℕ) (cs : List Change) (c : Change) (at n : ℕ) (bytes x f : List ℕ) → IsNext old tail cs c at bytes → IsOpen old tail cs x → n < length bytes →
+    ArePut at (take n bytes) x f → IsLogged old tail cs f
+part_appended old tail cs c at n bytes x f next is few put =
+    let end = chain_end tail (first_of old ∷ cs) in
+    let size : length bytes ≡ change_size c = ap length next.spelled ∙ length-change tail at c in
+    let took : length (take n bytes) ≡ n = omega (arith, length-take n bytes, few) in
+    let front : (i : ℕ) → at + i < length f → get_or f (at + i) 0 ≡ get_or (change_bytes tail at c) i 0 = λ i k.
+    let low : i < n = omega (arith, k, put.len, took, is.ends, next.here) in
+    put.inside i (omega (arith, low, took)) ∙ get_or-take n bytes i 0 low ∙ ap (λ xs. get_or xs i 0) next.spelled in
+    let P : ℕ → Type 0 = λ m. (i : ℕ) → m + i < length f → get_or f (m + i) 0 ≡ get_or (change_bytes tail m c) i 0 in
+    append_cut old tail cs c x f is.logged next.right (λ k low high. put.outside k (inl (omega (arith, high, next.here)))) (omega (arith, put.len, is.ends))
+    (omega (arith, put.len, took, few, size, is.ends, next.here)) (subst P next.here front)
+
+-- an append that was cut short: the change is in the log, or not
+pub cut_appended : (old : List ℕ) (tail : ℕ) (cs : List Change) (c : Change) (at : ℕ) (bytes x f : List ℕ) → IsNext old tail cs c at bytes → IsOpen old tail cs x → IsCut at bytes x f →
+    IsLogged old tail cs f ⊎ IsLogged old tail (cs ++ c ∷ []) f
+cut_appended old tail cs c at bytes x f next is cut =
+    let front = cut.front (omega (arith, is.ends, next.here)) in
+    let n = front.0 in
+    elim (cases_lt 0 n) [
+      | inr none ↦ let P : List ℕ → Type 0 = λ xs. IsLogged old tail cs xs in inl (subst P (sym (front.2.none (omega (arith, none)))) is.logged)
+      | inl some ↦ elim (cases_lt n (length bytes)) [
+        | inl few ↦ inl (part_appended old tail cs c at n bytes x f next is few (front.2.some some))
+        | inr all ↦
+            let Q : List ℕ → Type 0 = λ xs. ArePut at xs x f in
+            inr (whole_appended old tail cs c at bytes x f next is (subst Q (take_all n bytes all) (front.2.some some))).logged
+      ]
+    ]
+
+-- ---- what is known in memory
+
+touch_join : (k : ℕ) (cs : List Change) (c : Change) → TouchByte k (cs ++ c ∷ []) → TouchByte k cs ⊎ HaveByte k c.pieces
+touch_join k [] c (inl h) = inr h
+touch_join k [] c (inr h) = absurd h
+touch_join k (d ∷ cs) c (inl h) = inl (inl h)
+touch_join k (d ∷ cs) c (inr h) = elim (touch_join k cs c h) [
+  | inl front ↦ inl (inr front)
+  | inr back ↦ inr back
+]
+
+touch_left : (k : ℕ) (cs : List Change) (c : Change) → TouchByte k cs → TouchByte k (cs ++ c ∷ [])
+touch_left k [] c h = absurd h
+touch_left k (d ∷ cs) c (inl h) = inl h
+touch_left k (d ∷ cs) c (inr h) = inr (touch_left k cs c h)
+
+touch_right : (k : ℕ) (cs : List Change) (c : Change) → HaveByte k c.pieces → TouchByte k (cs ++ c ∷ [])
+touch_right k [] c h = inl h
+touch_right k (d ∷ cs) c h = inr (touch_right k cs c h)
+
+fill_more : (size : ℕ) (cs : List Change) (c : Change) → Fill size cs → ((k : ℕ) → last_size size cs ≤ k → k < c.size → HaveByte k c.pieces) → Fill size (cs ++ c ∷ [])
+fill_more size [] c h more = (more, tt)
+fill_more size (d ∷ cs) c h more = (h.0, fill_more d.size cs c h.1 more)
+
+pub follows_more : (old now new : List ℕ) (cs : List Change) (log next : logs.Log) (changed : List Span) → Follows old now cs log → IsDatabase new → AreSpans (length new) changed →
+    AgreesOutside changed now new → length new ≤ log.tail → next.tail ≡ log.tail → next.end ≡ log.end + change_size (change_of (length new) new changed) →
+    next.spans.items ≡ log.spans.items ++ changed → Follows old new (cs ++ change_of (length new) new changed ∷ []) next
+follows_more old now new cs log next changed h is are agrees below tail end spans =
+    let c = change_of (length new) new changed in
+    let P : List Span → Type 0 = λ xs. (k : ℕ) → TouchByte k (cs ++ c ∷ []) → IsIn k xs in
+    let Q : List Span → Type 0 = λ xs. (k : ℕ) → IsIn k xs → TouchByte k (cs ++ c ∷ []) in
+    record {
+      is = is;
+      leads = leads_more old cs c now new h.leads (spans_make changed now new are agrees);
+      fill = fill_more (length old) cs c h.fill (λ k high low. spans_fill changed now new k are agrees (omega (arith, high, leads_size old cs now h.leads)) low);
+      below = omega (arith, below, tail);
+      ends = end ∙ ap (λ n. n + change_size c) h.ends ∙ sym (end_more log.tail (first_of old ∷ cs) c) ∙ ap (λ n. chain_end n (first_of old ∷ (cs ++ c ∷ []))) (sym tail);
+      each = subst P (sym spans) (λ k touched. elim (touch_join k cs c touched) [
+        | inl front ↦ in_left k log.spans.items changed (h.each k front)
+        | inr back ↦ in_right k log.spans.items changed (have_in new changed k are back)
+      ]);
+      only = subst Q (sym spans) (λ k is_in. elim (in_join k log.spans.items changed is_in) [
+        | inl front ↦ touch_left k cs c (h.only k front)
+        | inr back ↦ touch_right k cs c (in_have new changed k are back)
+      ]);
+    }
+
+-- ---- failures of the power
+
+-- the first of these changes are the first of more
+first_of_more : (xs : List Change) (c : Change) (n : ℕ) → (m : ℕ) × (take n xs ≡ take m (xs ++ c ∷ []))
+first_of_more xs c n = elim (cases_lt n (length xs)) [
+  | inl low ↦ (n, sym (take-append-le n xs (c ∷ []) (omega (arith, low))))
+  | inr all ↦ (length xs, take_all n xs all ∙ sym (take_all (length xs) xs (omega arith)) ∙ sym (take-append-le (length xs) xs (c ∷ []) (omega arith)))
+]
+
+pub logged_all : (old : List ℕ) (tail : ℕ) (cs : List Change) (f : List ℕ) → IsLogged old tail cs f → changes_in tail f ≡ first_of old ∷ cs
+logged_all old tail cs f h = chain_all tail f (first_of old ∷ cs) h.log.chain h.log.begun
+
+-- whatever the disk has of a change that is appended, the change is in the log or not
+pub torn_appended : (old : List ℕ) (tail : ℕ) (cs : List Change) (c : Change) (at count : ℕ) (x f held : List ℕ) → IsOpen old tail cs x → at ≡ chain_end tail (first_of old ∷ cs) →
+    AreAny at count x f → IsLogged old tail cs held ⊎ IsLogged old tail (cs ++ c ∷ []) held → Tells held f → IsLogged old tail cs f ⊎ IsLogged old tail (cs ++ c ∷ []) f
+torn_appended old tail cs c at count x f held is here a either tells =
+    let all = first_of old ∷ cs in
+    let log = is.logged.log in
+    let begun = log.begun in
+    let room = log.room in
+    let low : tail ≤ at = omega (arith, is.ends, here, begun) in
+    let marked : StandsAt f 0 (log_mark tail) = record {
+      within = omega (arith, a.longer, log.marked.within);
+      each = λ i k. a.outside (0 + i) (inl (omega (arith, k, low, room))) ∙ log.marked.each i k;
+    } in
+    let told = tells tail (log_read tail f log.fits marked) in
+    let tell : ChangesTell tail (all ++ c ∷ []) f = elim either [
+      | inl same ↦ let more = first_of_more all c told.0 in (more.0, told.1 ∙ ap (λ xs. take told.0 xs) (logged_all old tail cs held same) ∙ more.1)
+      | inr one ↦ (told.0, told.1 ∙ ap (λ xs. take told.0 xs) (logged_all old tail (cs ++ c ∷ []) held one))
+    ] in
+    torn_counts old tail cs c x f is.logged (λ k from to. a.outside k (inl (omega (arith, to, here)))) (omega (arith, a.longer, is.ends)) tell
+
+pub either_represents : (old now new : List ℕ) (tail : ℕ) (cs : List Change) (c : Change) (f : List ℕ) → Leads old cs now → Makes c now new →
+    IsLogged old tail cs f ⊎ IsLogged old tail (cs ++ c ∷ []) f → RepresentsEither now new f
+either_represents old now new tail cs c f leads makes (inl same) = inl (inr (inr (record { old = old; tail = tail; changes = cs; logged = same; leads = leads })))
+either_represents old now new tail cs c f leads makes (inr one) =
+    inr (inr (inr (record { old = old; tail = tail; changes = cs ++ c ∷ []; logged = one; leads = leads_more old cs c now new leads makes })))
+
+-- ---- an append
+
+pub next_made : (old now new : List ℕ) (cs : List Change) (log : logs.Log) (changed : List Span) (bytes : List ℕ) → Follows old now cs log → IsDatabase new → AreSpans (length new) changed →
+    length new ≤ log.tail → bytes ≡ change_bytes log.tail log.end (change_of (length new) new changed) → log.tail < 2 ^ 64 → length bytes < 2 ^ 64 →
+    IsNext old log.tail cs (change_of (length new) new changed) log.end bytes
+next_made old now new cs log changed bytes h is are below spelled fits few =
+    let c = change_of (length new) new changed in
+    let size : length bytes ≡ change_size c = ap length spelled ∙ length-change log.tail log.end c in
+    record {
+      right = record { fits = fits; body_fits = omega (arith, size, few); enough = is.enough; below = below; pieces = pieces_within new changed are };
+      spelled = spelled;
+      here = h.ends;
+    }
+
+pub append_failed : (old now new : List ℕ) (tail at : ℕ) (cs : List Change) (c : Change) (bytes : List ℕ) (u v : World) → IsNext old tail cs c at bytes → Leads old cs now → Makes c now new →
+    All (IsOpen old tail cs) u → Fails (IsCut at bytes) (AreAny at (length bytes)) u v → IsBroken now new v
+append_failed old now new tail at cs c bytes u v next leads makes all f =
+    let held = cut_appended old tail cs c at bytes u.held v.held next all.held f.held in
+    let to : (x : List ℕ) → IsLogged old tail cs x ⊎ IsLogged old tail (cs ++ c ∷ []) x → RepresentsEither now new x = λ x h. either_represents old now new tail cs c x leads makes h in
+    record {
+      held = to v.held held;
+      leave = λ z left told.
+          let h = f.leave z left in
+          to z (torn_appended old tail cs c at (length bytes) h.0 z v.held (all.leave h.0 h.1) next.here h.2 held told);
+      keep = λ z kept told.
+          let h = f.keep z kept in
+          elim h.1 [
+            | inl (was, cut) ↦ to z (cut_appended old tail cs c at bytes h.0 z next (all.keep h.0 was) cut)
+            | inr (left, any) ↦ to z (torn_appended old tail cs c at (length bytes) h.0 z v.held (all.leave h.0 left) next.here any held told)
+          ];
+    }
+
+pub log_unbroken : (now new : List ℕ) (log : logs.Log) (w : World) → IsLogOf now log w → IsBroken now new w
+log_unbroken now new log w h =
+    let to : (x : List ℕ) → IsOpen h.old log.tail h.changes x → RepresentsEither now new x =
+    λ x is. inl (inr (inr (record { old = h.old; tail = log.tail; changes = h.changes; logged = is.logged; leads = h.follows.leads }))) in
+    record { held = to w.held h.world.held; leave = λ c left told. to c (h.world.leave c left); keep = λ c kept told. to c (h.world.keep c kept) }
+
+pub either_broken : (now new : List ℕ) (w : World) → All (RepresentsEither now new) w → IsBroken now new w
+either_broken now new w a = record { held = a.held; leave = λ c left told. a.leave c left; keep = λ c kept told. a.keep c kept }
+
+pub new_broken : (now new : List ℕ) (w : World) → All (Represents new) w → IsBroken now new w
+new_broken now new w a = record { held = inr a.held; leave = λ c left told. inr (a.leave c left); keep = λ c kept told. inr (a.keep c kept) }

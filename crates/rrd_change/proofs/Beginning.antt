@@ -1,0 +1,193 @@
+-- Lemmas on the beginning of a log.
+use Rattle.std.proofs.Common.{◌≡◌, ℕ, ◌+◌, ◌-◌, ◌^◌, ◌<◌, ◌≤◌, max, true, List, [], ◌∷◌, ◌++◌, length, take, get_or, refl, sym, ◌∙◌, ap, subst, arith, inl, inr, ◌⊎◌, append_assoc}
+use Rattle.std.specs.Prelude.{replicate, nat_le}
+use Rattle.std.proofs.lemmas.Bool.{and_from, le-leb}
+use Rattle.std.proofs.lemmas.List.{append-nil, length-append, length-replicate, length-take, get_or_append_left, get_or-append-add, take_all}
+use Rattle.rrd_change.specs.Bytes.{StandsAt}
+use Rattle.rrd_change.specs.Calls.{AreAny, ArePut, AreWholeOrNot, IsTorn}
+use Rattle.rrd_change.specs.Changes.{Change, IsRight, change_bytes, change_size}
+use Rattle.rrd_change.specs.Laws.{IsUnderCut, Leads, chain_end, first_of}
+use Rattle.rrd_change.specs.Settled.{log_mark}
+use Rattle.rrd_change.specs.Spans.{AgreesOutside, AreSpans, IsIn, change_of}
+use Rattle.rrd_change.specs.States.{Began, Follows, IsDatabase, IsFirst, IsMarked, IsOpen, IsReady, Represents, RepresentsEither, cut_of}
+use Rattle.rrd_change.specs.Views.{All, World}
+use Rattle.rrd_change.specs.declared.log.Base.{Base}
+use Rattle.rrd_change.specs.declared.log.Log.{Log}
+use Rattle.rrd_change.specs.declared.span.Span.{Span}
+use Rattle.rrd_change.proofs.Holding.{all_as}
+use Rattle.rrd_change.proofs.Spanned.{have_in, in_have, pieces_within, spans_fill, spans_make}
+use Rattle.rrd_change.proofs.Logs.{log_begins}
+use Rattle.rrd_change.proofs.Marking.{cut_under, length-cut, put_behind, under_stays}
+use Rattle.rrd_change.proofs.Reading.{change_reads, length-change, past_read}
+use Rattle.rrd_change.proofs.Resumed.{put_any}
+
+-- bytes in the middle of those that were put
+pub put_stands : (at : ℕ) (xs ys zs old new : List ℕ) → ArePut at (xs ++ (ys ++ zs)) old new → StandsAt new (at + length xs) ys
+put_stands at xs ys zs old new p =
+    let size = length-append xs (ys ++ zs) in
+    let rest = length-append ys zs in
+    record {
+      within = omega (arith, p.len, size, rest);
+      each = λ i k.
+          let here : at + length xs + i ≡ at + (length xs + i) = omega arith in
+          ap (λ n. get_or new n 0) here ∙ p.inside (length xs + i) (omega (arith, k, size, rest)) ∙ get_or-append-add xs (ys ++ zs) i 0 ∙ get_or_append_left ys zs 0 i k;
+    }
+
+pub length-first : (old : List ℕ) → 16 ≤ length old → change_size (first_of old) ≡ 80
+length-first old enough =
+    let size : length (take 16 old) ≡ 16 = omega (arith, length-take 16 old, enough) in
+    omega (arith, length-append (take 16 old) [], size)
+
+first_right : (old : List ℕ) (tail : ℕ) → tail < 2 ^ 64 → 16 ≤ length old → length old ≤ tail → IsRight tail (first_of old)
+first_right old tail fits enough below =
+    let size = length-first old enough in
+    let most = length-take 16 old in
+    record {
+      fits = fits;
+      body_fits = omega (arith, size);
+      enough = enough;
+      below = below;
+      pieces = and_from (nat_le (0 + length (take 16 old)) (length old)) true (le-leb (0 + length (take 16 old)) (length old) (omega (arith, most, enough))) refl;
+    }
+
+-- the first two changes are behind the database
+pub ready_put : (old : List ℕ) (tail : ℕ) (c : Change) (at : ℕ) (bytes x f : List ℕ) → IsFirst old tail c at bytes → tail < 2 ^ 64 → length bytes < 2 ^ 64 →
+    x ≡ cut_of old → ArePut at bytes x f → IsReady old tail (c ∷ []) f
+ready_put old tail c at bytes x f h fits few e put =
+    let zeros : List ℕ = replicate (tail - length old) 0 in
+    let first = first_of old in
+    let own = change_bytes tail tail first in
+    let next = change_bytes tail (tail + 80) c in
+    let enough = h.is.enough in
+    let below = h.below in
+    let eighty = length-first old enough in
+    let gap : length zeros ≡ tail - length old = length-replicate (tail - length old) 0 in
+    let own_size = length-change tail tail first in
+    let next_size = length-change tail (tail + 80) c in
+    let all : length bytes ≡ tail - length old + (80 + change_size c) =
+    omega (arith, ap length h.spelled, length-append zeros (own ++ next), length-append own next, gap, own_size, next_size, eighty) in
+    let x_size : length x ≡ length old = ap length e ∙ length-cut old (omega (arith, enough)) in
+    let f_size : length f ≡ tail + 80 + change_size c = omega (arith, put.len, all, x_size, h.behind, below) in
+    let P : List ℕ → Type 0 = λ xs. ArePut at xs x f in
+    let in_order : ArePut at (zeros ++ (own ++ next)) x f = subst P h.spelled put in
+    let Q : ℕ → Type 0 = λ n. StandsAt f n own in
+    let at_tail : StandsAt f tail own = subst Q (omega (arith, gap, h.behind, below)) (put_stands at zeros own next x f in_order) in
+    let regrouped : zeros ++ (own ++ next) ≡ (zeros ++ own) ++ (next ++ []) = sym (append_assoc zeros own next) ∙ ap (λ xs. (zeros ++ own) ++ xs) (sym (append-nil next)) in
+    let R : ℕ → Type 0 = λ n. StandsAt f n next in
+    let second : StandsAt f (tail + 80) next =
+    subst R (omega (arith, length-append zeros own, gap, own_size, eighty, h.behind, below)) (put_stands at (zeros ++ own) next [] x f (subst P regrouped in_order)) in
+    let S : ℕ → Type 0 = λ n. StandsAt f (tail + n) (change_bytes tail (tail + n) c) in
+    let right : IsRight tail c = record { fits = fits; body_fits = omega (arith, all, few); enough = h.enough; below = h.within; pieces = h.pieces } in
+    record {
+      prepared = record {
+        fits = fits;
+        under = under_stays old x f at (length bytes) h.is (cut_under old x h.is e) (omega (arith, h.behind)) (put_any at bytes x f put);
+        enough = enough;
+        below = below;
+        begun = omega (arith, f_size);
+        chain = (
+          change_reads tail tail first f (first_right old tail fits enough below) at_tail,
+          (
+            change_reads tail (tail + change_size first) c f right (subst S (sym eighty) second),
+            past_read tail (tail + change_size first + change_size c) f (omega (arith, f_size, eighty)),
+          ),
+        );
+      };
+      ends = omega (arith, f_size, eighty);
+    }
+
+-- the log mark names the log
+pub open_put : (old : List ℕ) (tail : ℕ) (cs : List Change) (x f : List ℕ) → IsReady old tail cs x → ArePut 0 (log_mark tail) x f → IsOpen old tail cs f
+open_put old tail cs x f ready put =
+    let p = ready.prepared in
+    let begun = p.begun in
+    let len : length f ≡ length x = omega (arith, put.len, begun, p.enough, p.below) in
+    record {
+      logged = log_begins old tail cs x f p len (λ k low high. put_behind (log_mark tail) x f k put low)
+          (record { within = omega (arith, put.len); each = put.inside });
+      ends = len ∙ ready.ends;
+    }
+
+abbrev pub IsReadyOrOpen : List ℕ → ℕ → List Change → List ℕ → Type 0
+IsReadyOrOpen old tail cs f = IsReady old tail cs f ⊎ IsOpen old tail cs f
+
+pub open_or_not : (old : List ℕ) (tail : ℕ) (cs : List Change) (x f : List ℕ) → IsReady old tail cs x → AreWholeOrNot 0 (log_mark tail) x f → IsReadyOrOpen old tail cs f
+open_or_not old tail cs x f ready (inl e) = let P : List ℕ → Type 0 = λ xs. IsReady old tail cs xs in inl (subst P (sym e) ready)
+open_or_not old tail cs x f ready (inr p) = inr (open_put old tail cs x f ready p)
+
+pub open_torn : (old : List ℕ) (tail : ℕ) (cs : List Change) (x f : List ℕ) → IsReady old tail cs x → IsTorn 0 (log_mark tail) x f → IsReadyOrOpen old tail cs f
+open_torn old tail cs x f ready t = open_or_not old tail cs x f ready (t.whole (omega (arith, ready.prepared.begun, ready.prepared.enough, ready.prepared.below)))
+
+-- what such a file stands for
+pub open_stands : (old new : List ℕ) (tail : ℕ) (cs : List Change) (f : List ℕ) → Leads old cs new → IsOpen old tail cs f → Represents new f
+open_stands old new tail cs f leads is = inr (inr (record { old = old; tail = tail; changes = cs; logged = is.logged; leads = leads }))
+
+pub either_stands : (old new : List ℕ) (tail : ℕ) (cs : List Change) (f : List ℕ) → Leads old cs new → IsReadyOrOpen old tail cs f → RepresentsEither old new f
+either_stands old new tail cs f leads (inl ready) = inl (inr (inl ready.prepared.under))
+either_stands old new tail cs f leads (inr is) = inr (open_stands old new tail cs f leads is)
+
+-- what is written behind a marked database changes nothing
+pub behind_stands : (old x f : List ℕ) (at count : ℕ) → IsDatabase old → x ≡ cut_of old → at ≡ length old → AreAny at count x f → IsUnderCut old f
+behind_stands old x f at count is e behind a = under_stays old x f at count is (cut_under old x is e) (omega (arith, behind)) a
+
+-- how a database began, as a change
+pub base_first : (base : Base) (old : List ℕ) → Began base old → change_of base.length base.first (record { start = 0; end = 16 } ∷ []) ≡ first_of old
+base_first base old b =
+    let enough = b.is.enough in
+    let F : ℕ → List ℕ → Change = λ n xs. record { size = n; pieces = record { start = 0; bytes = xs } ∷ [] } in
+    let own : take 16 base.first ≡ take 16 old = ap (λ xs. take 16 xs) b.first ∙ take_all 16 (take 16 old) (omega (arith, length-take 16 old)) in
+    ap (λ n. F n (take 16 base.first)) b.length ∙ ap (λ xs. F (length old) xs) own
+
+-- ---- a change of spans
+
+pub first_length : (old : List ℕ) (tail : ℕ) (c : Change) (at : ℕ) (bytes : List ℕ) → IsFirst old tail c at bytes → at + length bytes ≡ chain_end tail (first_of old ∷ c ∷ [])
+first_length old tail c at bytes h =
+    let zeros : List ℕ = replicate (tail - length old) 0 in
+    let own = change_bytes tail tail (first_of old) in
+    let next = change_bytes tail (tail + 80) c in
+    let gap : length zeros ≡ tail - length old = length-replicate (tail - length old) 0 in
+    let own_size = length-change tail tail (first_of old) in
+    let next_size = length-change tail (tail + 80) c in
+    omega (arith, ap length h.spelled, length-append zeros (own ++ next), length-append own next, gap, own_size, next_size, length-first old h.is.enough, h.behind, h.below)
+
+pub first_made : (base : Base) (old new : List ℕ) (changed : List Span) (tail : ℕ) (bytes : List ℕ) → Began base old → IsDatabase new → AreSpans (length new) changed →
+    tail ≡ max base.length (length new) →
+    bytes ≡ replicate (tail - base.length) 0 ++ (change_bytes tail tail (change_of base.length base.first (record { start = 0; end = 16 } ∷ [])) ++ change_bytes tail (tail + 80) (change_of (length new) new changed)) →
+    IsFirst old tail (change_of (length new) new changed) base.length bytes
+first_made base old new changed tail bytes b is are at_tail e =
+    let next = change_bytes tail (tail + 80) (change_of (length new) new changed) in
+    record {
+      is = b.is;
+      behind = b.length;
+      below = omega (arith, at_tail, b.length);
+      enough = is.enough;
+      within = omega (arith, at_tail);
+      pieces = pieces_within new changed are;
+      spelled = e ∙ ap (λ n. replicate (tail - n) 0 ++ (change_bytes tail tail (change_of base.length base.first (record { start = 0; end = 16 } ∷ [])) ++ next)) b.length
+          ∙ ap (λ x. replicate (tail - length old) 0 ++ (change_bytes tail tail x ++ next)) (base_first base old b);
+    }
+
+pub leads_first : (old new : List ℕ) (changed : List Span) → AreSpans (length new) changed → AgreesOutside changed old new → Leads old (change_of (length new) new changed ∷ []) new
+leads_first old new changed are agrees = (new, spans_make changed old new are agrees, refl)
+
+-- a log of one change
+pub follows_first : (base : Base) (old new : List ℕ) (changed : List Span) (log : Log) (bytes : List ℕ) → IsDatabase new → AreSpans (length new) changed → AgreesOutside changed old new →
+    IsFirst old log.tail (change_of (length new) new changed) base.length bytes → log.end ≡ base.length + length bytes → log.spans.items ≡ changed →
+    Follows old new (change_of (length new) new changed ∷ []) log
+follows_first base old new changed log bytes is are agrees h ends spans =
+    let P : ℕ → List Span → Type 0 = λ k xs. IsIn k xs in
+    record {
+      is = is;
+      leads = leads_first old new changed are agrees;
+      fill = (λ k high low. spans_fill changed old new k are agrees high low, tt);
+      below = h.within;
+      ends = ends ∙ first_length old log.tail (change_of (length new) new changed) base.length bytes h;
+      each = λ k touched. elim touched [
+        | inl has ↦ subst (P k) (sym spans) (have_in new changed k are has)
+        | inr none ↦ absurd none
+      ];
+      only = λ k is_in. inl (in_have new changed k are (subst (P k) spans is_in));
+    }
+
+pub marked_stands : (old new : List ℕ) (w : World) → IsMarked old w → All (RepresentsEither old new) w
+marked_stands old new w m = all_as (λ f. f ≡ cut_of old) (RepresentsEither old new) w (λ f e. inl (inr (inl (cut_under old f m.is e)))) m.world

@@ -1,0 +1,83 @@
+-- Lemmas on a file that is written for the first time.
+use Rattle.std.proofs.Common.{◌≡◌, ℕ, ◌+◌, ◌-◌, ◌<◌, ◌≤◌, max, List, [], length, take, drop, get_or, refl, sym, ◌∙◌, ap, arith, inl, inr}
+use Rattle.std.proofs.lemmas.Bool.{cases_lt}
+use Rattle.std.proofs.lemmas.List.{length-take, length-drop, get_or-take, get_or-drop, ext_get_or}
+use Rattle.rrd_change.specs.Calls.{AreAny, ArePut, AreWholeOrNot, IsSized, IsSizedOrNot, IsTorn}
+use Rattle.rrd_change.specs.Making.{IsMadeTo, IsUnmade, StaysFirst}
+use Rattle.rrd_change.specs.States.{IsDatabase}
+use Rattle.rrd_change.proofs.Marking.{put_behind, put_front}
+
+pub made_none : (new old : List ℕ) → IsMadeTo 16 new old old
+made_none new old = record { len = λ enough. omega (arith, enough); made = λ k high low. absurd (omega (arith, high, low)); first = λ k low. refl }
+
+pub first_then : (old mid file : List ℕ) → StaysFirst old mid → StaysFirst mid file → StaysFirst old file
+first_then old mid file a b k low = b k low ∙ a k low
+
+pub any_first : (at count : ℕ) (old file : List ℕ) → 16 ≤ at → AreAny at count old file → StaysFirst old file
+any_first at count old file high a k low = a.outside k (inl (omega (arith, low, high)))
+
+pub made_more : (at end : ℕ) (new old mid file : List ℕ) → 16 ≤ at → at ≤ end → end ≤ length new → IsMadeTo at new old mid → ArePut at (take (end - at) (drop at new)) mid file → IsMadeTo end new old file
+made_more at end new old mid file high ordered few was put =
+    let size : length (take (end - at) (drop at new)) ≡ end - at = omega (arith, length-take (end - at) (drop at new), length-drop at new, few) in
+    record {
+      len = λ enough. omega (arith, put.len, size, was.len enough, ordered);
+      made = λ k from to. elim (cases_lt k at) [
+        | inl before ↦ put.outside k (inl before) ∙ was.made k from before
+        | inr behind ↦
+            let here : at + (k - at) ≡ k = omega (arith, behind) in
+            ap (λ n. get_or file n 0) (sym here) ∙ put.inside (k - at) (omega (arith, behind, to, size)) ∙ get_or-take (end - at) (drop at new) (k - at) 0 (omega (arith, behind, to))
+            ∙ get_or-drop at new (k - at) 0 ∙ ap (λ n. get_or new n 0) here
+      ];
+      first = λ k low. put.outside k (inl (omega (arith, low, high))) ∙ was.first k low;
+    }
+
+-- ---- the steps
+
+-- sixteen zeros, or what follows them
+pub record IsBegun (file : List ℕ) : Type 0 where
+  pub len : length file ≡ 16
+  pub zero_first : get_or file 0 0 ≡ 0
+
+pub begun_sized : (x f : List ℕ) → x ≡ [] → IsSized 16 x f → IsBegun f
+begun_sized x f e s = record { len = s.len; zero_first = s.below 0 (omega arith) ∙ ap (λ xs. get_or xs 0 0) e }
+
+pub unmade_sized : (new x f : List ℕ) → x ≡ [] → IsSizedOrNot 16 x f → IsUnmade new f
+unmade_sized new x f e (inl same) = inl (ap (λ xs. get_or xs 0 0) (same ∙ e))
+unmade_sized new x f e (inr s) = inl (begun_sized x f e s).zero_first
+
+pub unmade_first : (new x f : List ℕ) → IsBegun x → StaysFirst x f → IsUnmade new f
+unmade_first new x f b s = inl (s 0 (omega arith) ∙ b.zero_first)
+
+-- all but the first sixteen bytes
+pub record IsBehind (new file : List ℕ) : Type 0 where
+  pub len : length file ≡ length new
+  pub made : (k : ℕ) → 16 ≤ k → k < length new → get_or file k 0 ≡ get_or new k 0
+  pub zero_first : get_or file 0 0 ≡ 0
+
+pub behind_made : (new x f : List ℕ) → IsDatabase new → IsBegun x → IsMadeTo (length new) new x f → IsBehind new f
+behind_made new x f is b m = record { len = omega (arith, m.len (omega (arith, b.len)), b.len, is.enough); made = m.made; zero_first = m.first 0 (omega arith) ∙ b.zero_first }
+
+pub made_whole : (new x f : List ℕ) → IsDatabase new → IsBehind new x → ArePut 0 (take 16 new) x f → f ≡ new
+made_whole new x f is b put =
+    let enough = is.enough in
+    let size : length (take 16 new) ≡ 16 = omega (arith, length-take 16 new, enough) in
+    ext_get_or 0 f new (omega (arith, put.len, size, b.len, enough))
+    (λ k low. elim (cases_lt k 16) [
+      | inl front ↦ put_front (take 16 new) x f k put (omega (arith, size, front)) ∙ get_or-take 16 new k 0 front
+      | inr behind ↦ put_behind (take 16 new) x f k put (omega (arith, size, behind)) ∙ b.made k behind (omega (arith, low, put.len, size, b.len, enough))
+    ])
+
+pub whole_or_behind : (new x f : List ℕ) → IsDatabase new → IsBehind new x → AreWholeOrNot 0 (take 16 new) x f → IsUnmade new f
+whole_or_behind new x f is b (inl same) = inl (ap (λ xs. get_or xs 0 0) same ∙ b.zero_first)
+whole_or_behind new x f is b (inr put) = inr (made_whole new x f is b put)
+
+pub torn_or_behind : (new x f : List ℕ) → IsDatabase new → IsBehind new x → IsTorn 0 (take 16 new) x f → IsUnmade new f
+torn_or_behind new x f is b t = whole_or_behind new x f is b (t.whole (omega (arith, length-take 16 new, b.len, is.enough)))
+
+-- up to the end, or up to the sixteenth byte of fewer
+pub made_end : (at end : ℕ) (new old file : List ℕ) → 16 ≤ at → end ≤ at → at ≤ max 16 end → IsMadeTo at new old file → IsMadeTo end new old file
+made_end at end new old file high over few m = record {
+  len = λ enough. omega (arith, m.len enough, over, few, enough);
+  made = λ k from to. m.made k from (omega (arith, to, over));
+  first = m.first;
+}

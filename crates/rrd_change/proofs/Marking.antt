@@ -1,0 +1,136 @@
+-- Lemmas on the marks of a file.
+use Rattle.std.proofs.Common.{◌≡◌, ℕ, ◌+◌, ◌-◌, ◌<◌, ◌≤◌, List, length, drop, get_or, refl, sym, ◌∙◌, ap, subst, arith, inl, inr, zero-add}
+use Rattle.std.proofs.lemmas.Bool.{cases_lt}
+use Rattle.std.proofs.lemmas.List.{length-append, length-drop, get_or-drop, get_or_append_left, get_or-append_right, ext_get_or}
+use Rattle.rrd_change.specs.Calls.{AreAny, ArePut, AreWholeOrNot, IsTorn}
+use Rattle.rrd_change.specs.Laws.{IsUnderCut}
+use Rattle.rrd_change.specs.Settled.{cut_mark, database_mark}
+use Rattle.rrd_change.specs.States.{IsAtRest, IsDatabase, IsMarked, IsPlain, Represents, cut_of}
+use Rattle.rrd_change.specs.Views.{All, Fails, FailsToWriteWhole, Stores, World, WritesWhole}
+use Rattle.rrd_change.proofs.Holding.{fails_all, held_all, moves_all, stores_all}
+
+pub length-cut : (bytes : List ℕ) → 4 ≤ length bytes → length (cut_of bytes) ≡ length bytes
+length-cut bytes enough = omega (arith, length-append cut_mark (drop 4 bytes), length-drop 4 bytes, enough)
+
+pub cut_front : (bytes : List ℕ) (k : ℕ) → k < 4 → get_or (cut_of bytes) k 0 ≡ get_or cut_mark k 0
+cut_front bytes k low = get_or_append_left cut_mark (drop 4 bytes) 0 k low
+
+pub cut_each : (bytes : List ℕ) (k : ℕ) → 4 ≤ k → get_or (cut_of bytes) k 0 ≡ get_or bytes k 0
+cut_each bytes k high =
+    let here : 4 + (k - 4) ≡ k = omega (arith, high) in
+    get_or-append_right cut_mark (drop 4 bytes) 4 k 0 refl high ∙ get_or-drop 4 bytes (k - 4) 0 ∙ ap (λ n. get_or bytes n 0) here
+
+-- bytes that were put at the start
+pub put_front : (mark old new : List ℕ) (k : ℕ) → ArePut 0 mark old new → k < length mark → get_or new k 0 ≡ get_or mark k 0
+put_front mark old new k p low = ap (λ n. get_or new n 0) (sym (zero-add k)) ∙ p.inside k low
+
+pub put_behind : (mark old new : List ℕ) (k : ℕ) → ArePut 0 mark old new → length mark ≤ k → get_or new k 0 ≡ get_or old k 0
+put_behind mark old new k p high = p.outside k (inr (omega (arith, high)))
+
+plain_length : (bytes file : List ℕ) → 4 ≤ length bytes → IsPlain bytes file → length file ≡ length bytes
+plain_length bytes file enough (inl e) = ap length e
+plain_length bytes file enough (inr e) = ap length e ∙ length-cut bytes enough
+
+plain_each : (bytes file : List ℕ) (k : ℕ) → 4 ≤ k → IsPlain bytes file → get_or file k 0 ≡ get_or bytes k 0
+plain_each bytes file k high (inl e) = ap (λ xs. get_or xs k 0) e
+plain_each bytes file k high (inr e) = ap (λ xs. get_or xs k 0) e ∙ cut_each bytes k high
+
+pub is_cut_of : (bytes file : List ℕ) → 4 ≤ length bytes → length file ≡ length bytes → ((k : ℕ) → k < 4 → get_or file k 0 ≡ get_or cut_mark k 0) →
+    ((k : ℕ) → 4 ≤ k → get_or file k 0 ≡ get_or bytes k 0) → file ≡ cut_of bytes
+is_cut_of bytes file enough len front behind = ext_get_or 0 file (cut_of bytes) (len ∙ sym (length-cut bytes enough))
+    (λ k low. elim (cases_lt k 4) [
+      | inl first ↦ front k first ∙ sym (cut_front bytes k first)
+      | inr later ↦ behind k later ∙ sym (cut_each bytes k later)
+    ])
+
+pub cut_put : (bytes old new : List ℕ) → IsDatabase bytes → IsPlain bytes old → ArePut 0 cut_mark old new → new ≡ cut_of bytes
+cut_put bytes old new is plain p =
+    let enough = is.enough in
+    let size = plain_length bytes old (omega (arith, enough)) plain in
+    is_cut_of bytes new (omega (arith, enough)) (omega (arith, p.len, size, enough)) (λ k low. put_front cut_mark old new k p low)
+    (λ k high. put_behind cut_mark old new k p high ∙ plain_each bytes old k high plain)
+
+pub uncut_put : (bytes old new : List ℕ) → IsDatabase bytes → old ≡ cut_of bytes → ArePut 0 database_mark old new → new ≡ bytes
+uncut_put bytes old new is e p =
+    let enough = is.enough in
+    let size = plain_length bytes old (omega (arith, enough)) (inr e) in
+    ext_get_or 0 new bytes (omega (arith, p.len, size, enough))
+    (λ k low. elim (cases_lt k 4) [
+      | inl first ↦ put_front database_mark old new k p first ∙ sym (is.begins.each k first) ∙ ap (λ n. get_or bytes n 0) (zero-add k)
+      | inr later ↦ put_behind database_mark old new k p later ∙ plain_each bytes old k later (inr e)
+    ])
+
+-- ---- marking a database
+
+pub marked : (bytes : List ℕ) (u v : World) → Stores (ArePut 0 cut_mark) u v → IsAtRest bytes u → IsMarked bytes v
+marked bytes u v s rest = record {
+  is = rest.is;
+  world = stores_all (IsPlain bytes) (λ c. c ≡ cut_of bytes) (ArePut 0 cut_mark) u v (λ x y plain p. cut_put bytes x y rest.is plain p) s (held_all bytes (IsPlain bytes) u (inl refl) rest.world);
+}
+
+cut_or_not : (bytes x y : List ℕ) → IsDatabase bytes → IsPlain bytes x → AreWholeOrNot 0 cut_mark x y → IsPlain bytes y
+cut_or_not bytes x y is plain (inl e) = let P : List ℕ → Type 0 = λ xs. IsPlain bytes xs in subst P (sym e) plain
+cut_or_not bytes x y is plain (inr p) = inr (cut_put bytes x y is plain p)
+
+pub not_marked : (bytes : List ℕ) (u v : World) → Fails (AreWholeOrNot 0 cut_mark) (IsTorn 0 cut_mark) u v → IsAtRest bytes u → All (IsPlain bytes) v
+not_marked bytes u v f rest =
+    let is = rest.is in
+    let enough = is.enough in
+    fails_all (IsPlain bytes) (IsPlain bytes) (AreWholeOrNot 0 cut_mark) (IsTorn 0 cut_mark) u v (λ x y plain p. cut_or_not bytes x y is plain p)
+    (λ x y plain t. cut_or_not bytes x y is plain (t.whole (omega (arith, plain_length bytes x (omega (arith, enough)) plain, enough)))) f (held_all bytes (IsPlain bytes) u (inl refl) rest.world)
+
+-- ---- removing the mark
+
+uncut_or_not : (bytes x y : List ℕ) → IsDatabase bytes → x ≡ cut_of bytes → AreWholeOrNot 0 database_mark x y → IsPlain bytes y
+uncut_or_not bytes x y is e (inl same) = inr (same ∙ e)
+uncut_or_not bytes x y is e (inr p) = inl (uncut_put bytes x y is e p)
+
+uncut_torn : (bytes x y : List ℕ) → IsDatabase bytes → x ≡ cut_of bytes → IsTorn 0 database_mark x y → IsPlain bytes y
+uncut_torn bytes x y is e t =
+    let enough = is.enough in
+    uncut_or_not bytes x y is e (t.whole (omega (arith, plain_length bytes x (omega (arith, enough)) (inr e), enough)))
+
+pub unmarked : (bytes : List ℕ) (u v : World) → WritesWhole 0 database_mark u v → IsMarked bytes u → IsAtRest bytes v
+unmarked bytes u v m was = record {
+  is = was.is;
+  world = record {
+    held = uncut_put bytes u.held v.held was.is was.world.held m.held;
+    leave = λ z left. let h = m.leave z left in uncut_torn bytes h.0 z was.is (was.world.leave h.0 h.1) h.2;
+    keep = λ z kept. let h = m.keep z kept in inl (uncut_put bytes h.0 z was.is (was.world.keep h.0 h.1) h.2);
+  };
+}
+
+pub not_unmarked : (bytes : List ℕ) (u v : World) → FailsToWriteWhole 0 database_mark u v → IsMarked bytes u → All (IsPlain bytes) v
+not_unmarked bytes u v m was = moves_all (λ c. c ≡ cut_of bytes) (IsPlain bytes) (AreWholeOrNot 0 database_mark) (IsTorn 0 database_mark) u v
+    (λ x y e p. uncut_or_not bytes x y was.is e p) (λ x y e t. uncut_torn bytes x y was.is e t) m was.world
+
+-- ---- a file with a cut mark
+
+pub cut_under : (bytes file : List ℕ) → IsDatabase bytes → file ≡ cut_of bytes → IsUnderCut bytes file
+cut_under bytes file is e =
+    let enough = is.enough in
+    let size = plain_length bytes file (omega (arith, enough)) (inr e) in
+    record {
+      begins = is.begins;
+      marked = record { within = omega (arith, size, enough); each = λ i k. ap (λ n. get_or file n 0) (zero-add i) ∙ ap (λ xs. get_or xs i 0) e ∙ cut_front bytes i k };
+      reaches = omega (arith, size);
+      same = λ k low high. plain_each bytes file k low (inr e);
+    }
+
+-- what follows the database may be anything
+pub under_stays : (bytes old new : List ℕ) (at count : ℕ) → IsDatabase bytes → IsUnderCut bytes old → length bytes ≤ at → AreAny at count old new → IsUnderCut bytes new
+under_stays bytes old new at count is h behind a =
+    let enough = is.enough in
+    record {
+      begins = h.begins;
+      marked = record {
+        within = omega (arith, h.marked.within, a.longer);
+        each = λ i k. a.outside (0 + i) (inl (omega (arith, k, enough, behind))) ∙ h.marked.each i k;
+      };
+      reaches = omega (arith, h.reaches, a.longer);
+      same = λ k low high. a.outside k (inl (omega (arith, high, behind))) ∙ h.same k low high;
+    }
+
+pub plain_represents : (bytes file : List ℕ) → IsDatabase bytes → IsPlain bytes file → Represents bytes file
+plain_represents bytes file is (inl e) = inl e
+plain_represents bytes file is (inr e) = inr (inl (cut_under bytes file is e))

@@ -1,0 +1,57 @@
+-- Lemmas on bytes that are appended piece by piece, and on the pieces of a change.
+use Rattle.std.proofs.Common.{◌≡◌, ℕ, suc, ◌+◌, ◌<◌, ◌≤◌, List, [], ◌∷◌, ◌++◌, length, take, get_or, refl, sym, ◌∙◌, ap, subst, arith, append_assoc}
+use Rattle.std.specs.Int.{w64, to_be_bytes}
+use Rattle.std.specs.List.{flat_map}
+use Rattle.std.proofs.Math.Seq.{take-suc}
+use Rattle.std.proofs.lemmas.Grind.{flat_map-append}
+use Rattle.std.proofs.lemmas.List.{append-nil}
+use Rattle.rrd_change.specs.Changes.{Change, body_bytes, change_bytes, change_front, change_head, change_sum, piece_bytes}
+use Rattle.rrd_change.specs.Spans.{AreSpans, piece_of, pieces_of}
+use Rattle.rrd_change.specs.declared.span.Span.{Span}
+
+pub three : (a b c d x y z : List ℕ) → x ≡ a ++ b → y ≡ x ++ c → z ≡ y ++ d → z ≡ a ++ (b ++ (c ++ d))
+three a b c d x y z e f g =
+    g ∙ ap (λ xs. xs ++ d) f ∙ ap (λ xs. (xs ++ c) ++ d) e ∙ append_assoc (a ++ b) c d ∙ append_assoc a b (c ++ d)
+
+pub spans_more : (spans : List Span) (n : ℕ) (none : Span) → n < length spans → take (n + 1) spans ≡ take n spans ++ get_or spans n none ∷ []
+spans_more spans n none low = let e : n + 1 ≡ suc n = omega arith in ap (λ m. take m spans) e ∙ take-suc spans n none low
+
+pieces_join : (bytes : List ℕ) (xs : List Span) (s : Span) → pieces_of bytes (xs ++ s ∷ []) ≡ pieces_of bytes xs ++ piece_of bytes s ∷ []
+pieces_join bytes [] s = refl
+pieces_join bytes (x ∷ xs) s = ap (λ ps. piece_of bytes x ∷ ps) (pieces_join bytes xs s)
+
+within_join : (count : ℕ) (xs : List Span) (s : Span) → AreSpans count xs → s.start ≤ s.end → s.end ≤ count → AreSpans count (xs ++ s ∷ [])
+within_join count [] s h low few = ((low, few), tt)
+within_join count (x ∷ xs) s h low few = (h.0, within_join count xs s h.1 low few)
+
+-- one more piece
+pub pushed_more : (bytes first buffer new : List ℕ) (spans : List Span) (n : ℕ) (none : Span) → n < length spans →
+    buffer ≡ first ++ flat_map piece_bytes (pieces_of bytes (take n spans)) → new ≡ buffer ++ piece_bytes (piece_of bytes (get_or spans n none)) →
+    new ≡ first ++ flat_map piece_bytes (pieces_of bytes (take (n + 1) spans))
+pushed_more bytes first buffer new spans n none low was more =
+    let s = get_or spans n none in
+    let before = flat_map piece_bytes (pieces_of bytes (take n spans)) in
+    let last : flat_map piece_bytes (piece_of bytes s ∷ []) ≡ piece_bytes (piece_of bytes s) = append-nil (piece_bytes (piece_of bytes s)) in
+    let all : flat_map piece_bytes (pieces_of bytes (take (n + 1) spans)) ≡ before ++ piece_bytes (piece_of bytes s) =
+    ap (λ xs. flat_map piece_bytes (pieces_of bytes xs)) (spans_more spans n none low) ∙ ap (λ ps. flat_map piece_bytes ps) (pieces_join bytes (take n spans) s)
+    ∙ flat_map-append piece_bytes (pieces_of bytes (take n spans)) (piece_of bytes s ∷ []) ∙ ap (λ ys. before ++ ys) last in
+    more ∙ ap (λ ys. ys ++ piece_bytes (piece_of bytes s)) was ∙ append_assoc first before (piece_bytes (piece_of bytes s)) ∙ ap (λ ys. first ++ ys) (sym all)
+
+pub within_more : (count : ℕ) (spans : List Span) (n : ℕ) (none : Span) → n < length spans → AreSpans count (take n spans) →
+    (get_or spans n none).start ≤ (get_or spans n none).end → (get_or spans n none).end ≤ count → AreSpans count (take (n + 1) spans)
+within_more count spans n none low h ordered few =
+    let P : List Span → Type 0 = λ xs. AreSpans count xs in
+    subst P (sym (spans_more spans n none low)) (within_join count (take n spans) (get_or spans n none) h ordered few)
+
+pub length-pieces : (bytes : List ℕ) (spans : List Span) → length (pieces_of bytes spans) ≡ length spans
+length-pieces bytes [] = refl
+length-pieces bytes (s ∷ spans) = ap (λ n. suc n) (length-pieces bytes spans)
+
+-- the head and the body make a change
+pub change_pushed : (tail at : ℕ) (c : Change) (buffer front sum body new : List ℕ) → front ≡ change_front tail at c → sum ≡ to_be_bytes w64 (change_sum tail at c) → body ≡ body_bytes c →
+    new ≡ buffer ++ (front ++ (sum ++ body)) → new ≡ buffer ++ change_bytes tail at c
+unfolding change_head
+change_pushed tail at c buffer front sum body new front_is sum_is body_is all =
+    all ∙ ap (λ xs. buffer ++ (xs ++ (sum ++ body))) front_is ∙ ap (λ xs. buffer ++ (change_front tail at c ++ (xs ++ body))) sum_is
+    ∙ ap (λ xs. buffer ++ (change_front tail at c ++ (to_be_bytes w64 (change_sum tail at c) ++ xs))) body_is
+    ∙ ap (λ xs. buffer ++ xs) (sym (append_assoc (change_front tail at c) (to_be_bytes w64 (change_sum tail at c)) (body_bytes c)))

@@ -1,0 +1,134 @@
+-- Lemmas on bringing the changes of a log into place.
+use Rattle.std.proofs.Common.{◌≡◌, ℕ, ◌+◌, ◌-◌, ◌<◌, ◌≤◌, List, ◌++◌, length, drop, get_or, refl, sym, ◌∙◌, ap, subst, arith, inl, inr, ◌⊎◌, zero-add}
+use Rattle.std.specs.List.{slice_range}
+use Rattle.std.proofs.lemmas.Bool.{cases_lt}
+use Rattle.std.proofs.lemmas.List.{length-append, length-take, length-drop, get_or-take, get_or-drop, get_or_append_left, get_or-append_right, get_or_past}
+use Rattle.rrd_change.specs.Calls.{ArePut, AreWholeOrNot, IsSized, IsSizedOrNot, IsTorn}
+use Rattle.rrd_change.specs.Changes.{Change}
+use Rattle.rrd_change.specs.Laws.{IsUnderCut}
+use Rattle.rrd_change.specs.Settled.{cut_mark}
+use Rattle.rrd_change.specs.States.{AreAnyIn, ArePutIn, Follows, IsDatabase, IsInPlace, IsLogOf, IsOpen, Represents, cut_of}
+use Rattle.rrd_change.specs.Views.{All, World}
+use Rattle.rrd_change.specs.declared.log.Log.{Log}
+use Rattle.rrd_change.proofs.Beginning.{open_stands}
+use Rattle.rrd_change.proofs.Holding.{all_as}
+use Rattle.rrd_change.proofs.Laying.{touched_said}
+use Rattle.rrd_change.proofs.Logs.{others_in_place, write_keeps}
+use Rattle.rrd_change.proofs.Marking.{is_cut_of, put_behind, put_front}
+
+-- whatever became of the bytes of the spans, the log stays
+pub open_any : (old now : List ℕ) (cs : List Change) (log : Log) (x f : List ℕ) → Follows old now cs log → IsOpen old log.tail cs x → AreAnyIn log.spans.items now x f →
+    IsOpen old log.tail cs f
+open_any old now cs log x f follows is a =
+    let begun = is.logged.log.begun in
+    let below = follows.below in
+    let len : length f ≡ length x = omega (arith, a.longer, a.bound, begun, below) in
+    let stays : (k : ℕ) → (k < 16) ⊎ (length now ≤ k) → get_or f k 0 ≡ get_or x k 0 = λ k far. elim (a.same k) [
+      | inl same ↦ same
+      | inr there ↦ elim far [
+        | inl before ↦ absurd (omega (arith, there.0, before))
+        | inr behind ↦ absurd (omega (arith, there.1, behind))
+      ]
+    ] in
+    record {
+      logged = write_keeps old log.tail cs x f is.logged len (λ k low high. stays k (inl high)) (λ k low high. stays k (inr (omega (arith, low, below))))
+          (λ k low high. elim (a.same k) [
+            | inl same ↦ inl same
+            | inr there ↦ inr (touched_said cs k (follows.only k there.2))
+          ]);
+      ends = len ∙ is.ends;
+    }
+
+-- a file with a log whose changes are in place
+pub record IsPlaced (old now : List ℕ) (cs : List Change) (log : Log) (f : List ℕ) : Type 0 where
+  pub is : IsOpen old log.tail cs f
+  pub placed : IsInPlace now f
+
+pub placed_put : (old now : List ℕ) (cs : List Change) (log : Log) (x f : List ℕ) → Follows old now cs log → IsOpen old log.tail cs x → ArePutIn log.spans.items now x f →
+    IsPlaced old now cs log f
+placed_put old now cs log x f follows is p =
+    let after = open_any old now cs log x f follows is (record { longer = p.longer; bound = p.bound; same = p.same }) in
+    record {
+      is = after;
+      placed = λ k high low. elim (others_in_place old now log.tail cs f after.logged follows.leads follows.fill k high low) [
+        | inl touched ↦ p.put k high low (follows.each k touched)
+        | inr same ↦ same
+      ];
+    }
+
+-- ---- the first bytes
+
+abbrev pub cut_front_of : List ℕ → List ℕ
+cut_front_of new = cut_mark ++ slice_range new 4 16
+
+pub length-front : (new : List ℕ) → 16 ≤ length new → length (cut_front_of new) ≡ 16
+length-front new enough = omega (arith, length-append cut_mark (slice_range new 4 16), length-take 12 (drop 4 new), length-drop 4 new, enough)
+
+front_first : (new : List ℕ) (k : ℕ) → k < 4 → get_or (cut_front_of new) k 0 ≡ get_or cut_mark k 0
+front_first new k low = get_or_append_left cut_mark (slice_range new 4 16) 0 k low
+
+front_rest : (new : List ℕ) (k : ℕ) → 4 ≤ k → k < 16 → get_or (cut_front_of new) k 0 ≡ get_or new k 0
+front_rest new k high low =
+    let here : 4 + (k - 4) ≡ k = omega (arith, high) in
+    get_or-append_right cut_mark (slice_range new 4 16) 4 k 0 refl high ∙ get_or-take 12 (drop 4 new) (k - 4) 0 (omega (arith, high, low)) ∙ get_or-drop 4 new (k - 4) 0
+    ∙ ap (λ n. get_or new n 0) here
+
+pub cut_placed : (now x f : List ℕ) → IsDatabase now → length now ≤ length x → IsInPlace now x → ArePut 0 (cut_front_of now) x f → IsUnderCut now f
+cut_placed now x f is reach placed put =
+    let enough = is.enough in
+    let size = length-front now enough in
+    record {
+      begins = is.begins;
+      marked = record {
+        within = omega (arith, put.len, size);
+        each = λ i k. ap (λ n. get_or f n 0) (zero-add i) ∙ put_front (cut_front_of now) x f i put (omega (arith, k, size)) ∙ front_first now i k;
+      };
+      reaches = omega (arith, put.len, reach);
+      same = λ k low high. elim (cases_lt k 16) [
+        | inl front ↦ put_front (cut_front_of now) x f k put (omega (arith, front, size)) ∙ front_rest now k low front
+        | inr behind ↦ put_behind (cut_front_of now) x f k put (omega (arith, behind, size)) ∙ placed k behind high
+      ];
+    }
+
+pub cut_or_placed : (old now : List ℕ) (cs : List Change) (log : Log) (x f : List ℕ) → Follows old now cs log → IsPlaced old now cs log x → AreWholeOrNot 0 (cut_front_of now) x f →
+    Represents now f
+cut_or_placed old now cs log x f follows p (inl e) =
+    let P : List ℕ → Type 0 = λ xs. Represents now xs in
+    subst P (sym e) (open_stands old now log.tail cs x follows.leads p.is)
+cut_or_placed old now cs log x f follows p (inr put) =
+    inr (inl (cut_placed now x f follows.is (omega (arith, p.is.logged.log.begun, follows.below)) p.placed put))
+
+pub cut_torn : (old now : List ℕ) (cs : List Change) (log : Log) (x f : List ℕ) → Follows old now cs log → IsPlaced old now cs log x → IsTorn 0 (cut_front_of now) x f → Represents now f
+cut_torn old now cs log x f follows p t =
+    cut_or_placed old now cs log x f follows p
+    (t.whole (omega (arith, length-front now follows.is.enough, p.is.logged.log.begun, follows.below, follows.is.enough)))
+
+-- ---- the length
+
+pub sized_stands : (now x f : List ℕ) → IsUnderCut now x → IsSizedOrNot (length now) x f → IsUnderCut now f
+sized_stands now x f under (inl e) = let P : List ℕ → Type 0 = λ xs. IsUnderCut now xs in subst P (sym e) under
+sized_stands now x f under (inr s) = record {
+  begins = under.begins;
+  marked = record {
+    within = omega (arith, s.len, under.begins.within);
+    each = λ i k. s.below (0 + i) (omega (arith, k, under.begins.within)) ∙ under.marked.each i k;
+  };
+  reaches = omega (arith, s.len);
+  same = λ k low high. s.below k high ∙ under.same k low high;
+}
+
+pub cut_sized : (now x f : List ℕ) → IsDatabase now → IsUnderCut now x → IsSized (length now) x f → f ≡ cut_of now
+cut_sized now x f is under s =
+    let enough = is.enough in
+    is_cut_of now f (omega (arith, enough)) s.len
+    (λ k low. s.below k (omega (arith, low, enough)) ∙ ap (λ n. get_or x n 0) (sym (zero-add k)) ∙ under.marked.each k low)
+    (λ k high. elim (cases_lt k (length now)) [
+      | inl within ↦ s.below k within ∙ under.same k high within
+      | inr past ↦ get_or_past f k 0 (omega (arith, s.len, past)) ∙ sym (get_or_past now k 0 past)
+    ])
+
+pub log_stands_all : (now : List ℕ) (log : Log) (w : World) → IsLogOf now log w → All (Represents now) w
+log_stands_all now log w h = all_as (IsOpen h.old log.tail h.changes) (Represents now) w (λ f is. open_stands h.old now log.tail h.changes f h.follows.leads is) h.world
+
+pub reach_placed : (old now : List ℕ) (cs : List Change) (log : Log) (x : List ℕ) → Follows old now cs log → IsPlaced old now cs log x → length now ≤ length x
+reach_placed old now cs log x follows p = omega (arith, p.is.logged.log.begun, follows.below)

@@ -1,0 +1,69 @@
+-- Lemmas on the change that spans of new bytes make.
+use Rattle.std.proofs.Common.{◌≡◌, ℕ, ◌+◌, ◌-◌, ◌<◌, ◌≤◌, Bool, true, false, cond, List, [], ◌∷◌, length, drop, get_or, refl, sym, ◌∙◌, ap, arith, inl, inr, ◌&&◌}
+use Rattle.std.specs.Prelude.{nat_le, nat_lt}
+use Rattle.std.proofs.lemmas.Bool.{and_from, and_parts, le-leb, leb-true, ltb-true}
+use Rattle.std.proofs.lemmas.List.{length-take, length-drop, get_or-take, get_or-drop}
+use Rattle.rrd_change.specs.Changes.{all_laid, are_within, laid}
+use Rattle.rrd_change.specs.Laws.{HaveByte, Makes}
+use Rattle.rrd_change.specs.Spans.{AgreesOutside, AreSpans, IsIn, change_of, piece_of, pieces_of}
+use Rattle.rrd_change.specs.declared.span.Span.{Span}
+use Rattle.rrd_change.proofs.Laying.{changed_inside, pieces_say}
+
+length-piece : (bytes : List ℕ) (s : Span) → s.start ≤ s.end → s.end ≤ length bytes → length (piece_of bytes s).bytes ≡ s.end - s.start
+length-piece bytes s ordered few = omega (arith, length-take (s.end - s.start) (drop s.start bytes), length-drop s.start bytes, ordered, few)
+
+pub pieces_within : (bytes : List ℕ) (spans : List Span) → AreSpans (length bytes) spans → are_within (length bytes) (pieces_of bytes spans) ≡ true
+pieces_within bytes [] h = refl
+pieces_within bytes (s ∷ spans) h =
+    let size = length-piece bytes s h.0.0 h.0.1 in
+    and_from (nat_le (s.start + length (piece_of bytes s).bytes) (length bytes)) (are_within (length bytes) (pieces_of bytes spans))
+    (le-leb (s.start + length (piece_of bytes s).bytes) (length bytes) (omega (arith, size, h.0.0, h.0.1))) (pieces_within bytes spans h.1)
+
+pub have_in : (bytes : List ℕ) (spans : List Span) (k : ℕ) → AreSpans (length bytes) spans → HaveByte k (pieces_of bytes spans) → IsIn k spans
+have_in bytes [] k h has = has
+have_in bytes (s ∷ spans) k h (inl has) = inl (has.0, omega (arith, has.1, length-piece bytes s h.0.0 h.0.1, h.0.0))
+have_in bytes (s ∷ spans) k h (inr has) = inr (have_in bytes spans k h.1 has)
+
+pub in_have : (bytes : List ℕ) (spans : List Span) (k : ℕ) → AreSpans (length bytes) spans → IsIn k spans → HaveByte k (pieces_of bytes spans)
+in_have bytes [] k h is = is
+in_have bytes (s ∷ spans) k h (inl is) = inl (is.0, omega (arith, is.1, length-piece bytes s h.0.0 h.0.1, h.0.0))
+in_have bytes (s ∷ spans) k h (inr is) = inr (in_have bytes spans k h.1 is)
+
+-- a piece puts the new byte, or leaves the byte
+piece_keeps : (bytes : List ℕ) (s : Span) (k : ℕ) (b : Bool) → s.start ≤ s.end → s.end ≤ length bytes →
+    (nat_le s.start k && nat_lt k (s.start + length (piece_of bytes s).bytes)) ≡ b → laid (piece_of bytes s) k (get_or bytes k 0) ≡ get_or bytes k 0
+piece_keeps bytes s k false ordered few e = ap (λ t. cond t (get_or (piece_of bytes s).bytes (k - s.start) 0) (get_or bytes k 0)) e
+piece_keeps bytes s k true ordered few e =
+    let both = and_parts (nat_le s.start k) (nat_lt k (s.start + length (piece_of bytes s).bytes)) e in
+    let low = leb-true s.start k both.0 in
+    let high = ltb-true k (s.start + length (piece_of bytes s).bytes) both.1 in
+    let size = length-piece bytes s ordered few in
+    let here : s.start + (k - s.start) ≡ k = omega (arith, low) in
+    ap (λ t. cond t (get_or (piece_of bytes s).bytes (k - s.start) 0) (get_or bytes k 0)) e
+    ∙ get_or-take (s.end - s.start) (drop s.start bytes) (k - s.start) 0 (omega (arith, low, high, size)) ∙ get_or-drop s.start bytes (k - s.start) 0 ∙ ap (λ n. get_or bytes n 0) here
+
+pieces_keep : (bytes : List ℕ) (spans : List Span) (k : ℕ) → AreSpans (length bytes) spans → all_laid (pieces_of bytes spans) k (get_or bytes k 0) ≡ get_or bytes k 0
+pieces_keep bytes [] k h = refl
+pieces_keep bytes (s ∷ spans) k h =
+    ap (λ b. all_laid (pieces_of bytes spans) k b)
+    (piece_keeps bytes s k (nat_le s.start k && nat_lt k (s.start + length (piece_of bytes s).bytes)) h.0.0 h.0.1 refl) ∙ pieces_keep bytes spans k h.1
+
+-- the spans make the new bytes of the old ones
+pub spans_make : (spans : List Span) (old new : List ℕ) → AreSpans (length new) spans → AgreesOutside spans old new → Makes (change_of (length new) new spans) old new
+spans_make spans old new are agrees = record {
+  size = refl;
+  each = λ k low.
+      changed_inside (change_of (length new) new spans) k (get_or old k 0) low
+      ∙ elim (agrees.each k low) [
+        | inl is ↦ pieces_say k (pieces_of new spans) (in_have new spans k are is) (get_or old k 0) (get_or new k 0) ∙ pieces_keep new spans k are
+        | inr (_, same) ↦ ap (λ b. all_laid (pieces_of new spans) k b) (sym same) ∙ pieces_keep new spans k are
+      ];
+}
+
+-- the bytes that come are in the spans
+pub spans_fill : (spans : List Span) (old new : List ℕ) (k : ℕ) → AreSpans (length new) spans → AgreesOutside spans old new → length old ≤ k → k < length new →
+    HaveByte k (pieces_of new spans)
+spans_fill spans old new k are agrees high low = elim (agrees.each k low) [
+  | inl is ↦ in_have new spans k are is
+  | inr (within, _) ↦ absurd (omega (arith, within, high))
+]

@@ -1,0 +1,86 @@
+use Rattle.std.proofs.Common.{rules, ◌≡◌, ◌<◌, ◌≤◌, ◌+◌, ◌^◌, ◌++◌, ◌∙◌, ap, ℕ, List, [], ◌∷◌, length, arith, refl}
+use Rattle.rrd_change.specs.Calls.{AreAny, ArePut, IsCut}
+use Rattle.rrd_change.specs.Changes.{change_bytes, change_size}
+use Rattle.rrd_change.specs.Spans.{AreSpans, change_of}
+use Rattle.rrd_change.specs.States.{IsDatabase, IsOpen}
+use Rattle.rrd_change.specs.Views.{Fails, Stores}
+use Rattle.rrd_change.specs.declared.log.Log.{Log}
+use Rattle.rrd_change.proofs.Appending.{append_failed, follows_more, log_unbroken, next_made, whole_appended}
+use Rattle.rrd_change.proofs.Holding.{stores_all}
+use Rattle.rrd_change.proofs.Reading.{length-change}
+use Rattle.rrd_change.proofs.Spanned.{spans_make}
+use Rattle.rrd_change.proofs.Stepping.{failed, nothing, steps_as}
+use Rattle.rrd_change.proofs.log.Log.append.Goals as goal
+
+pub returns-then-not-is_database : goal.returns-then-not-is_database
+returns-then-not-is_database g c = nothing _ _ (λ w now is agrees. log_unbroken now c.args.new.now c.args.self.now w is)
+
+pub returns-then-self-new : goal.returns-then-self-new
+returns-then-self-new g c = nothing _ _ (λ w now is agrees. log_unbroken now c.args.new.now c.args.self.now w is)
+
+pub returns-in_err-push_change : goal.returns-in_err-push_change
+returns-in_err-push_change g c =
+    failed _ _ c.from_residual.result _ _ c.from_residual.ensures.0 (nothing _ _ (λ w now is agrees. log_unbroken now c.args.new.now c.args.self.now w is))
+
+pub returns-in_default : goal.returns-in_default
+returns-in_default g c = nothing _ _ (λ w now is agrees. log_unbroken now c.args.new.now c.args.self.now w is)
+
+pub returns-in_err-extend_from_slice : goal.returns-in_err-extend_from_slice
+returns-in_err-extend_from_slice g c =
+    failed _ _ c.from_residual-in_err-extend_from_slice.result _ _ c.from_residual-in_err-extend_from_slice.ensures.0
+    (nothing _ _ (λ w now is agrees. log_unbroken now c.args.new.now c.args.self.now w is))
+
+pub returns-in_err-write_and_sync : goal.returns-in_err-write_and_sync
+returns-in_err-write_and_sync g c =
+    let new = c.args.new.now in
+    let changed = c.args.changed.now in
+    let log = c.args.self.now in
+    let at = log.end in
+    let bytes : List ℕ = c.deref.result.now in
+    let is_new : IsDatabase new = c.is_database.ensures (search rules) in
+    let are : AreSpans (length new) changed = c.in_ok-push_change.ensures.within in
+    let below : length new ≤ log.tail = c.if-self-new.false in
+    let same = c.deref.ensures.value in
+    let spelled : bytes ≡ change_bytes log.tail at (change_of (length new) new changed) =
+    same ∙ c.in_ok-push_change.ensures.ok ∙ ap (λ xs. xs ++ change_bytes log.tail at (change_of (length new) new changed)) c.new-bytes.ensures.items in
+    let few : length bytes < 2 ^ 64 = omega (arith, c.deref.ensures.len, c.push_change.new.buffer.ok.0, ap length same, c.in-Some.ensures) in
+    failed _ _ c.from_residual-in_err-write_and_sync.result _ _ c.from_residual-in_err-write_and_sync.ensures.0
+    (steps_as (Fails (IsCut at bytes) (AreAny at (length bytes))) _ _ _ (λ u v f now is agrees.
+    append_failed is.old now new log.tail at is.changes (change_of (length new) new changed) bytes u v
+    (next_made is.old now new is.changes log changed bytes is.follows is_new are below spelled is.world.held.logged.log.fits few) is.follows.leads
+    (spans_make changed now new are agrees) is.world f) c.in_err-write_and_sync.ensures)
+
+pub returns : goal.returns
+returns g c =
+    let new = c.args.new.now in
+    let changed = c.args.changed.now in
+    let log = c.args.self.now in
+    let at = log.end in
+    let bytes : List ℕ = c.deref.result.now in
+    let change = change_of (length new) new changed in
+    let is_new : IsDatabase new = c.is_database.ensures (search rules) in
+    let are : AreSpans (length new) changed = c.in_ok-push_change.ensures.within in
+    let below : length new ≤ log.tail = c.if-self-new.false in
+    let same = c.deref.ensures.value in
+    let spelled : bytes ≡ change_bytes log.tail at change =
+    same ∙ c.in_ok-push_change.ensures.ok ∙ ap (λ xs. xs ++ change_bytes log.tail at change) c.new-bytes.ensures.items in
+    let few : length bytes < 2 ^ 64 = omega (arith, c.deref.ensures.len, c.push_change.new.buffer.ok.0, ap length same, c.in-Some.ensures) in
+    let end : c.in-Some.end ≡ log.end + change_size change =
+    omega (arith, c.in-Some.ensures, c.push_change.new.buffer.ok.0, ap length same, ap length spelled, length-change log.tail at change) in
+    let next : Log = record { tail = log.tail; end = c.in-Some.end; spans = c.extend_from_slice.new.self; changes = c.saturating_add-self.result } in
+    steps_as (Stores (ArePut at bytes)) _ _ _ (λ u v s now is agrees.
+    record {
+      old = is.old;
+      changes = is.changes ++ change ∷ [];
+      follows = follows_more is.old now new is.changes log next changed is.follows is_new are agrees below refl end c.in_ok-extend_from_slice.ensures.items;
+      world = stores_all (IsOpen is.old log.tail is.changes) (IsOpen is.old log.tail (is.changes ++ change ∷ [])) (ArePut at bytes) u v
+          (λ x y is_open put. whole_appended is.old log.tail is.changes change at bytes x y
+          (next_made is.old now new is.changes log changed bytes is.follows is_new are below spelled is.world.held.logged.log.fits few) is_open put) s is.world;
+    }) c.in_ok-write_and_sync.ensures
+
+pub write_and_sync-requires-clause-some : goal.write_and_sync-requires-clause-some
+write_and_sync-requires-clause-some g c =
+    let log = c.args.self.now in
+    let change = change_of (length c.args.new.now) c.args.new.now c.args.changed.now in
+    let spelled = c.in_ok-push_change.ensures.ok ∙ ap (λ xs. xs ++ change_bytes log.tail log.end change) c.new-bytes.ensures.items in
+    omega (arith, ap length c.deref.ensures.value, ap length spelled, length-change log.tail log.end change)

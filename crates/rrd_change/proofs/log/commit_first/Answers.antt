@@ -1,0 +1,58 @@
+use Rattle.std.proofs.Common.{◌≡◌, ◌<◌, ◌^◌, ℕ, List, [], ◌∷◌, length, arith, inl, inr, subst}
+use Rattle.rrd_change.specs.Calls.{AreAny, ArePut, AreWholeOrNot, IsCut, IsTorn}
+use Rattle.rrd_change.specs.Settled.{log_mark}
+use Rattle.rrd_change.specs.States.{IsOpen, IsReady, RepresentsEither, cut_of}
+use Rattle.rrd_change.specs.Views.{Fails, Steps, Stores, seen}
+use Rattle.rrd_change.proofs.Beginning.{IsReadyOrOpen, behind_stands, either_stands, open_or_not, open_put, open_torn, ready_put}
+use Rattle.rrd_change.proofs.Holding.{all_as, fails_all, stores_all}
+use Rattle.rrd_change.proofs.Marking.{cut_under}
+use Rattle.rrd_change.proofs.Stepping.{failed, nothing, steps_as, steps_then}
+use Rattle.rrd_change.proofs.log.commit_first.Goals as goal
+
+pub returns-in_default-clause-does : goal.returns-in_default-clause-does
+returns-in_default-clause-does g c =
+    nothing _ _ (λ w old new x first leads marked. all_as (λ f. f ≡ cut_of old) (RepresentsEither old new) w (λ f e. inl (inr (inl (cut_under old f marked.is e)))) marked.world)
+
+pub returns-in_err-write_and_sync-clause-does : goal.returns-in_err-write_and_sync-clause-does
+returns-in_err-write_and_sync-clause-does g c =
+    let at = c.args.at in
+    let bytes = c.args.bytes.now in
+    failed _ _ c.from_residual.result _ _ c.from_residual.ensures.0
+    (steps_as (Fails (IsCut at bytes) (AreAny at (length bytes))) _ _ _ (λ u v s old new x first leads marked.
+    fails_all (λ f. f ≡ cut_of old) (RepresentsEither old new) (IsCut at bytes) (AreAny at (length bytes)) u v
+    (λ y f e cut. inl (inr (inl (behind_stands old y f at (length bytes) marked.is e first.behind cut.any))))
+    (λ y f e any. inl (inr (inl (behind_stands old y f at (length bytes) marked.is e first.behind any)))) s marked.world) c.in_err-write_and_sync.ensures)
+
+pub returns-in_err-mark_and_sync-clause-does : goal.returns-in_err-mark_and_sync-clause-does
+returns-in_err-mark_and_sync-clause-does g c =
+    let at = c.args.at in
+    let bytes = c.args.bytes.now in
+    let tail = c.args.tail in
+    let syncs = c.args.syncs in
+    let few : length bytes < 2 ^ 64 = omega (arith, c.in-Some.ensures) in
+    let mid = seen syncs (g.F.Bytes.view c.write_and_sync.new.file) in
+    let new = seen syncs (g.F.Bytes.view c.mark_and_sync.new.file) in
+    let P : List ℕ → Type 0 = λ m. Steps (Fails (AreWholeOrNot 0 m) (IsTorn 0 m)) mid new in
+    failed _ _ c.from_residual-in_err-mark_and_sync.result _ _ c.from_residual-in_err-mark_and_sync.ensures.0
+    (steps_then (Stores (ArePut at bytes)) (Fails (AreWholeOrNot 0 (log_mark tail)) (IsTorn 0 (log_mark tail))) _ _ mid new (λ u v w s f old now x first leads marked.
+    all_as (IsReadyOrOpen old tail (x ∷ [])) (RepresentsEither old now) w (λ y is. either_stands old now tail (x ∷ []) y leads is)
+    (fails_all (IsReady old tail (x ∷ [])) (IsReadyOrOpen old tail (x ∷ [])) (AreWholeOrNot 0 (log_mark tail)) (IsTorn 0 (log_mark tail)) v w
+    (λ y z ready put. open_or_not old tail (x ∷ []) y z ready put) (λ y z ready torn. open_torn old tail (x ∷ []) y z ready torn) f
+    (stores_all (λ y. y ≡ cut_of old) (IsReady old tail (x ∷ [])) (ArePut at bytes) u v (λ y z e put. ready_put old tail x at bytes y z first c.ranges.tail.fits few e put) s marked.world)))
+    c.in_ok-write_and_sync.ensures (subst P c.log_mark.ensures c.in_err-mark_and_sync.ensures))
+
+pub returns-clause-does : goal.returns-clause-does
+returns-clause-does g c =
+    let at = c.args.at in
+    let bytes = c.args.bytes.now in
+    let tail = c.args.tail in
+    let syncs = c.args.syncs in
+    let few : length bytes < 2 ^ 64 = omega (arith, c.in-Some.ensures) in
+    let mid = seen syncs (g.F.Bytes.view c.write_and_sync.new.file) in
+    let new = seen syncs (g.F.Bytes.view c.mark_and_sync.new.file) in
+    let P : List ℕ → Type 0 = λ m. Steps (Stores (ArePut 0 m)) mid new in
+    steps_then (Stores (ArePut at bytes)) (Stores (ArePut 0 (log_mark tail))) _ _ mid new (λ u v w s f old x first marked.
+    stores_all (IsReady old tail (x ∷ [])) (IsOpen old tail (x ∷ [])) (ArePut 0 (log_mark tail)) v w
+    (λ y z ready put. open_put old tail (x ∷ []) y z ready put) f
+    (stores_all (λ y. y ≡ cut_of old) (IsReady old tail (x ∷ [])) (ArePut at bytes) u v (λ y z e put. ready_put old tail x at bytes y z first c.ranges.tail.fits few e put) s marked.world))
+    c.in_ok-write_and_sync.ensures (subst P c.log_mark.ensures c.in_ok-mark_and_sync.ensures)

@@ -1,0 +1,11 @@
+pub mod Bytes
+pub mod Checksum
+pub mod Changes
+pub mod Settled
+pub mod Laws
+pub mod Calls
+pub mod Views
+pub mod Spans
+pub mod States
+pub mod Outcomes
+pub mod Making

@@ -1,0 +1,21 @@
+//! Changes of a file, which a kill or a power failure at any time leaves out or leaves complete.
+//!
+//! A change is redone and not undone: its new bytes are appended to a log behind the database, and one write, of sixteen
+//! bytes or of the change itself, commits it. Then the bytes are brought into place. No program uses this crate yet.
+#![tactic(auto)]
+
+mod calls;
+mod checksum;
+mod creation;
+mod encoding;
+pub mod laws;
+mod log;
+mod opened;
+mod span;
+mod writing;
+
+pub use calls::{Bytes, Syncs};
+pub use creation::create;
+pub use log::{Base, DATABASE_MARK, Log, begin, mark, replace, unmark};
+pub use opened::change;
+pub use span::Span;
