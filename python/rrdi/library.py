@@ -93,6 +93,7 @@ _OPENING = [_BYTES, _LENGTH, ctypes.c_uint64, ctypes.c_bool, _ADDRESS, _ADDRESS,
 _ON_OPEN = [_ADDRESS, _BYTES, _LENGTH, ctypes.c_uint64, _ADDRESS, _LENGTH]
 _REFUSED = [_ADDRESS, _LENGTH]
 
+
 class CLibrary:
     """librrdi by ctypes.
 
@@ -196,6 +197,7 @@ class CLibrary:
         self.give_back(rooms)
         return found
 
+
 class _OpenedByC:
     """A file that the C library keeps open. A file that nobody uses any longer is closed."""
 
@@ -243,6 +245,7 @@ class _OpenedByC:
         if hasattr(self, "at"):  # otherwise an exception has cut `__init__` short, and no file is open
             self.close()
 
+
 def _needs_room(rooms: _Rooms) -> bool:
     """Enlarges the buffers that were too small for the last call in memory. The caller can then repeat the call."""
     answer = rooms.answer
@@ -253,6 +256,7 @@ def _needs_room(rooms: _Rooms) -> bool:
     return True
 
 # ---- Where the library is
+
 
 def library_path() -> Optional[str]:
     """Returns the path or the name of the library that `import rrdi` uses, or None without a library.
@@ -275,6 +279,7 @@ def library_path() -> Optional[str]:
         return None
     return NAMES[0]
 
+
 def _folders() -> List[str]:
     """Returns folders near this package: in a wheel, an installation (PREFIX/share/rrdi/python), a repository."""
     package = os.path.dirname(os.path.realpath(__file__))
@@ -284,6 +289,7 @@ def _folders() -> List[str]:
         folders.append(os.path.join(os.path.dirname(os.path.dirname(above)), "lib"))
     return folders
 
+
 class _Loaded:
     """The library that all functions of the package call."""
 
@@ -291,6 +297,7 @@ class _Loaded:
         self.library: Optional[Library] = None
 
 _loaded = _Loaded()
+
 
 def load_library(path: Optional[str] = None) -> Library:
     """Loads the library at `path`, or the library that `library_path` finds, for all functions of this package.
@@ -306,9 +313,11 @@ def load_library(path: Optional[str] = None) -> Library:
     _loaded.library = loaded
     return loaded
 
+
 def use_library(library: Optional[Library]) -> None:
     """Sets the library that all functions of this package call; None means the library that `load_library` finds."""
     _loaded.library = library
+
 
 def the_library() -> Library:
     """Returns the library. Loads the library at the first call."""
