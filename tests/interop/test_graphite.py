@@ -287,10 +287,18 @@ class Clusters:
             self.check(False, f"the cluster: {error}: {self.last_lines()}")
 
 
+def is_installed(module: str) -> bool:
+    """Checks whether Python has a module. One that another test has put in its place has no `__spec__`."""
+    try:
+        return importlib.util.find_spec(module) is not None
+    except ValueError:
+        return False
+
+
 @pytest.fixture
 def clusters(folder: Path, library: Path, check: Check) -> Iterator[Clusters]:
     modules = ("carbon", "django", "graphite", "gunicorn", "whisper")
-    if lacking := [name for name in modules if not importlib.util.find_spec(name)]:
+    if lacking := [name for name in modules if not is_installed(name)]:
         pytest.skip(f"{sys.executable} has no {', '.join(lacking)}: {graphite.PACKAGES}")
     rrdi = Cluster(folder / "rrdi", "rrdi", 2, str(library))
     try:

@@ -112,11 +112,14 @@ UNSAFE = {("crates/rrd_disk/src/record.rt", "unsafe impl Send for Record {}"),
           ("library/rrdi_c/src/raw_box.rt.in", "unsafe { Box::from_raw(alloc, address) }")}
 # The proofs by hand, which may say of a value what no check of the code sees.
 BY_HAND = {f"crates/{name}" for name in (
-    "rrd_disk/proofs/record/Record/new/Proof.antt", "rrd_disk/proofs/record/Record/note/Proof.antt",
+    "rrd_disk/proofs/begun/Begun/note/Proof.antt", "rrd_disk/proofs/record/Record/new/Proof.antt",
+    "rrd_disk/proofs/record/Record/note/Proof.antt",
     "rrd_disk/proofs/record/Record/TheSendSync/Send.antt", "rrd_ring/proofs/ring/row_mut/Proof.antt")} | {
     f"library/rrdi_c/proofs/{name}/Proof.antt.in" for name in (
         "handle/Handle/into_raw_box", "handle/Handle/none", "handle/Handle/of", "raw_box/RawBox/from_box",
         "raw_box/RawBox/into_box")}
+# A call of the system, which the record of the calls sees only in the bodies of `Disk for System`.
+SYSTEM_CALL = re.compile(r"\b(?:libc|os)::[a-z]\w*\(")
 
 
 def missing(page: str) -> list[str]:
@@ -152,3 +155,16 @@ def test_trust() -> None:
     lines = {(str(path.relative_to(TOP)), line.strip()) for path in searched for line in path.read_text().splitlines()
              if WAY_AROUND.search(line.replace("#[unsafe(no_mangle)]", ""))}
     assert lines == UNSAFE and "`unsafe impl Send for Record`; and one block in the C library" in text
+    calling = {str(path.relative_to(TOP)) for path in SOURCES if SYSTEM_CALL.search(path.read_text())}
+    assert calling == {"library/rrdi_c/src/system.rt.in"}
+
+
+def test_definitions() -> None:
+    """The page definitions.md names each module that one has to believe."""
+    page = (TOP / "docs/definitions.md").read_text().split("You have to believe that these modules")[1]
+    listed = {(crate, name) for crate, names in re.findall(r"^\| `(\w+)` \| (.*) \|$", page.split("These modules are not")[0], re.M)
+              for name in re.findall(r"\b[A-Z]\w+", names)}
+    heads = {(path.relative_to(TOP).parts[1], path.name.split(".")[0]): path.read_text().split("\n", 1)[0]
+             for folder in ("crates", "library") for path in (TOP / folder).glob("*/specs/**/*.antt*")}
+    defining = {module for module, head in heads.items() if head.startswith("-- Definition")}
+    assert defining <= listed <= set(heads) and len(defining) > 80
