@@ -103,7 +103,7 @@ class FixCase(ToolCase):
         """Sends changes, each as a line of a batch, which is accepted."""
         self.assertEqual(self.rrdi("batch", file, given="".join(change + "\n" for change in changes)), "")
 
-    def made(self, file: str, changes: List[str], *definitions: str, depth: int = 60) -> None:
+    def filled(self, file: str, changes: List[str], *definitions: str, depth: int = 60) -> None:
         self.create(file, "--journal", str(depth), *(definitions or GAUGE))
         self.updated(file, *changes)
 
@@ -131,7 +131,7 @@ class Files(FixCase):
 
     def setUp(self) -> None:
         super().setUp()
-        self.made("f.rrdi", self.CHANGES)
+        self.filled("f.rrdi", self.CHANGES)
 
     def test_a_spike(self) -> None:
         for words, line, said in ((["23"], None, "is taken out; 3 later changes were sent again"),
@@ -139,8 +139,8 @@ class Files(FixCase):
                                   (["1970-01-01 00:00:23", "U"], "update 23:U", "is now 23:U; 3 later changes were sent again"),
                                   (["23", "-7"], "update 23:-7", "is now 23:-7; 3 later changes were sent again")):
             with self.subTest(words=words):
-                self.made("f.rrdi", self.CHANGES)
-                self.made("wanted.rrdi", [one for one in (line if one == "update 23:850" else one for one in self.CHANGES) if one])
+                self.filled("f.rrdi", self.CHANGES)
+                self.filled("wanted.rrdi", [one for one in (line if one == "update 23:850" else one for one in self.CHANGES) if one])
                 self.assertEqual(self.fix("f.rrdi", *words), Ran(0, f"f.rrdi: 23:850 (1970-01-01 00:00:23) {said}\n", ""))
                 self.assertEqual(self.read("f.rrdi"), self.read("wanted.rrdi"))
 
@@ -148,7 +148,7 @@ class Files(FixCase):
         self.assertEqual(self.fix("f.rrdi", "55"), Ran(0, "f.rrdi: 55:U (1970-01-01 00:00:55) is taken out\n", ""))
         self.assertEqual(self.fix("f.rrdi", "10", "4").status, 0)
         self.assertEqual(self.fix("f.rrdi", "31").out.split(";")[1], " 1 later change was sent again\n")
-        self.made("wanted.rrdi", ["update 10:4", "update 23:850", "update 40:3.5"])
+        self.filled("wanted.rrdi", ["update 10:4", "update 23:850", "update 40:3.5"])
         self.assertEqual(self.read("f.rrdi"), self.read("wanted.rrdi"))
 
     def test_the_same_value(self) -> None:
@@ -175,7 +175,7 @@ class Files(FixCase):
         self.assertFalse((self.folder / "none.rrdi").exists())
 
     def test_a_short_journal(self) -> None:
-        self.made("f.rrdi", self.CHANGES, depth=2)
+        self.filled("f.rrdi", self.CHANGES, depth=2)
         self.stays("f.rrdi: 23 (1970-01-01 00:00:23) is out of reach: the journal begins after 31 (1970-01-01 00:00:31), with 2 changes", "23")
         self.assertEqual(self.fix("f.rrdi", "40", "3").status, 0)
 
@@ -192,7 +192,7 @@ class Files(FixCase):
     def test_settings_among_the_changes(self) -> None:
         for change in ("tune --heartbeat g:50", "resize 0 GROW 2", "tune RRA:LAST:0.5:1:3", "tune DELRRA:1"):
             with self.subTest(change=change):
-                self.made("f.rrdi", [*self.CHANGES[:3], change, *self.CHANGES[3:]])
+                self.filled("f.rrdi", [*self.CHANGES[:3], change, *self.CHANGES[3:]])
                 self.stays("f.rrdi: since then came a tune or a resize, at 31 (1970-01-01 00:00:31), which rrdi-fix does not "
                            "repeat; rrdi-show --journal f.rrdi shows it", "23")
                 self.assertEqual(self.fix("f.rrdi", "40").status, 0)
@@ -208,18 +208,18 @@ class Files(FixCase):
         for words, line in ((["20", "2:210"], "update 20:2:210"), (["20", "2", "--source", "a"], "update 20:2:200"),
                             (["--source=b", "20", "U"], "update 20:850:U")):
             with self.subTest(words=words):
-                self.made("f.rrdi", changes, *sources)
-                self.made("wanted.rrdi", [changes[0], line, *changes[2:]], *sources)
+                self.filled("f.rrdi", changes, *sources)
+                self.filled("wanted.rrdi", [changes[0], line, *changes[2:]], *sources)
                 self.assertEqual(self.fix("f.rrdi", *words).err, "")
                 self.assertEqual(self.read("f.rrdi"), self.read("wanted.rrdi"))
-        self.made("f.rrdi", changes, *sources)
+        self.filled("f.rrdi", changes, *sources)
         self.stays("f.rrdi: give 2 values, for the sources a, b, not 1", "20", "2")
         self.stays("f.rrdi: 20:850:2.5: bad value", "20", "2.5", "--source", "b")
 
     def test_updates_of_several_samples(self) -> None:
         """The journal has the last one alone; the others come from the user, and are compared with what the file has."""
         changes = ["update 10:1", "update 20:2 30:850 40:4", "update 50:5 60:6", "update 70:7"]
-        self.made("f.rrdi", changes)
+        self.filled("f.rrdi", changes)
         why = "f.rrdi: the update from {} to {} had more than the sample that the journal shows; give all of its samples by --samples"
         at = "{0} (1970-01-01 00:{1})".format
         self.stays(why.format(at(40, "00:40"), at(60, "01:00")), "30")
@@ -230,8 +230,8 @@ class Files(FixCase):
         self.write("day", "5:9\n10:1\n20:2\n30:850\n40:4\n\n50:5\n60:6\n80:9\n")
         for words, second in ((["30"], "update 20:2 40:4"), (["30", "3"], "update 20:2 30:3 40:4"), (["40"], "update 20:2 30:850")):
             with self.subTest(words=words):
-                self.made("f.rrdi", changes)
-                self.made("wanted.rrdi", [changes[0], second, *changes[2:]])
+                self.filled("f.rrdi", changes)
+                self.filled("wanted.rrdi", [changes[0], second, *changes[2:]])
                 self.assertEqual(self.fix("f.rrdi", *words, "--samples", "day").err, "")
                 self.assertEqual(self.read("f.rrdi"), self.read("wanted.rrdi"))
 
@@ -240,13 +240,13 @@ class Files(FixCase):
         for archives, changes in ((["RRA:MAX:0.5:10:9", "RRA:LAST:0.5:2:9"], ["update 10:1 20:850", "update 30:7 40:6"]),
                                   (["RRA:AVERAGE:0.5:1:2", "RRA:MIN:0.5:5:9"], ["update 20:850", "update 30:7 50:6"])):
             with self.subTest(archives=archives):
-                self.made("f.rrdi", changes, GAUGE[0], *archives)
+                self.filled("f.rrdi", changes, GAUGE[0], *archives)
                 last = int(changes[1].split()[-1].split(":")[0])
                 self.stays("f.rrdi: no archive tells whether the update from 20 (1970-01-01 00:00:20) to "
                            f"{last} (1970-01-01 00:00:{last}) had one sample; give all of its samples by --samples", "20")
                 self.assertEqual(self.fix("f.rrdi", "20", "2", "--samples", "-", given="10:1\n20:850\n30:7\n40:6\n50:6\n"
                                           if last == 40 else "30:7\n50:6\n").err, "")
-                self.made("wanted.rrdi", [changes[0].replace("850", "2"), changes[1]], GAUGE[0], *archives)
+                self.filled("wanted.rrdi", [changes[0].replace("850", "2"), changes[1]], GAUGE[0], *archives)
                 self.assertEqual(self.read("f.rrdi"), self.read("wanted.rrdi"))
 
     def test_a_change_that_is_too_long(self) -> None:
@@ -267,8 +267,8 @@ class Files(FixCase):
     def test_many_changes(self) -> None:
         """More than a pipe takes, unless it is made larger."""
         changes = [f"update {at}:{at % 9}" for at in range(1_000_000, 1_040_000, 10)]
-        self.made("f.rrdi", changes, depth=5_000)
-        self.made("wanted.rrdi", [*changes[:7], *changes[8:]], depth=5_000)
+        self.filled("f.rrdi", changes, depth=5_000)
+        self.filled("wanted.rrdi", [*changes[:7], *changes[8:]], depth=5_000)
         self.assertEqual(self.fix("f.rrdi", "1000070").out,
                          "f.rrdi: 1000070:8 (1970-01-12 13:47:50) is taken out; 3992 later changes were sent again\n")
         self.assertEqual(self.read("f.rrdi"), self.read("wanted.rrdi"))
@@ -291,12 +291,13 @@ class Files(FixCase):
         """The file is changed all the same, and the message says so."""
         said = "f.rrdi: 23:850 (1970-01-01 00:00:23) is taken out; 3 later changes were sent again"
         ran = self.tool("rrdi-fix", "f.rrdi", "23", stdout="/dev/full")
-        self.assertEqual(ran, Ran(1, "", f"rrdi-fix: {said} (standard output did not take this: No space left on device)\n"))
+        why = "standard output did not take this: No space left on device"
+        self.assertEqual(ran, Ran(1, "", f"rrdi-fix: {said} ({why})\n"))
         self.assertEqual(self.fix("f.rrdi", "23").status, 1)
         os.rename(self.folder / "f.rrdi", self.folder / "\xfc.rrdi")
         ran = self.fix("\xfc.rrdi", "31", env={"PYTHONIOENCODING": "ascii"})
         self.assertEqual((ran.status, ran.out, ran.err.count("\n")), (1, "", 1))
-        self.assertIn("\\xfc.rrdi: 31:2 (1970-01-01 00:00:31) is taken out; 2 later changes were sent again (standard", ran.err)
+        self.assertIn("\\xfc.rrdi: 31:2 (1970-01-01 00:00:31) is taken out; 2 later changes were sent again (", ran.err)
 
     def test_closed_streams(self) -> None:
         def ran(words: str) -> Ran:
@@ -304,12 +305,12 @@ class Files(FixCase):
         self.assertEqual(ran("23 --samples - <&-"), Ran(1, "", "rrdi-fix: -: Bad file descriptor\n"))
         self.assertEqual(ran("23 >&-"), Ran(0, "", ""))
         self.assertEqual(ran("24 >&-").err.count("\n"), 1)
-        self.made("wanted.rrdi", [*self.CHANGES[:1], *self.CHANGES[2:]])
+        self.filled("wanted.rrdi", [*self.CHANGES[:1], *self.CHANGES[2:]])
         self.assertEqual(self.read("f.rrdi"), self.read("wanted.rrdi"))
 
     def test_samples_that_are_no_text(self) -> None:
-        ran = self.run_command(["sh", "-c", f"printf '\\377' | {sys.executable} {TOP}/tools/rrdi-fix f.rrdi 23 --samples -"],
-                               env={"PYTHONIOENCODING": "utf-8:strict"})
+        command = f"printf '\\377' | {sys.executable} {TOP}/tools/rrdi-fix f.rrdi 23 --samples -"
+        ran = self.run_command(["sh", "-c", command], env={"PYTHONIOENCODING": "utf-8:strict"})
         self.assertEqual(ran, Ran(1, "", "rrdi-fix: -: line 1 is not TIME:VALUE..: '\ufffd'\n"))
 
 
@@ -372,8 +373,8 @@ class Histories(FixCase):
         others = [one for one in sent[number].samples if one[0] != moment] if new is None else [
             (moment, new) if one[0] == moment else one for one in sent[number].samples]
         history = [*sent[:number], *([Sent(others)] if others else []), *sent[number + 1:]]
-        self.made("f.rrdi", [one.line for one in sent], *definitions, depth=depth)
-        self.made("wanted.rrdi", [one.line for one in history], *definitions, depth=depth)
+        self.filled("f.rrdi", [one.line for one in sent], *definitions, depth=depth)
+        self.filled("wanted.rrdi", [one.line for one in history], *definitions, depth=depth)
         words = [str(moment)] + ([] if new is None else [":".join(new)])
         before = self.read("f.rrdi")
         if chance.random() < 0.7:
@@ -483,9 +484,10 @@ class ReplacedFile(unittest.TestCase):
 
     def test_a_file_that_this_user_may_not_write(self) -> None:
         """The program opens it for reading, so nobody holds the lock of a writer."""
-        with mock.patch.object(holding, "session_at", FakeSession), mock.patch.object(holding, "is_locked", return_value=False):
-            with mock.patch("os.access", return_value=False), self.assertRaisesRegex(Failure, "cannot write: this user may not$"):
-                holding.opened(self.path)
+        with mock.patch.object(holding, "session_at", FakeSession), mock.patch("os.access", return_value=False):
+            with mock.patch.object(holding, "is_locked", return_value=False):
+                with self.assertRaisesRegex(Failure, "cannot write: this user may not$"):
+                    holding.opened(self.path)
 
     def test_after_the_change(self) -> None:
         session = FakeSession(self.path)
