@@ -64,6 +64,7 @@ class Ends(ToolCase):
                 ("raise KeyboardInterrupt", Ran(130, "", "")), ("raise BrokenPipeError", Ran(1, "", "")),
                 ("open('none/f')", Ran(1, "", "rrdi-try: none/f: No such file or directory\n")),
                 ("raise OSError(errno.ENOSPC, 'full')", Ran(1, "", "rrdi-try: full\n")),
+                ("raise MemoryError", Ran(1, "", "rrdi-try: out of memory\n")),
                 ("raise OSError('odd')", Ran(1, "", "rrdi-try: odd\n")),
                 ("print('part', end=''); raise Failure('then')", Ran(1, "part", "rrdi-try: then\n"))):
             with self.subTest(act=act):
@@ -79,6 +80,12 @@ class Ends(ToolCase):
         self.assertEqual(self.end("print('a'); return 0", stdout="/dev/full"), Ran(1, "", full))
         self.assertEqual(self.end("print('a'); raise Failure('why')", stdout="/dev/full"), Ran(1, "", "rrdi-try: why\n"))
         self.assertEqual(self.end("return 0", "--help", stdout="/dev/full"), Ran(1, "", full))
+
+    def test_a_closed_output(self) -> None:
+        """Nobody wants what is printed, and the rest goes on as ever."""
+        for act, wanted in (("print('a'); return 0", Ran(0, "", "")), ("raise Failure('why')", Ran(1, "", "rrdi-try: why\n"))):
+            self.write("tool.py", TOOL.format(python=str(TOP / "python"), act=act))
+            self.assertEqual(self.run_command(["sh", "-c", f"{sys.executable} -B tool.py >&-"]), wanted)
 
     def test_a_closed_pipe(self) -> None:
         text = TOOL.format(python=str(TOP / "python"), act="[print(at) for at in range(10**6)]; return 0")

@@ -18,10 +18,12 @@ from doubles import PROGRAM, TOP
 from process_case import ProcessCase, locked
 from tool_case import Ran, ToolCase
 
+from rrdi.protocol import DONE, Answer
 from rrdi.tools.command_line import Failure, WrongArguments
 from rrdi.tools.fix import read_options, times_of
 from rrdi.tools.fixing import held as holding
 from rrdi.tools.fixing.history import SentUpdate, OneSample, given_samples, with_given
+from rrdi.tools.program import CommandFailed
 
 COUNT = slice(26, 30)  # the bytes with the number of a journal's entries
 USAGE = "FILE TIME [VALUE] [--source NAME] [--samples FILE]"
@@ -65,6 +67,12 @@ class Times(unittest.TestCase):
             self.assertEqual(times_of(text), times, text)
         with self.assertRaises(WrongArguments):
             times_of("2023-03-26 02:30:00")
+
+    def test_clocks_that_were_set_back_without_summer_time(self) -> None:
+        """In Caracas 02:45 came twice on 2007-12-09, when the zone moved by half an hour."""
+        with mock.patch.dict(os.environ, {"TZ": "America/Caracas"}):
+            time.tzset()
+            self.assertEqual(times_of("2007-12-09 02:45:00"), {1_197_182_700, 1_197_184_500})
 
 
 class GivenSamples(unittest.TestCase):
@@ -279,6 +287,32 @@ class Files(FixCase):
         self.assertNotEqual((ran.status, ran.err), (0, ""))
         self.assertEqual((ran.out, self.rrdi("last", "f.rrdi"), self.read("f.rrdi")), ("", "55\n", before))
 
+    def test_output_that_is_not_taken(self) -> None:
+        """The file is changed all the same, and the message says so."""
+        said = "f.rrdi: 23:850 (1970-01-01 00:00:23) is taken out; 3 later changes were sent again"
+        ran = self.tool("rrdi-fix", "f.rrdi", "23", stdout="/dev/full")
+        why = "standard output did not take this: No space left on device"
+        self.assertEqual(ran, Ran(1, "", f"rrdi-fix: {said} ({why})\n"))
+        self.assertEqual(self.fix("f.rrdi", "23").status, 1)
+        os.rename(self.folder / "f.rrdi", self.folder / "\xfc.rrdi")
+        ran = self.fix("\xfc.rrdi", "31", env={"PYTHONIOENCODING": "ascii"})
+        self.assertEqual((ran.status, ran.out, ran.err.count("\n")), (1, "", 1))
+        self.assertIn("\\xfc.rrdi: 31:2 (1970-01-01 00:00:31) is taken out; 2 later changes were sent again (", ran.err)
+
+    def test_closed_streams(self) -> None:
+        def ran(words: str) -> Ran:
+            return self.run_command(["sh", "-c", f"{sys.executable} {TOP}/tools/rrdi-fix f.rrdi {words}"])
+        self.assertEqual(ran("23 --samples - <&-"), Ran(1, "", "rrdi-fix: -: Bad file descriptor\n"))
+        self.assertEqual(ran("23 >&-"), Ran(0, "", ""))
+        self.assertEqual(ran("24 >&-").err.count("\n"), 1)
+        self.filled("wanted.rrdi", [*self.CHANGES[:1], *self.CHANGES[2:]])
+        self.assertEqual(self.read("f.rrdi"), self.read("wanted.rrdi"))
+
+    def test_samples_that_are_no_text(self) -> None:
+        command = f"printf '\\377' | {sys.executable} {TOP}/tools/rrdi-fix f.rrdi 23 --samples -"
+        ran = self.run_command(["sh", "-c", command], env={"PYTHONIOENCODING": "utf-8:strict"})
+        self.assertEqual(ran, Ran(1, "", "rrdi-fix: -: line 1 is not TIME:VALUE..: '\ufffd'\n"))
+
 
 # ---- Random histories
 
@@ -448,6 +482,13 @@ class ReplacedFile(unittest.TestCase):
         with mock.patch.object(holding, "session_at", session_at), self.assertRaisesRegex(Failure, "keeps replacing the file, or the locks"):
             holding.opened(self.path)
 
+    def test_a_file_that_this_user_may_not_write(self) -> None:
+        """The program opens it for reading, so nobody holds the lock of a writer."""
+        with mock.patch.object(holding, "session_at", FakeSession), mock.patch("os.access", return_value=False):
+            with mock.patch.object(holding, "is_locked", return_value=False):
+                with self.assertRaisesRegex(Failure, "cannot write: this user may not$"):
+                    holding.opened(self.path)
+
     def test_after_the_change(self) -> None:
         session = FakeSession(self.path)
         self.addCleanup(session.end)
@@ -457,6 +498,15 @@ class ReplacedFile(unittest.TestCase):
         os.replace(self.path + ".new", self.path)
         with self.assertRaisesRegex(Failure, "the file that had it before is changed"):
             file.store([])
+
+    def test_lines_that_are_refused_at_last(self) -> None:
+        """Memory ran out, though the same lines went well on the copy."""
+        library = mock.Mock()
+        library.open.return_value = DONE, library.opened
+        library.opened.batch.return_value = Answer(0, 0, 0, b"ERROR: out of memory\n", (1,))
+        session = holding.LibrarySession(library, self.path)
+        with self.assertRaisesRegex(CommandFailed, "^out of memory; the file has a part of the change only$"):
+            session.store(["revert", "update 1:2"])
 
 
 class FakeSession:

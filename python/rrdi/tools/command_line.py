@@ -52,6 +52,12 @@ def error_text(error: OSError) -> str:
     return f"{error.filename}: {reason}" if error.filename else reason
 
 
+def flush_output() -> None:
+    """Writes what was printed. If standard output was closed before the tool began, nothing was."""
+    if sys.stdout is not None:
+        sys.stdout.flush()
+
+
 def add_line(name: str, hint: str) -> None:
     """Prints a further line, if there is something to say."""
     if hint:
@@ -75,7 +81,7 @@ def run(tool: Tool, words: Optional[List[str]] = None) -> int:
             status = 0
         else:
             status = tool.run(words)
-        sys.stdout.flush()
+        flush_output()
         return status
     except WrongArguments as wrong:
         print(f"{name}: {wrong}" if str(wrong) else f"usage: {name} {tool.usage}", file=sys.stderr)
@@ -96,8 +102,10 @@ def run(tool: Tool, words: Optional[List[str]] = None) -> int:
         return 130
     except OSError as error:
         print(f"{name}: {error_text(error)}", file=sys.stderr)
+    except MemoryError:
+        print(f"{name}: out of memory", file=sys.stderr)
     try:
-        sys.stdout.flush()
+        flush_output()
     except OSError:
         give_up_output()
     return 1

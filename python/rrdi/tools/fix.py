@@ -33,11 +33,13 @@ environment:
 
 docs/cookbook.md has an example.
 
-Exit status: 0; 1 and a line on standard error if FILE could not be changed; 2
-after wrong arguments.
+Exit status: 0; 1 and a line on standard error if FILE could not be changed, or
+what was done could not be printed; 2 after wrong arguments.
 """
 from __future__ import annotations
 
+import errno
+import os
 import re
 import sys
 import time as clock
@@ -51,6 +53,7 @@ from .options import given_words
 from .spans import PRINTED, time_text
 
 WITH_VALUE = {"--source": "source", "--samples": "samples"}
+SET_BACK = 10_800  # seconds: clocks are set back by no more, and by quarters of an hour
 NEGATIVE = re.compile(r"-[0-9][0-9.]*(:.*)?")
 VALUE = re.compile(r"U|-?[0-9]{1,20}(\.[0-9]{1,6})?")
 
@@ -96,6 +99,7 @@ def times_of(text: str) -> Set[int]:
     wanted = f"{year:04}-{month:02}-{day:02} {hour:02}:{minute:02}:{second:02}"
     try:
         times = {int(clock.mktime((year, month, day, hour, minute, second, 0, 0, summer))) for summer in (0, 1, -1)}
+        times = {time + by for time in times for by in range(-SET_BACK, SET_BACK + 1, 900)}  # not all by summer time
         times = {time for time in times if 0 <= time <= LATEST and time_text(time) == wanted}
     except (OverflowError, ValueError):
         times = set()
@@ -227,8 +231,10 @@ def read_samples(name: Optional[str]) -> List[str]:
     if name is None:
         return []
     try:
+        if name == "-" and sys.stdin is None:  # it was closed, and another file may have its number
+            raise OSError(errno.EBADF, os.strerror(errno.EBADF))
         if name == "-":
-            return sys.stdin.read().splitlines()
+            return sys.stdin.buffer.read().decode(errors="replace").splitlines()
         with open(name, encoding="utf-8", errors="replace") as lines:
             return lines.read().splitlines()
     except OSError as error:
@@ -251,6 +257,19 @@ def chosen_time(options: FixOptions, history: History, given: List[OneSample]) -
     return meant[0]
 
 
+def tell(text: str) -> None:
+    """Prints what was done.
+
+    # Errors
+    `Failure` with the same text if it cannot be printed: the file is changed all the same.
+    """
+    try:
+        print(text, flush=True)
+    except (OSError, UnicodeEncodeError) as error:
+        why = error_text(error) if isinstance(error, OSError) else error.reason
+        raise Failure(f"{text} (standard output did not take this: {why})") from None
+
+
 def fix(words: List[str]) -> int:
     options = read_options(words)
     lines = read_samples(options.samples)
@@ -263,7 +282,7 @@ def fix(words: List[str]) -> int:
     later = len(found.changes) - 1
     after = f"; {later} later change{'s were' if later > 1 else ' was'} sent again" if later and is_changed else ""
     what = "is taken out" if new is None else f"is now {new.word}" if is_changed else "is in the file already"
-    print(f"{options.file}: {found.sample.word} ({time_text(found.sample.time)}) {what}{after}")
+    tell(f"{options.file}: {found.sample.word} ({time_text(found.sample.time)}) {what}{after}")
     return 0
 
 

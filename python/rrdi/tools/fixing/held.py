@@ -11,7 +11,7 @@ from typing import Iterator, List, Optional, Protocol
 from ...by_program import as_argument
 from ...choice import chosen_library, program_path
 from ...environment import milliseconds, sync_of_environment
-from ...errors import ERROR, LOCKED
+from ...errors import ERROR, LOCKED, reasons_in
 from ...locks import NO_LOCKS, SHARED, Identity, close, flock, identity_at, identity_of, open_regular
 from ...protocol import Library, OpenedFile
 from ...reader import settled
@@ -58,7 +58,9 @@ class LibrarySession:
         return as_text(accepted(self.opened.run(as_bytes(name), NO_TIME)).output)
 
     def store(self, lines: List[str]) -> None:
-        accepted(self.opened.batch(text_of(lines), NO_TIME))
+        answer = accepted(self.opened.batch(text_of(lines), NO_TIME))
+        if answer.refused:  # as memory ran out, since the copy took them all
+            raise CommandFailed(f"{reasons_in(as_text(answer.output))[0]}; the file has a part of the change only")
 
     def end(self) -> None:
         self.opened.close()
@@ -232,6 +234,8 @@ def opened(path: str) -> "tuple[Session, FileIO]":
         if file is not None:
             return session, file
         session.end()
+    if not os.access(path, os.W_OK):  # the program takes a lock for readers then
+        raise Failure(f"{path}: cannot write: this user may not")
     raise Failure(f"{path}: another program keeps replacing the file, or the locks of its file system do not hold")
 
 
