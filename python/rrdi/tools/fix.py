@@ -98,8 +98,8 @@ def times_of(text: str) -> Set[int]:
     year, month, day, hour, minute, second = (int(part or 0) for part in found.groups())
     wanted = f"{year:04}-{month:02}-{day:02} {hour:02}:{minute:02}:{second:02}"
     try:
-        times = {int(clock.mktime((year, month, day, hour, minute, second, 0, 0, summer))) for summer in (0, 1, -1)}
-        times = {time + by for time in times for by in range(-SET_BACK, SET_BACK + 1, 900)}  # not all by summer time
+        near = int(clock.mktime((year, month, day, hour, minute, second, 0, 0, -1)))
+        times = {near + by for by in range(-SET_BACK, SET_BACK + 1, 900)}
         times = {time for time in times if 0 <= time <= LATEST and time_text(time) == wanted}
     except (OverflowError, ValueError):
         times = set()
