@@ -1,6 +1,6 @@
 """What the completions of an installation offer in bash, zsh and fish; and no word that is typed or offered runs.
 
-python/tests/test_completion.py tries the words of bash in full."""
+tests/python/test_completion.py tries the words of bash in full."""
 from __future__ import annotations
 
 import os

@@ -13,7 +13,7 @@ from typing import Callable, Dict, List, Tuple
 from unittest import mock
 
 from cases import HANG, needs_program
-from lib import marks
+from support import marks
 from process_case import ProcessCase, locked, path_of, script
 from rrdi.tools import rrdtool_program
 from tool_case import Ran

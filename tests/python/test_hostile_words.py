@@ -37,7 +37,7 @@ class Record(unittest.TestCase):
         folder = new_folder(self)
         path = folder / "record.so"
         subprocess.run([CC, "-std=c11", "-Wall", "-Wextra", "-Werror", "-shared", "-fPIC", f"-I{TOP}/include", "-o", path,
-                        TOP / "librrd/record.c", TOP / "python/tests/lines.c"], check=True)
+                        TOP / "librrd/record.c", TOP / "tests/python/lines.c"], check=True)
         self.recorder = Recorder(str(path))
         self.library = self.recorder.library
         self.library.last_given.restype = ctypes.c_void_p

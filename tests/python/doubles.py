@@ -1,5 +1,5 @@
-"""Puts the package on the path, and what the scripts of .ci share; finds the C library and the program, and replaces the
-library by the program."""
+"""Puts the package and `support` on the path, finds the C library and the program, and replaces the library by the
+program."""
 from __future__ import annotations
 
 import errno
@@ -13,7 +13,7 @@ from typing import Optional, Tuple
 
 TOP = Path(__file__).resolve().parent.parent.parent
 sys.path.insert(0, str(TOP / "python"))
-sys.path.append(str(TOP / ".ci"))
+sys.path.append(str(TOP / "tests"))
 sys.dont_write_bytecode = True
 
 from rrdi import errors  # noqa: E402

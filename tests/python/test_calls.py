@@ -353,7 +353,7 @@ begun.wait()
 
 class End(unittest.TestCase):
     def test_a_call_at_the_end_of_the_process(self) -> None:
-        path = [str(TOP / "python/tests"), str(TOP / "python")]
+        path = [str(TOP / "tests/python"), str(TOP / "python")]
         ran = subprocess.run([sys.executable, "-B", "-c", SCRIPT.format(path=path)], stdout=subprocess.PIPE,
                              stderr=subprocess.PIPE, universal_newlines=True, timeout=HANG)
         self.assertEqual((ran.returncode, ran.stdout, ran.stderr), (0, "the call has ended\n", ""))

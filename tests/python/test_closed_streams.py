@@ -12,7 +12,7 @@ from typing import Any, List, Tuple
 
 from cases import needs_library, new_folder
 
-PYTHON = Path(__file__).resolve().parent.parent
+PYTHON = Path(__file__).resolve().parents[2] / "python"
 # Closes streams, runs commands by the library, and stores what each command gave, and the bytes of the file after it.
 SCRIPT = """
 import fcntl, hashlib, json, os, sys, threading, time

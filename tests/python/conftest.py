@@ -1,6 +1,6 @@
 """Lets pytest run the tests of the package, with the program and the C library that its options name:
 
-    /usr/bin/python3 -m pytest python/tests --program=PATH --library=PATH"""
+    /usr/bin/python3 -m pytest tests/python --program=PATH --library=PATH"""
 from __future__ import annotations
 
 import os

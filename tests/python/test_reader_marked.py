@@ -1,4 +1,4 @@
-"""Tests of the reader with files whose change was broken off, whole and forged ones. `.ci/lib/marks` writes the bytes, as
+"""Tests of the reader with files whose change was broken off, whole and forged ones. `support/marks.py` writes the bytes, as
 docs/file-format.md describes them."""
 from __future__ import annotations
 
@@ -12,8 +12,8 @@ from unittest import mock
 
 import graphite_doubles as graphite
 from cases import DataCase, child_status, counted_reads, sleeping_child
-from lib import marks
-from lib.marks import PAGE, pages, record
+from support import marks
+from support.marks import PAGE, pages, record
 from rrdi import errors, locks, reader
 from rrdi.locks import SHARED, locked
 from rrdi.reader.files import opened

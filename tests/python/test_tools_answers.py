@@ -40,7 +40,7 @@ class GrapherCase(ToolCase):
     def setUp(self) -> None:
         super().setUp()
         assert CC
-        source = TOP / "python/tests/grapher.c"
+        source = TOP / "tests/python/grapher.c"
         subprocess.run([CC, "-shared", "-fPIC", "-o", self.folder / "librrd.so.8", source], check=True)
         self.env["LD_LIBRARY_PATH"] = str(self.folder)
 
