@@ -139,7 +139,3 @@ class Building(unittest.TestCase):
         module = importlib.util.module_from_spec(spec)
         spec.loader.exec_module(module)
         return module
-
-
-if __name__ == "__main__":
-    unittest.main()

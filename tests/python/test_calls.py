@@ -357,7 +357,3 @@ class End(unittest.TestCase):
         ran = subprocess.run([sys.executable, "-B", "-c", SCRIPT.format(path=path)], stdout=subprocess.PIPE,
                              stderr=subprocess.PIPE, universal_newlines=True, timeout=HANG)
         self.assertEqual((ran.returncode, ran.stdout, ran.stderr), (0, "the call has ended\n", ""))
-
-
-if __name__ == "__main__":
-    unittest.main()

@@ -220,7 +220,3 @@ class ByTheProgram(WithProgram, Values, DataCase):
 
 class ByTheLibrary(WithLibrary, Values, DataCase):
     pass
-
-
-if __name__ == "__main__":
-    unittest.main()

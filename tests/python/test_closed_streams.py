@@ -93,7 +93,3 @@ class ClosedStreams(unittest.TestCase):
         for streams in CLOSED[1:]:
             with self.subTest(streams=streams):
                 self.assertEqual(self.told(streams), whole)
-
-
-if __name__ == "__main__":
-    unittest.main()

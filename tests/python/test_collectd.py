@@ -351,7 +351,3 @@ class Rows(WriterCase):
         self.writer.write(values(NOW + 20, 3.0, type="gauge"))
         self.writer.end()
         self.assertEqual(self.rows("here/load/gauge.rrdi"), {20: [3.0]})
-
-
-if __name__ == "__main__":
-    unittest.main()

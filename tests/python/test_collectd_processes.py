@@ -100,7 +100,3 @@ class ByLibrary(WithLibrary, Starting):
 
 
 del Starting
-
-
-if __name__ == "__main__":
-    unittest.main()

@@ -572,7 +572,3 @@ class CollectingByLibrary(WithLibrary, Collecting, unittest.TestCase):
 
 class InMemoryByLibrary(WithLibrary, InMemory, unittest.TestCase):
     pass
-
-
-if __name__ == "__main__":
-    unittest.main()

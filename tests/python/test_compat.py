@@ -313,7 +313,3 @@ class ModuleByProgram(WithProgram, Module, unittest.TestCase):
 
 class ModuleByLibrary(WithLibrary, Module, unittest.TestCase):
     pass
-
-
-if __name__ == "__main__":
-    unittest.main()

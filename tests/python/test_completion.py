@@ -103,7 +103,3 @@ class Completion(ToolCase):
                     with self.subTest(line=line):
                         self.complete("rrdi-tools.bash", "_rrdi_tool", line)
                         self.assertFalse((self.folder / "ran").exists())
-
-
-if __name__ == "__main__":
-    unittest.main()

@@ -283,7 +283,3 @@ class Files(DataCase):
             self.assertEqual(str(raised.exception), "file: trailing at 256")
         self.write(graphite.file_bytes(130))
         self.reads_at_most(50_000, refused)
-
-
-if __name__ == "__main__":
-    unittest.main()

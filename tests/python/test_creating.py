@@ -202,7 +202,3 @@ class CreatingByLibrary(WithLibrary, Creating, unittest.TestCase):
 
 class InBlocksByLibrary(WithLibrary, InBlocks, unittest.TestCase):
     pass
-
-
-if __name__ == "__main__":
-    unittest.main()

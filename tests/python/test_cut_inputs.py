@@ -226,7 +226,3 @@ class Answers(ToolCase):
                 program.run_file(b"f", b"fetch\0LAST", NOW, 0, False)
             with self.assertRaises(NoAnswer, msg=count):
                 program.batch_file(b"f", b"fetch LAST", NOW, 0, False)
-
-
-if __name__ == "__main__":
-    unittest.main()

@@ -331,7 +331,3 @@ class BlocksByLibrary(WithLibrary, Blocks, unittest.TestCase):
             rows = rrdi.fetch(self.file, "LAST", start=max(last - 500, 0), end=last - 1)[2]
             self.assertEqual(rows[-count:], [(float(second % 7),) for second in range(last - count + 1, last + 1)])
             rrdi.create(self.file, "DS:g:GAUGE:99:U:U", "RRA:LAST:0:1:500", step=1, start=0, overwrite=True)
-
-
-if __name__ == "__main__":
-    unittest.main()

@@ -173,7 +173,3 @@ class EachCall(DataCase):
             self.assertEqual({NOW + 10 * at for at in range(4)} - lost, set(library.times) - lost, said.getvalue())
             self.assertTrue(all(count == 1 for count in library.times.values()))
         self.tried(check)
-
-
-if __name__ == "__main__":
-    unittest.main()

@@ -221,7 +221,3 @@ class InProcess(FeedCase):
         lines = "".join(f"{file} {10 * at}:{at}\n" for at in range(1, 40) for file in many)
         self.same("many files", self.ran(path_of("rrdi-feed"), given=lines), Ran(0, "", ""))
         self.same("all their samples", {self.asked("last", file) for file in many}, {"390\n"})
-
-
-if __name__ == "__main__":
-    unittest.main()

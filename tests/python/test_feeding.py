@@ -291,7 +291,3 @@ class Writers(EachWriter, unittest.TestCase):
                 self.assertEqual(writer.write(name, [b"40:1"]), Outcome(again="cannot open"))
             file.write_bytes(b"other")
             self.assertEqual(writer.write(name, [b"40:1"]), Outcome(lost="file: not ours"))
-
-
-if __name__ == "__main__":
-    unittest.main()

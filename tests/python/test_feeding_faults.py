@@ -376,7 +376,3 @@ class CannotLook(unittest.TestCase):
                 self.assertEqual(creating.write(file, [b"10:1"]), Outcome(again=f"cannot create: {reason}"))
         self.assertEqual(writer.write.call_count, 0)
         feeder.threads.shutdown()
-
-
-if __name__ == "__main__":
-    unittest.main()

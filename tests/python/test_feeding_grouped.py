@@ -192,7 +192,3 @@ class SameByProgram(SameFiles, unittest.TestCase):
         use_library(self, program)
         on_program: Any = OnProgram()
         return BatchWriter(program), GroupWriter(on_program)
-
-
-if __name__ == "__main__":
-    unittest.main()

@@ -283,7 +283,3 @@ class NoProgram(unittest.TestCase):
         self.assertEqual(BatchWriter(ByProgram("/nowhere")).create(b"/nowhere/f", ["x"]), "/nowhere: No such file or directory")
         self.assertEqual(BatchWriter(ByProgram("/bin/false")).create(b"/nowhere/f", ["x"]), "/bin/false ended with 1")
         self.assertEqual(BatchWriter(ByProgram("/bin/true")).create(b"/nowhere/f", ["x"]), "")
-
-
-if __name__ == "__main__":
-    unittest.main()

@@ -431,7 +431,3 @@ class Program(unittest.TestCase):
                              text=True)
         self.assertEqual((ran.returncode, ran.stdout), (1, ""))
         self.assertRegex(ran.stderr, r"^rrdi-carbon-cache: No module named 'carbon'; .* needs carbon .*\n$")
-
-
-if __name__ == "__main__":
-    unittest.main()

@@ -245,7 +245,3 @@ class Counting(unittest.TestCase):
         losses.add("m", {"late": 1})
         self.assertEqual(lines[-2:], ["rrdi: 900 more lines were left out", "rrdi: m: points lost: 1 late"])
         self.assertEqual(losses.take()["late"], 1_001)
-
-
-if __name__ == "__main__":
-    unittest.main()

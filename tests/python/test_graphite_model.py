@@ -203,7 +203,3 @@ class AgainstTheModel(DataCase):
         for kind, least in (("values", 1_000), ("rewritten", 10), ("late", 10), ("future", 1), ("write_points", 50),
                             ("other_program", 5), ("race", 5), ("lock", 5), ("damage", 1), ("write_many", 1)):
             self.assertGreaterEqual(self.seen[kind], least, f"{kind} of {self.seen}")
-
-
-if __name__ == "__main__":
-    unittest.main()

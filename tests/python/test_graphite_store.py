@@ -99,7 +99,3 @@ class Edges(DataCase):
                 mock.patch.object(stores, "put", side_effect=[left, OSError(errno.EIO, "Input/output error")]):
             store.write("m", [(NOW - 20, 1.0), (NOW - 10, 1.0), (-1.0, 1.0)])
         self.assertEqual((store.waiting, sum(store.losses.take().values())), (3, 0))
-
-
-if __name__ == "__main__":
-    unittest.main()

@@ -206,7 +206,3 @@ class Readers(FolderCase):
             fcntl.flock(file, fcntl.LOCK_EX)
             self.assertIsNone(reader.fetch(100, 130, 130))
         self.assertIn("another program holds its lock", lines[0])
-
-
-if __name__ == "__main__":
-    unittest.main()

@@ -187,7 +187,3 @@ class Moving(FolderCase):
                                                          archiveToSelect=f"{seconds}s")
                 self.assertEqual({start + step * at: value for at, value in enumerate(values) if value is not None},
                                  {when: value for when, value in archive.values.items() if start <= when <= now})
-
-
-if __name__ == "__main__":
-    unittest.main()

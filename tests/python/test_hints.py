@@ -133,7 +133,3 @@ class Tools(ToolCase):
             "rrdi-feed: f.rrdi 10:1,5:2: unreadable sample 1", "rrdi-feed: its value 1 is '1,5'; write '1.5', with a point",
             "rrdi-feed: f.rrdi 20:1: wrong number of values", "rrdi-feed: sample 1 has 1 value, 2 are wanted: a, b"]))
         self.assertEqual(self.rrdi("last", "f.rrdi"), "30\n")
-
-
-if __name__ == "__main__":
-    unittest.main()

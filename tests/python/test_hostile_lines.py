@@ -310,7 +310,3 @@ class Importing(unittest.TestCase):
             conversion.note(f"skipped data source {word}")
             note, = conversion.notes
             self.assertTrue(note.isprintable() and len(note) < len(LONG), ascii(word[:60]))
-
-
-if __name__ == "__main__":
-    unittest.main()

@@ -202,7 +202,3 @@ class Programs(ToolCase):
                 with self.subTest(line=line[:20]), self.assertRaisesRegex(Failure, "a line of a batch"):
                     program.batch("f", ["update 5:1", line])
             answered.assert_not_called()
-
-
-if __name__ == "__main__":
-    unittest.main()

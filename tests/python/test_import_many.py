@@ -202,7 +202,3 @@ class Many(ToolCase):
         ran = self.tool("rrdi-import", "--in-place", ".", env=env)
         self.assertEqual((ran.status, ran.err, ran.out.splitlines()[-1]), (0, "", "2 files: 2 converted"))
         self.assertEqual([self.rrdi("last", f"{name}.rrd") for name in ("a", "b")], ["1600000020\n", "1600000030\n"])
-
-
-if __name__ == "__main__":
-    unittest.main()

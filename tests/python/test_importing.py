@@ -291,7 +291,3 @@ class Batches(unittest.TestCase):
         cells = [float(at) for at in range(450)]
         lines, _ = self.lines(RrdFile(10, 10_000, [source()], [archive(0, "AVERAGE", 1, cells)]))
         self.assertEqual([len(line.split()) - 1 for line in lines if line.startswith("update")], [200, 200, 50])
-
-
-if __name__ == "__main__":
-    unittest.main()

@@ -295,7 +295,3 @@ def forking(case: unittest.TestCase, original: Opening) -> Opening:
             sleeping_child(case)
         return found
     return current
-
-
-if __name__ == "__main__":
-    unittest.main()

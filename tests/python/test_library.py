@@ -219,7 +219,3 @@ class Places(unittest.TestCase):
             load_library("libc.so.6")
         if has_library():
             self.assertIs(load_library(), library.the_library())
-
-
-if __name__ == "__main__":
-    unittest.main()

@@ -269,7 +269,3 @@ class Pipes(LockCase):
             with self.assertRaises(IsADirectoryError):
                 read(str(self.folder))
         self.assertEqual(open_numbers(), numbers)
-
-
-if __name__ == "__main__":
-    unittest.main()

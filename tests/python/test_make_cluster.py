@@ -129,7 +129,3 @@ class Starting(unittest.TestCase):
                 mock.patch.object(self.module, "MOMENT", 0.1), \
                 self.assertRaisesRegex(self.module.Failure, "another program uses port"):
             self.module.start(self.cluster, "front", sys.executable)
-
-
-if __name__ == "__main__":
-    unittest.main()

@@ -337,7 +337,3 @@ class ModesByLibrary(WithLibrary, Modes):
 
 
 del SetAside, Modes
-
-
-if __name__ == "__main__":
-    unittest.main()

@@ -53,7 +53,3 @@ class Rooms(unittest.TestCase):
                 if "rrdi" in allowed:
                     used &= packages
                 self.assertTrue(used <= allowed or "all above" in cell, f"{path}: {sorted(used - allowed)}")
-
-
-if __name__ == "__main__":
-    unittest.main()

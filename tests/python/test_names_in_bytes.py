@@ -83,7 +83,3 @@ class Lengths(DataCase):
             self.assertTrue(self.is_possible(os.fsdecode(target.file)), letter)
             with self.assertRaises(BadLine, msg=letter):
                 names.target(os.fsencode(filled(most + 1, letter)))
-
-
-if __name__ == "__main__":
-    unittest.main()

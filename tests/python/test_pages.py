@@ -56,7 +56,3 @@ class Pages(unittest.TestCase):
         self.assertEqual(self.number(page, r"`RRDI_JOURNAL` \((\d+)\) is"), StoreOptions("").journal)
         self.assertEqual(self.number(page, r"`CacheTimeout` \((\d+) seconds\)"), collectd.Configuration().cachetimeout)
         self.assertEqual(self.number(page, r"`Journal` \((\d+)\) sets"), collectd.Configuration().journal)
-
-
-if __name__ == "__main__":
-    unittest.main()

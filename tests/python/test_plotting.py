@@ -91,7 +91,3 @@ class Marks(unittest.TestCase):
         self.assertEqual((size.height, size.top, size.bottom, size.legend), (66 + 250 + 121, 66, 121, 77))
         self.assertEqual((plot_height(0, 1, 63), plot_height(300, 2, 0), plot_height(300, 2, 63)), (250, 174, 97))
         self.assertLess(plot_height(200, 2, 42), LEAST_PLOT_HEIGHT)
-
-
-if __name__ == "__main__":
-    unittest.main()

@@ -156,7 +156,3 @@ class Package(unittest.TestCase):
         ran = subprocess.run([sys.executable, "-B", "-c", asks], env=env, stdout=subprocess.PIPE,
                              universal_newlines=True)
         self.assertEqual(ran.stdout, "librrdi.so.0 not found; install it, or name it by the variable RRDI_LIBRARY\n")
-
-
-if __name__ == "__main__":
-    unittest.main()

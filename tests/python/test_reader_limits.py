@@ -237,7 +237,3 @@ class Limits(unittest.TestCase):
             self.check_entry(is_right, removal(0, **changed))
         for partial, is_right in ((known(2, 2 * TOP), True), (known(3), False), (known(0, 1), False), (known(2, 2 * TOP + 1), False)):
             self.check_entry(is_right, REMOVAL + struct.pack(">H", 0) + archive(partial=partial) + amount(None) * 2)
-
-
-if __name__ == "__main__":
-    unittest.main()

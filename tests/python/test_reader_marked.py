@@ -196,7 +196,3 @@ class Locks(DataCase):
                     with self.assertRaises(OSError) as raised:
                         reader.read_file(self.path)
                     self.assertEqual(raised.exception.errno, number)
-
-
-if __name__ == "__main__":
-    unittest.main()

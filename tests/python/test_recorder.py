@@ -182,7 +182,3 @@ class Record(ToolCase):
         other.join()
         self.assertIn("not later than", errors[0])
         self.assertEqual(errors[0], errors[1])
-
-
-if __name__ == "__main__":
-    unittest.main()

@@ -84,7 +84,3 @@ class Locked(ToolCase):
                 rrdtool.resize(*resize[1:])
         self.assertEqual(str(raised.exception), "f.rrd: cannot open: another program holds its lock")
         self.assertFalse((self.folder / "resize.rrd").exists())
-
-
-if __name__ == "__main__":
-    unittest.main()

@@ -371,7 +371,3 @@ class UpdatesByLibrary(WithLibrary, Updates, unittest.TestCase):
 
 class ErrorsByLibrary(WithLibrary, Errors, unittest.TestCase):
     pass
-
-
-if __name__ == "__main__":
-    unittest.main()

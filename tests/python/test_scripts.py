@@ -226,7 +226,3 @@ class ReaderScript(ProcessCase):
         self.same("a damaged file", self.ran(reader, "check", "cut"),
                    Ran(1, "", "rrdi.py: cut: file: truncated at 100\n"))
         self.same("usage", self.ran(reader, "csv").status, 2)
-
-
-if __name__ == "__main__":
-    unittest.main()

@@ -178,7 +178,3 @@ class Files(ToolCase):
         self.write("f.txt", "text")
         for words in ("", "MAX", "--csv", "--journal"):
             self.assertEqual(self.tool("rrdi-show", "f.txt", *words.split()), Ran(1, "", "rrdi-show: f.txt: file: not ours\n"))
-
-
-if __name__ == "__main__":
-    unittest.main()

@@ -214,7 +214,3 @@ show info => RRDs::info('r.rrd');
         self.assertNotIn("tainted", found)
         self.assertIn("updatev: {[1000000010]RRA[AVERAGE][1]DS[g]=1.5|return_value=0}; undef\nlast: 1000000010; 999999970; undef\n"
                       "lastupdate: 1000000010; [g]; [1.5]; undef\nfetch: 1000000010; 10; [g]; [[1.5]|[undef]]; undef\n", found)
-
-
-if __name__ == "__main__":
-    unittest.main()

@@ -106,7 +106,3 @@ class Ends(ToolCase):
             time.sleep(0.1)
             running.send_signal(signal.SIGINT)
             self.assertEqual((running.wait(HANG), running.stderr.read()), (130, ""))
-
-
-if __name__ == "__main__":
-    unittest.main()

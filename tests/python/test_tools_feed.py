@@ -256,7 +256,3 @@ class Files(ToolCase):
         self.assertEqual(ran.status, 1)
         self.assertFalse((self.folder / "a").exists())
         self.assertEqual([path.name for path in self.folder.glob(".rrdi*")], [])
-
-
-if __name__ == "__main__":
-    unittest.main()

@@ -529,7 +529,3 @@ class FakeSession:
 
     def end(self) -> None:
         self.file.close()
-
-
-if __name__ == "__main__":
-    unittest.main()

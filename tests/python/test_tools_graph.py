@@ -230,7 +230,3 @@ class NoLibrary(unittest.TestCase):
         with mock.patch.object(librrd, "NAMES", ("libc.so.6",)), \
                 self.assertRaisesRegex(Failure, "RRDtool's library is too old: .*rrd_graph_v"):
             graphing.Grapher()
-
-
-if __name__ == "__main__":
-    unittest.main()

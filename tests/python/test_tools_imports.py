@@ -31,7 +31,3 @@ class Imports(ToolCase):
                 self.assertIn("rrdi.tools.rrdtool", found)
                 self.assertEqual(found & (COSTLY | {"ctypes", "rrdi.library"}), set())
         self.assertIn("decimal", self.imported("update", "f", "10:1e3"))
-
-
-if __name__ == "__main__":
-    unittest.main()

@@ -344,7 +344,3 @@ class ThereAndBack(ToolCase):
             self.assertEqual((compared.status, len(compared.out.splitlines()), compared.err), (0, 6, ""), compared.out)
             self.assertEqual(self.tool("rrdi-export", f"{seed}.rrdi", f"{seed}.back"), Ran(0, "", ""))
             self.assertEqual(self.tool("rrdi-compare", f"{seed}.back", f"{seed}.rrdi").status, 0)
-
-
-if __name__ == "__main__":
-    unittest.main()

@@ -265,7 +265,3 @@ package main; use RRDs; tie *STDOUT, 'Kept'; my $last = RRDs::last('f.rrdi'); un
         ran = self.run_command(["podchecker", f"{TOP}/perl/RRDs.pm"])
         self.assertEqual(ran.status, 0, ran.err)
         self.assertTrue(re.search("pod syntax OK", ran.err), ran.err)
-
-
-if __name__ == "__main__":
-    unittest.main()

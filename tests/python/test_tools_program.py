@@ -148,7 +148,3 @@ class InProcess(ToolCase):
             self.stub("rrdi", "echo 8")
             self.assertEqual(program.ask(["last", "none"]), "8\n")
         choice.loaded_library.cache_clear()
-
-
-if __name__ == "__main__":
-    unittest.main()

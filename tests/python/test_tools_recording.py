@@ -569,7 +569,3 @@ class CannotLook(unittest.TestCase):
                     contextlib.redirect_stderr(io.StringIO()) as said:
                 self.assertEqual(record.record(["--disk", "/", self.file]), 0)
             self.assertEqual((mocks["update"].call_count, said.getvalue()), (1, f"rrdi-record: no copy was made: {text}\n"))
-
-
-if __name__ == "__main__":
-    unittest.main()

@@ -381,7 +381,3 @@ quit
         old[start:end + 3] = ["ERROR: Usage: rrdtool last <file>"]
         self.assertEqual(new, old)
         self.assertGreater(len(new), 150)
-
-
-if __name__ == "__main__":
-    unittest.main()

@@ -57,7 +57,3 @@ class OfGraphite(DataCase):
             self.assertEqual((self.store.waiting, self.lost), (0, 10))
             self.write(5, 4)
             self.assertEqual((self.store.waiting, self.lost), (4, 10))
-
-
-if __name__ == "__main__":
-    unittest.main()
