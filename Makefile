@@ -32,6 +32,7 @@ ZSHDIR = share/zsh/site-functions
 COMPLETIONS_OF_ZSH = $(DESTDIR)$(PREFIX)/$(ZSHDIR)
 UNITS = $(DESTDIR)$(PREFIX)/lib/systemd/system
 ACCOUNTS = $(DESTDIR)$(PREFIX)/lib/sysusers.d
+FOLDERS = $(DESTDIR)$(PREFIX)/lib/tmpfiles.d
 SHARED = $(DESTDIR)$(PREFIX)/share/rrdi
 PYTHON = $(SHARED)/python
 # Where below PREFIX the link to the Python package goes: Debian's python3 looks there if PREFIX is /usr.
@@ -39,8 +40,6 @@ PYTHONDIR = lib/python3/dist-packages
 MODULES = $(DESTDIR)$(PREFIX)/$(PYTHONDIR)
 
 VERSION := $(shell cat VERSION)
-PACKAGE = $(BUILD)/rrdi_$(VERSION)
-MAINTAINER := Bengcodla maintainers <maintainers@users.noreply.bengcodla.example>
 
 # Not empty if the library is to be installed: its archive was built, or was passed.
 HAS_LIBRARY = $(if $(filter command,$(firstword $(origin ARCHIVE))),$(ARCHIVE),$(wildcard $(ARCHIVE)))
@@ -108,7 +107,7 @@ $(PROGRAM):
 # The directories of an installation. install notes in share/rrdi/directories which of them were not there, each without
 # DESTDIR, and uninstall removes these if they are empty. A package has no use for that file.
 DIRECTORIES = "$(BINARIES)" "$(MANUALS)" "$(COMPLETIONS)" "$(COMPLETIONS_OF_ZSH)" "$(COMPLETIONS_OF_FISH)" "$(MODULES)" \
-	"$(UNITS)" "$(ACCOUNTS)" "$(SHARED)" $(if $(HAS_LIBRARY),"$(HEADERS)" "$(LIBRARIES)/pkgconfig" "$(MANUALS_OF_C)" "$(PRIVATE)")
+	"$(UNITS)" "$(ACCOUNTS)" "$(FOLDERS)" "$(SHARED)" $(if $(HAS_LIBRARY),"$(HEADERS)" "$(LIBRARIES)/pkgconfig" "$(MANUALS_OF_C)" "$(PRIVATE)")
 NOTED = $(SHARED)/directories
 
 # Programs find a library that was installed only after ldconfig has read its directory; that takes root, and no DESTDIR.
@@ -176,79 +175,16 @@ uninstall: ## removes what was installed below PREFIX
 	done
 	-@$(UPDATE_LIBRARIES)
 
-# Packages, as Debian wants them: the program with its documents and scripts, the shared library, what is needed to build
-# with it, and the link by which Python finds the package, whose code is with the scripts that need it.
-# Each folder is a part of an installation below /usr, with a copyright, which has the licenses, and a changelog.
-RUNTIME = $(BUILD)/librrdi0_$(VERSION)
-DEVELOPMENT = $(BUILD)/librrdi-dev_$(VERSION)
-OF_PYTHON = $(BUILD)/python3-rrdi_$(VERSION)
-MULTIARCH = $(shell $(CC) -print-multiarch)
-TRIPLET = usr/lib/$(MULTIARCH)
+# What a package or an installation takes.
+built: $(PROGRAM) $(if $(HAS_LIBRARY),link-library)
 
-# $(call finish,FOLDER,PACKAGE,SECTION,DEPENDS,MORE FIELDS AND DESCRIPTION): the control file, and the package.
-define finish
-	install -d $(1)/DEBIAN $(1)/usr/share/doc/$(2)
-	install -m 644 docs/debian-copyright $(1)/usr/share/doc/$(2)/copyright
-	printf '%s\n' 'rrdi ($(VERSION)) unstable; urgency=medium' '' '  * CHANGELOG.md of the package rrdi has what changed.' '' \
-		" -- $(MAINTAINER)  $$(LC_ALL=C date -R -r CHANGELOG.md)" | gzip -9n > $(1)/usr/share/doc/$(2)/changelog.gz
-	printf '%s\n' 'Package: $(2)' 'Source: rrdi' 'Version: $(VERSION)' "Architecture: $$(dpkg --print-architecture)" \
-		'Maintainer: $(MAINTAINER)' "Installed-Size: $$(du -sk --apparent-size $(1)/usr | cut -f 1)" "Depends: $(4)" \
-		'Section: $(3)' 'Priority: optional' $(5) > $(1)/DEBIAN/control
-	cd $(1) && find usr -type f | LC_ALL=C sort | xargs -d '\n' md5sum > DEBIAN/md5sums
-	find $(1)/DEBIAN $(1)/usr/share/doc -type f ! -name '*inst' ! -name '*rm' -exec chmod 644 {} +
-	dpkg-deb --root-owner-group --build $(1) $(1)_$$(dpkg --print-architecture).deb
-	rm -rf $(1)
-endef
+deb: built ## makes packages of Debian in out/ (needs debhelper and dh-python)
+	mkdir -p $(BUILD)
+	DEBS="$(abspath $(BUILD))" dpkg-buildpackage -b -us -uc -tc $(if $(HAS_LIBRARY),,-Ppkg.rrdi.nolibrary) \
+		--buildinfo-option=-u"$(abspath $(BUILD))" --changes-option=-u"$(abspath $(BUILD))" \
+		--buildinfo-file="$(BUILD)/rrdi.buildinfo" --changes-file="$(BUILD)/rrdi.changes"
 
-ABOUT_RUNTIME = 'Multi-Arch: same' \
-	'Description: round-robin time-series database with exact undo (library)' \
-	' The library runs the commands of rrdi in a process, on files or on the bytes' \
-	' of a file in memory. Every function is proved to meet its contract.'
-ABOUT_DEVELOPMENT = 'Multi-Arch: same' \
-	'Description: round-robin time-series database with exact undo (development)' \
-	' The headers, the static library and the manual page of librrdi, which runs the' \
-	' commands of rrdi in a process. The example /usr/share/rrdi/examples/embed.c is' \
-	' in the package rrdi.'
-ABOUT_PYTHON = 'Description: round-robin time-series database with exact undo (Python 3)' \
-	' The package rrdi runs the commands of rrdi in a process of Python, by librrdi.' \
-	' Its functions are those of the module rrdtool, and a module of that name can' \
-	' be put in its place.'
-ABOUT_PACKAGE = 'Suggests: collectd-core, gnuplot-nox, graphite-carbon, graphite-web, rrdtool' \
-	'Description: round-robin time-series database with exact undo' \
-	' A file has a fixed number of rows: new rows replace the oldest rows, and' \
-	' coarser archives keep averages, minimums and maximums. The commands have the' \
-	' names and main options of RRDtool; revert undoes the newest change. Every' \
-	' function is proved to meet its contract. Tools in Python move files from' \
-	' RRDtool and back, record, plot and feed.'
-
-COMMA := ,
-# The version of the C library that a file needs.
-GLIBC = $$(grep -ao 'GLIBC_[0-9.]*' $(1) | sed 's/GLIBC_//' | sort -V | tail -n 1)
-
-deb: $(PROGRAM) link-library ## makes packages of Debian in out/
-	rm -rf $(PACKAGE) $(RUNTIME) $(DEVELOPMENT) $(OF_PYTHON)
-	$(MAKE) --no-print-directory install PREFIX=/usr LIBDIR=lib/$(MULTIARCH) ZSHDIR=share/zsh/vendor-completions \
-		DESTDIR=$(PACKAGE) PROGRAM="$(PROGRAM)"
-	strip --remove-section=.comment $(PACKAGE)/usr/bin/rrdi
-	strip --remove-section=.comment --strip-unneeded $(PACKAGE)/$(TRIPLET)/librrdi.so.0
-	strip --strip-unneeded $(PACKAGE)/$(TRIPLET)/librrdi.a
-	rm $(PACKAGE)/usr/share/rrdi/LICENSE* $(PACKAGE)/usr/share/rrdi/directories
-	install -d $(RUNTIME)/$(TRIPLET) $(RUNTIME)/DEBIAN $(DEVELOPMENT)/usr/share/man $(DEVELOPMENT)/usr/lib
-	mv $(PACKAGE)/$(TRIPLET)/librrdi.so.0 $(RUNTIME)/$(TRIPLET)
-	printf '%s\n' 'librrdi 0 librrdi0 (>= $(VERSION))' > $(RUNTIME)/DEBIAN/shlibs
-	printf '%s\n' 'activate-noawait ldconfig' > $(RUNTIME)/DEBIAN/triggers
-	mv $(PACKAGE)/usr/lib/$(MULTIARCH) $(DEVELOPMENT)/usr/lib
-	install -d $(OF_PYTHON)/usr/lib $(PACKAGE)/DEBIAN
-	mv $(PACKAGE)/usr/lib/python3 $(OF_PYTHON)/usr/lib
-	install -m 755 tools/debian/postinst tools/debian/prerm $(PACKAGE)/DEBIAN
-	mv $(PACKAGE)/usr/include $(DEVELOPMENT)/usr
-	mv $(PACKAGE)/usr/share/man/man3 $(DEVELOPMENT)/usr/share/man
-	$(call finish,$(RUNTIME),librrdi0,libs,libc6 (>= $(call GLIBC,$(RUNTIME)/$(TRIPLET)/librrdi.so.0)),$(ABOUT_RUNTIME))
-	$(call finish,$(DEVELOPMENT),librrdi-dev,libdevel,librrdi0 (= $(VERSION)),$(ABOUT_DEVELOPMENT))
-	$(call finish,$(OF_PYTHON),python3-rrdi,python,python3 (>= 3.8)$(COMMA) rrdi (= $(VERSION))$(COMMA) librrdi0 (>= $(VERSION)),$(ABOUT_PYTHON))
-	$(call finish,$(PACKAGE),rrdi,utils,libc6 (>= $(call GLIBC,"$(PROGRAM)"))$(COMMA) python3 (>= 3.8),$(ABOUT_PACKAGE))
-
-.PHONY: all help build library prove test check bench clean link-library install install-directories install-library install-program uninstall deb
+.PHONY: all help build built library prove test check bench clean link-library install install-directories install-library install-program uninstall deb
 
 # The tools, and what Perl and C programs of RRDtool's users record by.
 include tools/tools.mk

@@ -33,7 +33,8 @@ install-tools: $(if $(HAS_LIBRARY),$(RECORDER)) install-directories
 	for unit in $(UNIT_NAMES); do \
 		sed 's|@PREFIX@|$(PREFIX)|g' tools/systemd/$$unit > "$(UNITS)/$$unit" && chmod 644 "$(UNITS)/$$unit" || exit 1; \
 	done
-	install -m 644 tools/systemd/rrdi.conf "$(ACCOUNTS)"
+	install -m 644 tools/systemd/rrdi.sysusers "$(ACCOUNTS)/rrdi.conf"
+	install -m 644 tools/systemd/rrdi.tmpfiles "$(FOLDERS)/rrdi.conf"
 	install -m 644 perl/RRDs.pm "$(SHARED)/perl"
 	@for tool in $(TOOLS); do \
 		ln -sf ../share/rrdi/tools/$$tool "$(BINARIES)/$$tool" && \
@@ -46,29 +47,10 @@ install-tools: $(if $(HAS_LIBRARY),$(RECORDER)) install-directories
 uninstall-tools:
 	rm -f $(TOOLS:%="$(BINARIES)/%") $(TOOLS:%="$(MANUALS)/%.1.gz") $(TOOLS:%="$(COMPLETIONS)/%")
 	rm -f "$(COMPLETIONS_OF_ZSH)/_rrdi" "$(COMPLETIONS_OF_FISH)/rrdi.fish" $(TOOLS:%="$(COMPLETIONS_OF_FISH)/%.fish")
-	rm -f $(UNIT_NAMES:%="$(UNITS)/%") "$(ACCOUNTS)/rrdi.conf"
+	rm -f $(UNIT_NAMES:%="$(UNITS)/%") "$(ACCOUNTS)/rrdi.conf" "$(FOLDERS)/rrdi.conf"
 	rm -rf "$(PRIVATE)"
 
 .PHONY: record install-tools uninstall-tools
-
-# Debian's package that puts the Perl module in the place of RRDtool's for all programs, also for those in taint mode, which
-# ignore PERL5LIB.
-OF_PERL = $(BUILD)/librrds-perl-rrdi_$(VERSION)
-ABOUT_PERL = 'Provides: librrds-perl (= 1.7.2)' 'Conflicts: librrds-perl' 'Replaces: librrds-perl' \
-	'Description: round-robin time-series database with exact undo (Perl module RRDs)' \
-	' The module has the functions of RRDtool'\''s module RRDs, and runs them on' \
-	' databases of rrdi. While this package is installed, all Perl programs on the' \
-	' machine that use RRDs, such as Munin, MRTG and Smokeping, use rrdi.'
-
-deb: deb-perl
-
-deb-perl:
-	rm -rf $(OF_PERL)
-	install -d $(OF_PERL)/usr/share/perl5 $(OF_PERL)/DEBIAN
-	ln -s ../rrdi/perl/RRDs.pm $(OF_PERL)/usr/share/perl5/RRDs.pm
-	$(call finish,$(OF_PERL),librrds-perl-rrdi,perl,perl$(COMMA) rrdi (= $(VERSION)),$(ABOUT_PERL))
-
-.PHONY: deb-perl
 
 # The tools write no bytecode, so that nobody's run changes an installation. Compiling takes as long as all the rest of a
 # call, so an installation has the bytecode from the beginning; packages get it when they are installed.

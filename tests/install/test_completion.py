@@ -10,7 +10,6 @@ from typing import Callable, Mapping, Sequence
 
 import pytest
 
-from install.tree import Tree
 from support.check import Check
 from support.program import TOP
 
@@ -38,11 +37,10 @@ SHELLS: dict[str, Callable[[Path], list[str]]] = {
 
 
 @pytest.fixture
-def place(tree: Tree) -> Path:
+def place(make: Callable[..., None], folder: Path) -> Path:
     """An installation."""
-    place = tree.folder / "completing"
-    tree.make("install", "-e", f"PREFIX={place}", "LDCONFIG=:", env={"ARCHIVE": "none"})
-    return place
+    make("install", f"PREFIX={folder}/completing", "LDCONFIG=:")
+    return folder / "completing"
 
 
 @pytest.fixture

@@ -12,26 +12,11 @@ from typing import Callable
 
 import pytest
 
-from support.library import as_built
-from support.program import TOP, Program
+from support.program import TOP
 
 CREATE = ("create", "net.rrdi", "--start", "0", "--step", "10", "DS:g:GAUGE:99:U:U", "RRA:MAX:0.5:1:3")
 SHOW = 'import rrdi; print(rrdi.info("net.rrdi")["step"], rrdi.load_library() is not None)'
 PATIENCE = 600
-
-
-@pytest.fixture
-def made(program: Program, library: Path, needs: Callable[..., None], folder: Path) -> Callable[..., None]:
-    """Runs `make` with the program and the library that were built."""
-    needs("make", "cc")
-    if not library.with_name("librrdi.a").is_file():
-        pytest.skip(f"librrdi.a is not beside {library}")
-    (folder / "built").mkdir()
-    words = [*as_built(library, folder / "built"), f"PROGRAM={program.path}", "LDCONFIG=:"]
-
-    def make(*more: str) -> None:
-        subprocess.run(["make", "-s", "-C", str(TOP), *more, *words], check=True, stdout=subprocess.DEVNULL)
-    return make
 
 
 def told(folder: Path, *words: object, status: int = 0, **env: object) -> str:
@@ -43,9 +28,9 @@ def told(folder: Path, *words: object, status: int = 0, **env: object) -> str:
     return ran.stdout + ran.stderr
 
 
-def test_an_installation(made: Callable[..., None], folder: Path) -> None:
+def test_an_installation(built: Callable[..., None], folder: Path) -> None:
     local = folder / "local"
-    made("install", f"PREFIX={local}")
+    built("install", f"PREFIX={local}")
     told(folder, local / "bin/rrdi", *CREATE)
     assert '"step": 10' in told(folder, local / "share/rrdi/examples/rrdi.py", "json", "net.rrdi")
     modules, library = local / "lib/python3/dist-packages", local / "lib/librrdi.so.0"
@@ -65,24 +50,24 @@ def test_an_installation(made: Callable[..., None], folder: Path) -> None:
 
 def test_no_program(folder: Path, needs: Callable[..., None]) -> None:
     needs("make")
-    words = ("make", "-s", "-C", TOP, "install", "PROGRAM=nowhere", f"DESTDIR={folder}")
-    assert "nowhere not found" in told(folder, *words, status=2)
+    for goal in ("install", "deb"):
+        words = ("make", "-s", "-C", TOP, goal, "PROGRAM=nowhere", f"DESTDIR={folder}")
+        assert "nowhere not found; run make first" in told(folder, *words, status=2)
 
 
-def test_packages(made: Callable[..., None], needs: Callable[..., None], folder: Path) -> None:
-    needs("dpkg-deb", "strip", "perl")
-    made("deb")
+@pytest.mark.xdist_group("packages")
+def test_packages(packages: dict[str, Path], needs: Callable[..., None], folder: Path) -> None:
+    needs("perl")
     usr = folder / "unpacked/usr"
-    for package in folder.glob("built/*.deb"):
+    for package in packages.values():
         told(folder, "dpkg-deb", "-x", package, "unpacked")
     told(folder, usr / "bin/rrdi", *CREATE)
     assert "step = 10" in told(folder, usr / "bin/rrdi", "info", "net.rrdi")
     library, = usr.glob("lib/*/librrdi.so.0")
-    assert library.with_name("librrdi.so").exists()
     assert told(folder, sys.executable, "-B", "-c", SHOW, PYTHONPATH=usr / "lib/python3/dist-packages",
                 RRDI_LIBRARY=library) == "10 True\n"
     times = 'print join " ", RRDs::times("epoch+1", "epoch+2")'
-    assert told(folder, "perl", "-T", f"-I{usr}/share/perl5", "-MRRDs", "-e", times) == "1 2"
+    assert told(folder, "perl", "-T", f"-I{usr}/share/rrdi/perl", "-MRRDs", "-e", times) == "1 2"
 
 
 def test_the_library_of_a_wheel(library: Path, folder: Path) -> None:
