@@ -26,6 +26,18 @@ _rrdi_tool() {
                 return 0
             fi
             ;;
+        rrdi-check)
+            options+=' --above --below --critical --warning --for --stale --changes'
+            case ${COMP_WORDS[COMP_CWORD - 1]} in
+                -w | -c | --above | --below | --critical | --warning | --for | --stale) return 0 ;;
+                --changes)
+                    compopt -o filenames 2>/dev/null
+                    mapfile -t COMPREPLY < <(compgen -f -- "$current")
+                    return 0
+                    ;;
+            esac
+            ((COMP_CWORD > 1)) || ends='rrdi'
+            ;;
         rrdi-export) ends='rrdi rrd' ;;
         rrdi-compare) ends='rrd rrdi' ;;
         rrdi-plot)
@@ -120,4 +132,4 @@ _rrdi_tool() {
     return 0
 }
 
-complete -F _rrdi_tool rrdi-carbon-cache rrdi-import rrdi-export rrdi-compare rrdi-feed rrdi-fix rrdi-graph rrdi-plot rrdi-record rrdi-rrdtool rrdi-show
+complete -F _rrdi_tool rrdi-carbon-cache rrdi-check rrdi-import rrdi-export rrdi-compare rrdi-feed rrdi-fix rrdi-graph rrdi-plot rrdi-record rrdi-rrdtool rrdi-show

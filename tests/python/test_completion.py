@@ -66,7 +66,8 @@ class Completion(ToolCase):
                 ("rrdi-import so", "some.rrd some.rrdi"), ("rrdi-import --j", "--journal"), ("rrdi-import --journal ", ""),
                 ("rrdi-import --in", "--into --in-place"), ("rrdi-import --into comp", ""),
                 ("rrdi-export some", "some.rrdi some.rrd"), ("rrdi-compare some.rrd --h", "--help"),
-                ("rrdi-fix so", "some.rrdi"), ("rrdi-fix some.rrdi 10 --s", "--source --samples"), ("rrdi-fix some.rrdi --source ", ""),
+                ("rrdi-check so", "some.rrdi"), ("rrdi-check some.rrdi g --c", "--critical --changes"), ("rrdi-check f g --for ", ""),
+                ("rrdi-check f g --changes some.rrdi", "some.rrdi"), ("rrdi-fix so", "some.rrdi"), ("rrdi-fix some.rrdi 10 --s", "--source --samples"), ("rrdi-fix some.rrdi --source ", ""),
                 ("rrdi-fix some.rrdi 10 --samples some.rrdi", "some.rrdi"), ("rrdi-record --j", "--journal"),
                 ("rrdi-graph some.rrdi --st", "--start"), ("rrdi-plot so", "some.rrdi"),
                 ("rrdi-plot some.rrdi p.png M", "MIN MAX"), ("rrdi-plot some.rrdi p.png MAX --e", "--end"),
@@ -95,7 +96,7 @@ class Completion(ToolCase):
 
     def test_no_typed_word_of_a_tool_is_run(self) -> None:
         tools = ("rrdi-import", "rrdi-export", "rrdi-compare", "rrdi-plot", "rrdi-record", "rrdi-feed", "rrdi-graph", "rrdi-rrdtool",
-                 "rrdi-carbon-cache", "rrdi-show", "rrdi-fix")
+                 "rrdi-carbon-cache", "rrdi-show", "rrdi-fix", "rrdi-check")
         for tool in tools:
             for word in RUNNING:
                 for line in (f"{tool} {word}", f"{tool} -{word}", f"{tool} some.rrdi {word}", f"{tool} {word} some.rrdi ",

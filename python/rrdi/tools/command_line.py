@@ -18,14 +18,16 @@ class WrongArguments(Exception):
 
 
 class Tool(NamedTuple):
-    """A tool: its installed name, the line of its arguments, its help, the function that runs it, and what it prints as its
-    version, if that is not rrdi's."""
+    """A tool: its installed name, the line of its arguments, its help, the function that runs it, what it prints as its
+    version, if that is not rrdi's, and its exit statuses after a failure and after wrong arguments."""
 
     name: str
     usage: str
     help: Optional[str]
     run: Callable[[List[str]], int]
     version: str = ""
+    failed: int = 1
+    misused: int = 2
 
     def main(self) -> int:
         """Runs the tool with the arguments of this process, and returns its exit status."""
@@ -67,8 +69,8 @@ def add_line(name: str, hint: str) -> None:
 def run(tool: Tool, words: Optional[List[str]] = None) -> int:
     """Runs a tool and returns its exit status.
 
-    The status is 0 if all went well, 1 and a line on standard error after a failure, and 2 after wrong arguments. A further
-    line says which option was meant, or that a file is RRDtool's.
+    The status is 0 if all went well, and after a failure 1 and after wrong arguments 2, if the tool has no others, with a line
+    on standard error. A further line says which option was meant, or that a file is RRDtool's.
     """
     words = sys.argv[1:] if words is None else words
     name = called_name(tool)
@@ -88,7 +90,7 @@ def run(tool: Tool, words: Optional[List[str]] = None) -> int:
         if not str(wrong):
             from .hints import option_hint  # few runs fail
             add_line(name, option_hint(words, tool.help or ""))
-        return 2
+        return tool.misused
     except Failure as failure:
         print(f"{name}: {failure}", file=sys.stderr)
         if str(failure).endswith("file: not ours"):
@@ -96,7 +98,7 @@ def run(tool: Tool, words: Optional[List[str]] = None) -> int:
             add_line(name, file_hint(words))
     except BrokenPipeError:
         give_up_output()
-        return 1
+        return tool.failed
     except KeyboardInterrupt:
         give_up_output()
         return 130
@@ -108,7 +110,7 @@ def run(tool: Tool, words: Optional[List[str]] = None) -> int:
         flush_output()
     except OSError:
         give_up_output()
-    return 1
+    return tool.failed
 
 
 def say(tool_name: str, text: str) -> None:
