@@ -134,8 +134,8 @@ def missing(page: str) -> list[str]:
 
 
 def test_contracts() -> None:
-    """The functions that contracts.md names are in the sources that it links."""
-    text = (TOP / "docs/contracts.md").read_text(encoding="utf-8")
+    """The functions that proofs.md names are in the sources that it links."""
+    text = (TOP / "docs/proofs.md").read_text(encoding="utf-8")
     source = "../crates/rrd_base/src/database.rt"
     assert missing(text) == [] and len(NAMED.findall(text)) > 10
     assert missing(f"[`Database::update`]({source}), [`Database::gone`]({source}), [`a`](../crates/none.rt)") == [

@@ -6,7 +6,7 @@
     span, names, rows = rrdtool.fetch("load.rrd", "AVERAGE", "-s", "end-1h", "-e", "now")
 
 A program that says `import rrdtool` gets this module if the folder `compat` beside the package is first on its path.
-The arguments are in RRDtool's own syntax (docs/rrdtool-options.md). Every error raises `OperationalError`, as in RRDtool's
+The arguments are in RRDtool's own syntax (docs/differences.md). Every error raises `OperationalError`, as in RRDtool's
 module. A function that rrdi does not have, such as `graph`, raises `OperationalError` with the function's name.
 """
 from __future__ import annotations

@@ -36,7 +36,7 @@ samples are written; after SIGUSR1 too, and then it goes on. A kill or a crash
 of the system costs the samples that are still held.
 
 The C library librrdi writes the files. If there is none, or the variable RRDI
-names a program, each batch is a process, `rrdi batch FILE`, which is four to
+names a program, each batch is a process, `rrdi batch FILE`, which is two to
 five times as slow. docs/feeding.md has more.
 
 Exit status: 0; 1 if a line was bad, a sample was refused or may be lost (each
