@@ -210,6 +210,8 @@ def main() -> int:
     begin, check = time.monotonic(), Check()
     for packages in (NEEDED, USEFUL):
         install(packages)
+    if not (find_spec("pytest") and find_spec("xdist")):
+        return 1
     run_all(check, *["--record"] * options.record)
     print(check.last_lines(begin), flush=True)
     return 1 if check.failed or not check.passed else 0
