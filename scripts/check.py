@@ -36,7 +36,7 @@ NEEDED = {"cc": "gcc", "make": "make", "objcopy": "binutils", "pytest": "python3
 USEFUL = {"strace": "strace", "mypy": "mypy", "rrdtool": "rrdtool", "gnuplot": "gnuplot-nox", "pkg-config": "pkg-config"}
 # The memory of a process of pytest, with the programs that it runs.
 WORKER = 2 << 30
-BUGS = ".ci/try-planted-bugs"
+BUGS = "scripts/try-planted-bugs"
 LEFT_OUT = re.compile(r"^(?:left out: |SKIPPED )(.*)|^test result: .*; ([1-9]\d* ignored)")
 # What `rt ci` builds and pytest tries.
 BUILT = re.compile(r"crates/(rrdi/out/rrdi|(tests_\w+)/out/\2_tests)")
