@@ -211,6 +211,7 @@ def main() -> int:
     for packages in (NEEDED, USEFUL):
         install(packages)
     if not (find_spec("pytest") and find_spec("xdist")):
+        print("0 passed, 1 failed")
         return 1
     run_all(check, *["--record"] * options.record)
     print(check.last_lines(begin), flush=True)
