@@ -36,7 +36,7 @@ NEEDED = {"cc": "gcc", "make": "make", "objcopy": "binutils", "pytest": "python3
 USEFUL = {"strace": "strace", "mypy": "mypy", "rrdtool": "rrdtool", "gnuplot": "gnuplot-nox", "pkg-config": "pkg-config"}
 # The memory of a process of pytest, with the programs that it runs.
 WORKER = 2 << 30
-BUGS = ".ci/try-planted-bugs"
+BUGS = "scripts/try-planted-bugs"
 LEFT_OUT = re.compile(r"^(?:left out: |SKIPPED )(.*)|^test result: .*; ([1-9]\d* ignored)")
 # What `rt ci` builds and pytest tries.
 BUILT = re.compile(r"crates/(rrdi/out/rrdi|(tests_\w+)/out/\2_tests)")
@@ -210,6 +210,9 @@ def main() -> int:
     begin, check = time.monotonic(), Check()
     for packages in (NEEDED, USEFUL):
         install(packages)
+    if not (find_spec("pytest") and find_spec("xdist")):
+        print("0 passed, 1 failed")
+        return 1
     run_all(check, *["--record"] * options.record)
     print(check.last_lines(begin), flush=True)
     return 1 if check.failed or not check.passed else 0
