@@ -44,27 +44,27 @@ extern "C" {
 
 enum rrdi_fault {
     RRDI_OK = 0,
-    RRDI_NO_ROOM = 1,       /* In memory: new_file is too small for the answer's file_length bytes. A batch on a file: output is
+    RRDI_NO_ROOM = 1,        /* In memory: new_file is too small for the answer's file_length bytes. A batch on a file: output is
                                too small for the answer's output_length bytes, and the file is unchanged. rrdi_fetch_open: values
                                is too small. Call again with more room. */
-    RRDI_NO_MEMORY = 2,     /* An allocation failed. The output's text is `out of memory`, or `write failed` if there was no memory
+    RRDI_NO_MEMORY = 2,      /* An allocation failed. The output's text is `out of memory`, or `write failed` if there was no memory
                                for the printed text. */
-    RRDI_READ_LINES = 3,    /* The lines could not be read. Does not happen with lines in memory. */
-    RRDI_USAGE = 10,        /* The words are not a command. */
-    RRDI_BAD_WORD = 11,     /* A word, or a value, cannot be read. The output names the word. */
-    RRDI_NO_DATABASE = 12,  /* Does not happen: a line of a batch that needs a database is refused, and a command reports 14. */
-    RRDI_REFUSED = 13,      /* The database refuses the command. The output gives the reason. */
-    RRDI_CANNOT_OPEN = 14,  /* The file does not exist, is no regular file, or cannot be opened or locked; or another process holds
+    RRDI_READ_LINES = 3,     /* The lines could not be read. Does not happen with lines in memory. */
+    RRDI_USAGE = 10,         /* The words are not a command. */
+    RRDI_BAD_WORD = 11,      /* A word, or a value, cannot be read. The output names the word. */
+    RRDI_NO_DATABASE = 12,   /* Does not happen: a line of a batch that needs a database is refused, and a command reports 14. */
+    RRDI_REFUSED = 13,       /* The database refuses the command. The output gives the reason. */
+    RRDI_CANNOT_OPEN = 14,   /* The file does not exist, is no regular file, or cannot be opened or locked; or another process holds
                                its lock. In memory: the command needs a file, and there is none. */
-    RRDI_CANNOT_WRITE = 15, /* The file cannot be written. */
-    RRDI_NOT_OURS = 20,     /* The file is not a database of rrdi. In memory also: a change of the file was interrupted. Only a call
+    RRDI_CANNOT_WRITE = 15,  /* The file cannot be written. */
+    RRDI_NOT_OURS = 20,      /* The file is not a database of rrdi. In memory also: a change of the file was interrupted. Only a call
                                on the file at its path repairs the file. */
-    RRDI_OTHER_VERSION = 21,/* The file has a layout version that this library does not know. */
-    RRDI_TRUNCATED = 22,    /* The file ends after the answer's `at` bytes, before the database does. */
-    RRDI_BAD_BLOCK = 23,    /* The block that begins after the answer's `at` bytes is invalid. */
-    RRDI_BAD_ENTRY = 24,    /* The journal entry of number `at` is invalid; the newest entry is 1. */
-    RRDI_TRAILING = 25,     /* Bytes follow the database, after the answer's `at` bytes. */
-    RRDI_READ = 26          /* The file could not be read to its end. */
+    RRDI_OTHER_VERSION = 21, /* The file has a layout version that this library does not know. */
+    RRDI_TRUNCATED = 22,     /* The file ends after the answer's `at` bytes, before the database does. */
+    RRDI_BAD_BLOCK = 23,     /* The block that begins after the answer's `at` bytes is invalid. */
+    RRDI_BAD_ENTRY = 24,     /* The journal entry of number `at` is invalid; the newest entry is 1. */
+    RRDI_TRAILING = 25,      /* Bytes follow the database, after the answer's `at` bytes. */
+    RRDI_READ = 26           /* The file could not be read to its end. */
 };
 
 /* Begin with `struct rrdi_answer answer = {0};`. An answer may be used again. */
@@ -131,8 +131,8 @@ void rrdi_batch_file(const uint8_t *path, size_t path_length, const uint8_t *lin
  * change no field. Use no copy of the struct. It may move to another thread between two calls; one call at a time may use it.
  * A forked child must not use it: the child may only forget it, or replace itself by exec. */
 struct rrdi_file {
-    bool is_open;           /* Whether the file is open. */
-    void *reserved;         /* What the library keeps. */
+    bool is_open;   /* Whether the file is open. */
+    void *reserved; /* What the library keeps. */
 };
 
 /* Opens the file at a path for changes, locks it, and reads its database. If an earlier change was interrupted, the call repairs
@@ -162,15 +162,19 @@ void rrdi_batch_open(struct rrdi_file *file, const uint8_t *lines, size_t lines_
 
 /* What a value is: no value, a number without a decimal point, or a number with one. A COUNTER and a DERIVE refuse a number with a
  * decimal point, as they do in words. */
-enum rrdi_kind { RRDI_UNKNOWN, RRDI_WHOLE, RRDI_DECIMAL };
+enum rrdi_kind {
+    RRDI_UNKNOWN,
+    RRDI_WHOLE,
+    RRDI_DECIMAL,
+};
 
 /* A number to the millionth, for calls that take numbers in place of words. rrdi_double and its like, at the end of this header,
  * make it of C's numbers. Zeros are no value, which is `U` in words. */
 struct rrdi_value {
-    uint64_t units;         /* The number without its sign and its fraction. */
-    uint32_t millionths;    /* The fraction: 0 to 999,999; RRDI_WHOLE has none. */
-    uint8_t kind;           /* enum rrdi_kind; with RRDI_UNKNOWN no other field counts. */
-    bool is_negative;       /* Whether the number is below 0. */
+    uint64_t units;      /* The number without its sign and its fraction. */
+    uint32_t millionths; /* The fraction: 0 to 999,999; RRDI_WHOLE has none. */
+    uint8_t kind;        /* enum rrdi_kind; with RRDI_UNKNOWN no other field counts. */
+    bool is_negative;    /* Whether the number is below 0. */
 };
 
 /* Adds one sample to an open file, as rrdi_run_open does with `update TIME:VALUE..`: with the same new file and the same fault. The
@@ -183,14 +187,19 @@ void rrdi_update_open(struct rrdi_file *file, uint64_t time, const struct rrdi_v
                       size_t output_room, struct rrdi_answer *answer) RRDI_NONNULL;
 
 /* The functions of a fetch. */
-enum rrdi_function { RRDI_AVERAGE, RRDI_MIN, RRDI_MAX, RRDI_LAST };
+enum rrdi_function {
+    RRDI_AVERAGE,
+    RRDI_MIN,
+    RRDI_MAX,
+    RRDI_LAST,
+};
 
 /* The rows of a fetch. The time of row number `row`, from 0 on, is start + (row + 1) * step: the time at which the row ends. */
 struct rrdi_rows {
-    uint64_t start;         /* The time at which the first row begins, in seconds since 1970. */
-    uint64_t step;          /* The seconds from one row to the next one. */
-    uint64_t count;         /* The number of rows, at most 1,000,000. */
-    uint64_t sources;       /* The number of values in each row: one for each data source, at most 64. */
+    uint64_t start;   /* The time at which the first row begins, in seconds since 1970. */
+    uint64_t step;    /* The seconds from one row to the next one. */
+    uint64_t count;   /* The number of rows, at most 1,000,000. */
+    uint64_t sources; /* The number of values in each row: one for each data source, at most 64. */
 };
 
 /* Gives the rows of an open file that rrdi_run_open prints with `fetch FUNCTION --resolution .. --start .. --end ..`, or the same

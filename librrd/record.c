@@ -150,10 +150,10 @@ static void add_rounded(struct text *text, const struct number *number) {
             place--;
             if (place == 0) add(text, ".", 1);
         } else if (is_first_cut) {
-            rest = *at == '0' ? 0 : *at < '5' ? 1 : *at == '5' ? 2 : 3;
+            rest = *at == '0' ? 0 : (*at < '5' ? 1 : (*at == '5' ? 2 : 3));
             is_first_cut = false;
         } else if (*at != '0') {
-            rest = rest == 2 ? 3 : rest == 0 ? 1 : rest;
+            rest = rest == 2 ? 3 : (rest == 0 ? 1 : rest);
         }
     }
     if (place > 0) {
@@ -309,9 +309,8 @@ EXPORTED int rrd_update_r(const char *path, const char *names, int count, const 
                     (uint64_t)time(NULL), WAIT, false, (uint8_t *)output.bytes, output.length - 1, refused, 1, &answer);
     output.bytes[answer.output_length < output.length ? answer.output_length : 0] = '\0';
     /* If the lines were run, the output is the output of the lines, and not the text of the fault. */
-    int status = report(path, &answer, answer.fault == RRDI_NO_MEMORY      ? "out of memory"
-                                       : answer.fault == RRDI_CANNOT_WRITE ? "cannot write"
-                                                                           : output.bytes);
+    const char *told = answer.fault == RRDI_CANNOT_WRITE ? "cannot write" : output.bytes;
+    int status = report(path, &answer, answer.fault == RRDI_NO_MEMORY ? "out of memory" : told);
     if (status == 0 && answer.refused > 0) {
         char *end = strchr(output.bytes, '\n');
         if (end != NULL) *end = '\0';

@@ -225,7 +225,8 @@ def _why_wrong_number(given: Given, ask: Optional[Ask]) -> str:
 def _why_no_source(given: Given, ask: Optional[Ask]) -> str:
     names = [source.name for source in _sources(ask)]
     shown = ", ".join(names[:MOST_NAMES]) + (", .." if len(names) > MOST_NAMES else "")
-    return next((f"there is no data source {name}; the file has {shown}" for name in given.template or () if names and name not in names), "")
+    return next((f"there is no data source {name}; the file has {shown}"
+                 for name in given.template or () if names and name not in names), "")
 
 
 def _why_bad_value(given: Given, ask: Optional[Ask]) -> str:

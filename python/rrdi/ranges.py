@@ -24,7 +24,8 @@ FIELDS: Dict[str, Range] = {"bad heartbeat": Range("DS", 3, "heartbeat", LATEST,
                             "bad steps": Range("RRA", 3, "number of steps", MOST_STEPS),
                             "bad rows": Range("RRA", 4, "number of rows", MOST_ROWS)}
 # For each option that has a range: the refusal, and the range.
-OPTIONS = {"--step": ("bad step", f"1 to {LONGEST_STEP} seconds"), "--journal": ("bad journal depth", f"1 to {MOST_CHANGES} changes")}
+OPTIONS = {"--step": ("bad step", f"1 to {LONGEST_STEP} seconds"),
+           "--journal": ("bad journal depth", f"1 to {MOST_CHANGES} changes")}
 
 
 def why_bad_option(name: str, value: str, reason: str) -> str:
@@ -41,7 +42,8 @@ def why_bad_setting(definitions: Sequence[str], reason: str) -> str:
     if reason == "bad bounds":
         return next(filter(None, (_why_bad_bounds(fields) for fields in given if fields[0] == "DS")), "")
     if reason == "bad xff":
-        return next((f"the xff of definition {number} is {fields[2]!r}, not 0 to 0.999999" for number, fields in enumerate(given, 1)
+        return next((f"the xff of definition {number} is {fields[2]!r}, not 0 to 0.999999"
+                     for number, fields in enumerate(given, 1)
                      if fields[0] == "RRA" and not 0 <= Decimal(fields[2]) < 1), "")
     if reason == "double name":
         names = [fields[1] for fields in given if fields[0] == "DS"]
@@ -72,4 +74,5 @@ def _why_too_large(given: List[List[str]]) -> str:
     for what, count, most in (("data sources", sources, MOST_SOURCES), ("archives", len(rows), MOST_ARCHIVES)):
         if count > most:
             return f"there are {count} {what}, and at most {most} are allowed"
-    return f"data sources times rows are {sources} times {sum(rows)}, and at most {MOST_CELLS}" if sources * sum(rows) > MOST_CELLS else ""
+    is_over = sources * sum(rows) > MOST_CELLS
+    return f"data sources times rows are {sources} times {sum(rows)}, and at most {MOST_CELLS}" if is_over else ""

@@ -162,8 +162,8 @@ def test_trust() -> None:
 def test_definitions() -> None:
     """The page definitions.md names each module that one has to believe."""
     page = (TOP / "docs/definitions.md").read_text().split("You have to believe that these modules")[1]
-    listed = {(crate, name) for crate, names in re.findall(r"^\| `(\w+)` \| (.*) \|$", page.split("These modules are not")[0], re.M)
-              for name in re.findall(r"\b[A-Z]\w+", names)}
+    table = re.findall(r"^\| `(\w+)` \| (.*) \|$", page.split("These modules are not")[0], re.M)
+    listed = {(crate, name) for crate, names in table for name in re.findall(r"\b[A-Z]\w+", names)}
     heads = {(path.relative_to(TOP).parts[1], path.name.split(".")[0]): path.read_text().split("\n", 1)[0]
              for folder in ("crates", "library") for path in (TOP / folder).glob("*/specs/**/*.antt*")}
     defining = {module for module, head in heads.items() if head.startswith("-- Definition")}

@@ -13,7 +13,7 @@ import pytest
 
 from support import losses as support_losses
 from support.losses import CANNOT_OPEN, CANNOT_WRITE, CREATE, FEW, OTHER_BYTES, TRIED, Losses
-from support.program import Answer, error, held, lines_in_memory, parted, put
+from support.program import error, held, parted, put
 
 LEAST = {TRIED: 760}
 # The reasons on a full disk, and under a limit on the size of files.

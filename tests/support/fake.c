@@ -145,7 +145,7 @@ static int settle_on_disk(int file) {
     if (!syncs)
         return 0;
     snprintf(name, sizeof name, "no-sync-%d", ++number_of_sync);
-    return has(name) ? 0 : has("hides-sync") ? fsync(file) & 0 : fsync(file);
+    return has(name) ? 0 : (has("hides-sync") ? fsync(file) & 0 : fsync(file));
 }
 
 static struct base read_whole(int file) {
@@ -177,8 +177,8 @@ static int locked_file = -1, lacks_locks;
 /* Checks whether an error of a lock says that the system has no locks. */
 static int has_no_locks(int number) {
     int is_free = number != EWOULDBLOCK && number != EINTR;
-    return number == ENOSYS || number == EOPNOTSUPP || number == EINVAL || (has("goes-on-unlocked") && is_free)
-        || (has("ignores-holder") && number == EWOULDBLOCK);
+    return number == ENOSYS || number == EOPNOTSUPP || number == EINVAL || (has("goes-on-unlocked") && is_free) ||
+           (has("ignores-holder") && number == EWOULDBLOCK);
 }
 
 static int lock(int file, int how) {
@@ -220,8 +220,8 @@ static int take_back(int file, struct base old, struct base new, const struct he
     if (count > old.length)
         count = old.length;
     int is_marked = !put(file, (const unsigned char *)marked, HEAD, 0) && (has("marks-unsynced") || !settle_on_disk(file));
-    if (is_marked && !put(file, old.bytes + HEAD, count - HEAD, HEAD) && !settle_on_disk(file) && !put(file, old.bytes, HEAD, 0)
-        && !settle_on_disk(file) && !cut(file, old.length))
+    if (is_marked && !put(file, old.bytes + HEAD, count - HEAD, HEAD) && !settle_on_disk(file) && !put(file, old.bytes, HEAD, 0) &&
+        !settle_on_disk(file) && !cut(file, old.length))
         settle_on_disk(file);
     return -1;
 }
@@ -252,8 +252,8 @@ static int put_all_pages(int file, struct base old, struct base new, size_t tail
 static int store_bare(int file, struct base old, struct base new) {
     unsigned char spoiled[4] = {0};
     int takes_room = old.length && old.length < new.length && !has("loses-other-bytes");
-    if ((takes_room && cut(file, new.length)) || (old.length && put(file, spoiled, 4, 0)) || put(file, new.bytes + HEAD, new.length - HEAD, HEAD)
-        || cut(file, new.length) || put(file, new.bytes, HEAD, 0)) {
+    if ((takes_room && cut(file, new.length)) || (old.length && put(file, spoiled, 4, 0)) ||
+        put(file, new.bytes + HEAD, new.length - HEAD, HEAD) || cut(file, new.length) || put(file, new.bytes, HEAD, 0)) {
         if (has("loses-other-bytes") || put(file, old.bytes, old.length, 0) || cut(file, old.length))
             cut(file, 0);
         return -1;
@@ -267,7 +267,7 @@ static int store(int file, struct base old, struct base new, int is_database) {
     head_of(new)->sum = sum_of(new);
     if (!is_database)
         return store_bare(file, old, new);
-    size_t most = old.length > new.length ? old.length : new.length, tail = (most + PAGE - 1) / PAGE * PAGE;
+    size_t most = old.length > new.length ? old.length : new.length, tail = ((most + PAGE - 1) / PAGE) * PAGE;
     memcpy(&marked, old.bytes, HEAD);
     marked.state = 1;
     marked.tail = tail;
@@ -283,8 +283,8 @@ static int store(int file, struct base old, struct base new, int is_database) {
         return take_back(file, old, new, &marked);
     size_t front = has("first-page-at-once") && new.length > PAGE ? PAGE : HEAD;
     int is_marked = has("marks-by-length") || (!put(file, (unsigned char *)&marked, HEAD, 0) && !settle_on_disk(file));
-    if (!is_marked || put_all_pages(file, old, new, tail) || settle_on_disk(file) || (has("cuts-early") && cut(file, new.length))
-        || put(file, new.bytes, front, 0) || settle_on_disk(file))
+    if (!is_marked || put_all_pages(file, old, new, tail) || settle_on_disk(file) || (has("cuts-early") && cut(file, new.length)) ||
+        put(file, new.bytes, front, 0) || settle_on_disk(file))
         return take_back(file, old, new, &marked);
     cut(file, new.length);
     return settle_on_disk(file);
@@ -292,8 +292,8 @@ static int store(int file, struct base old, struct base new, int is_database) {
 
 /* Returns whether a file is complete. If not, its change has to be taken back, or the file truncated. */
 static int is_settled(struct base base) {
-    return base.length < HEAD || memcmp(base.bytes, "RRDI", 4)
-        || (head_of(base)->state == 0 && base.length <= head_of(base)->length);
+    return base.length < HEAD || memcmp(base.bytes, "RRDI", 4) ||
+           (head_of(base)->state == 0 && base.length <= head_of(base)->length);
 }
 
 /* Writes the header as it was read, so that the disk has what the cache has before anything else changes. */
@@ -310,7 +310,7 @@ static int settle(int file) {
     if (is_settled(base) || has("stays-marked"))
         return 0;
     struct head old = *head_of(base);
-    size_t tail = head_of(base)->state ? head_of(base)->tail : has("marks-by-length") ? PAGE : 0;
+    size_t tail = head_of(base)->state ? head_of(base)->tail : (has("marks-by-length") ? PAGE : 0);
     if (store_header(file, base))
         return -1;
     if (tail) {
@@ -318,8 +318,8 @@ static int settle(int file) {
         if (has("takes-head-first") && put(file, base.bytes + tail, HEAD, 0))
             return -1;
         syncs &= !has("no-sync-to-recover");
-        if (put(file, base.bytes + tail + HEAD, old.length - HEAD, HEAD) || settle_on_disk(file)
-            || put(file, base.bytes + tail, HEAD, 0) || settle_on_disk(file))
+        if (put(file, base.bytes + tail + HEAD, old.length - HEAD, HEAD) || settle_on_disk(file) ||
+            put(file, base.bytes + tail, HEAD, 0) || settle_on_disk(file))
             return -1;
     }
     return cut(file, old.length) || settle_on_disk(file);
@@ -499,7 +499,7 @@ static int run_lines(struct base *base) {
 
 static int fault(struct base base) {
     if (base.length < HEAD || memcmp(base.bytes, "RRDI", base.length < 4 ? base.length : 4)) {
-        if (base.length >= 4) 
+        if (base.length >= 4)
             return tell("file: not ours");
     } else if (head_of(base)->length == base.length && head_of(base)->state == 0) {
         if (has("reads-anything") || head_of(base)->sum == sum_of(base))
@@ -544,14 +544,15 @@ static int over_file(char **words, int count, const char *path) {
     int is_odd = !makes && !stat(path, &found) && !S_ISREG(found.st_mode) && (!reads || !S_ISDIR(found.st_mode));
     if (is_odd && !(reads && (has("opens-pipes") || is_plain_pipe(path, found))))
         return tell_why("cannot open", path, "not a regular file");
-    int is_database = 0, file = open(path, makes ? O_RDWR | O_CREAT : reads && !has("opens-to-write") ? O_RDONLY : O_RDWR, 0666);
+    int mode = reads && !has("opens-to-write") ? O_RDONLY : O_RDWR;
+    int is_database = 0, file = open(path, makes ? O_RDWR | O_CREAT : mode, 0666);
     if (file < 0 && !makes && errno != ENOENT && !(reads && has("opens-to-write"))) {
         why = errno;
         file = open(path, O_RDONLY);
         is_kept = 1;
     }
     if (file < 0 && !(is_batch && errno == ENOENT))
-        return tell_why(makes ? "cannot write" : reads || errno == ENOENT ? "cannot open" : "cannot write", path, reason_of(errno));
+        return tell_why(!makes && (reads || errno == ENOENT) ? "cannot open" : "cannot write", path, reason_of(errno));
     if (file >= 0) {
         int how = (reads || has("changes-share")) ? LOCK_SH : LOCK_EX;
         int skips = (reads && has("reads-without-lock")) || (makes && has("creates-without-lock"));

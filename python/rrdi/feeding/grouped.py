@@ -8,7 +8,7 @@ from __future__ import annotations
 
 import errno
 import re
-from typing import List, Optional
+from typing import List
 
 from ..environment import is_synced, milliseconds
 from ..errors import BAD_WORD, CANNOT_WRITE, OK, REFUSED, USAGE

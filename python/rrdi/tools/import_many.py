@@ -135,7 +135,8 @@ class Importer:
     def summary(self, links: int) -> str:
         """Returns the last line. So many links below directories were passed over."""
         count = self.converted + self.refused + self.passed_over
-        parts = [f"{self.converted} converted" + (f", {self.incomplete} of them without all data sources" if self.incomplete else "")]
+        incomplete = f", {self.incomplete} of them without all data sources" if self.incomplete else ""
+        parts = [f"{self.converted} converted{incomplete}"]
         if self.passed_over:
             parts.append(f"{self.passed_over} already of rrdi")
         if self.refused:

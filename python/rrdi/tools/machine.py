@@ -60,7 +60,8 @@ def memory() -> List[Number]:
         values = (max(used, 0), cached, found["MemFree"], max(swap, 0))
     except KeyError as missing:
         raise Failure(f"{path} has no {missing.args[0]}") from None
-    return [Number(name, "GAUGE", str(value)) for name, value in zip(("mem_used", "mem_cached", "mem_free", "swap_used"), values)]
+    names = ("mem_used", "mem_cached", "mem_free", "swap_used")
+    return [Number(name, "GAUGE", str(value)) for name, value in zip(names, values)]
 
 
 def disk(path: str) -> List[Number]:
@@ -82,7 +83,8 @@ def network(interface: str) -> List[Number]:
     - `Failure` if it has no such interface.
     """
     path, text = read_proc("net/dev")
-    rows = {name.strip(): numbers.split() for name, colon, numbers in (line.rpartition(":") for line in text.splitlines()) if colon}
+    parted = (line.rpartition(":") for line in text.splitlines())
+    rows = {name.strip(): numbers.split() for name, colon, numbers in parted if colon}
     row: Optional[List[str]] = rows.get(interface)
     if row is None or len(row) < 9:
         raise Failure(f"{path} has no interface {interface}, only {', '.join(sorted(rows))}")

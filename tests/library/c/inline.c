@@ -221,7 +221,7 @@ static void *create_alone(void *of) {
     (void)of;
     rrdi_create_new(WORDS(PATH), WORDS(CREATE), 0, 0, false, text, sizeof text, &own);
     bool is_late = own.fault == RRDI_CANNOT_WRITE && own.system_error == EEXIST;
-    return (void *)(size_t)(own.fault == RRDI_OK ? 1 : is_late ? 0 : THREADS + 1);
+    return (void *)(size_t)(own.fault == RRDI_OK ? 1 : (is_late ? 0 : THREADS + 1));
 }
 
 /* Of several threads that make one file, one does. */

@@ -10,9 +10,9 @@
 
 #define RANDOM_NUMBERS 200000
 /* A data source of each type. */
-#define EACH_TYPE                                                                                                      \
-    "create\0--step\00010\0--start\0000\0DS:g:GAUGE:100:U:U\0DS:c:COUNTER:100:U:U\0DS:d:DERIVE:100:U:U\0DS:a:"         \
-    "ABSOLUTE:100:U:U\0"                                                                                               \
+#define EACH_TYPE                                                                                              \
+    "create\0--step\00010\0--start\0000\0DS:g:GAUGE:100:U:U\0DS:c:COUNTER:100:U:U\0DS:d:DERIVE:100:U:U\0DS:a:" \
+    "ABSOLUTE:100:U:U\0"                                                                                       \
     "RRA:LAST:0.5:1:8\0RRA:AVERAGE:0.5:2:8"
 #define SOURCES 4
 #define ROOM 64
@@ -44,8 +44,14 @@ static void test_whole(void) {
     static const struct row rows_of[] = {
         {0, "0"}, {1, "1"}, {-1, "-1"}, {INT64_MAX, "9223372036854775807"}, {INT64_MIN, "-9223372036854775808"}};
     static const struct row millionths_of[] = {
-        {0, "0.000000"}, {1, "0.000001"}, {-1, "-0.000001"}, {21500000, "21.500000"}, {-1000000, "-1.000000"},
-        {INT64_MAX, "9223372036854.775807"}, {INT64_MIN, "-9223372036854.775808"}};
+        {0, "0.000000"},
+        {1, "0.000001"},
+        {-1, "-0.000001"},
+        {21500000, "21.500000"},
+        {-1000000, "-1.000000"},
+        {INT64_MAX, "9223372036854.775807"},
+        {INT64_MIN, "-9223372036854.775808"},
+    };
     for (size_t at = 0; at < sizeof rows_of / sizeof *rows_of; at++)
         want(!strcmp(text_of(rrdi_whole(rows_of[at].number)), rows_of[at].text), rows_of[at].text);
     for (size_t at = 0; at < sizeof millionths_of / sizeof *millionths_of; at++)
@@ -227,8 +233,12 @@ static void test_unreadable_values(void) {
     size_t size = bytes_of("one", old);
     for (size_t at = 0; at < SOURCES; at++) {
         static const struct rrdi_value unreadable[] = {
-            {1, 0, 3, false}, {0, 0, 255, false}, {1, 1000000, RRDI_DECIMAL, false},
-            {1, UINT32_MAX, RRDI_DECIMAL, true}, {1, 1, RRDI_WHOLE, false}};
+            {1, 0, 3, false},
+            {0, 0, 255, false},
+            {1, 1000000, RRDI_DECIMAL, false},
+            {1, UINT32_MAX, RRDI_DECIMAL, true},
+            {1, 1, RRDI_WHOLE, false},
+        };
         for (size_t which = 0; which < sizeof unreadable / sizeof *unreadable; which++) {
             all_whole(5);
             values[at] = unreadable[which];

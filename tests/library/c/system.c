@@ -264,9 +264,14 @@ static void test_descriptors(void) {
 
 /* Only a create makes a file. */
 static void test_no_file(void) {
-    static const struct words calls[] = {{WORDS("last")},          {WORDS("info")},
-                                         {WORDS(UPDATE)},          {WORDS("revert")},
-                                         {WORDS("tune\0-i\0g:1")}, {WORDS("resize\0000\0GROW\0001")}};
+    static const struct words calls[] = {
+        {WORDS("last")},
+        {WORDS("info")},
+        {WORDS(UPDATE)},
+        {WORDS("revert")},
+        {WORDS("tune\0-i\0g:1")},
+        {WORDS("resize\0000\0GROW\0001")},
+    };
     uint64_t refused[1];
     for (size_t at = 0; at < sizeof calls / sizeof *calls; at++) {
         run_file("none", calls[at].bytes, calls[at].length, 0);

@@ -62,8 +62,8 @@ def group_size(rows: Columns, most: int) -> int:
 
 
 def grouped(rows: Columns, size: int, function: str) -> Columns:
-    """Returns rows that cover so many of these: the known cells of each, summarized by a function. The new rows end at multiples
-    of their seconds."""
+    """Returns rows that cover so many of these: the known cells of each, summarized by a function. The new rows end at
+    multiples of their seconds."""
     seconds = rows.seconds * size
     places: Dict[int, List[int]] = {}
     for at, time in enumerate(rows.times):

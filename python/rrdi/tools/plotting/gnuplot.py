@@ -68,7 +68,8 @@ def table(picture: Picture, legend: Legend) -> Iterator[str]:
         yield (f"set object rectangle from screen {size.across(place.left)}, screen {size.up(up - SWATCH / 2)} to screen "
                f"{size.across(place.left + SWATCH)}, screen {size.up(up + SWATCH / 2)} front fillcolor rgb "
                f"'{picture.color(at)}' fillstyle solid 1 noborder")
-        yield (f"set label {quoted(name)} at screen {size.across(place.left + SWATCH + AFTER_SWATCH)}, screen {size.up(up)} left "
+        left = size.across(place.left + SWATCH + AFTER_SWATCH)
+        yield (f"set label {quoted(name)} at screen {left}, screen {size.up(up)} left "
                f"front textcolor rgb '{picture.look.text}'")
         yield from columns(picture, legend, place.left, up, numbers, picture.look.text)
 
@@ -104,7 +105,8 @@ def commands(folder: str, end: str, picture: Picture) -> str:
     terminal = TERMINALS[end].format(size=f"{size.width},{size.height}", background=look.background)
     times = ", ".join(f'"{text}" {at}' for text, at in labels(rows.begin, rows.end, size.width - size.left - size.right))
     # The text of a mark is a format.
-    marks = ", ".join(f"{quoted(text.replace('%', '%%'))} {value!r}" for text, value in zip(picture.axis.texts, picture.axis.values))
+    marks = ", ".join(f"{quoted(text.replace('%', '%%'))} {value!r}"
+                      for text, value in zip(picture.axis.texts, picture.axis.values))
     setup = os.environ.get("RRDI_PLOT_SETUP") or os.environ.get("LOOK") or ""
     titled = picture._replace(title="", subtitle=[]) if "set title" in setup else picture
     return "\n".join([

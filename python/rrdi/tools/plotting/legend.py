@@ -65,4 +65,5 @@ def legend_of(width: int, series: List[Curve], unit: str) -> Legend:
     kept = KEPT[min(max((room - name_width) // column, 0), len(HEADS))]
     table = name_width + len(kept) * column
     tables = max(min(-(-len(names) // LINES), (room + APART) // (table + APART)), 1)
-    return Legend(names, [HEADS[at] for at in kept], [[texts[at] for at in kept] for texts in all_numbers], name_width, column, tables)
+    numbers = [[texts[at] for at in kept] for texts in all_numbers]
+    return Legend(names, [HEADS[at] for at in kept], numbers, name_width, column, tables)
