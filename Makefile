@@ -8,6 +8,8 @@ PREFIX = /usr/local
 DESTDIR =
 PROGRAM = crates/rrdi/out/rrdi
 ARCHIVE = out/librrdi_c.a
+# Debian's own Python, because another one may lack pytest.
+PYTHON3 = /usr/bin/python3
 # Where the library is linked, and what of C the kit's code calls: malloc, realloc, free and errno.
 BUILD = out
 KIT = $(dir $(realpath $(shell command -v rt)))..
@@ -60,10 +62,10 @@ prove: ## proves every crate, those of the tests too
 	rt all check
 
 test: ## tries the program and the library that are built, the tools, the packages and the pages (minutes)
-	$(ALONE) .ci/run-built --lacking
+	$(ALONE) $(PYTHON3) -B -m pytest -n auto --lacking $(OPTIONS)
 
 check: ## runs the full check: every proof, planted bug and test (over an hour, 16 GB of memory, 15 GB of disk)
-	@cd .ci && $(ALONE) python3 -B -m lib.gate $(OPTIONS)
+	@$(ALONE) $(PYTHON3) -B scripts/check.py $(OPTIONS)
 
 bench: ## measures updates by the program, beside rrdtool if that is installed
 	.ci/measure-updates $(PROGRAM) $$(command -v rrdtool || echo $(PROGRAM))

@@ -34,6 +34,7 @@ def pytest_addoption(parser: pytest.Parser) -> None:
     group.addoption("--library", default=str(LIBRARY), metavar="PATH",
                     help="the C library that is tried (out/librrdi.so.0)")
     group.addoption("--long", action="store_true", help="try everything, also what takes hours")
+    group.addoption("--record", action="store_true", help="put what was tried into docs/results.md")
     group.addoption("--lacking", action="store_true", help="pass although something was left out")
     group.addoption("--seeds", default="", metavar="FIRST:COUNT", help="the numbers of the random batches")
     group.addoption("--old-program", default="", metavar="PATH", help="an older program, which begins files")

@@ -12,6 +12,7 @@ import pytest
 from support.check import Check
 from support.counts import Counts
 from support.program import TOP
+from support.results import with_counts
 
 TESTS = {
     "a right one": ('LEAST = {"runs": 2}\n\ndef test_it(check):\n    check.count("runs", 2)\n    check(True, "it")',
@@ -74,7 +75,15 @@ def test_where_a_check_failed() -> None:
 
 
 def test_the_list_of_modules() -> None:
-    """No module of tests can go unseen: README.md names each."""
-    named = {*re.findall(r"`[\w/]*?(test_\w+\.py)`", (TOP / "tests/README.md").read_text())}
-    there = {path.name for folder in ("tests", "fuzz") for path in (TOP / folder).rglob("test_*.py")}
-    assert there <= named <= there | {path.name for path in (TOP / "python/tests").glob("test_*.py")}
+    """No module of tests can go unseen: README.md names each, but for those of the Python package."""
+    named = re.findall(r"`(test_\w+)`", (TOP / "tests/README.md").read_text())
+    there = [path for folder in ("tests", "fuzz") for path in (TOP / folder).rglob("test_*.py")]
+    assert sorted(named) == sorted(path.stem for path in there if path.parent.name != "python")
+
+
+def test_recorded_counts() -> None:
+    page = "# Results\n\n## Counts\n\n- `a.py` (`01`, day): 1 run,\n  2 kills\n- `b.py` (`01`, day): 1 run\n\n## Proofs\n\n- `a`\n"
+    told = with_counts(page, {"a.py": {"runs": 1_200}, "a.py --long": {"runs": 5}}, "02")
+    assert [line.split(" (")[0] for line in told.splitlines()] == [
+        "# Results", "", "## Counts", "", "- `a.py`", "- `a.py --long`", "- `b.py`", "", "## Proofs", "", "- `a`"]
+    assert re.search(r"- `a\.py` \(`02`, \d{4}-\d\d-\d\d\): 1,200 runs\n", told) and "kills" not in told

@@ -4,12 +4,13 @@ from __future__ import annotations
 
 import re
 import time
+from typing import Any, Sequence
 
 import pytest
 
 from support import layout
 from support.program import error
-from support.runs import CREATE, FILE, RUNS
+from support.runs import CREATE, FILE, RUNS, Runs
 
 LEAST = {RUNS: 245}
 # Arguments that are not a command, what the program says of them, and the command whose usage follows; without one, the
@@ -157,7 +158,7 @@ OTHERS = [(b"RRD\x000003", "old", "RRDtool"), (b"\0\0\0\1" + bytes(100), "old.ws
           (b"\0\0\0\x09" + bytes(100), "old.wsp", ""), (b"RRD3", "old", "")]
 
 
-def usage_of(text, command):
+def usage_of(text: str, command: str) -> str:
     """Returns the usage of a command, as the whole usage text has it; without a command all of it."""
     if not command:
         return text
@@ -167,28 +168,28 @@ def usage_of(text, command):
     return f"usage: rrdi {found[1]}" if found else f"no usage of {command}"
 
 
-def line(says):
+def line(says: str) -> str:
     return f"rrdi: {says}\n" if says else ""
 
 
-def ids(table):
+def ids(table: Sequence[tuple[Any, ...]]) -> list[str]:
     return [" ".join(row[0])[:60] for row in table]
 
 
 @pytest.mark.parametrize("words, says, command", MISTAKES, ids=ids(MISTAKES))
-def test_misuse(t, words, says, command):
+def test_misuse(t: Runs, words: list[str], says: str, command: str) -> None:
     usage = t.told([]).err.partition("\n")[2]
     t.same(words, 2, error("usage") + line(says) + usage_of(usage, command))
 
 
 @pytest.mark.parametrize("words, fault, says", ADVICE, ids=ids(ADVICE))
-def test_advice(t, words, fault, says):
+def test_advice(t: Runs, words: list[str], fault: str, says: str) -> None:
     t.run(["create", FILE, *"--step 10 --start 0 DS:a:GAUGE:100:U:U DS:b:COUNTER:100:U:U RRA:LAST:0.5:1:4".split()])
     t.same([words[0], FILE, *words[1:]], 1, error(fault) + line(says))
 
 
 @pytest.mark.parametrize("held, name, other", OTHERS, ids=range(len(OTHERS)))
-def test_files_of_other_programs(t, held, name, other):
+def test_files_of_other_programs(t: Runs, held: bytes, name: str, other: str) -> None:
     t.put(held, name)
     says = f"{name} is a file of {other}; convert it: rrdi-import {name} NEW.rrdi" if other else ""
     for words in (["last", name], ["update", name, "10:1"], ["batch", name]):
@@ -196,7 +197,7 @@ def test_files_of_other_programs(t, held, name, other):
     t.check.same(t.held(name), held, f"the file {name} afterwards")
 
 
-def test_advice_on_other_files(t):
+def test_advice_on_other_files(t: Runs) -> None:
     """Checks what the line after a fault says of files with many sources and archives, of version 1, and ahead of the
     clock."""
     names = ["traffic", *(f"s{number}" for number in range(1, 9))]

@@ -8,7 +8,7 @@ import string
 
 from support import definitions, layout, manual, marks, random_batches
 from support.program import TOP, error
-from support.runs import CREATE, FILE, MISUSE, RUNS, refused
+from support.runs import CREATE, FILE, MISUSE, RUNS, Runs, refused
 
 LEAST = {RUNS: 950}
 NO_SAMPLE, NO_OPTION = "a sample is missing, such as N:21.5", "an option, or RRA: or DELRRA:, is missing"
@@ -17,7 +17,7 @@ TOO_LONG = "it would be over 1000000 rows; raise --start or --resolution"
 MISSING = "no such file or directory"
 
 
-def test_words_and_files(t):
+def test_words_and_files(t: Runs) -> None:
     for words in ([], ["--help"], ["create"], ["last"], ["last", "-"], ["last", "-x"], ["nothing", FILE],
                   ["last", FILE, "more"], ["last", FILE, "--help"], ["batch", "-"], ["batch", FILE, "last"]):
         t.same(words, 2, MISUSE)
@@ -37,7 +37,7 @@ def test_words_and_files(t):
     t.run(["last", "\033[31m\nred\177"], 1, err=refused("cannot open", "?[31m?red?", MISSING))
 
 
-def test_one_file(t):
+def test_one_file(t: Runs) -> None:
     t.run(["create", FILE, *CREATE])
     new = t.held()
     t.check.same(len(new), 224, "the bytes of a new file")
@@ -62,7 +62,7 @@ def test_one_file(t):
     t.check.same(t.held(), new, "the file that a create replaced")
 
 
-def test_other_bytes(net):
+def test_other_bytes(net: Runs) -> None:
     t = net
     new = t.held()
     for held, text in [(b"", "truncated at 0"), (b"RRD", "truncated at 3"), (b"RRDX", "not ours"),
@@ -78,7 +78,7 @@ def test_other_bytes(net):
     t.check.same(t.held(), new, "the file that a create made of other bytes")
 
 
-def test_batches(net):
+def test_batches(net: Runs) -> None:
     t = net
     new = t.held()
     t.run(["batch", FILE], 1, "10\nERROR: usage\n", lines="update 10:1\nlast\nnothing\n")
@@ -105,7 +105,7 @@ COMMANDS = (["last"], ["info"], ["first"], ["lastupdate"], ["fetch", "LAST"], ["
 NOTES = b"ed notes of another program\n" * 300
 
 
-def test_files_of_others(t):
+def test_files_of_others(t: Runs) -> None:
     """Checks that each command refuses a file that is not rrdi's, and leaves the file as it is, though the file begins
     like one whose change was interrupted."""
     new = layout.heads(2, ["g"], [4]) + 4 * layout.UNKNOWN
@@ -133,7 +133,7 @@ def test_files_of_others(t):
     t.put(new)
 
 
-def test_interrupted(t):
+def test_interrupted(t: Runs) -> None:
     """Checks that each form of a file whose change was interrupted is read as the database that it stands for, and that
     the file then has that database's bytes."""
     t.run(["create", FILE, *CREATE])
@@ -158,13 +158,13 @@ def test_interrupted(t):
     t.put(new)
 
 
-def test_words_that_are_no_text(net):
+def test_words_that_are_no_text(net: Runs) -> None:
     t = net
     for words in ([b"\xff"], [b"last", b"\xff"], [b"last", FILE.encode(), b"\xc3"], [b"batch", b"\xed\xa0\x80"]):
         t.same(words, 2, MISUSE)
 
 
-def test_other_lengths(t):
+def test_other_lengths(t: Runs) -> None:
     """Checks that a create replaces a file of any other length by the same file that it creates without a file."""
     new = {}
     for rows in (4, 300, 1_000, 2_100, 4_000):
@@ -179,7 +179,7 @@ def test_other_lengths(t):
             t.check.same(t.held("replaced") == wanted, True, f"a file of {old} rows, replaced by {rows}")
 
 
-def test_longest_lines(t):
+def test_longest_lines(t: Runs) -> None:
     samples = [f"{10 * number}:{number}" for number in range(1, 1201)]
     t.run(["create", "long", *CREATE])
     new = t.held("long")
@@ -203,7 +203,7 @@ def test_longest_lines(t):
     t.check.same(t.held("most words"), t.held("most 0"), "the file of 64 sources and 64 archives")
 
 
-def test_most_samples(t):
+def test_most_samples(t: Runs) -> None:
     """Tries the maximum number of samples in a line of a batch, and more than that in the arguments of one command."""
     for count in (5_000, 7_000):
         samples = [f"{number}:1" for number in range(1, count + 1)]
@@ -216,7 +216,7 @@ def test_most_samples(t):
     t.run(["last", "seconds"], out="60000\n")
 
 
-def test_most_entries(t):
+def test_most_entries(t: Runs) -> None:
     """Tries a journal of the maximum depth, full, and reverted to its end."""
     depth = 100_000
     t.run(["create", "deep", "--journal", str(depth), *CREATE])
@@ -229,7 +229,7 @@ def test_most_entries(t):
     t.run(["batch", "deep"], 1, "30\n" + error("nothing to revert"), "", "revert\n" * depth + "last\nrevert\n")
 
 
-def test_most_rows(t):
+def test_most_rows(t: Runs) -> None:
     rows = "".join(f"{time}: nan\n" for time in range(10, 10_000_001, 10))
     t.run(["create", "rows", *CREATE])
     fetch = ["fetch", "rows", "LAST", "-s", "0", "-e"]
@@ -242,7 +242,7 @@ def test_most_rows(t):
 BEFORE = {"fetch": ["LAST"], "resize": ["0", "GROW", "1"], "update": ["10:1"]}
 
 
-def test_the_usage_text(t):
+def test_the_usage_text(t: Runs) -> None:
     page, source = (TOP / "docs/commands.md").read_text(), (TOP / "docs/rrdi.1").read_text()
     _, _, text = t.told([])
     t.check.same(text.splitlines()[-1:], [f"rrdi {(TOP / 'VERSION').read_text().strip()}"],
@@ -272,7 +272,7 @@ def test_the_usage_text(t):
     the_words_of_the_usage_text(t, text, page + source + (TOP / "README.md").read_text())
 
 
-def the_words_of_the_usage_text(t, text, pages):
+def the_words_of_the_usage_text(t: Runs, text: str, pages: str) -> None:
     """Compares the usage text with the manuals: each word is in a manual or in the README, and each statement is the
     one that stands for words of docs/commands.md."""
     known = set(re.findall(r"[A-Za-z]+", pages))
@@ -284,7 +284,7 @@ def the_words_of_the_usage_text(t, text, pages):
         t.check.same(words in page, True, f"the manual says {words!r}, as the usage text says {statement!r}")
 
 
-def asks(t, command, option, is_taken):
+def asks(t: Runs, command: str, option: str, is_taken: bool) -> None:
     """Checks whether a command takes an option: the fault is then a value that cannot be read, or a missing file."""
     status, _, err = t.told([command, "no file", *BEFORE.get(command, []), option, "x"])
     t.check.same((status, err.startswith("ERROR: usage\n")), (1, False) if is_taken else (2, True),

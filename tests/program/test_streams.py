@@ -5,16 +5,19 @@ import os
 import shutil
 import subprocess
 import time
+from pathlib import Path
+from typing import Mapping, Optional, Sequence
 
 import pytest
 
 from support import layout, marks
 from support.between import calls_of, events_of, settings
 from support.changes import calls_on_streams
-from support.program import PATIENCE, Program, error, put
-from support.runs import CREATE, FILE, RUNS, refused
+from support.program import PATIENCE, Answer, Program, error, put
+from support.runs import CREATE, FILE, RUNS, Runs, refused
 
 LEAST = {RUNS: 280}
+Held = Optional[bytes]  # what a file has, if it is there
 MISSING = "no such file or directory"
 # The standard streams that a run lacks, in every way.
 CLOSED = [[stream for stream in (0, 1, 2) if number >> stream & 1] for number in range(1, 8)]
@@ -22,14 +25,15 @@ CLOSED = [[stream for stream in (0, 1, 2) if number >> stream & 1] for number in
 LONG, MOST_COST = 3 << 30, 2_000
 
 
-def without(t, closed, words, lines, env=None):
+def without(t: Runs, closed: Sequence[int], words: Sequence[str], lines: str,
+            env: Mapping[str, str] | None = None) -> Answer:
     """Runs the program without some of its standard streams."""
     closing = " ".join(f"{stream}{'<' if stream == 0 else '>'}&-" for stream in closed)
     return Program("/bin/sh").run(["-c", f'exec "$0" "$@" {closing}', t.program.path, *words], lines, cwd=t.folder,
                                   env=env)
 
 
-def test_numbers_of_streams(t, between):
+def test_numbers_of_streams(t: Runs, between: str) -> None:
     """Checks that the file of a run never has the number of a standard stream that is closed."""
     file, log = "numbers.rrdi", t.folder / "log"
     for words, given in ((["create", file, *CREATE], ""), (["update", file, "10:1"], ""), (["last", file], ""),
@@ -45,7 +49,7 @@ def test_numbers_of_streams(t, between):
                          f"{words}: the file is opened")
 
 
-def test_closed_streams(t):
+def test_closed_streams(t: Runs) -> None:
     """Checks that a run without some of the standard streams leaves the right bytes in FILE: no text of the run, and
     none of FILE's bytes taken for lines."""
     t.run(["create", FILE, *CREATE])
@@ -77,7 +81,7 @@ def test_closed_streams(t):
     t.put(new)
 
 
-def is_left_right(closed, words, now, held, wanted):
+def is_left_right(closed: Sequence[int], words: Sequence[str], now: Held, held: Held, wanted: Held) -> bool:
     """Checks the file after a run without some streams. A batch that cannot read its lines changes nothing, and a batch
     that cannot print ends after some line."""
     if words[0] == "batch" and closed and closed[0] < 2:
@@ -85,7 +89,7 @@ def is_left_right(closed, words, now, held, wanted):
     return now == wanted
 
 
-def told_without(closed, words, told):
+def told_without(closed: Sequence[int], words: Sequence[str], told: Answer) -> tuple[object, str, str]:
     """Returns the answer of a run without some streams, from the answer with all of them."""
     status, out, err = told
     if words[0] == "batch" and 0 in closed:
@@ -95,7 +99,7 @@ def told_without(closed, words, told):
     return status, "" if 1 in closed else out, "" if 2 in closed else err
 
 
-def test_failing_outputs(net):
+def test_failing_outputs(net: Runs) -> None:
     t = net
     new = t.held()
     t.run(["last", FILE], 1, err=error("write failed"), to="/dev/full")
@@ -105,7 +109,7 @@ def test_failing_outputs(net):
     t.check.same(len(t.held()), 309, "the file after a batch's output failed")
 
 
-def test_streams(t):
+def test_streams(t: Runs) -> None:
     """Checks the stream and the status of each form of a run."""
     made = f"create {' '.join(CREATE)}\n"
     t.run(["create", "kept", *CREATE])
@@ -124,7 +128,7 @@ def test_streams(t):
           f"{made}last\n", to="/dev/full")
 
 
-def near_now(t, words, less=0, lines=""):
+def near_now(t: Runs, words: Sequence[object], less: int = 0, lines: str = "") -> list[int]:
     """Returns the seconds that a run prints, one in each line. The last one is by the system's clock, and must lie
     between the second in which the run began and the second in which the run ended."""
     before = int(time.time())
@@ -136,7 +140,7 @@ def near_now(t, words, less=0, lines=""):
     return seconds
 
 
-def test_the_clock(t):
+def test_the_clock(t: Runs) -> None:
     """Compares the present time in each form of a run with the system's clock."""
     new = "create --step 10 DS:g:GAUGE:100:U:U RRA:LAST:0.5:1:4"
     for words in (["batch"], ["batch", "timed"]):
@@ -160,7 +164,7 @@ def test_the_clock(t):
     t.check.same(is_day, True, f"a fetch by the clock: {len(times)} rows, up to {times[-1:]}")
 
 
-def test_many_reads(t):
+def test_many_reads(t: Runs) -> None:
     """Tries over a million reads of one byte each: in a pipe of packets one read returns the bytes of one write."""
     source, sink = os.pipe2(os.O_DIRECT | os.O_CLOEXEC)
     t.check.count(RUNS)
@@ -179,7 +183,7 @@ def test_many_reads(t):
     t.check.same((ran.returncode, *told), (0, b"0\n", b""), "1,100,000 reads")
 
 
-def test_writes(t, between_all):
+def test_writes(t: Runs, between_all: str) -> None:
     """Counts the writes, which must be few. Each write of output moves 16,384 bytes or more, except the last one. FILE
     gets at most three writes for each page of 4,096 bytes, and a few more."""
     create = "--step 10 --start 0 DS:g:GAUGE:100:U:U RRA:LAST:0.5:1:100000".split()
@@ -198,7 +202,7 @@ def test_writes(t, between_all):
 
 
 @pytest.mark.xdist_group("memory")
-def test_sparse_files(t, between_all):
+def test_sparse_files(t: Runs, between_all: str) -> None:
     """Measures the memory of a run on a file of 3 GB that takes no room on the disk, and begins like one of rrdi's."""
     program, library, log = as_nobody(t, between_all)
     least = touched(program, library, log, layout.heads(2, ["g"], [4]) + 4 * layout.UNKNOWN, 0, True)[1]
@@ -218,12 +222,12 @@ def test_sparse_files(t, between_all):
                          f"{name}, {may_write}: {status} {err!r}")
 
 
-def is_cheap(cost, share):
+def is_cheap(cost: int, share: int) -> bool:
     """Checks the kilobytes for a long file, of which a file that begins like a database costs a share."""
     return -200 < cost <= MOST_COST + share
 
 
-def as_nobody(t, between_all):
+def as_nobody(t: Runs, between_all: str) -> tuple[Program, str, Path]:
     """Returns the program where a user without rights can run it, a library to measure memory, and the place of its
     log."""
     t.folder.chmod(0o777)
@@ -233,7 +237,7 @@ def as_nobody(t, between_all):
     return Program(program), library, t.folder / "log"
 
 
-def touched(program, library, log, begun, length, may_write):
+def touched(program: Program, library: str, log: Path, begun: bytes, length: int, may_write: bool) -> tuple[Answer, int]:
     """Returns the answer of a run on a file that begins with these bytes, and the kilobytes that the run touched. The
     run's user may only read the file, or also write it."""
     file = log.with_name("file")

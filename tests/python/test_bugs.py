@@ -1,5 +1,5 @@
 """Each bug that is planted in the Python package, the tools, RRDs.pm, librrd/record.c or examples/ is found by the
-tests of python/tests that must find it.
+tests of this folder that must find it.
 
 The file `bugs` has the bugs, each with these tests. Without --long only a few are planted: all take over half an
 hour."""
@@ -25,7 +25,8 @@ PATIENCE = 1_200  # seconds for the tests of a bug
 # The bugs of these tests are planted without --long too, one of three.
 QUICK, SHARE = ("test_scripts Moves.test_the_way_there", "test_scripts Safely", "test_compat Translations"), 3
 # What is copied of the repository.
-COPIED = (".ci/lib", "LICENSE-MIT", "VERSION", "docs", "examples", "include", "librrd", "perl", "python", "tools")
+COPIED = ("LICENSE-MIT", "VERSION", "docs", "examples", "include", "librrd", "perl", "python", "tests/python",
+          "tests/support", "tools")
 
 
 class Bug(NamedTuple):
@@ -75,9 +76,9 @@ def report_of(tests: str, sources: Path, variables: dict[str, str]) -> str:
     """Runs tests of some sources. Returns the end of what they report; nothing if they find nothing wrong."""
     file, *classes = tests.split()
     try:
-        ran = subprocess.run([sys.executable, "-B", sources / f"python/tests/{file}.py", "-f", *classes],
-                             env=environment(variables), stdin=subprocess.DEVNULL, capture_output=True, text=True,
-                             errors="replace", timeout=PATIENCE)
+        ran = subprocess.run([sys.executable, "-B", "-m", "unittest", "-f", *(f"{file}.{name}" for name in classes)],
+                             cwd=sources / "tests/python", env=environment(variables), stdin=subprocess.DEVNULL,
+                             capture_output=True, text=True, errors="replace", timeout=PATIENCE)
     except subprocess.TimeoutExpired:
         return "they do not end"
     found = re.search(r"^Ran ([1-9]\d*) tests?", ran.stderr, re.MULTILINE)
@@ -125,6 +126,14 @@ def test_bug(bug: Bug, planting: Planting, folder: Path, check: Check, request: 
     if ": " in bug.tests:
         request.getfixturevalue("library")
     planting.try_bug(bug, folder, check)
+
+
+def test_each_bug_can_be_planted() -> None:
+    for bug in bugs():
+        file, *classes = bug.tests.rpartition(": ")[2].split()
+        tests = (Path(__file__).parent / f"{file}.py").read_text()
+        assert bug.old in (TOP / bug.file).read_text() and bug.old != bug.new, bug
+        assert classes and all(f"class {name.partition('.')[0]}(" in tests for name in classes), bug
 
 
 @pytest.mark.parametrize("tests", (QUICK[0], "test_feed_processes Lines.test_lines", "test_scripts ReaderScript"))

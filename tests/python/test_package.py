@@ -1,6 +1,6 @@
 """The Python package once more: its tools by the C library, and the types of the package and its tests.
 
-The tests of the package are in python/tests; their tools run by the program."""
+The other tests of this folder run the tools by the program."""
 from __future__ import annotations
 
 import os
@@ -14,23 +14,11 @@ from support.check import Check
 from support.program import TOP, Program
 
 PACKAGE = TOP / "python"
-LEAST = {"tests of the package": 780, "tests of tools by the library": 28, "typed files": 160}
+LEAST = {"tests of tools by the library": 28, "typed files": 160}
 # The tests of tools that run by the library too.
 OF_TOOLS = ("test_feed_processes::Lines", "test_feed_processes::InProcess", "test_tools_feed::Files",
             "test_feeding_metrics::New", "test_tools_rrdtool::RRDtoolOutput", "test_tools_rrdtool::PipeMode",
             "test_tools_program::InProcess")
-
-
-def pytest_said(*words: str, **variables: str) -> subprocess.CompletedProcess[str]:
-    """Runs pytest in a process of its own, which does not take itself for one of xdist."""
-    env = {name: value for name, value in os.environ.items() if not name.startswith("PYTEST_")}
-    return subprocess.run([sys.executable, "-m", "pytest", "-q", "--lacking", *words], cwd=TOP,
-                          env={**env, **variables}, stdin=subprocess.DEVNULL, capture_output=True, text=True)
-
-
-def test_number_of_tests(check: Check) -> None:
-    found = re.search(r"^(\d+) tests collected", pytest_said("--collect-only", "python/tests").stdout, re.MULTILINE)
-    check.count("tests of the package", int(found[1]) if found else 0)
 
 
 def test_tools_by_the_library(program: Program, library: Path, check: Check) -> None:
@@ -38,8 +26,12 @@ def test_tools_by_the_library(program: Program, library: Path, check: Check) -> 
 
 
 def check_tools(program: str, library: str, names: tuple[str, ...], check: Check) -> None:
-    tests = [f"{PACKAGE}/tests/{name.replace('::', '.py::')}" for name in names]
-    ran = pytest_said(f"--program={program}", f"--library={library}", *tests, RRDI_TOOLS_BY=library)
+    """Runs tests by the library, in a process that does not take itself for one of xdist."""
+    tests = [f"tests/python/{name.replace('::', '.py::')}" for name in names]
+    env = {name: value for name, value in os.environ.items() if not name.startswith("PYTEST_")}
+    ran = subprocess.run([sys.executable, "-m", "pytest", "-q", "--lacking", f"--program={program}",
+                          f"--library={library}", *tests], cwd=TOP, env={**env, "RRDI_TOOLS_BY": library},
+                         stdin=subprocess.DEVNULL, capture_output=True, text=True)
     passed = re.search(r"^(\d+) passed", ran.stdout, re.MULTILINE)
     check.count("tests of tools by the library", int(passed[1]) if passed else 0)
     check(ran.returncode == 0, f"{ran.stdout[-3_500:]}{ran.stderr[-500:]}")
@@ -47,14 +39,14 @@ def check_tools(program: str, library: str, names: tuple[str, ...], check: Check
 
 def test_types(needs: Callable[..., None], tmp_path: Path, check: Check) -> None:
     needs("mypy")
-    tests = [str(path) for path in sorted(PACKAGE.glob("tests/*.py"))]
+    tests = [str(path) for path in sorted(Path(__file__).parent.glob("*.py"))]
     check_types(PACKAGE, tmp_path, [], check)
     check_types(PACKAGE, tmp_path, tests, check)
 
 
 def check_types(package: Path, cache: Path, files: list[str], check: Check) -> None:
     """Checks the files by the package's pyproject.toml; without files, the package."""
-    path = f"{package}:{package}/tests:{TOP}/.ci"
+    path = f"{package}:{TOP}/tests/python:{TOP}/tests"
     ran = subprocess.run(["mypy", "--cache-dir", cache, *files], cwd=package, capture_output=True, text=True,
                          env={**os.environ, "MYPYPATH": path})
     found = re.search(r"no issues found in (\d+) source files?", ran.stdout)

@@ -8,8 +8,8 @@ import pytest
 
 from support.check import Check
 from support.program import Program
-from tests.python.test_bugs import QUICK, Bug, Planting, bugs
-from tests.python.test_package import check_tools, check_types
+from test_bugs import QUICK, Bug, Planting, bugs
+from test_package import check_tools, check_types
 
 SAFELY = "examples/rrdi-safely"
 

@@ -11,6 +11,7 @@ from typing import Any
 
 import pytest
 
+from support import results
 from support.program import TOP
 
 # A line with a judgement.
@@ -24,6 +25,7 @@ class Counts:
         options = ("keyword", "markexpr", "maxfail", "deselect", "collectonly", "seeds")
         chosen = any("::" in word for word in config.args) or any(config.getoption(name, None) for name in options)
         self.is_whole, self.may_lack = not chosen, config.getoption("lacking")
+        self.records, self.more = self.is_whole and config.getoption("record"), " --long" * config.getoption("long")
         self.tried: dict[str, Counter[str]] = defaultdict(Counter)
         self.least: dict[str, dict[str, int]] = {}
         self.rejected: set[str] = set()
@@ -67,9 +69,13 @@ class Counts:
     def pytest_sessionfinish(self, session: pytest.Session, exitstatus: int) -> None:
         if exitstatus == 0 and self.faults():
             session.exitstatus = pytest.ExitCode.TESTS_FAILED
+        self.records = self.records and session.exitstatus == 0
 
     def pytest_terminal_summary(self, terminalreporter: Any) -> None:
         for module, tried in sorted(self.tried.items()):
             terminalreporter.line(f"{module}: " + ", ".join(f"{number} {name}" for name, number in tried.items()))
-        for fault in self.faults():
+        whole = {module.replace(".", "/") + ".py" + self.more: tried for module, tried in self.tried.items()
+                 if module not in self.partial}
+        why = results.record(whole) if self.records and whole else ""
+        for fault in self.faults() + [why] * bool(why):
             terminalreporter.line(fault, red=True)

@@ -1,5 +1,5 @@
 //! The pieces of a file, each given again where it found no memory: it is taken then, since nothing had changed.
-//! `.ci/refuse-in-tests` has each growth refused in turn; otherwise each piece is taken at once.
+//! `tests/program/test_growths_in_tests.py` has each growth refused in turn; otherwise each piece is taken at once.
 use super::rebuild::{archive, finished, gauge, taken};
 use crate::shared::assert_bytes;
 use crate::shared::databases::NONE;

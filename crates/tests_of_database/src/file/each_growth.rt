@@ -1,5 +1,5 @@
-//! Wrong files, each read again if no memory was found for it. `.ci/refuse-in-tests` has each allocation refused in turn:
-//! the fault is then that one or the file's own, and never another.
+//! Wrong files, each read again if no memory was found for it. `tests/program/test_growths_in_tests.py` has each
+//! allocation refused in turn: the fault is then that one or the file's own, and never another.
 use crate::file::decoding::{WRONG_BYTES, WRONG_IN_BOTH};
 use rrd_file::{FileFault, decode};
 use std::alloc::Global;

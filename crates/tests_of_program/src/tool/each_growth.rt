@@ -1,5 +1,5 @@
 //! Calls that take memory, each made again where it found none: what it left is as it was before, and the second one
-//! does all. `.ci/refuse-in-tests` has each growth refused in turn; otherwise the first one does all.
+//! does all. `tests/program/test_growths_in_tests.py` has each growth refused in turn; otherwise the first one does all.
 use crate::shared::assert_bytes;
 use crate::shared::batches::parts_of;
 use rrd_base::{Database, Refusal};

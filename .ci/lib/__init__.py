@@ -1,1 +1,0 @@
-"""The modules that the scripts of this folder share."""

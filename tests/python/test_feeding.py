@@ -1,0 +1,293 @@
+"""Tests of `rrdi.feeding`: lines, batches by a library that is a stub, what is tried again, refused and lost."""
+from __future__ import annotations
+
+import contextlib
+import errno
+import io
+import os
+import time
+import unittest
+from typing import Any, Dict, List, Sequence, Tuple, cast
+from unittest import mock
+
+import doubles
+from cases import HANG, new_folder, use_library
+from tool_case import EachWriter, finished, taken
+
+import rrdi
+from rrdi import choice, library
+from rrdi.errors import CANNOT_OPEN, CANNOT_WRITE, NO_MEMORY
+from rrdi.feeding.feeder import Feeder, FeedOptions, line_text
+from rrdi.by_program import ByProgram
+from rrdi.feeding.writers import BatchWriter, Outcome
+from rrdi.library import Answer
+
+
+class Stub:
+    """A writer that keeps its samples, and returns given outcomes."""
+
+    def __init__(self) -> None:
+        self.batches: List[Tuple[bytes, List[bytes]]] = []
+        self.outcomes: Dict[bytes, List[Outcome]] = {}
+
+    def write(self, file: bytes, samples: List[bytes]) -> Outcome:
+        self.batches.append((file, samples))
+        outcomes = self.outcomes.get(file, [])
+        return outcomes.pop(0) if outcomes else Outcome()
+
+    def create(self, file: bytes, arguments: Sequence[str]) -> str:
+        raise AssertionError("no test here creates a file")
+
+
+class Lines(unittest.TestCase):
+    def feeder(self, **options: int) -> Feeder:
+        feeder = Feeder(FeedOptions(**options), Stub())
+        self.addCleanup(feeder.threads.shutdown)
+        return feeder
+
+    def taken(self, text: bytes, **options: int) -> Tuple[Feeder, str]:
+        feeder = self.feeder(**options)
+        return feeder, taken(feeder, text)
+
+    def test_lines(self) -> None:
+        text = b"a 10:1\n\nUPDATE b 10:5 20:6\n a\t20:2 \nupdate a 30:3\nb 30:1\r\nc/d 5:U 6:1"
+        feeder, said = self.taken(text)
+        self.assertEqual(feeder.held, {b"a": [b"10:1", b"20:2", b"30:3"], b"b": [b"10:5", b"20:6", b"30:1"],
+                                       b"c/d": [b"5:U", b"6:1"]})
+        self.assertEqual((feeder.count, said, feeder.has_failed), (8, "", False))
+
+    def test_a_file_with_the_name_of_the_command(self) -> None:
+        """The first word UPDATE is never FILE, whether or not that file has samples."""
+        feeder, said = self.taken(b"update update 10:1\nupdate 20:2\nupdate b 30:3\nUPDATE Update 40:4")
+        self.assertEqual(feeder.held, {b"./update": [b"10:1"], b"b": [b"30:3"], b"./Update": [b"40:4"]})
+        self.assertEqual(said, "rrdi-feed: expected FILE SAMPLE.., got: update 20:2\n")
+
+    def test_now(self) -> None:
+        before = int(time.time())
+        feeder, _ = self.taken(b"a N:1\na N:2\na 5:1 N:3\nNow 5:1")
+        after = int(time.time())
+        for sample in feeder.held[b"a"]:
+            if sample != b"5:1":
+                self.assertTrue(before <= int(sample.split(b":")[0]) <= after, sample)
+        self.assertEqual([sample.split(b":")[1] for sample in feeder.held[b"a"]], [b"1", b"2", b"1", b"3"])
+
+    def test_lines_that_are_wrong(self) -> None:
+        feeder, said = self.taken(b"a\n-a 10:1\nUPDATE\nUPDATE a\nupdate -x 1:2\n\xff 5:1\n\xff \xff")
+        self.assertEqual(said, "".join(f"rrdi-feed: expected FILE SAMPLE.., got: {line}\n"
+                                       for line in ("a", "-a 10:1", "UPDATE a", "update -x 1:2")))
+        self.assertEqual((feeder.held, feeder.count), ({b"\xff": [b"5:1", b"\xff"]}, 2))
+        self.assertEqual((feeder.has_failed, feeder.bad_lines), (True, 4))
+
+    def test_how_a_bad_line_is_shown(self) -> None:
+        for line, text in ((b"a\r", "a"), (b"\x1b[2Ja", "\\x1b[2Ja"), (b"a\0b", "a\\x00b"), (b"\xff", "\ufffd"),
+                           ("\u202eü".encode(), "\\u202eü"), (b"a" * 4_096, "a" * 4_096), (b"a" * 4_097, "a" * 4_096 + "..")):
+            self.assertEqual(line_text(line), text)
+
+    def test_nobody_reads_the_messages(self) -> None:
+        feeder, closed = self.feeder(), mock.Mock(write=mock.Mock(side_effect=BrokenPipeError))
+        with mock.patch("sys.stderr", closed):
+            feeder.take_all([b"a", b"a 10:1"])
+        self.assertEqual((feeder.held, feeder.has_failed), ({b"a": [b"10:1"]}, True))
+
+    def test_data_in_pieces(self) -> None:
+        """Lines that arrive in pieces of any length are the same lines; the last one may lack its end."""
+        text = b"a 10:1\nb 10:2\n\na 20:3"
+        for length in range(1, len(text) + 1):
+            feeder = self.feeder()
+            for at in range(0, len(text), length):
+                feeder.take_data(text[at:at + length])
+            feeder.take_data(b"")
+            self.assertEqual(feeder.held, {b"a": [b"10:1", b"20:3"], b"b": [b"10:2"]}, length)
+
+    def test_a_line_without_an_end(self) -> None:
+        """A line that is too long is passed over up to its end, and takes no memory; the next line is read."""
+        with mock.patch("rrdi.feeding.feeder.LONGEST_GIVEN", 10), contextlib.redirect_stderr(io.StringIO()) as said:
+            feeder = self.feeder()
+            for piece in (b"a 10:1\nx", b" 1234567890", b"123\0" * 9, b"4 5:6\na 20:2\n", b"b 10:1"):
+                feeder.take_data(piece)
+                self.assertLess(len(feeder.rest), 20)
+            feeder.take_data(b"")
+        self.assertEqual(feeder.held, {b"a": [b"10:1", b"20:2"], b"b": [b"10:1"]})
+        self.assertEqual(said.getvalue(), "rrdi-feed: a line has over 10 bytes, got: x 1234567890\n")
+        self.assertEqual(feeder.bad_lines, 1)
+
+    def test_long_samples(self) -> None:
+        longest = b"1:" + b"1" * (65_536 - len("update 1:"))
+        for first in (b"", b"a 5:1\n"):
+            feeder, said = self.taken(first + b"a " + longest)
+            self.assertEqual((feeder.held[b"a"][-1], said), (longest, ""))
+            feeder, said = self.taken(first + b"a " + longest + b"1")
+            line = line_text(b"a " + longest + b"1")
+            self.assertEqual(said, f"rrdi-feed: a sample has over 65536 bytes, got: {line}\n")
+            self.assertEqual(feeder.count, 1 if first else 0)
+
+
+class Batches(unittest.TestCase):
+    def fed(self, text: bytes, outcomes: Dict[bytes, List[Outcome]], **options: int) -> Tuple[Stub, Feeder, str]:
+        """Feeds lines to their end."""
+        writer = Stub()
+        writer.outcomes = outcomes
+        feeder = Feeder(FeedOptions(**options), writer)
+        said = taken(feeder, text) + finished(feeder)
+        return writer, feeder, said
+
+    def test_one_batch_a_file(self) -> None:
+        writer, feeder, said = self.fed(b"a 10:1\nb 10:2\na 20:3", {}, jobs=1)
+        self.assertEqual(writer.batches, [(b"a", [b"10:1", b"20:3"]), (b"b", [b"10:2"])])
+        self.assertEqual((feeder.count, said, feeder.has_failed), (0, "", False))
+
+    def test_samples_are_held_from_the_first_one_on(self) -> None:
+        """A file that gets a sample each second is due when its first one was held for the seconds."""
+        now = [1_000.0]
+        with mock.patch.object(time, "monotonic", lambda: now[0]):
+            feeder = Feeder(FeedOptions(seconds=60), Stub())
+            self.addCleanup(feeder.threads.shutdown)
+            for second, due in ((0, []), (30, []), (59, []), (61, [b"a"]), (62, [b"a"]), (91, [b"a", b"b"])):
+                now[0] = 1_000 + second
+                feeder.hold(b"a" if second != 30 else b"b", [b"%d:1" % second])
+                with mock.patch.object(feeder, "start") as start:
+                    feeder.start_due()
+                self.assertEqual([call[0][0] for call in start.call_args_list], due, second)
+
+    def test_a_signal_at_any_moment(self) -> None:
+        """A hurry that comes while files are chosen and started counts for those that are held afterwards."""
+        for name in ("end_batches", "start"):
+            feeder = Feeder(FeedOptions(seconds=10**9), Stub())
+            self.addCleanup(feeder.threads.shutdown)
+            act = getattr(feeder, name)
+
+            def hurried(*words: Any) -> None:
+                act(*words)
+                feeder.take_all([b"b 10:1"])
+                feeder.hurry()
+            feeder.take_all([b"a 10:1"])
+            feeder.hurry()
+            with mock.patch.object(feeder, name, hurried):
+                feeder.start_due()
+            feeder.start_due()
+            self.assertEqual((feeder.held, feeder.is_hurried), ({}, False), name)
+            while feeder.running:
+                feeder.end_batches(HANG)
+            self.assertEqual(sorted(cast(Stub, feeder.writer).batches), [(b"a", [b"10:1"]), (b"b", [b"10:1"])], name)
+
+    def test_refused_samples(self) -> None:
+        _, feeder, said = self.fed(b"a 10:1\na 20:3", {b"a": [Outcome(refused=((b"20:3", "bad value"),))]})
+        self.assertEqual((said, feeder.has_failed), ("rrdi-feed: a 20:3: bad value\n", True))
+        _, _, said = self.fed(b"\x07 \x1b[2J:1", {b"\x07": [Outcome(refused=((b"\x1b[2J:1", "unreadable sample 1"),))]})
+        self.assertEqual(said, "rrdi-feed: \\x07 \\x1b[2J:1: unreadable sample 1\n")
+
+    def test_again(self) -> None:
+        again = Outcome(again="cannot open")
+        writer, feeder, said = self.fed(b"a 10:1\na 20:3", {b"a": [again, again]})
+        self.assertEqual(writer.batches, [(b"a", [b"10:1", b"20:3"])] * 3)
+        self.assertEqual((feeder.count, said, feeder.pauses), (0, "", {}))
+
+    def test_lost(self) -> None:
+        _, _, said = self.fed(b"a 10:1\na 20:3", {b"a": [Outcome(lost="cannot write")]})
+        self.assertEqual(said, "rrdi-feed: a: cannot write; 2 samples may be lost\nrrdi-feed: may be lost: a 10:1 20:3\n")
+        _, _, said = self.fed(b"a 10:1", {b"a": [Outcome(again="cannot open")] * 9}, patience=0)
+        self.assertEqual(said, "rrdi-feed: a: cannot open; 1 samples may be lost\nrrdi-feed: may be lost: a 10:1\n")
+
+    def test_what_an_earlier_change_has_done(self) -> None:
+        """Only the samples after it are tried again, or may be lost."""
+        some = Outcome(again="out of memory", done=2)
+        writer, feeder, said = self.fed(b"a 10:1\na 20:3\na 30:5", {b"a": [some]})
+        self.assertEqual((writer.batches[1:], feeder.count, said), ([(b"a", [b"30:5"])], 0, ""))
+        _, _, said = self.fed(b"a 10:1\na 20:3\na 30:5", {b"a": [Outcome(lost="cannot write", done=1)]})
+        self.assertEqual(said, "rrdi-feed: a: cannot write; 2 samples may be lost\nrrdi-feed: may be lost: a 20:3 30:5\n")
+        every = Outcome(lost="cannot write", refused=((b"20:3", "bad value"),), done=3)
+        _, _, said = self.fed(b"a 10:1\na 20:3\na 30:5", {b"a": [every]})
+        self.assertEqual(said, "rrdi-feed: a: cannot write; 0 samples may be lost\nrrdi-feed: a 20:3: bad value\n")
+
+    def test_a_writer_that_fails(self) -> None:
+        feeder = Feeder(FeedOptions(), mock.Mock(write=mock.Mock(side_effect=MemoryError("none"))))
+        self.assertEqual(taken(feeder, b"a 10:1") + finished(feeder),
+                         "rrdi-feed: a: MemoryError; 1 samples may be lost\nrrdi-feed: may be lost: a 10:1\n")
+
+    def test_newer_samples_follow_those_that_wait(self) -> None:
+        feeder = Feeder(FeedOptions(seconds=60), Stub())
+        assert isinstance(feeder.writer, Stub)
+        feeder.writer.outcomes[b"a"] = [Outcome(again="cannot open")]
+        feeder.take_all([b"a 10:1"])
+        feeder.hurry()
+        feeder.start_due()
+        feeder.end_batches(HANG)
+        self.assertEqual((list(feeder.waiting), feeder.count), ([b"a"], 1))
+        feeder.take_all([b"a 20:2", b"a 30:3"])
+        feeder.start_due()
+        time.sleep(0.15)
+        feeder.start_due()
+        feeder.end_batches(HANG)
+        self.assertEqual(feeder.writer.batches[1:], [(b"a", [b"10:1", b"20:2", b"30:3"])])
+        feeder.threads.shutdown()
+
+
+class FakeLibrary:
+    """A library whose batches are all answered alike."""
+
+    def __init__(self, answer: Answer):
+        self.answer = answer
+        self.lines = b""
+
+    def batch_file(self, path: bytes, lines: bytes, now: int, wait: int, syncs: bool) -> Answer:
+        self.lines = lines
+        return self.answer
+
+
+class Writers(EachWriter, unittest.TestCase):
+    def outcome(self, answer: Answer) -> Outcome:
+        library = FakeLibrary(answer)
+        outcome = BatchWriter(library).write(b"a", [b"10:1", b"20:2", b"30:3"])  # type: ignore[arg-type]
+        self.assertEqual(library.lines, b"update 10:1\nupdate 20:2\nupdate 30:3")
+        return outcome
+
+    def test_by_library(self) -> None:
+        self.assertEqual(self.outcome(Answer(0, 0, 0, b"")), Outcome())
+        refused = Answer(0, 0, 0, b"ERROR: bad value\nERROR: not later than 20\n", (1, 3))
+        self.assertEqual(self.outcome(refused),
+                         Outcome(refused=((b"10:1", "bad value"), (b"30:3", "not later than 20"))))
+        for fault, text in ((CANNOT_OPEN, b"cannot open"), (NO_MEMORY, b"out of memory")):
+            self.assertEqual(self.outcome(Answer(fault, errno.EAGAIN, 0, text)), Outcome(again=text.decode()))
+        for fault, text in ((CANNOT_WRITE, b"cannot write"), (20, b"file: not ours")):
+            self.assertEqual(self.outcome(Answer(fault, 0, 0, text)), Outcome(lost=text.decode()))
+
+    def program(self) -> str:
+        """Returns the program of the chosen writer; the empty text for the library."""
+        choice.loaded_library.cache_clear()
+        chosen = choice.chosen()
+        return chosen.program if isinstance(chosen, ByProgram) else ""
+
+    def test_the_choice(self) -> None:
+        self.addCleanup(choice.loaded_library.cache_clear)
+        with mock.patch.dict(os.environ, {"RRDI": "/x/rrdi"}):
+            self.assertEqual(self.program(), "/x/rrdi")
+        with mock.patch.dict(os.environ, {"RRDI": ""}):
+            with mock.patch.object(library, "library_path", return_value=None):
+                self.assertEqual(self.program(), "rrdi")
+            with mock.patch.object(library, "library_path", return_value="/nowhere/librrdi.so.0"):
+                for error in (OSError, AttributeError):
+                    with mock.patch.object(library, "load_library", side_effect=error):
+                        self.assertEqual(self.program(), "rrdi")
+                with mock.patch.object(library, "load_library", return_value=FakeLibrary(Answer(0, 0, 0, b""))):
+                    self.assertEqual(self.program(), "")
+                    del os.environ["RRDI"]
+                    self.assertEqual(self.program(), "")
+
+    def of_files(self, writer: BatchWriter) -> None:
+        """Both writers do the same to files."""
+        file = new_folder(self) / "f.rrdi"
+        use_library(self, doubles.Program() if isinstance(writer.rrdi, ByProgram) else None)
+        with mock.patch("rrdi.environment.WAIT", 0):
+            name = os.fsencode(file)
+            self.assertEqual(writer.write(name, [b"10:1"]), Outcome(refused=((b"10:1", "no database"),)))
+            rrdi.create(file, "DS:g:GAUGE:99:U:U", "RRA:LAST:0:1:9", step=10, start=0)
+            wanted = Outcome(refused=((b"10:2", "not later than 10"), (b"x", "unreadable sample 1"),
+                                      (b"\xff", "usage")))
+            self.assertEqual(writer.write(name, [b"10:1", b"10:2", b"20:2", b"x", b"30:3", b"\xff"]), wanted)
+            self.assertEqual((rrdi.last(file), rrdi.info(file)["undoable"]), (30, 3))
+            with open(file, "rb") as other:
+                import fcntl
+                fcntl.flock(other, fcntl.LOCK_EX)
+                self.assertEqual(writer.write(name, [b"40:1"]), Outcome(again="cannot open"))
+            file.write_bytes(b"other")
+            self.assertEqual(writer.write(name, [b"40:1"]), Outcome(lost="file: not ours"))

@@ -1,0 +1,189 @@
+"""Tests against whisper: random points give the same values in both, and files of whisper are moved to rrdi. Files of
+whisper are written by Debian's python3-whisper, or else here."""
+from __future__ import annotations
+
+import math
+import random
+import struct
+import unittest
+from pathlib import Path
+from typing import Dict, List, Mapping, Optional, Sequence, Tuple
+
+import graphite_doubles as graphite
+from cases import new_folder, use_any_library
+from rrdi.commands import batch
+from rrdi.graphite.layout import METHODS, template
+from rrdi.graphite.losses import Losses
+from rrdi.graphite.series import read_series
+from rrdi.graphite.store import StoreOptions, Store
+from rrdi.importing.dump import Refusal
+from rrdi.importing.whisper import NUMBERS, read_whisper, whisper_batch
+from rrdi.reader.selected import OpenFile
+
+NOW = 1_700_000_400  # a multiple of 600
+RETENTIONS = [(10, 60), (60, 120)]
+HAS_WHISPER = graphite.is_installed("whisper")
+
+
+def whisper_bytes(archives: Sequence[Tuple[int, int, Mapping[int, float]]], method: int = 1, xff: float = 0.5) -> bytes:
+    """A file of whisper: each archive has the seconds of a point, the number of points, and values by their times."""
+    offset = 16 + 12 * len(archives)
+    head = struct.pack("!2LfL", method, max(seconds * rows for seconds, rows, _ in archives), xff, len(archives))
+    body = b""
+    for seconds, rows, values in archives:
+        head += struct.pack("!3L", offset + len(body), seconds, rows)
+        base = min(values, default=0)
+        points = {(when - base) // seconds % rows: struct.pack("!Ld", when, value) for when, value in values.items()}
+        body += b"".join(points.get(index, bytes(12)) for index in range(rows))
+    return head + body
+
+
+class FolderCase(unittest.TestCase):
+    def setUp(self) -> None:
+        self.folder = new_folder(self)
+        self.old, self.new = str(self.folder / "m.wsp"), str(self.folder / "m.rrdi")
+
+    def values(self, start: int, end: int, now: int) -> Tuple[Tuple[int, int, int], List[Optional[float]]]:
+        with OpenFile(self.new) as file:
+            found = read_series(file, start, end, now)
+        assert found is not None
+        return found[:3], found.values
+
+    def assert_close(self, ours: Sequence[Optional[float]], theirs: Sequence[Optional[float]], what: object) -> None:
+        self.assertEqual(len(ours), len(theirs), what)
+        for one, other in zip(ours, theirs):
+            self.assertEqual(one is None, other is None, (what, ours, theirs))
+            if one is not None and other is not None:
+                self.assertAlmostEqual(one, other, delta=6e-5, msg=str(what))
+
+
+@unittest.skipUnless(HAS_WHISPER, "whisper is not installed for this Python")
+class AsInWhisper(FolderCase):
+    """The same random points in both: of the finest archive and of the next one all values are the same."""
+
+    def flushes(self, chance: random.Random) -> List[List[Tuple[int, float]]]:
+        """Points as carbon gives them: in order, with gaps, twice in a slot, and late within a journal of 16."""
+        found: List[List[Tuple[int, float]]] = []
+        slot, sent = 0, []  # type: int, List[int]
+        for _ in range(chance.randint(5, 60)):
+            points = {}
+            for _ in range(chance.choice((1, 1, 2, 6))):
+                slot += chance.choice((0, 1, 1, 1, 1, 2, 5, 20 if chance.random() < 0.1 else 1))
+                points[NOW + 10 * slot + chance.randrange(10)] = round(chance.uniform(-100, 100), chance.choice((0, 3, 6)))
+                sent.append(slot)
+            if chance.random() < 0.2:
+                late = chance.choice(sent[-8:])
+                points[NOW + 10 * late + chance.randrange(10)] = float(chance.randrange(100))
+            found.append(sorted(points.items()))
+        return found
+
+    def try_method(self, method: str, seed: int) -> int:
+        import whisper
+        chance = random.Random(f"{method} {seed}")
+        xff, now, counted = chance.choice((0.0, 0.1, 0.5, 1.0)), NOW, 0
+        for path in (self.old, self.new):
+            Path(path).unlink(missing_ok=True)
+        losses = Losses(lambda line: None)
+        store = Store(StoreOptions(str(self.folder), 32), losses, lambda: now)
+        whisper.create(self.old, RETENTIONS, xff, method)
+        store.create("m", template(RETENTIONS, xff, method, 32))
+        for points in self.flushes(chance):
+            now = max(now, points[-1][0])
+            whisper.update_many(self.old, points, now=now)
+            store.write("m", [(float(when), value) for when, value in points])
+            for start in (now - chance.randrange(590), now - chance.randrange(610, 7_000)):
+                info, theirs = whisper.fetch(self.old, start, now, now=now)
+                span, ours = self.values(start, now, now)
+                self.assertEqual(span, info)
+                self.assert_close(ours, theirs, (method, seed, start - NOW, now - NOW, xff))
+                counted += sum(value is not None for value in ours)
+        lost = {kind: count for kind, count in losses.take().items() if count and kind != "rewritten"}
+        self.assertEqual(lost, {}, (method, seed))
+        return counted
+
+    def test_random_points(self) -> None:
+        use_any_library(self)
+        for method in METHODS:
+            counted = sum(self.try_method(method, seed) for seed in range(6))
+            self.assertGreater(counted, 1_000)
+
+
+class Moving(FolderCase):
+    """rrdi-import with files of whisper."""
+
+    def lines(self, data: bytes, journal: Optional[str] = None) -> List[str]:
+        Path(self.old).write_bytes(data)
+        self.notes: List[str] = []
+        return list(whisper_batch(read_whisper(self.old), journal, self.notes.append))
+
+    def test_lines(self) -> None:
+        fine = {NOW + 10 * n: float(n) for n in range(6) if n != 3}
+        lines = self.lines(whisper_bytes([(10, 60, fine), (60, 60, {NOW: 2.4})]), "5")
+        self.assertEqual(lines[0], f"create --start {NOW} --step 10 --journal 5 DS:average:GAUGE:9999999999:U:U "
+                                   "RRA:AVERAGE:0.500000:1:60 RRA:AVERAGE:0.500000:6:60")
+        self.assertEqual(lines[1], "update " + " ".join(
+            f"{NOW + 10 * n + 10}:{'U' if n == 3 else f'{n}.000000'}" for n in range(6)))
+        self.assertEqual(lines[2:], ["tune --heartbeat average:10"])
+
+    def test_older_points_come_from_coarser_archives(self) -> None:
+        fine = {NOW + 10 * n: 1.0 for n in range(3)}
+        coarse = {NOW - 600 - 60 * n: 12.0 for n in range(3)}
+        lines = self.lines(whisper_bytes([(10, 60, fine), (60, 60, coarse)], 2))
+        self.assertTrue(lines[0].startswith(f"create --start {NOW - 720} "), lines[0])
+        self.assertEqual(lines[1], f"update {NOW - 540}:2.000000:2.000000 {NOW}:U:0 {NOW + 30}:1.000000:1.000000")
+
+    def test_values_that_rrdi_does_not_take(self) -> None:
+        lines = self.lines(whisper_bytes([(10, 60, {NOW: math.inf, NOW + 10: 1e18, NOW + 20: math.nan, NOW + 30: 1.0})]))
+        self.assertEqual(lines[1], f"update {NOW + 30}:U {NOW + 40}:1.000000")
+        self.assertEqual(self.notes, ["2 values that are too large for rrdi became unknown"])
+
+    def test_refusals(self) -> None:
+        whole = whisper_bytes([(10, 60, {NOW: 1.0})])
+        for data, reason in ((b"", "this is no file of whisper"), (b"RRD\0" + bytes(100), "this is no file of whisper"),
+                             (whole[:20], "this is no file of whisper"), (whole[:-1], "the file is shorter than its header says"),
+                             (whisper_bytes([(10, 60, {})]), "the file has no point"),
+                             (whisper_bytes([(10, 60, {NOW: 1.0})], 7), "the aggregation method absmax is not supported"),
+                             (whisper_bytes([(10, 60, {NOW: 1.0})], 9), "this is no file of whisper"),
+                             (whisper_bytes([(10, 60, {NOW: 1.0}), (15, 60, {})]), "15 seconds must be a larger multiple"),
+                             (struct.pack("!2LfL", 1, 1, 0.5, 10**6), "this is no file of whisper"),
+                             (struct.pack("!2LfL3L", 1, 1, 0.5, 1, 28, 0, 10), "the shortest retention must have")):
+            with self.assertRaises(Refusal) as raised:
+                self.lines(data)
+            self.assertIn(reason, str(raised.exception))
+
+    def test_rows(self) -> None:
+        """The finest archive is as it was, and of all methods the next one too."""
+        use_any_library(self)
+        for number, method in NUMBERS.items():
+            if method not in METHODS:
+                continue
+            fine: Dict[int, float] = {NOW + 10 * n: float(n % 7) for n in range(60) if n % 5}
+            coarse = {NOW - 60 * n: float(n) for n in range(1, 50)}
+            Path(self.new).unlink(missing_ok=True)
+            ran = batch(self.new, self.lines(whisper_bytes([(10, 60, fine), (60, 120, coarse)], number)))
+            self.assertEqual(ran.refused, (), method)
+            now = NOW + 599
+            (start, _, _), values = self.values(NOW, now, now)
+            self.assertEqual({start + 10 * at: value for at, value in enumerate(values) if value is not None},
+                             {when: value for when, value in fine.items() if when >= start}, method)
+            (start, _, step), values = self.values(NOW - 3_000, NOW - 60, now)
+            self.assertEqual(step, 60)
+            self.assert_close(values, [coarse.get(start + 60 * at, fine.get(NOW)) for at in range(len(values))], method)
+
+    @unittest.skipUnless(HAS_WHISPER, "whisper is not installed for this Python")
+    def test_files_of_whisper_itself(self) -> None:
+        import whisper
+        for method in METHODS:
+            Path(self.old).unlink(missing_ok=True)
+            whisper.create(self.old, RETENTIONS, 0.5, method)
+            for n in range(0, 300, 3):
+                points = [(NOW + 10 * slot, float(slot)) for slot in range(n, n + 3) if slot % 11]
+                whisper.update_many(self.old, points, now=points[-1][0])
+            old = read_whisper(self.old)
+            self.assertEqual((old.method, [archive[:2] for archive in old.archives]), (method, RETENTIONS))
+            now = NOW + 2_990
+            for archive, (seconds, rows) in zip(old.archives, RETENTIONS):
+                (start, _, step), values = whisper.fetch(self.old, now - seconds * rows, now, now=now,
+                                                         archiveToSelect=f"{seconds}s")
+                self.assertEqual({start + step * at: value for at, value in enumerate(values) if value is not None},
+                                 {when: value for when, value in archive.values.items() if start <= when <= now})

@@ -1,0 +1,204 @@
+"""Tests of rrdi-import with many files. A script replaces RRDtool, except in the test that says otherwise."""
+from __future__ import annotations
+
+import os
+import re
+import subprocess
+import sys
+import tempfile
+import unittest
+from pathlib import Path
+from typing import List, Tuple
+from unittest.mock import patch
+
+from cases import needs_program
+from doubles import TOP
+from test_tools_moving import DUMP
+from tool_case import NO_RRDTOOL, RRDTOOL, Ran, ToolCase
+
+from rrdi.tools.import_many import Bar, OldFile
+
+WHOLE = DUMP.replace("COMPUTE", "GAUGE")
+SKIPPED = "skipped data source double: type COMPUTE is not supported"
+FETCH = ("fetch", "AVERAGE", "-s", "1600000000", "-e", "1600000029")
+OLD_FORM = b"RRD\0"
+
+
+class Bars(unittest.TestCase):
+    def test_the_next_file_goes_on(self) -> None:
+        """The bar of a file begins where the last file ended, and no file takes more than its share."""
+        shown: List[Tuple[int, int]] = []
+        with tempfile.TemporaryDirectory() as folder:
+            for name, size in (("a", 100), ("b", 300)):
+                Path(folder, name).write_bytes(bytes(size))
+            bar = Bar([OldFile(f"{folder}/{name}", name) for name in "ab"])
+        with patch.object(bar.progress, "show", lambda done, total: shown.append((done, total))):
+            bar.reading(50, 100)
+            bar.end_file(100)
+            bar.reading(150, 300)
+            bar.reading(900, 300)
+        self.assertEqual(shown, [(50, 400), (250, 400), (400, 400)])
+
+
+@needs_program
+class Many(ToolCase):
+    """Each old file begins as RRDtool's do and has the dump after that."""
+
+    def setUp(self) -> None:
+        super().setUp()
+        self.stub("rrdtool", 'case $1 in dump) tail -c +5 "$2" ;; last) echo 1600000030 ;; esac')
+        (self.folder / "tree/sub").mkdir(parents=True)
+
+    def old(self, name: str, dump: str = WHOLE) -> bytes:
+        data = OLD_FORM + dump.encode()
+        self.write(name, data)
+        return data
+
+    def run_import(self, *words: str) -> "tuple[int, str, str]":
+        ran = self.tool("rrdi-import", *words)
+        return ran.status, ran.out, ran.err
+
+    def cells(self, file: str) -> str:
+        return self.rrdi(FETCH[0], file, *FETCH[1:]).splitlines()[1]
+
+    def test_into_a_directory(self) -> None:
+        """A tree keeps its subdirectories, other files are passed over, and links too; the last line counts the links."""
+        for name in ("tree/a.rrd", "tree/sub/b.rrd", "alone.rrd"):
+            self.old(name)
+        self.write("tree/notes.txt", "notes")
+        (self.folder / "tree/c.rrd").symlink_to("a.rrd")
+        status, out, err = self.run_import("--journal", "9", "--into", "new", "tree", "alone.rrd")
+        has = "(2 data sources, 1 archive)"
+        self.assertEqual((status, err), (0, ""))
+        self.assertEqual(out, f"tree/a.rrd: new/a.rrdi {has}\ntree/sub/b.rrd: new/sub/b.rrdi {has}\n"
+                              f"alone.rrd: new/alone.rrdi {has}\n3 files: 3 converted; 1 link passed over\n")
+        for name in ("a", "sub/b", "alone"):
+            self.assertEqual(self.cells(f"new/{name}.rrdi"), "1600000010: 1.000000 2.000000")
+        self.assertIn("journal = 9\n", self.rrdi("info", "new/a.rrdi"))
+        self.assertEqual(sorted(path.name for path in (self.folder / "new").rglob("*")), ["a.rrdi", "alone.rrdi", "b.rrdi", "sub"])
+
+    def test_a_source_is_left_out(self) -> None:
+        self.old("tree/a.rrd", DUMP)
+        self.old("tree/b.rrd")
+        self.assertEqual(self.run_import("--into", "new", "tree"), (
+            1, f"tree/a.rrd: new/a.rrdi (1 data source, 1 archive); {SKIPPED}\ntree/b.rrd: new/b.rrdi (2 data sources, 1 archive)\n"
+            "2 files: 2 converted, 1 of them without all data sources\n", ""))
+
+    def test_no_file_is_replaced(self) -> None:
+        self.old("tree/a.rrd")
+        self.old("tree/b.rrd")
+        (self.folder / "new").mkdir()
+        self.write("new/a.rrdi", "mine")
+        status, out, err = self.run_import("--into", "new", "tree")
+        self.assertEqual((status, err), (1, "rrdi-import: tree/a.rrd: not converted: new/a.rrdi already exists\n"))
+        self.assertEqual(out.splitlines()[-1], "2 files: 1 converted; 1 not converted")
+        self.assertEqual(self.read("new/a.rrdi"), b"mine")
+
+    def test_two_files_of_one_name(self) -> None:
+        self.old("tree/a.rrd")
+        self.old("tree/sub/a.rrd", DUMP)
+        status, _, err = self.run_import("--into", "new", "tree/a.rrd", "tree/sub/a.rrd")
+        self.assertEqual((status, err), (1, "rrdi-import: tree/sub/a.rrd: not converted: new/a.rrdi already exists\n"))
+        self.assertIn("ds[1].name = double\n", self.rrdi("info", "new/a.rrdi"))
+
+    def test_in_place(self) -> None:
+        """The new file has the name, the mode and the owner; the old bytes stay. A second run changes nothing."""
+        before = self.old("tree/a.rrd")
+        (self.folder / "tree/a.rrd").chmod(0o640)
+        self.assertEqual(self.run_import("--in-place", "tree"), (
+            0, "tree/a.rrd: converted, the old file is " f"{os.path.realpath(self.folder)}/tree/a.rrd.old"
+            " (2 data sources, 1 archive)\n1 file: 1 converted\n", ""))
+        self.assertEqual(self.cells("tree/a.rrd"), "1600000010: 1.000000 2.000000")
+        self.assertEqual(self.read("tree/a.rrd.old"), before)
+        status = os.stat(self.folder / "tree/a.rrd")
+        self.assertEqual((status.st_mode & 0o777, status.st_uid, status.st_gid), (0o640, os.getuid(), os.getgid()))
+        now = self.read("tree/a.rrd")
+        self.assertEqual(self.run_import("--in-place", "tree"), (
+            0, "tree/a.rrd: is a database of rrdi already\n1 file: 0 converted; 1 already of rrdi\n", ""))
+        self.assertEqual((self.read("tree/a.rrd"), self.read("tree/a.rrd.old")), (now, before))
+        self.assertEqual(sorted(path.name for path in (self.folder / "tree").glob(".*")), [])
+
+    @unittest.skipUnless(os.geteuid() == 0, "only root gives files to others")
+    def test_in_place_keeps_the_owner(self) -> None:
+        self.old("a.rrd")
+        os.chown(self.folder / "a.rrd", 12, 34)
+        self.assertEqual(self.run_import("--in-place", "a.rrd")[0], 0)
+        status = os.stat(self.folder / "a.rrd")
+        self.assertEqual((status.st_uid, status.st_gid), (12, 34))
+
+    def test_in_place_leaves_what_cannot_be_whole(self) -> None:
+        """A source would be left out; there is an older copy; it is a file of whisper; RRDtool can't read it."""
+        files = {"tree/a.rrd": self.old("tree/a.rrd", DUMP), "tree/b.rrd": self.old("tree/b.rrd"), "tree/b.rrd.old": b"mine",
+                 "tree/c.wsp": b"\0\0\0\1", "tree/d.rrd": self.old("tree/d.rrd", DUMP[:200])}
+        self.write("tree/b.rrd.old", "mine")
+        self.write("tree/c.wsp", b"\0\0\0\1")
+        status, out, err = self.run_import("--in-place", "tree")
+        self.assertEqual((status, out), (1, "4 files: 0 converted; 4 not converted\n"))
+        reasons = (SKIPPED, f"{os.path.realpath(self.folder)}/tree/b.rrd.old already exists",
+                   "a file of whisper is converted with --into", "rrdtool did not read the file to its end")
+        self.assertEqual(err, "".join(f"rrdi-import: tree/{name}: not converted: {reason}\n" for name, reason in zip(
+            ("a.rrd", "b.rrd", "c.wsp", "d.rrd"), reasons)))
+        self.assertEqual({name: self.read(name) for name in files}, files)
+        self.assertEqual(len(list((self.folder / "tree").iterdir())), 6)
+
+    def test_a_file_that_changes_meanwhile(self) -> None:
+        """A sample that the old file got during the conversion would be lost, so the old file stays."""
+        self.old("a.rrd")
+        slow = self.stub("slow", f'printf x >>a.rrd; exec {self.env.get("RRDI", "rrdi")} "$@"')
+        ran = self.tool("rrdi-import", "--in-place", "a.rrd", env={"RRDI": slow})
+        self.assertEqual(ran, Ran(1, "1 file: 0 converted; 1 not converted\n", "rrdi-import: a.rrd: not converted: "
+                                  "it changed while it was converted; first stop what records into it\n"))
+        self.assertTrue(self.read("a.rrd").startswith(OLD_FORM))
+        self.assertFalse((self.folder / "a.rrd.old").exists())
+
+    def test_nothing_to_convert(self) -> None:
+        self.assertEqual(self.run_import("--into", "new", "tree"), (
+            1, "", "rrdi-import: tree: no file below it has a name that ends in .rrd or .wsp\n"))
+        self.old("a.rrd")
+        self.assertEqual(self.tool("rrdi-import", "--in-place", "a.rrd", env=self.without_rrdtool()),
+                         Ran(1, "", "rrdi-import: rrdtool is not installed (Debian: apt install rrdtool)\n"))
+
+    def without_rrdtool(self) -> "dict[str, str]":
+        (self.bin / "rrdtool").unlink()
+        return self.only_path()
+
+    def test_names_of_others(self) -> None:
+        """A line stays a line, whatever a name has in it."""
+        name = "tree/a\nb\x1b[2J\udcff.rrd"
+        self.old(name)
+        status, out, err = self.run_import("--into", "new", "tree")
+        self.assertEqual((status, err), (0, ""))
+        self.assertEqual(out, "tree/a?b?[2J?.rrd: new/a?b?[2J?.rrdi (2 data sources, 1 archive)\n1 file: 1 converted\n")
+
+    def test_the_bar(self) -> None:
+        """The bar is of all files, and each line of a file replaces it."""
+        rows = "<row><v>1</v><v>1</v></row>" * 2_000
+        begin, end = WHOLE.split("<row><v>1</v>")
+        self.write("end", end[end.index("</database>"):])
+        for name in ("a", "b"):
+            self.old(f"{name}.rrd", begin + rows)
+        self.stub("rrdtool", 'case $1 in last) echo 1600000030 ;; dump) tail -c +5 "$2"; sleep 1.2; cat end ;; esac')
+        words = [sys.executable, str(TOP / "tools/rrdi-import"), "--into", "new", "a.rrd", "b.rrd"]
+        status, seen = self.on_terminal(words)
+        self.assertEqual(status, 0, seen)
+        self.assertRegex(seen, r"^((\rconverting: \[#* *\] \d+ %\x1b\[K)+\r\x1b\[K)+$")
+        shares = [int(share) for share in re.findall(r"(\d+) %", seen)]
+        self.assertEqual(shares, sorted(shares))
+        self.assertTrue(all(len(bar) == 30 for bar in re.findall(r"\[([# ]*)\]", seen)), seen)
+
+    @unittest.skipUnless(RRDTOOL, NO_RRDTOOL)
+    def test_rrdtool_itself(self) -> None:
+        """Files that RRDtool made, in place; one gets a sample while it is converted, by RRDtool too."""
+        assert RRDTOOL
+        for name in ("a", "b"):
+            subprocess.run([RRDTOOL, "create", f"{name}.rrd", "--step", "10", "--start", "1600000000", "DS:g:GAUGE:60:U:U",
+                            "RRA:AVERAGE:0.5:1:3"], cwd=self.folder, check=True)
+            subprocess.run([RRDTOOL, "update", f"{name}.rrd", "1600000010:1", "1600000020:2"], cwd=self.folder, check=True)
+        env = {"PATH": os.environ["PATH"], "TZ": "UTC"}
+        slow = self.stub("slow", f'case $2 in *.new) [ -e done ] || {RRDTOOL} update b.rrd 1600000030:3; touch done ;; esac; '
+                                 f'exec {self.env.get("RRDI", "rrdi")} "$@"')
+        ran = self.tool("rrdi-import", "--in-place", "b.rrd", env={**env, "RRDI": slow})
+        self.assertEqual((ran.status, "changed while" in ran.err), (1, True), ran)
+        ran = self.tool("rrdi-import", "--in-place", ".", env=env)
+        self.assertEqual((ran.status, ran.err, ran.out.splitlines()[-1]), (0, "", "2 files: 2 converted"))
+        self.assertEqual([self.rrdi("last", f"{name}.rrd") for name in ("a", "b")], ["1600000020\n", "1600000030\n"])

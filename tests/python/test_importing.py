@@ -1,0 +1,293 @@
+"""Tests of rrdi.importing: amounts, dumps, plans, and steps that show the cells of a row. RRDtool is not needed."""
+from __future__ import annotations
+
+import io
+import math
+import unittest
+import xml.etree.ElementTree as ElementTree
+from array import array
+from typing import Any, Dict
+
+import doubles  # noqa: F401
+from rrdi.importing.rounding import Converter, as_text, millionths, raw_value
+from rrdi.importing.batch import RrdBatch, batch_of, merge, share_of
+from rrdi.importing.dump import RrdArchive, RrdFile, Refusal, RrdSource, read_dump
+from rrdi.importing.plan import plan
+from rrdi.importing.steps import Rest, Wanted, lay, sum_of_rest
+
+NAN = math.nan
+
+
+def source(kind: str = "GAUGE", column: int = 0, **others: object) -> RrdSource:
+    fields: Dict[str, Any] = {"name": f"s{column}", "kind": kind, "heartbeat": 99, "minimum": NAN, "maximum": NAN,
+                    "last_raw": "U", "partial_sum": 0.0, "unknown_seconds": 0}
+    return RrdSource(column, **{**fields, **others})
+
+
+def archive(number: int, function: str, steps: int, cells: list[float], share: float = 0.5, partial: float = NAN,
+            unknown: int = 0) -> RrdArchive:
+    return RrdArchive(number, function, steps, share, [partial], [unknown], array("d", cells), 1)
+
+
+def update_words(lines: list[str]) -> list[str]:
+    return [word for line in lines if line.startswith("update ") for word in line.split()[1:]]
+
+
+class Amounts(unittest.TestCase):
+    def test_numbers_are_rounded_to_a_millionth(self) -> None:
+        for value, amount, text in ((1.5, 1_500_000, "1.5"), (-0.5, -500_000, "-0.5"), (2.0, 2_000_000, "2"),
+                                    (0.0000004, 0, "0"), (0.0000006, 1, "0.000001"), (-1e-6, -1, "-0.000001"),
+                                    (123456789012.0, 123456789012000000, "123456789012")):
+            with self.subTest(value=value):
+                self.assertEqual(millionths(value), amount)
+                self.assertEqual(as_text(amount), text)
+        self.assertEqual(as_text(None), "U")
+
+    def test_losses_are_noted(self) -> None:
+        losses = Converter()
+        self.assertIsNone(losses.amount(NAN))
+        self.assertEqual((losses.too_large, losses.too_small), (False, False))
+        self.assertEqual(losses.amount(1e-9), 0)
+        self.assertTrue(losses.too_small)
+        self.assertIsNone(losses.amount(-1e18))
+        self.assertTrue(losses.too_large)
+        self.assertIsNone(Converter().amount(math.inf))
+
+    def test_raw_values_in_range(self) -> None:
+        for kind, text, taken in (("COUNTER", "18446744073709551615", True), ("COUNTER", "18446744073709551616", False),
+                                  ("COUNTER", "-1", False), ("DERIVE", "-9223372036854775807", True),
+                                  ("DERIVE", "9223372036854775808", False), ("DERIVE", "1.5", False),
+                                  ("COUNTER", "", False)):
+            with self.subTest(kind=kind, text=text):
+                self.assertEqual(raw_value(kind, text), text if taken else None)
+
+
+class Dumps(unittest.TestCase):
+    TEXT = b"""<?xml version="1.0"?><rrd><version>0003</version><step>10</step><lastupdate>1600000033</lastupdate>
+<ds><name> a </name><type> COUNTER </type><minimal_heartbeat>60</minimal_heartbeat>
+<min>0.0000000000e+00</min><max>NaN</max>
+<last_ds>100</last_ds><value>1.32e+01</value><unknown_sec> 2 </unknown_sec></ds>
+<ds><name> b </name><type> COMPUTE </type><cdef> a,2,* </cdef>
+<last_ds>U</last_ds><value>NaN</value><unknown_sec> 3 </unknown_sec></ds>
+<rra><cf>MAX</cf><pdp_per_row>6</pdp_per_row><params><xff>3.0e-01</xff></params><cdp_prep>
+<ds><value>3.5</value><unknown_datapoints>1</unknown_datapoints></ds>
+<ds><value>NaN</value><unknown_datapoints>0</unknown_datapoints></ds>
+</cdp_prep><database><!-- x / 1 --> <row><v>1.5</v><v>NaN</v></row>
+<row><v>-2e3</v><v>4</v></row></database></rra></rrd>"""
+
+    def test_all_is_read(self) -> None:
+        old = read_dump(io.BytesIO(self.TEXT))
+        self.assertEqual((old.step, old.last, len(old.sources), len(old.archives)), (10, 1600000033, 2, 1))
+        first = old.sources[0]
+        self.assertEqual((first.name, first.kind, first.heartbeat, first.minimum, first.last_raw, first.partial_sum,
+                          first.unknown_seconds), ("a", "COUNTER", 60, 0.0, "100", 13.2, 2))
+        self.assertTrue(math.isnan(first.maximum))
+        self.assertEqual((old.sources[1].name, old.sources[1].kind), ("b", "COMPUTE"))
+        rows = old.archives[0]
+        self.assertEqual((rows.function, rows.steps, rows.share, rows.row_count), ("MAX", 6, 0.3, 2))
+        self.assertEqual((rows.partial[0], rows.unknown_steps), (3.5, [1, 0]))
+        rows.place(old.step, old.last)
+        self.assertEqual((rows.seconds, rows.end, rows.begin), (60, 1600000020, 1599999900))
+        found = [rows.cell(time, column) for time, column in ((1599999960, 0), (1600000020, 0), (1600000020, 1))]
+        self.assertEqual(found, [1.5, -2000.0, 4.0])
+
+    def test_a_cut_dump_is_an_error(self) -> None:
+        for size in (0, 100, len(self.TEXT) - 8):
+            with self.assertRaises(ElementTree.ParseError):
+                read_dump(io.BytesIO(self.TEXT[:size]))
+
+    def test_a_row_of_another_width_is_refused(self) -> None:
+        with self.assertRaisesRegex(Refusal, "a row of archive 0 has 1 cells"):
+            read_dump(io.BytesIO(self.TEXT.replace(b"<v>4</v>", b"")))
+
+
+class Plans(unittest.TestCase):
+    def test_the_best_archive_for_each_time(self) -> None:
+        archives = [archive(0, "AVERAGE", 1, [0.0] * 5), archive(1, "AVERAGE", 3, [0.0] * 4),
+                    archive(2, "MAX", 3, [0.0] * 6), archive(3, "AVERAGE", 12, [0.0] * 3)]
+        for each in archives:
+            each.place(10, 1200)
+        spans = plan(archives, 1200)
+        # Of averages and maximums the averages are better, though they are coarser.
+        self.assertEqual([(span.begin, span.end, span.archive.number) for span in spans],
+                         [(840, 1080, 3), (1080, 1150, 1), (1150, 1200, 0)])
+        self.assertEqual(sorted(spans[1].beside), ["AVERAGE", "MAX"])
+        self.assertEqual(spans[1].above, archives[3])
+
+    def test_two_archives_of_one_function(self) -> None:
+        """Of two that have rows of the same length, the one that reaches back farthest is beside the span, in any order."""
+        for counts in ((4, 9), (9, 4), (4, 9, 6)):
+            archives = [archive(0, "AVERAGE", 3, [0.0] * 12),
+                        *(archive(number, "MAX", 3, [0.0] * count) for number, count in enumerate(counts, 1))]
+            for each in archives:
+                each.place(10, 1200)
+            farthest = archives[1 + counts.index(9)]
+            for span in plan(archives, 1200):
+                self.assertEqual(span.beside["MAX"], farthest, counts)
+
+    def test_no_time_no_span(self) -> None:
+        each = archive(0, "MAX", 1, [NAN])
+        each.place(10, 5)
+        self.assertEqual(plan([each], 0), [])
+
+
+class Steps(unittest.TestCase):
+    def laid(self, steps: int, total: float, slack: float, *pins: int | None) -> list[tuple[int, int | None]]:
+        rates: list[tuple[int, int | None]] = []
+        least, greatest, latest = pins
+        lay(rates, 0, steps, 1, Wanted(total, slack, least, greatest, latest, least, greatest))
+        return rates
+
+    def test_minimum_maximum_and_last(self) -> None:
+        for what, steps, total, pins, wanted in (
+                ("all of them", 5, 30, (1, 10, 5), [(1, 1), (2, 10), (4, 7), (5, 5)]),
+                ("the last is the maximum", 4, 25, (1, 10, 10), [(1, 1), (3, 7), (4, 10)]),
+                ("all are equal", 3, 12, (4, 4, 4), [(2, 4), (3, 4)]),
+                ("no rest", 2, 11, (1, 10, None), [(1, 1), (2, 10)]),
+                ("no pins", 3, 10, (None, None, None), [(3, 3)]),
+                ("a rest that a cut digit takes below the minimum", 3, 894_970, (0, 894_976, None),
+                 [(1, 0), (2, 894_976), (3, 0)]),
+                ("a minimum and a last rate that do not fit", 3, 300, (0, 120, 1), [(1, 120), (3, 90)]),
+                ("nothing that fits", 3, 300, (200, 400, 1), [(3, 100)])):
+            with self.subTest(what):
+                self.assertEqual(self.laid(steps, total, 8, *pins), wanted)
+
+    def test_the_rest_of_a_cut_row(self) -> None:
+        later: list[tuple[int, int | None]] = [(20, 5), (40, None), (50, 9), (90, 1)]
+        self.assertEqual(sum_of_rest(later, 0, 60, 10), Rest(4, 20, 1, 9))
+        self.assertEqual(sum_of_rest(later, 0, 20, 10), Rest(2, 10, 5, 5))
+        self.assertEqual(sum_of_rest([], 0, 20, 10), Rest())
+
+
+class Batches(unittest.TestCase):
+    def lines(self, old: RrdFile, journal: str | None = None) -> tuple[list[str], list[str]]:
+        notes: list[str] = []
+        return list(batch_of(old, journal, notes.append)), notes
+
+    def test_a_counter_of_one_second_steps(self) -> None:
+        """The last raw value would need a second of its own, whose rate is unknown: a step of one second has none to give."""
+        for step, note in ((1, ["source s0: cannot convert its last value 7; its next rate will be unknown"]), (2, [])):
+            old = RrdFile(step, 100, [source("COUNTER", last_raw="7")], [archive(0, "AVERAGE", 1, [1.0, 2.0, 3.0])])
+            notes: list[str] = []
+            lines = list(batch_of(old, None, notes.append))
+            self.assertEqual((notes, lines[-1] == "update 100:7"), (note, step == 2), lines)
+
+    def test_steps_and_types(self) -> None:
+        old = RrdFile(10, 1003, [source("COUNTER", last_raw="77", minimum=0.0, partial_sum=6.0, unknown_seconds=1)],
+                      [archive(0, "AVERAGE", 1, [NAN, 1.25, 1.25, 2.0])])
+        lines, notes = self.lines(old, "9")
+        self.assertEqual(lines, [
+            "create --step 10 --start 970 --journal 9 DS:s0:GAUGE:9999999999:U:U RRA:AVERAGE:0.5:1:4",
+            "update 990:1.25 1000:2 1001:U 1002:3",
+            "tune --heartbeat s0:99 --minimum s0:0 --data-source-type s0:COUNTER",
+            "update 1003:77"])
+        self.assertEqual(notes, [])
+
+    def test_nothing_known(self) -> None:
+        lines, _ = self.lines(RrdFile(10, 1000, [source()], [archive(0, "MAX", 1, [NAN, NAN])]))
+        self.assertEqual(lines, ["create --step 10 --start 1000 DS:s0:GAUGE:9999999999:U:U RRA:MAX:0.5:1:2",
+                                 "tune --heartbeat s0:99"])
+
+    def test_two_finer_archives_begin_inside_one_row(self) -> None:
+        steps = [5.0, 10.0] * 36
+        archives = [archive(0, "AVERAGE", 1, steps[-7:]),
+                    archive(1, "AVERAGE", 3, [sum(steps[at:at + 3]) / 3 for at in range(42, 72, 3)]),
+                    archive(2, "AVERAGE", 36, [7.5, 7.5])]
+        begin = 36 * 10 * 100
+        lines, _ = self.lines(RrdFile(10, begin + 10 * len(steps), [source()], archives))
+        found, at = [], begin
+        for word in update_words(lines):
+            time, rate = word.split(":")
+            found += [float(rate)] * ((int(time) - at) // 10)
+            at = int(time)
+        self.assertEqual(found[-7:], steps[-7:])
+        self.assertAlmostEqual(sum(found[-36:]) / 36, 7.5, delta=1e-6)
+        self.assertAlmostEqual(sum(found[:36]) / 36, 7.5, delta=1e-6)
+
+    def test_what_is_left_out(self) -> None:
+        old = RrdFile(10, 1000, [source(), source("COMPUTE", 1), source("GAUGE", 2, name="a-b")],
+                      [RrdArchive(0, "AVERAGE", 1, 0.5, [NAN] * 3, [0] * 3, array("d", [1.0, 2.0, 3.0]), 3),
+                       RrdArchive(1, "HWPREDICT", 1, 0.0, [], [], array("d", [1.0, 2.0, 3.0]), 3)])
+        lines, notes = self.lines(old)
+        self.assertNotIn("s1", lines[0])
+        self.assertEqual(notes, ["skipped data source s1: type COMPUTE is not supported",
+                                 "skipped data source a-b: a name in rrdi has 1 to 19 characters of a-z A-Z 0-9 _",
+                                 "skipped archive 1, HWPREDICT: this function is not supported"])
+        with self.assertRaisesRegex(Refusal, "no data source can be converted"):
+            RrdBatch(RrdFile(10, 1000, [source("COMPUTE")], []), None, notes.append)
+        with self.assertRaisesRegex(Refusal, "no archive can be converted"):
+            RrdBatch(RrdFile(10, 1000, [source()], []), None, print)
+        with self.assertRaisesRegex(Refusal, "at most 64"):
+            RrdBatch(RrdFile(10, 1000, [source(column=at) for at in range(65)], []), None, print)
+        with self.assertRaisesRegex(Refusal, "a step of rrdi has at most 1,000,000 seconds"):
+            RrdBatch(RrdFile(1_000_001, 1000, [source()], []), None, print)
+        with self.assertRaisesRegex(Refusal, "the last time is after 9999999999"):
+            RrdBatch(RrdFile(10, 10_000_000_000, [source()], []), None, print)
+
+    def test_too_many_archives_and_cells(self) -> None:
+        many = [archive(at, "MAX", 1, [1.0]) for at in range(129)]
+        with self.assertRaisesRegex(Refusal, "there are 129 archives; rrdi has at most 128"):
+            RrdBatch(RrdFile(10, 1000, [source()], many), None, print)
+        sources = [source(column=at) for at in range(9)]
+        large = RrdArchive(0, "MAX", 1, 0.5, [NAN] * 9, [0] * 9, array("d", bytes(8 * 9 * 900_000)), 9)
+        with self.assertRaisesRegex(Refusal, "there are 8100000 cells; rrdi has at most 8,000,000"):
+            RrdBatch(RrdFile(10, 10_000_000, sources, [large]), None, print)
+        notes: list[str] = []
+        longest = archive(1, "MAX", 1, [1.0] * 1_000_001)
+        RrdBatch(RrdFile(10, 1000, [source()], [archive(0, "MAX", 1, [1.0]), longest,
+                                             archive(2, "MAX", 1_000_001, [1.0])]), None, notes.append)
+        self.assertEqual(notes, ["skipped archive 1, MAX: an archive in rrdi has at most 1,000,000 rows",
+                                 "skipped archive 2, MAX: a row in rrdi has at most 1,000,000 steps"])
+
+    def test_what_is_lost_is_noted(self) -> None:
+        old = RrdFile(10, 1000, [source("COUNTER", last_raw="-7", heartbeat=10**10, minimum=-1e30)],
+                      [archive(0, "AVERAGE", 1, [1e-9, 1e19, 1.0])])
+        lines, notes = self.lines(old)
+        self.assertEqual(notes, ["source s0: cannot convert its last value -7; its next rate will be unknown",
+                                 "source s0: its heartbeat becomes 9999999999, the longest in rrdi",
+                                 "numbers that are too large for rrdi became unknown, or no bound",
+                                 "numbers below half a millionth became 0"])
+        self.assertEqual(lines[-1], "tune --heartbeat s0:9999999999 --data-source-type s0:COUNTER")
+        self.assertEqual(update_words(lines), ["980:0", "990:U", "1000:1"])
+
+    def test_as_much_as_rrdi_takes(self) -> None:
+        """As many sources, archives and cells as there may be, the longest step and the latest time, and the largest bounds."""
+        many = [source(column=at) for at in range(64)]
+        rows = [RrdArchive(at, "MAX", 1, 0.5, [NAN] * 64, [0] * 64, array("d", [1.0] * 64), 64) for at in range(128)]
+        batch = RrdBatch(RrdFile(1_000_000, 9_999_999_999, many, rows), None, print)
+        self.assertEqual((len(batch.sources), len(batch.archives)), (64, 128))
+        eight = RrdArchive(0, "MAX", 1, 0.5, [NAN] * 8, [0] * 8, array("d", bytes(8 * 8 * 1_000_000)), 8)
+        self.assertEqual(RrdBatch(RrdFile(10, 10_000_000, many[:8], [eight]), None, print).archives, [eight])
+        bounded = source(minimum=-1.5e19, maximum=float(2**64 - 2**11))
+        lines, notes = self.lines(RrdFile(10, 1000, [bounded], [archive(0, "AVERAGE", 1, [1.0])]))
+        self.assertEqual((lines[-1], notes), ("tune --heartbeat s0:99 --minimum s0:-15000000000000000000 "
+                                              "--maximum s0:18446744073709549568", []))
+        bounded = source(minimum=-2.0**64, maximum=2.0**64)
+        lines, notes = self.lines(RrdFile(10, 1000, [bounded], [archive(0, "AVERAGE", 1, [1.0])]))
+        self.assertEqual((lines[-1], notes), ("tune --heartbeat s0:99", ["numbers that are too large for rrdi became unknown, or no bound"]))
+
+    def test_an_unfinished_step_of_which_one_source_knows_nothing(self) -> None:
+        sources = [source(unknown_seconds=5), source(column=1, unknown_seconds=2, partial_sum=6.0), source(column=2, partial_sum=5.0)]
+        rows = [RrdArchive(0, "AVERAGE", 1, 0.5, [NAN] * 3, [0] * 3, array("d", [1.0] * 3), 3)]
+        lines, _ = self.lines(RrdFile(10, 1005, sources, rows))
+        self.assertEqual(update_words(lines), ["1000:1:1:1", "1002:U:U:1", "1005:U:2:1"])
+
+    def test_rows_of_other_functions_are_noted(self) -> None:
+        archives = [archive(0, "AVERAGE", 3, [2.0] * 9), archive(1, "MAX", 6, [3.0] * 4)]
+        _, notes = self.lines(RrdFile(10, 1200, [source()], archives))
+        self.assertEqual(notes, ["archive 1, MAX of 60 s: rows up to 1200 come from rows of other functions"])
+
+    def test_a_share_allows_as_many_unknown_steps(self) -> None:
+        # 0.29 of 100 is less than 29 in floating point.
+        self.assertEqual(share_of(archive(0, "AVERAGE", 100, [], 0.29)), "0.289999")
+        self.assertEqual(share_of(archive(0, "AVERAGE", 100, [], 0.5)), "0.5")
+        # A third of 3 is 1 there, and 0.333333 of 3 would be 0.
+        self.assertEqual(share_of(archive(0, "AVERAGE", 3, [], 1 / 3)), "0.333334")
+
+    def test_equal_rates_are_one_sample(self) -> None:
+        self.assertEqual(list(merge([[(10, 1), (30, 2)], [(10, 5), (20, 6), (30, 6)]])), [(10, (1, 5)), (30, (2, 6))])
+
+    def test_long_lines_are_cut(self) -> None:
+        cells = [float(at) for at in range(450)]
+        lines, _ = self.lines(RrdFile(10, 10_000, [source()], [archive(0, "AVERAGE", 1, cells)]))
+        self.assertEqual([len(line.split()) - 1 for line in lines if line.startswith("update")], [200, 200, 50])

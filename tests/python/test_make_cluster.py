@@ -1,0 +1,131 @@
+"""Tests of examples/make-cluster: which processes of a member `start` starts. Small servers take the place of Graphite's."""
+from __future__ import annotations
+
+import importlib.machinery
+import importlib.util
+import os
+import signal
+import socket
+import sys
+import time
+import unittest
+from pathlib import Path
+from typing import Any, Dict, Iterator, List
+from unittest import mock
+
+from cases import HANG, new_folder
+from doubles import TOP
+
+# Answers on ports and leaves its id in a file, as a daemon does. Its arguments name the folder of its member.
+SERVER = """import os, socket, sys, time
+id_file, *ports = sys.argv[1:]
+if os.fork() == 0:
+    kept = [socket.create_server(("127.0.0.1", int(port))) for port in ports]
+    with open(id_file, "w") as file:
+        file.write(str(os.getpid()))
+    time.sleep(600)
+"""
+
+
+def make_cluster() -> Any:
+    loader = importlib.machinery.SourceFileLoader("make_cluster", str(TOP / "examples/make-cluster"))
+    spec = importlib.util.spec_from_loader("make_cluster", loader)
+    assert spec
+    module = importlib.util.module_from_spec(spec)
+    sys.modules["make_cluster"] = module  # its named tuples look for their module
+    loader.exec_module(module)
+    return module
+
+
+def free_ports() -> int:
+    """Returns a port such that it and the next twenty are free."""
+    for _ in range(50):
+        with socket.create_server(("127.0.0.1", 0)) as server:
+            port = int(server.getsockname()[1])
+        try:
+            for at in range(port, port + 20):
+                socket.create_server(("127.0.0.1", at)).close()
+        except (OSError, OverflowError):
+            continue
+        return port
+    raise unittest.SkipTest("no free ports")
+
+
+class Starting(unittest.TestCase):
+    def setUp(self) -> None:
+        self.module = make_cluster()
+        folder = new_folder(self)
+        for name in ("node1", "relay", "front"):
+            for part in ("pid", "log"):
+                (folder / name / part).mkdir(parents=True)
+        self.cluster = self.module.Cluster(folder, 1, free_ports(), "rrdi")
+        patched = mock.patch.object(self.module, "commands", self.commands)
+        patched.start()
+        self.addCleanup(patched.stop)
+        self.addCleanup(self.end)
+        self.started: List[int] = []
+
+    def commands(self, cluster: Any, name: str, what: str, python: str) -> Iterator[List[str]]:
+        ports = map(str, self.module.ports_of(cluster, name)[what])
+        yield [sys.executable, "-c", SERVER, f"{cluster.folder / name}/pid/{what}", *ports]
+
+    def ids(self, name: str) -> Dict[str, int]:
+        """The ids of a member's processes, each written after its ports answer."""
+        until = time.monotonic() + HANG
+        while time.monotonic() < until:
+            found: Dict[str, int] = self.module.process_ids(self.cluster, name)
+            if len(found) == len(self.module.ports_of(self.cluster, name)):
+                self.started += found.values()
+                return found
+            time.sleep(0.02)
+        raise AssertionError(found)
+
+    def end(self) -> None:
+        for number in self.started:
+            try:
+                if os.fsencode(f"{self.cluster.folder}/") in Path(f"/proc/{number}/cmdline").read_bytes():
+                    os.kill(number, signal.SIGKILL)
+            except OSError:
+                pass
+
+    def start(self, name: str) -> Dict[str, int]:
+        self.module.start(self.cluster, name, sys.executable)
+        return self.ids(name)
+
+    def kill(self, name: str, *numbers: int) -> None:
+        for number in numbers:
+            os.kill(number, signal.SIGKILL)
+        until = time.monotonic() + HANG
+        while set(self.module.process_ids(self.cluster, name).values()) & set(numbers) and time.monotonic() < until:
+            time.sleep(0.02)
+
+    def test_members(self) -> None:
+        """A node has a carbon-cache and a page, the relay has no page, the front nothing else."""
+        ports = {name: self.module.ports_of(self.cluster, name) for name in ("node1", "relay", "front")}
+        self.assertEqual({name: {what: len(found) for what, found in those.items()} for name, those in ports.items()},
+                         {"node1": {"carbon": 3, "web": 1}, "relay": {"carbon": 2}, "front": {"web": 1}})
+
+    def test_what_was_killed(self) -> None:
+        """Only what does not run is started, whether one process was killed or both."""
+        first = self.start("node1")
+        with self.assertRaisesRegex(self.module.Failure, "already running: node1, node1;"):
+            self.module.start_all(self.cluster, ["node1", "node1"], sys.executable)
+        self.kill("node1", first["carbon"])
+        second = self.start("node1")
+        self.assertEqual(second["web"], first["web"])
+        self.assertNotEqual(second["carbon"], first["carbon"])
+        self.kill("node1", *second.values())
+        third = self.start("node1")
+        self.assertFalse(set(third.values()) & set(second.values()))
+
+    def test_several_members(self) -> None:
+        """Those that run are passed over."""
+        first = self.start("node1")
+        self.module.start_all(self.cluster, ["node1", "relay"], sys.executable)
+        self.assertEqual((self.ids("node1"), list(self.ids("relay"))), (first, ["carbon"]))
+
+    def test_a_port_of_another_program(self) -> None:
+        with socket.create_server(("127.0.0.1", self.cluster.ports("front").web)), \
+                mock.patch.object(self.module, "MOMENT", 0.1), \
+                self.assertRaisesRegex(self.module.Failure, "another program uses port"):
+            self.module.start(self.cluster, "front", sys.executable)

@@ -1,0 +1,339 @@
+"""Tests of how files are made, and of what happens to damaged ones: nothing of another program is lost."""
+from __future__ import annotations
+
+import errno
+import fcntl
+import os
+import time
+import unittest
+from pathlib import Path
+from typing import Any, Callable, Dict, List
+from unittest import mock
+
+from cases import DataCase, WithLibrary, WithProgram, use_library
+from rrdi import commands, damaged, errors
+from rrdi.making import NewFile, is_there, make
+from rrdi.tools import record
+
+DEFINITIONS = ("DS:g:GAUGE:60:U:U", "RRA:LAST:0.5:1:4")
+
+
+class Making(DataCase):
+    def setUp(self) -> None:
+        super().setUp()
+        self.path = self.folder / "f.rrdi"
+
+    def made(self, text: str = "new") -> bool:
+        with NewFile(str(self.path)) as new:
+            self.assertEqual((os.path.dirname(new.unfinished), new.is_filled()), (os.path.dirname(new.path), False))
+            with open(new.unfinished, "w", encoding="ascii") as file:
+                file.write(text)
+            return new.is_filled() and new.appear()
+
+    def test_a_new_file(self) -> None:
+        self.assertTrue(self.made())
+        self.assertEqual((self.files(), self.path.read_text()), (["data/f.rrdi"], "new"))
+
+    def test_a_file_stays(self) -> None:
+        self.path.write_text("old")
+        self.assertFalse(self.made())
+        self.assertEqual((self.files(), self.path.read_text()), (["data/f.rrdi"], "old"))
+
+    def test_a_file_system_without_links(self) -> None:
+        with mock.patch("os.link", side_effect=OSError(errno.EPERM, "Operation not permitted")):
+            self.assertTrue(self.made())
+            self.assertFalse(self.made("other"))
+        self.assertEqual((self.files(), self.path.read_text()), (["data/f.rrdi"], "new"))
+        with mock.patch("os.link", side_effect=OSError(errno.ENOSPC, "No space left")), self.assertRaises(OSError):
+            self.made()
+
+    def test_a_link_to_a_missing_file(self) -> None:
+        self.path.symlink_to(self.folder / "there.rrdi")
+        self.assertTrue(self.made())
+        self.assertTrue(self.path.is_symlink())
+        self.assertEqual((self.folder / "there.rrdi").read_text(), "new")
+
+    def test_nothing_is_left(self) -> None:
+        with self.assertRaises(ValueError), NewFile(str(self.path)) as new:
+            with open(new.unfinished, "w", encoding="ascii"):
+                raise ValueError
+        with NewFile(str(self.folder / "a/b/f"), makes_folder=True):
+            self.assertTrue((self.folder / "a/b").is_dir())
+        self.assertEqual(self.files(), [])
+
+    def test_replaced(self) -> None:
+        self.path.write_text("old")
+        with NewFile(os.fsencode(self.path)) as new:
+            with open(new.unfinished, "w", encoding="ascii") as file:
+                file.write("new")
+            new.replace()
+        self.assertEqual((self.files(), self.path.read_text()), (["data/f.rrdi"], "new"))
+
+
+def failing(name: str, number: int, suffix: str = "") -> Any:
+    """Replaces a function of `os` by one that fails with an error number for the paths with a suffix."""
+    function = getattr(os, name)
+
+    def fail(path: Any, *more: Any, **named: Any) -> Any:
+        if os.fsdecode(path).endswith(suffix):
+            raise OSError(number, os.strerror(number))
+        return function(path, *more, **named)
+    return mock.patch.object(os, name, fail)
+
+
+class CannotLook(DataCase):
+    """A file at which the system cannot look may be there."""
+
+    ERRORS = (errno.EIO, errno.EACCES, errno.ESTALE, errno.ENOMEM)
+
+    def setUp(self) -> None:
+        super().setUp()
+        self.path = str(self.folder / "f.rrdi")
+
+    def fill(self, new: str) -> str:
+        with open(new, "w", encoding="ascii") as file:
+            file.write("new")
+        return "filled"
+
+    def test_is_there(self) -> None:
+        there, nothing = str(self.folder), str(self.folder / "none")
+        (self.folder / "dangling").symlink_to("none")
+        (self.folder / "file").write_text("")
+        for path, is_file, is_name in ((there, True, True), (nothing, False, False), (str(self.folder / "dangling"), False, True),
+                                       (str(self.folder / "file/in it"), False, False)):
+            self.assertEqual((is_there(path), is_there(os.fsencode(path)), is_there(path, follows=False)), (is_file, is_file, is_name))
+        for number in self.ERRORS:
+            with failing("stat", number), self.assertRaises(OSError) as raised:
+                is_there(there)
+            self.assertEqual(raised.exception.errno, number)
+
+    def test_a_file_that_was_filled(self) -> None:
+        """It is not made, and nobody is told that it was."""
+        for number in self.ERRORS:
+            with failing("stat", number, ".new"), self.assertRaises(OSError) as raised:
+                make(self.path, self.fill)
+            self.assertEqual((raised.exception.errno, self.files()), (number, []))
+        self.assertEqual(make(self.path, self.fill), "filled")
+
+    def test_a_link(self) -> None:
+        for number in self.ERRORS:
+            with failing("readlink", number), self.assertRaises(OSError) as raised:
+                make(self.path, self.fill)
+            self.assertEqual((raised.exception.errno, self.files()), (number, []))
+
+    def test_links(self) -> None:
+        """Links from one to the next, over folders; and those that lead nowhere."""
+        (self.folder / "a").mkdir()
+        os.symlink("a/second", self.path)
+        os.symlink("../third", str(self.folder / "a/second"))
+        self.assertEqual((make(self.path, self.fill), (self.folder / "third").read_text()), ("filled", "new"))
+        os.symlink("round", str(self.folder / "round"))
+        with self.assertRaises(OSError) as raised:
+            make(str(self.folder / "round"), self.fill)
+        self.assertEqual(raised.exception.errno, errno.ELOOP)
+        self.assertFalse(any(name.endswith(".new") for name in self.files()))
+
+
+    def test_a_damaged_file(self) -> None:
+        """It stays, and that is said: who asks keeps its samples."""
+        Path(self.path).write_text("RRDI and no more")
+        cut = errors.Damaged("file: truncated at 16", self.path, errors.TRUNCATED, 16)
+        busy = errors.Busy("cannot open", self.path, errors.CANNOT_OPEN, None, errno.EAGAIN)
+        for error in (busy, OSError(errno.EIO, "Input/output error")):
+            with mock.patch.object(damaged, "last", side_effect=error):
+                text = damaged.set_aside(self.path, cut)
+            self.assertRegex(text, "^file: truncated at 16, and the file cannot be renamed: .*(Input/output error|holds its lock)$")
+        Path(self.path).write_text("")
+        os.utime(self.path, (0, 0))
+        empty = errors.Damaged("file: truncated at 0", self.path, errors.TRUNCATED, 0)
+        for name in ("stat", "open", "rename"):
+            with failing(name, errno.ESTALE), mock.patch.object(damaged, "last", side_effect=empty):
+                self.assertRegex(damaged.set_aside(self.path, empty), "cannot be renamed: Stale .*handle$")
+        self.assertEqual(self.files(), ["data/f.rrdi"])
+
+
+class WithoutLinks(DataCase):
+    """A file system without links: what holds the name is left only for another program."""
+
+    def setUp(self) -> None:
+        super().setUp()
+        self.path = self.folder / "f.rrdi"
+
+    def not_made(self, meanwhile: Callable[[], object]) -> None:
+        """Makes a file that gets no name. Just before, something else happens."""
+        def rename(*paths: str) -> None:
+            meanwhile()
+            raise OSError(errno.EIO, "Input/output error")
+        with mock.patch("os.link", side_effect=OSError(errno.EPERM, "Operation not permitted")), \
+                mock.patch("os.rename", rename), self.assertRaises(OSError) as raised:
+            make(str(self.path), lambda new: open(new, "w", encoding="ascii").close())
+        self.assertEqual(raised.exception.errno, errno.EIO)
+
+    def test_no_empty_file_is_left(self) -> None:
+        self.not_made(lambda: None)
+        self.assertEqual(self.files(), [])
+
+    def test_a_file_of_another_program_stays(self) -> None:
+        def replace() -> None:
+            self.path.unlink()
+            self.path.write_text("")
+        for act, text in ((lambda: self.path.write_text("filled"), "filled"), (replace, "")):
+            self.not_made(act)
+            self.assertEqual((self.files(), self.path.read_text()), (["data/f.rrdi"], text))
+            self.path.unlink()
+
+    def test_a_file_that_another_program_locks_stays(self) -> None:
+        opened: List[Any] = []
+
+        def lock() -> None:
+            opened.append(self.path.open())
+            fcntl.flock(opened[0], fcntl.LOCK_EX)
+        self.not_made(lock)
+        opened[0].close()
+        self.assertEqual(self.files(), ["data/f.rrdi"])
+
+
+class Modes(DataCase):
+    """A new file may be read and written by all, except as the umask has it."""
+
+    def test_new_files(self: Any) -> None:
+        use_library(self, self.library())
+        makers: Dict[str, Callable[[str], object]] = {
+            "create": lambda path: commands.create(path, *DEFINITIONS, start=0),
+            "a batch": lambda path: commands.batch(path, [f"create --start 0 {' '.join(DEFINITIONS)}"]),
+            "made": lambda path: make(path, lambda new: commands.create(new, *DEFINITIONS, start=0), makes_folder=True),
+            "locked": lambda path: self.lock(path)}
+        for mask in (0o000, 0o002, 0o022, 0o027, 0o077):
+            before = os.umask(mask)
+            try:
+                for name, maker in makers.items():
+                    path = self.folder / f"{mask:o}" / f"{name}.rrdi"
+                    path.parent.mkdir(exist_ok=True)
+                    maker(str(path))
+                    self.assertEqual(path.stat().st_mode & 0o7777, 0o666 & ~mask, (name, oct(mask)))
+            finally:
+                os.umask(before)
+
+    def lock(self, path: str) -> None:
+        """The file that all recorders of a database lock: those of another user too."""
+        with record.alone(path):
+            pass
+
+    def test_the_mode_of_a_file_stays(self: Any) -> None:
+        """What changes or replaces a database keeps its mode."""
+        use_library(self, self.library())
+        path = self.folder / "f.rrdi"
+        commands.create(str(path), *DEFINITIONS, start=0)
+        for mode in (0o600, 0o664, 0o640):
+            path.chmod(mode)
+            commands.update(str(path), f"{commands.last(str(path)) + 300}:1")
+            commands.create(str(path), *DEFINITIONS, start=0, overwrite=True)
+            self.assertEqual(path.stat().st_mode & 0o7777, mode)
+
+
+class SetAside(DataCase):
+    """What happens to a file that was found damaged."""
+
+    def setUp(self) -> None:
+        super().setUp()
+        use_library(self, self.library())  # type: ignore[attr-defined]
+        self.file = str(self.folder / "f.rrdi")
+        commands.create(self.file, *DEFINITIONS, start=0)
+
+    def write(self, data: bytes) -> None:
+        with open(self.file, "wb") as file:
+            file.write(data)
+
+    def cut(self) -> errors.Damaged:
+        """Cuts the file, and returns what rrdi then says."""
+        with open(self.file, "r+b") as file:
+            file.truncate(100)
+        with self.assertRaises(errors.Damaged) as raised:
+            commands.last(self.file)
+        return raised.exception
+
+    def aside(self) -> List[str]:
+        return [name for name in self.files() if ".damaged-" in name]
+
+    def test_a_damaged_file(self: Any) -> None:
+        text = damaged.set_aside(self.file, self.cut())
+        self.assertRegex(text, f"^file: truncated at 100; the file is now {self.file}[.]damaged-[0-9]+-{os.getpid()}$")
+        self.assertEqual((len(self.aside()), len(self.files())), (1, 1))
+
+    def test_a_file_that_is_whole_again(self: Any) -> None:
+        """Between the fault and the renaming another program has replaced the file, or made it again in its place."""
+        fault = self.cut()
+        commands.create(self.file, *DEFINITIONS, start=0, overwrite=True)
+        self.assertEqual(damaged.set_aside(self.file, fault), "file: truncated at 100; the file has changed meanwhile")
+        self.assertEqual(self.aside(), [])
+
+    def test_a_file_that_changes_at_the_last_moment(self: Any) -> None:
+        fault = self.cut()
+
+        def change(path: str) -> bool:
+            os.unlink(self.file)
+            commands.create(self.file, *DEFINITIONS, start=0)
+            return True
+        with mock.patch.object(damaged, "is_still_damaged", change):
+            self.assertIn("the file has changed meanwhile", damaged.set_aside(self.file, fault))
+        self.assertEqual((self.aside(), commands.last(self.file)), ([], 0))
+
+    def test_a_file_in_use(self: Any) -> None:
+        fault = self.cut()
+        with open(self.file, "rb") as other:
+            fcntl.flock(other, fcntl.LOCK_SH)
+            self.assertIn("another program holds its lock", damaged.set_aside(self.file, fault))
+        self.assertEqual(self.aside(), [])
+
+    def test_an_empty_file(self: Any) -> None:
+        """An empty file that is new may be one that another program has not yet locked and filled."""
+        self.write(b"")
+        with self.assertRaises(errors.Damaged) as raised:
+            commands.last(self.file)
+        self.assertIn("another program may be making the file", damaged.set_aside(self.file, raised.exception))
+        self.assertEqual(self.aside(), [])
+        # An hour ago, and an hour ahead, after the clock was set back.
+        for turn, seconds in enumerate((-3_600, 3_600), 1):
+            self.write(b"")
+            os.utime(self.file, (time.time() + seconds,) * 2)
+            with mock.patch("time.time", return_value=time.time() + turn):  # another name for each
+                self.assertIn("the file is now", damaged.set_aside(self.file, raised.exception))
+            self.assertEqual(len(self.aside()), turn)
+        self.assertTrue(damaged.is_being_made(self.file))  # it is gone, so another one may come
+
+    def test_how_long_a_file_may_be_empty(self: Any) -> None:
+        """By the clock and the file's time alone, on both sides."""
+        self.write(b"")
+        now, most = 1_700_000_000.0, damaged.LONGEST_MAKING
+        with mock.patch("time.time", return_value=now):
+            for age, is_new in ((0, True), (most - 1, True), (1 - most, True), (most + 1, False), (-most - 1, False), (1e7, False), (-1e7, False)):
+                os.utime(self.file, (now - age, now - age))
+                self.assertEqual(damaged.is_being_made(self.file), is_new, age)
+
+    def test_a_file_of_a_newer_rrdi(self: Any) -> None:
+        with open(self.file, "r+b") as file:
+            file.seek(4)
+            file.write(b"\0\x09")
+        with self.assertRaises(errors.Damaged) as raised:
+            commands.last(self.file)
+        self.assertEqual(damaged.set_aside(self.file, raised.exception), "file: version")
+        self.assertEqual(self.aside(), [])
+
+
+class SetAsideByProgram(WithProgram, SetAside):
+    pass
+
+
+class SetAsideByLibrary(WithLibrary, SetAside):
+    pass
+
+
+class ModesByProgram(WithProgram, Modes):
+    pass
+
+
+class ModesByLibrary(WithLibrary, Modes):
+    pass
+
+
+del SetAside, Modes

@@ -1,0 +1,158 @@
+"""Tests of `rrdi.reader`, of its command line, and of examples/rrdi.py, which starts it. No program and no library is
+needed: the bytes of the file are written here, as docs/file-format.md describes them."""
+from __future__ import annotations
+
+import os
+import struct
+import subprocess
+import sys
+import unittest
+from typing import List, Tuple
+
+from cases import new_folder
+from doubles import TOP
+
+import rrdi
+from rrdi import reader
+from rrdi.reader.printing import as_openmetrics
+
+
+def amount(value: int) -> bytes:
+    return value.to_bytes(16, "big", signed=True)
+
+
+UNKNOWN = amount(-2**127)
+
+
+def file_bytes() -> bytes:
+    """A database of version 2: one source, one archive of two rows, no change in its journal."""
+    header = b"RRDI" + struct.pack(">H", 2) + struct.pack(">IQIHHI", 10, 20, 16, 1, 1, 0)
+    source = bytes([1]) + b"g".ljust(19, b"\0") + struct.pack(">BQ", 0, 99) + UNKNOWN
+    source += amount(5_000_000) + amount(2_500_000)
+    archive = struct.pack(">BIII", 3, 1, 500_000, 2) + struct.pack(">I", 0) + amount(0)
+    # The rows of a file lie by their numbers: row 2 ends at 20.
+    return header + source + struct.pack(">I", 0) + amount(0) + archive + amount(2_500_000) + UNKNOWN
+
+
+class Reading(unittest.TestCase):
+    def test_parts(self) -> None:
+        found = reader.read(file_bytes())
+        self.assertEqual((found["version"], found["step"], found["last_time"], found["journal"]), (2, 10, 20, []))
+        source, = found["sources"]
+        self.assertEqual((source["name"], source["type"], source["heartbeat"], source["min"], str(source["max"])),
+                         ("g", "GAUGE", 99, None, "5.000000"))
+        archive, = found["archives"]
+        self.assertEqual(archive["rows"], [{"time": 10, "cells": [None]}, {"time": 20, "cells": [2_500_000]}])
+        self.assertIsInstance(archive["rows"][1]["cells"][0], rrdi.Millionths)
+
+    def test_faults(self) -> None:
+        data = file_bytes()
+        for wrong, text, fault, at in ((b"RRDX" + data[4:], "file: not ours", 20, None),
+                                       (data[:5] + b"\7" + data[6:], "file: version", 21, None),
+                                       (data[:-1], f"file: truncated at {len(data) - 1}", 22, len(data) - 1),
+                                       (data + b"x", f"file: trailing at {len(data)}", 25, len(data)),
+                                       (data[:6] + bytes(4) + data[10:], "file: bad block at 6", 23, 6)):
+            with self.assertRaises(rrdi.Damaged) as raised:
+                rrdi.read(wrong)
+            self.assertEqual((str(raised.exception), raised.exception.fault, raised.exception.at), (text, fault, at))
+            self.assertIs(rrdi.Fault, rrdi.Damaged)
+
+    def test_names_of_sources(self) -> None:
+        data = file_bytes()
+        at = data.index(b"\1g\0")
+        for field, is_right in ((b"\x13" + 19 * b"z", True), (b"\x14" + 19 * b"z", False), (b"\xff" + 19 * b"z", False),
+                                (bytes(20), False), (b"\1-".ljust(20, b"\0"), False), (b"\1g".ljust(20, b"h"), False)):
+            changed = data[:at] + field + data[at + 20:]
+            if is_right:
+                self.assertEqual(reader.read(changed)["sources"][0]["name"], 19 * "z")
+            else:
+                with self.assertRaisesRegex(rrdi.Damaged, f"bad block at {at}"):
+                    reader.read(changed)
+
+    def test_the_deepest_journal(self) -> None:
+        """Each version has its greatest depth, as docs/file-format.md says."""
+        data = file_bytes()
+        for depth, is_right in ((100_000, True), (100_001, False), (1, True), (0, False)):
+            changed = data[:18] + struct.pack(">I", depth) + data[22:]
+            if is_right:
+                self.assertEqual(reader.read(changed)["journal_depth"], depth)
+                continue
+            with self.assertRaises(rrdi.Damaged) as raised:
+                reader.read(changed)
+            self.assertEqual(str(raised.exception), "file: bad block at 6")
+
+    def test_rows_of_a_journal(self) -> None:
+        """The rows before a resize and before the removal of an archive end at the time of the change, and each has its time."""
+        data = file_bytes()
+        one_entry = data[:26] + struct.pack(">I", 1) + data[30:]
+        old = b"".join(map(amount, (1_000_000, 2_000_000, 3_000_000)))
+        rows = [{"time": time, "cells": [time * 100_000 + 1_000_000]} for time in (0, 10, 20)]
+        change, = reader.read(one_entry + b"\3" + struct.pack(">HI", 0, 3) + old)["journal"]
+        self.assertEqual(change, {"change": "resize", "archive": 0, "rows": rows})
+        head = struct.pack(">HBIII", 1, 2, 1, 500_000, 3) + struct.pack(">I", 0) + amount(0)
+        change, = reader.read(one_entry + b"\5" + head + old)["journal"]
+        self.assertEqual((change["change"], change["archive"], change["function"], change["rows"]), ("removal", 1, "MAX", rows))
+
+    def test_a_name_in_openmetrics(self) -> None:
+        """A quote, a backslash and a line feed are escaped, as OpenMetrics has it."""
+        text = "\n".join(as_openmetrics(reader.read(file_bytes()), 'a"b\\c\nd'))
+        self.assertIn('file="a\\"b\\\\c\\nd"', text)
+
+    def test_amounts(self) -> None:
+        for value, text in ((0, "0.000000"), (-1, "-0.000001"), (1_500_000, "1.500000"), (-2_250_000, "-2.250000")):
+            self.assertEqual(str(rrdi.Millionths(value)), text)
+
+
+class CommandLine(unittest.TestCase):
+    def setUp(self) -> None:
+        self.folder = new_folder(self)
+        (self.folder / "f.rrdi").write_bytes(file_bytes())
+        (self.folder / "cut").write_bytes(file_bytes()[:30])
+
+    def ran(self, *words: str) -> Tuple[int, str, str]:
+        env = {**os.environ, "PYTHONPATH": str(TOP / "python")}
+        ran = subprocess.run([sys.executable, "-B", *words], cwd=self.folder, env=env, stdout=subprocess.PIPE,
+                             stderr=subprocess.PIPE, universal_newlines=True)
+        return ran.returncode, ran.stdout, ran.stderr
+
+    def test_both_ways(self) -> None:
+        script = str(TOP / "examples/rrdi.py")
+        ways: List[Tuple[List[str], str]] = [(["-m", "rrdi.reader"], "rrdi.reader"), ([script], "rrdi.py")]
+        for way, name in ways:
+            csv = "archive,function,seconds,time,g\n0,LAST,10,20,2.500000\n"
+            self.assertEqual(self.ran(*way, "csv", "f.rrdi"), (0, csv, ""))
+            self.assertEqual(self.ran(*way, "check", "f.rrdi"), (0, "", ""))
+            self.assertEqual(self.ran(*way, "check", "cut"), (1, "", f"{name}: cut: file: truncated at 30\n"))
+            self.assertEqual(self.ran(*way, "json", "none"), (1, "", f"{name}: none: No such file or directory\n"))
+            self.assertEqual(self.ran(*way, "xml", "f.rrdi"),
+                             (2, "", f"usage: {name} json|csv|openmetrics|check FILE\n"))
+            self.assertIn("FILE may be - for standard input", self.ran(*way, "--help")[1])
+
+    def test_import_of_the_script(self) -> None:
+        """A program that finds the script first gets the package."""
+        asks = f"import sys; sys.path.insert(0, {str(TOP / 'examples')!r}); import rrdi; " \
+               "print(rrdi.read_file('f.rrdi')['last_time'], rrdi.__path__ != [], rrdi.Fault.__name__)"
+        self.assertEqual(self.ran("-c", asks), (0, "20 True Damaged\n", ""))
+
+
+class Package(unittest.TestCase):
+    def test_version(self) -> None:
+        version = (TOP / "VERSION").read_text().strip()
+        self.assertEqual(rrdi.__version__, version)
+        self.assertIn(f'\nversion = "{version}"\n', (TOP / "python/pyproject.toml").read_text())
+
+    def test_names(self) -> None:
+        for name in rrdi.__all__:
+            self.assertIsNotNone(getattr(rrdi, name))
+        with self.assertRaises(AttributeError):
+            getattr(rrdi, "graph")
+
+    def test_without_a_library(self) -> None:
+        """Without the C library the package can be imported, and its reader works; a command says what is missing."""
+        asks = "import rrdi\nfrom rrdi import library\nlibrary.NAMES = ('nothing.so',)\n" \
+               "try:\n    rrdi.last('f')\nexcept OSError as error:\n    print(error)"
+        env = {**os.environ, "PYTHONPATH": str(TOP / "python")}
+        env.pop("RRDI_LIBRARY", None)
+        ran = subprocess.run([sys.executable, "-B", "-c", asks], env=env, stdout=subprocess.PIPE,
+                             universal_newlines=True)
+        self.assertEqual(ran.stdout, "librrdi.so.0 not found; install it, or name it by the variable RRDI_LIBRARY\n")

@@ -1,0 +1,86 @@
+"""Tests of RRDtool's resize, which writes resize.rrd: by rrdi-rrdtool, by rrdtool-words, and by rrdi.compat.rrdtool."""
+from __future__ import annotations
+
+import fcntl
+import os
+import threading
+import unittest
+from unittest import mock
+
+from cases import new_folder
+from doubles import TOP
+from tool_case import ToolCase
+
+from rrdi import environment
+from rrdi.compat import rrdtool
+from rrdi.compat.resizing import resize_copy
+from rrdi.errors import OperationalError
+
+
+class Copies(unittest.TestCase):
+    def setUp(self) -> None:
+        self.addCleanup(os.chdir, os.getcwd())
+        self.folder = new_folder(self)
+        os.chdir(self.folder)
+        (self.folder / "f.rrd").write_bytes(b"12345")
+
+    def names(self) -> "list[str]":
+        return sorted(path.name for path in self.folder.iterdir())
+
+    def test_a_copy(self) -> None:
+        def resize(copy: str) -> None:
+            self.assertNotIn(copy, ("f.rrd", "resize.rrd"))
+            with open(copy, "ab") as file:
+                file.write(b"67")
+
+        resize_copy("f.rrd", resize)
+        self.assertEqual((self.names(), (self.folder / "resize.rrd").read_bytes()), (["f.rrd", "resize.rrd"], b"1234567"))
+        resize_copy("resize.rrd", resize)
+        self.assertEqual((self.folder / "resize.rrd").read_bytes(), b"123456767")
+
+    def test_a_refused_one_leaves_nothing(self) -> None:
+        (self.folder / "resize.rrd").write_bytes(b"old")
+        with self.assertRaisesRegex(ValueError, "no"), mock.patch("os.replace", side_effect=ValueError("no")):
+            resize_copy("f.rrd", len)
+        self.assertEqual(self.names(), ["f.rrd"])
+
+    def test_what_cannot_be_read(self) -> None:
+        with self.assertRaises(OSError) as raised:
+            resize_copy("none.rrd", len)
+        self.assertEqual((raised.exception.filename, raised.exception.strerror), ("none.rrd", "No such file or directory"))
+
+    def test_it_waits_for_a_change(self) -> None:
+        """The copy is of the file after the change that holds the lock."""
+        with mock.patch.object(environment, "WAIT", 20_000), open("f.rrd", "r+b") as held:
+            fcntl.flock(held, fcntl.LOCK_EX)
+
+            def end() -> None:
+                held.write(b"later")
+                held.flush()
+                fcntl.flock(held, fcntl.LOCK_UN)
+
+            timer = threading.Timer(0.3, end)
+            timer.start()
+            resize_copy("f.rrd", len)
+            timer.join()
+        self.assertEqual((self.folder / "resize.rrd").read_bytes(), b"later")
+
+
+class Locked(ToolCase):
+    """Another program holds the lock of the file for longer than RRDI_WAIT."""
+
+    def test_it_is_refused(self) -> None:
+        self.write("f.rrd", b"RRDI" + bytes(600))
+        resize = ["resize", "f.rrd", "0", "GROW", "5"]
+        with open(self.folder / "f.rrd", "ab") as held:
+            fcntl.flock(held, fcntl.LOCK_EX)
+            for command in ("tools/rrdi-rrdtool", "examples/rrdtool-words"):
+                ran = self.run_command([str(TOP / command), *resize])
+                self.assertEqual((ran.status, ran.out), (1, ""))
+                self.assertIn("another program holds its lock", ran.err)
+            self.addCleanup(os.chdir, os.getcwd())
+            os.chdir(self.folder)
+            with mock.patch.object(environment, "WAIT", 0), self.assertRaises(OperationalError) as raised:
+                rrdtool.resize(*resize[1:])
+        self.assertEqual(str(raised.exception), "f.rrd: cannot open: another program holds its lock")
+        self.assertFalse((self.folder / "resize.rrd").exists())

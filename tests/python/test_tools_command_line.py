@@ -1,0 +1,108 @@
+"""Tests of what all tools share: the exit status and the message for each way in which a tool can end."""
+from __future__ import annotations
+
+import re
+import signal
+import subprocess
+import sys
+import time
+import unittest
+
+from cases import HANG
+from doubles import TOP
+from tool_case import Ran, ToolCase
+
+TOOL = """import errno, sys
+sys.path.insert(0, {python!r})
+from rrdi.tools.command_line import Failure, Tool, WrongArguments, run
+def act(words):
+    {act}
+sys.argv[0] = "/bin/rrdi-try"
+sys.exit(run(Tool("rrdi-try", "FILE", " The help. ", act)))
+"""
+
+
+class Installed(unittest.TestCase):
+    def test_pip_installs_each_tool(self) -> None:
+        scripts = (TOP / "python/pyproject.toml").read_text().partition("[project.scripts]\n")[2].partition("\n\n")[0]
+        modules = {name: re.findall(r"^from (rrdi\.tools[\w.]*) import main", (TOP / "tools" / name).read_text(), re.M)[0]
+                   for name in sorted(path.name for path in (TOP / "tools").glob("rrdi-*"))}
+        self.assertEqual(scripts.splitlines(), [f'{name} = "{module}:main"' for name, module in modules.items()])
+
+    def test_each_launcher_has_the_same_text(self) -> None:
+        """Only the name and the module differ, and carbon is a package of the system's own Python."""
+        first, *rest = (TOP / "tools/rrdi-feed").read_text().splitlines(True)
+        for path in (TOP / "tools").glob("rrdi-*"):
+            module = path.name[len("rrdi-"):].replace("-", "_")
+            module = {"export": "exporter", "import": "importer"}.get(module, module)
+            wanted = "".join(rest).replace("rrdi-feed", path.name).replace("rrdi.tools.feed", f"rrdi.tools.{module}")
+            start = "#!/usr/bin/python3\n" if module == "carbon_cache" else first
+            self.assertEqual(path.read_text(), start + wanted)
+
+
+class Versions(ToolCase):
+    def test_each_tool_prints_the_version(self) -> None:
+        version = (TOP / "VERSION").read_text().strip()
+        for name in sorted(path.name for path in (TOP / "tools").glob("rrdi-*")):
+            with self.subTest(name=name):
+                # rrdi-rrdtool answers as RRDtool does.
+                wanted = "RRDtool 1.7.2 (rrdi-rrdtool, on rrdi's files)" if name == "rrdi-rrdtool" else f"{name} {version}"
+                self.assertEqual(self.tool(name, "--version"), Ran(0, f"{wanted}\n", ""))
+
+
+class Ends(ToolCase):
+    def end(self, act: str, *words: str, stdout: "str | None" = None) -> Ran:
+        text = TOOL.format(python=str(TOP / "python"), act=act)
+        return self.run_command([sys.executable, "-B", "-c", text, *words], stdout=stdout)
+
+    def test_statuses_and_messages(self) -> None:
+        for act, wanted in (
+                ("print(words); return 0", Ran(0, "['a']\n", "")), ("return 3", Ran(3, "", "")),
+                ("raise Failure('no file')", Ran(1, "", "rrdi-try: no file\n")),
+                ("raise WrongArguments", Ran(2, "", "usage: rrdi-try FILE\n")),
+                ("raise WrongArguments('what is a')", Ran(2, "", "rrdi-try: what is a\n")),
+                ("raise KeyboardInterrupt", Ran(130, "", "")), ("raise BrokenPipeError", Ran(1, "", "")),
+                ("open('none/f')", Ran(1, "", "rrdi-try: none/f: No such file or directory\n")),
+                ("raise OSError(errno.ENOSPC, 'full')", Ran(1, "", "rrdi-try: full\n")),
+                ("raise MemoryError", Ran(1, "", "rrdi-try: out of memory\n")),
+                ("raise OSError('odd')", Ran(1, "", "rrdi-try: odd\n")),
+                ("print('part', end=''); raise Failure('then')", Ran(1, "part", "rrdi-try: then\n"))):
+            with self.subTest(act=act):
+                self.assertEqual(self.end(act, "a"), wanted)
+
+    def test_help(self) -> None:
+        for option in ("-h", "--help"):
+            self.assertEqual(self.end("raise Failure('not called')", option), Ran(0, "The help.\n", ""))
+        self.assertEqual(self.end("print(words); return 0", "a", "--help"), Ran(0, "['a', '--help']\n", ""))
+
+    def test_a_full_disk(self) -> None:
+        full = "rrdi-try: No space left on device\n"
+        self.assertEqual(self.end("print('a'); return 0", stdout="/dev/full"), Ran(1, "", full))
+        self.assertEqual(self.end("print('a'); raise Failure('why')", stdout="/dev/full"), Ran(1, "", "rrdi-try: why\n"))
+        self.assertEqual(self.end("return 0", "--help", stdout="/dev/full"), Ran(1, "", full))
+
+    def test_a_closed_output(self) -> None:
+        """Nobody wants what is printed, and the rest goes on as ever."""
+        for act, wanted in (("print('a'); return 0", Ran(0, "", "")), ("raise Failure('why')", Ran(1, "", "rrdi-try: why\n"))):
+            self.write("tool.py", TOOL.format(python=str(TOP / "python"), act=act))
+            self.assertEqual(self.run_command(["sh", "-c", f"{sys.executable} -B tool.py >&-"]), wanted)
+
+    def test_a_closed_pipe(self) -> None:
+        text = TOOL.format(python=str(TOP / "python"), act="[print(at) for at in range(10**6)]; return 0")
+        self.write("tool.py", text)
+        ran = self.run_command(["sh", "-c", f"{{ {sys.executable} -B tool.py; echo $? >status; }} | head -n 1"])
+        self.assertEqual((ran, self.read("status")), (Ran(0, "0\n", ""), b"1\n"))
+
+    def test_an_interrupt(self) -> None:
+        """Ctrl-C ends a tool without a traceback. The tests may have inherited that SIGINT is ignored, as a shell sets it
+        for a command in the background, so the tool sets it again."""
+        act = "import signal, time; signal.signal(signal.SIGINT, signal.default_int_handler); " \
+              "print('begun', flush=True); time.sleep(60)"
+        text = TOOL.format(python=str(TOP / "python"), act=act)
+        with subprocess.Popen([sys.executable, "-B", "-c", text], stdout=subprocess.PIPE, stderr=subprocess.PIPE,
+                              env=self.env, text=True) as running:
+            assert running.stdout and running.stderr
+            self.assertEqual(running.stdout.readline(), "begun\n")
+            time.sleep(0.1)
+            running.send_signal(signal.SIGINT)
+            self.assertEqual((running.wait(HANG), running.stderr.read()), (130, ""))

@@ -1,0 +1,346 @@
+"""Tests of rrdi-import, rrdi-export and rrdi-compare. Scripts replace RRDtool, except in tests that say otherwise."""
+from __future__ import annotations
+
+import fcntl
+import io
+import os
+import pty
+import random
+import sys
+import unittest
+from typing import List
+from unittest import mock
+
+from cases import needs_program
+from doubles import PROGRAM, TOP
+from tool_case import NO_RRDTOOL, RRDTOOL, Ran, ToolCase
+
+from rrdi.tools.command_line import Progress
+
+DUMP = """<rrd><version>0003</version><step>10</step><lastupdate>1600000030</lastupdate>
+<ds><name> g </name><type> GAUGE </type><minimal_heartbeat>60</minimal_heartbeat><min>-5</min><max>NaN</max>
+<last_ds>3</last_ds><value>0</value><unknown_sec> 0 </unknown_sec></ds>
+<ds><name> double </name><type> COMPUTE </type><cdef> g,2,* </cdef>
+<last_ds>U</last_ds><value>NaN</value><unknown_sec> 0 </unknown_sec></ds>
+<rra><cf>AVERAGE</cf><pdp_per_row>1</pdp_per_row><params><xff>5e-1</xff></params><cdp_prep>
+<ds><value>NaN</value><unknown_datapoints>0</unknown_datapoints></ds>
+<ds><value>NaN</value><unknown_datapoints>0</unknown_datapoints></ds>
+</cdp_prep><database><row><v>1</v><v>2</v></row><row><v>NaN</v><v>NaN</v></row><row><v>3.5</v><v>7</v></row></database></rra>
+</rrd>
+"""
+BATCH = """create --step 10 --start 1600000000 DS:g:GAUGE:9999999999:U:U RRA:AVERAGE:0.5:1:3
+update 1600000010:1 1600000020:U 1600000030:3.5
+tune --heartbeat g:60 --minimum g:-5
+"""
+NOTE = "rrdi-import: old.rrd: skipped data source double: type COMPUTE is not supported\n"
+
+
+class Import(ToolCase):
+    def setUp(self) -> None:
+        super().setUp()
+        self.write("dump", DUMP)
+        self.write("last", "1600000030\n")
+        self.stub("rrdtool", f'case $1 in dump) cat {self.folder}/dump ;; last) cat {self.folder}/last ;; esac')
+
+    def test_usage(self) -> None:
+        self.check_usage("rrdi-import", "[--journal DEPTH] OLD.rrd|OLD.wsp [NEW.rrdi]\n"
+                         "       rrdi-import [--journal DEPTH] --into DIRECTORY|--in-place OLD|TREE..",
+                         [[], ["--journal", "x", "a.rrd"], ["--journal"], ["a", "b", "c"], ["-x"], [""], ["a", "-b"],
+                          ["--journal", "-1", "a"], ["a", ""], ["--in-place"], ["--into", "d"], ["--into", "", "a"],
+                          ["--into", "d", "--in-place", "a"], ["--in-place", "--in-place", "a"], ["--in-place", "a", ""]])
+
+    def test_the_batch(self) -> None:
+        """A source is left out, so the status is 1, and no loop takes the new file for the old one."""
+        self.assertEqual(self.tool("rrdi-import", "old.rrd"), Ran(1, BATCH, NOTE))
+        self.write("dump", DUMP.replace("COMPUTE", "GAUGE"))
+        self.assertEqual(self.tool("rrdi-import", "old.rrd").status, 0)
+        self.write("dump", DUMP)
+        ran = self.tool("rrdi-import", "--journal", "7", "old.rrd")
+        self.assertEqual(ran.out, BATCH.replace(" DS:", " --journal 7 DS:"))
+
+    @needs_program
+    def test_a_new_file(self) -> None:
+        self.assertEqual(self.tool("rrdi-import", "--journal", "9", "old.rrd", "new.rrdi"), Ran(1, "", NOTE))
+        self.assertEqual(self.rrdi("fetch", "new.rrdi", "AVERAGE", "-s", "1600000000", "-e", "1600000029"),
+                         "time: g\n1600000010: 1.000000\n1600000020: nan\n1600000030: 3.500000\n")
+        self.assertIn("journal = 9\n", self.rrdi("info", "new.rrdi"))
+        before = self.read("new.rrdi")
+        self.assertEqual(self.tool("rrdi-import", "old.rrd", "new.rrdi"),
+                         Ran(1, "", "rrdi-import: new.rrdi already exists\n"))
+        self.assertEqual(self.read("new.rrdi"), before)
+
+    @needs_program
+    def test_a_file_that_appears_meanwhile(self) -> None:
+        """A file that another program makes while the old one is converted stays as it is."""
+        slow = self.stub("slow", f'echo other >{self.folder}/new.rrdi; exec {PROGRAM} "$@"')
+        ran = self.tool("rrdi-import", "old.rrd", "new.rrdi", env={"RRDI": slow})
+        self.assertEqual((ran.status, ran.err), (1, NOTE + "rrdi-import: new.rrdi already exists\n"))
+        self.assertEqual(self.read("new.rrdi"), b"other\n")
+        self.assertEqual([path.name for path in self.folder.iterdir() if ".new" in path.name], [])
+
+    def test_a_refusing_program(self) -> None:
+        for text, reason in (("cat >/dev/null; echo 'ERROR: too large'; touch $2; exit 1", "too large"),
+                             ("cat >/dev/null; echo 'ERROR: cannot write' >&2; touch $2; exit 1", "cannot write"),
+                             ("touch $2; kill -9 $$", "ended with status -9")):
+            ran = self.tool("rrdi-import", "old.rrd", "new.rrdi", env={"RRDI": self.stub("refuses", text)})
+            self.assertEqual(ran.status, 1)
+            self.assertTrue(ran.err.endswith(f"{reason}\n"), ran.err)
+            self.assertEqual([path.name for path in self.folder.glob("*.rrdi*")], [])
+        ran = self.tool("rrdi-import", "old.rrd", "new.rrdi", env={"RRDI": "/nowhere"})
+        self.assertEqual(ran.err, NOTE + "rrdi-import: cannot run /nowhere: No such file or directory\n")
+
+    def test_what_is_refused(self) -> None:
+        self.assertEqual(self.tool("rrdi-import", "old.rrd", env={"PATH": "/nowhere"}),
+                         Ran(1, "", "rrdi-import: rrdtool is not installed (Debian: apt install rrdtool)\n"))
+        self.write("last", "1600000040\n")
+        self.assertEqual(self.tool("rrdi-import", "old.rrd"),
+                         Ran(1, "", "rrdi-import: old.rrd: the file changed while it was read\n"))
+        for size in (0, 100, len(DUMP) // 2, len(DUMP) - 8):
+            self.write("dump", DUMP[:size])
+            self.assertEqual(self.tool("rrdi-import", "old.rrd", "new.rrdi"),
+                             Ran(1, "", "rrdi-import: old.rrd: rrdtool did not read the file to its end\n"))
+        self.assertFalse((self.folder / "new.rrdi").exists())
+        self.stub("rrdtool", "echo \"ERROR: opening '$2': No such file or directory\" >&2; exit 1")
+        self.assertEqual(self.tool("rrdi-import", "old.rrd"),
+                         Ran(1, "", "rrdi-import: ERROR: opening 'old.rrd': No such file or directory\n"))
+        self.write("dump", DUMP.replace("GAUGE", "COMPUTE"))
+        self.stub("rrdtool", f"cat {self.folder}/dump")
+        self.assertEqual(self.tool("rrdi-import", "old.rrd").status, 1)
+
+    def test_a_full_disk(self) -> None:
+        self.assertEqual(self.tool("rrdi-import", "old.rrd", stdout="/dev/full"),
+                         Ran(1, "", NOTE + "rrdi-import: No space left on device\n"))
+
+    @needs_program
+    def test_a_full_disk_leaves_no_file(self) -> None:
+        self.assertEqual(self.tool("rrdi-import", "old.rrd", "new.rrdi", size=50),
+                         Ran(1, "", NOTE + "rrdi-import: new.rrdi: cannot write\n"))
+        self.assertEqual([path.name for path in self.folder.glob("new.rrdi*")], [])
+        self.assertEqual(self.tool("rrdi-import", "old.rrd", "/nowhere/new.rrdi").err,
+                         NOTE + "rrdi-import: /nowhere/new.rrdi: cannot open: No such file or directory\n")
+
+    def test_a_link_is_no_rrdtool(self) -> None:
+        (self.bin / "rrdtool").unlink()
+        env = self.only_path()
+        (self.bin / "rrdtool").symlink_to(self.folder / "words")
+        for text in ("#!/bin/sh\nrrdtool-words\n", '"""Starts rrdi-rrdtool."""\n', "from rrdi.tools.rrdtool import main"):
+            self.write("words", text)
+            (self.folder / "words").chmod(0o755)
+            self.assertIn("rrdtool is not installed", self.tool("rrdi-import", "old.rrd", env=env).err)
+
+
+class LongMoves(ToolCase):
+    """Moves of over a second, whose progress a terminal shows; a file or a pipe gets none of it."""
+
+    def is_shown(self, tool: str, *words: str, shown: str) -> None:
+        words = (sys.executable, str(TOP / "tools" / tool), *words)
+        status, seen = self.on_terminal(list(words))
+        self.assertEqual(status, 0, seen)
+        self.assertRegex(seen, f"^(\r{shown}\x1b\\[K)+\r\x1b\\[K$")
+        for name in ("new.rrd", "new.rrdi"):
+            (self.folder / name).unlink(missing_ok=True)
+        ran = self.run_command(list(words))
+        self.assertEqual((ran.status, ran.err), (0, ""))
+
+    def test_import(self) -> None:
+        row = "<row><v>{}</v><v>1</v></row>"
+        begin, end = DUMP.replace("COMPUTE", "GAUGE").split("<row><v>1</v>")
+        self.write("begin", begin + "".join(row.format(at) for at in range(2_500)))
+        self.write("end", "".join(row.format(at) for at in range(2_500)) + end[end.index("</database>"):])
+        self.write("old.rrd", bytes(8 * 2 * 5_000))
+        self.stub("rrdtool", f"case $1 in last) echo 1600000030 ;; "
+                             f"dump) cat {self.folder}/begin; sleep 1.3; cat {self.folder}/end ;; esac")
+        self.is_shown("rrdi-import", "old.rrd", shown="reading old.rrd: (20|40|60|80|100) %")
+
+    @needs_program
+    def test_export(self) -> None:
+        self.create("f.rrdi", "DS:g:GAUGE:100:-5:U", "RRA:AVERAGE:0.5:1:20000")
+        self.stub("rrdtool", "sleep 1.3; cat >new.rrd")
+        self.is_shown("rrdi-export", "f.rrdi", "new.rrd", shown="lines of XML: [0-9,]+")
+        slow = f"{sys.executable} {TOP}/tools/rrdi-export f.rrdi | (head -c 1 >/dev/null; sleep 1.3; cat >/dev/null)"
+        status, seen = self.on_terminal(["sh", "-c", slow])
+        self.assertEqual(status, 0)
+        self.assertRegex(seen, "^(\rlines of XML: [0-9,]+\x1b\\[K)+\r\x1b\\[K$")
+
+
+class Shown(unittest.TestCase):
+    """How progress is shown on a terminal."""
+
+    def shown(self, is_terminal: bool, times: List[float]) -> str:
+        """Returns the output if `show` is called at some times, in seconds since the start."""
+        output = io.StringIO()
+        with mock.patch.object(sys, "stderr", output), mock.patch.object(output, "isatty", lambda: is_terminal):
+            now = [0.0]
+            progress = Progress("moving", lambda: now[0])
+            for at, time in enumerate(times):
+                now[0] = time
+                progress.show(10 * at, 80 if at % 2 else None)
+            progress.end()
+        return output.getvalue()
+
+    def test_progress(self) -> None:
+        self.assertEqual(self.shown(False, [0.5, 2, 4]), "")
+        self.assertEqual(self.shown(True, [0.1, 0.5, 0.9]), "")
+        self.assertEqual(self.shown(True, [2, 2.1]), "\rmoving: 0\x1b[K\r\x1b[K")
+        self.assertEqual(self.shown(True, [0.5, 2, 4]), "\rmoving: 12 %\x1b[K\rmoving: 20\x1b[K\r\x1b[K")
+
+    def test_a_terminal(self) -> None:
+        """A long move on a terminal: the text on standard error, which is then cleared."""
+        terminal, other = pty.openpty()
+        with mock.patch.object(Progress, "FIRST", 0.0), mock.patch.object(Progress, "NEXT", 0.0), \
+                open(other, "w", encoding="utf-8") as shown, mock.patch.object(sys, "stderr", shown):
+            progress = Progress("lines")
+            progress.show(1_234_567)
+            progress.end()
+        seen = b""
+        try:
+            while data := os.read(terminal, 1_000):  # the text may come in parts
+                seen += data
+        except OSError:  # the other end is closed
+            pass
+        os.close(terminal)
+        self.assertEqual(seen.decode(), "\rlines: 1,234,567\x1b[K\r\x1b[K")
+
+
+@needs_program
+class Export(ToolCase):
+    def setUp(self) -> None:
+        super().setUp()
+        self.create("f.rrdi", "DS:g:GAUGE:100:-5:U", "DS:c:COUNTER:100:0:U", "RRA:AVERAGE:0.5:1:2", "RRA:MAX:0.5:3:1")
+        self.rrdi("update", "f.rrdi", "4:U:100", "14:2:120", "27:U:146")
+
+    def test_usage(self) -> None:
+        self.check_usage("rrdi-export", "FILE.rrdi [NEW.rrd]", [[], ["a", "b", "c"], ["-x"], [""], ["a", ""]])
+
+    def test_the_xml(self) -> None:
+        ran = self.tool("rrdi-export", "f.rrdi")
+        self.assertEqual((ran.status, ran.err), (0, ""))
+        for text in ("<step>10</step><lastupdate>27</lastupdate>", "<last_ds>146</last_ds><value>14.000000</value>",
+                     "<min>-5.000000</min><max>NaN</max>", "<unknown_sec>7</unknown_sec>",
+                     "<row><v>NaN</v><v>2.000000</v></row>", "<unknown_datapoints>1</unknown_datapoints>"):
+            self.assertIn(text, ran.out)
+
+    def test_restore_gets_the_xml(self) -> None:
+        wanted = self.tool("rrdi-export", "f.rrdi").out
+        self.stub("rrdtool", 'echo "$@" >words; cat >given')
+        self.assertEqual(self.tool("rrdi-export", "f.rrdi", "new.rrd"), Ran(0, "", ""))
+        self.assertEqual((self.read("given").decode(), self.read("words")), (wanted, b"restore - new.rrd\n"))
+        self.write("new.rrd", "")
+        self.assertEqual(self.tool("rrdi-export", "f.rrdi", "new.rrd"), Ran(1, "", "rrdi-export: new.rrd already exists\n"))
+        self.stub("rrdtool", "head -c 100 >/dev/null; echo 'ERROR: cannot write' >&2; exit 1")
+        self.assertEqual(self.tool("rrdi-export", "f.rrdi", "b.rrd"), Ran(1, "", "rrdi-export: ERROR: cannot write\n"))
+        self.stub("rrdtool", "exit 3")
+        self.assertEqual(self.tool("rrdi-export", "f.rrdi", "b.rrd").err,
+                         "rrdi-export: rrdtool restore ended with status 3\n")
+
+    def test_what_is_refused(self) -> None:
+        self.assertEqual(self.tool("rrdi-export", "none.rrdi"),
+                         Ran(1, "", "rrdi-export: none.rrdi: No such file or directory\n"))
+        self.write("cut", self.read("f.rrdi")[:100])
+        self.assertEqual(self.tool("rrdi-export", "cut"), Ran(1, "", "rrdi-export: cut: file: truncated at 100\n"))
+        with open(self.folder / "f.rrdi", "ab") as file:
+            fcntl.flock(file, fcntl.LOCK_EX)
+            self.assertEqual(self.tool("rrdi-export", "f.rrdi"), Ran(
+                1, "", "rrdi-export: f.rrdi: cannot open: another program holds its lock\n"))
+        self.assertEqual(self.tool("rrdi-export", "f.rrdi", stdout="/dev/full"),
+                         Ran(1, "", "rrdi-export: No space left on device\n"))
+        self.assertEqual(self.run_command(["sh", "-c", f"{self.python()} f.rrdi | head -c 1"]).out, "<")
+
+    def python(self) -> str:
+        return f"{TOP}/tools/rrdi-export"
+
+
+@needs_program
+class Compare(ToolCase):
+    """Of an archive of steps 1, nan and 2, and one of the maximum of three; rrdtool prints other numbers in turn."""
+
+    ONE, TWO = "1.0000000000e+00", "2.0000000000e+00"
+
+    def setUp(self) -> None:
+        super().setUp()
+        self.create("f.rrdi", "DS:g:GAUGE:10:U:U", "RRA:AVERAGE:0.5:1:3", "RRA:MAX:0.5:3:1")
+        self.rrdi("update", "f.rrdi", "10:1", "20:U", "30:2")
+        self.info = "step = 10\nlast_update = 30\n" + "".join(
+            f'rra[{at}].cf = "{function}"\nrra[{at}].rows = {rows}\nrra[{at}].pdp_per_row = {length}\n'
+            for at, (function, rows, length) in enumerate((("AVERAGE", 3, 1), ("MAX", 1, 3))))
+        self.write("info", self.info)
+        self.stub("rrdtool", f'if [ $1 = info ]; then cat {self.folder}/info; else cat {self.folder}/$3; fi')
+
+    def compare(self, steps: str, greatest: str) -> Ran:
+        cells = [f"{time}: {cell}" for time, cell in zip((10, 20, 30), steps.split())]
+        self.write("AVERAGE", "\n".join(["          g", "", *cells, ""]))
+        self.write("MAX", f"          g\n\n30: {greatest}\n")
+        return self.tool("rrdi-compare", "old.rrd", "f.rrdi")
+
+    def test_usage(self) -> None:
+        self.check_usage("rrdi-compare", "OLD.rrd NEW.rrdi", [[], ["a"], ["a", "b", "c"], ["-a", "b"], ["a", ""]])
+
+    def test_equal_files(self) -> None:
+        self.assertEqual(self.compare(f"{self.ONE} -nan {self.TWO}", self.TWO),
+                         Ran(0, "AVERAGE 10 s: 3 cells, 3 agree\nMAX 30 s: 1 cells, 1 agree\n", ""))
+
+    def test_differences(self) -> None:
+        one, two = self.ONE, self.TWO
+        for steps, greatest, said in (
+                (f"{one} {one} {two}", two, "2 agree, 1 only in the old file, the newest at 20"),
+                (f"nan -nan {two}", two, "2 agree, 1 only in the new, the newest at 10"),
+                (f"1.0000011000e+00 nan {two}", two, "2 agree, 1 apart by up to 0.000001"),
+                (f"{one} nan 2.0010000000e+00", two, "2 agree, 1 apart by up to 0.001000, the newest at 30"),
+                (f"{two} nan {two}", two, "MAX 30 s: 1 cells, 1 agree"),
+                (f"{one} nan {two}", "3.0000000000e+00", "MAX 30 s: 1 cells, 0 agree")):
+            with self.subTest(said=said):
+                ran = self.compare(steps, greatest)
+                self.assertEqual((ran.status, ran.err), (1, ""))
+                self.assertIn(said, ran.out)
+
+    def test_no_archive(self) -> None:
+        for info in (self.info.replace("AVERAGE", "HWPREDICT").replace("MAX", "FAILURES"), ""):
+            self.write("info", info)
+            self.assertEqual(self.compare(self.ONE, self.TWO),
+                             Ran(1, "", "rrdi-compare: old.rrd has no archive that rrdi can have\n"))
+
+    def test_failing_programs(self) -> None:
+        good = f"{self.ONE} nan {self.TWO}"
+        self.compare(good, self.TWO)
+        self.assertEqual(self.tool("rrdi-compare", "old.rrd", "none.rrdi"),
+                         Ran(1, "", "rrdi-compare: rrdi does not fetch AVERAGE from none.rrdi: cannot open: No such file or "
+                                    "directory\n"))
+        self.stub("rrdtool", f'[ $1 = info ] && cat {self.folder}/info && exit; echo "ERROR: no" >&2; exit 1')
+        self.assertEqual(self.compare(good, self.TWO),
+                         Ran(1, "", "rrdi-compare: rrdtool does not fetch AVERAGE from old.rrd: ERROR: no\n"))
+        self.stub("rrdtool", "exit 1")
+        self.assertEqual(self.compare(good, self.TWO),
+                         Ran(1, "", "rrdi-compare: rrdtool does not read old.rrd: rrdtool ended with status 1\n"))
+        (self.bin / "rrdtool").unlink()
+        self.assertEqual(self.tool("rrdi-compare", "old.rrd", "f.rrdi", env={"PATH": "/nowhere"}),
+                         Ran(1, "", "rrdi-compare: rrdtool is not installed (Debian: apt install rrdtool)\n"))
+
+
+@needs_program
+@unittest.skipUnless(RRDTOOL, NO_RRDTOOL)
+class ThereAndBack(ToolCase):
+    """The programs themselves move random files of RRDtool to rrdi, and back to RRDtool."""
+
+    def test_random_files(self) -> None:
+        assert RRDTOOL
+        for seed in range(4):
+            chance = random.Random(seed)
+            step = chance.choice([10, 60, 300])
+            start = 1_600_000_000 - 1_600_000_000 % (12 * step)
+            sources = ["DS:g:GAUGE:%d:U:U" % (3 * step), "DS:c:COUNTER:%d:0:U" % (3 * step)]
+            archives = [f"RRA:{name}:0.5:{length}:{rows}" for length, rows in ((1, 200), (4, 40))
+                        for name in ("AVERAGE", "MIN", "MAX")]
+            self.run_command([RRDTOOL, "create", f"{seed}.rrd", "--step", str(step), "--start", str(start), *sources,
+                              *archives])
+            count, samples = 0, []
+            for at in range(1, 150):
+                count += chance.randrange(1000) * step
+                samples.append(f"{start + at * step}:{'U' if chance.random() < 0.1 else chance.uniform(-9, 99):.4}:{count}"
+                               if chance.random() < 0.1 else f"{start + at * step}:{chance.uniform(-9, 99):.4}:{count}")
+            self.run_command([RRDTOOL, "update", f"{seed}.rrd", *samples])
+            moved = self.tool("rrdi-import", f"{seed}.rrd", f"{seed}.rrdi")
+            self.assertEqual(moved, Ran(0, "", ""))
+            compared = self.tool("rrdi-compare", f"{seed}.rrd", f"{seed}.rrdi")
+            self.assertEqual((compared.status, len(compared.out.splitlines()), compared.err), (0, 6, ""), compared.out)
+            self.assertEqual(self.tool("rrdi-export", f"{seed}.rrdi", f"{seed}.back"), Ran(0, "", ""))
+            self.assertEqual(self.tool("rrdi-compare", f"{seed}.back", f"{seed}.rrdi").status, 0)
