@@ -39,11 +39,6 @@ static void fail(const char *text) {
     exit(1);
 }
 
-/* The number of a sample, without its half. */
-static int number_of(int file, int at, int source) {
-    return (file + 7 * at + source) % 1000;
-}
-
 /* Writes the samples of a call, and the words of its command. */
 static void spell(int file) {
     const char *given[MOST_SAMPLES + 1] = {"update"};
@@ -56,7 +51,7 @@ static void spell(int file) {
     for (int at = 0; at < count; at++) {
         int size = sprintf(samples[at], "%ld", first + (long)STEP * at);
         for (int source = 0; source < sources; source++)
-            size += sprintf(samples[at] + size, ":%d.5", number_of(file, at, source));
+            size += sprintf(samples[at] + size, ":%d.5", (file + 7 * at + source) % 1000);
         given[at + 1] = samples[at];
     }
     length = rrdi_words(count + 1, given, words, sizeof words);
@@ -70,7 +65,7 @@ static void in_numbers(struct rrdi_file *open, int file) {
         return;
     }
     for (int source = 0; source < sources; source++)
-        values[source] = rrdi_double(number_of(file, 0, source) + 0.5);
+        values[source] = rrdi_double((file + source) % 1000 + 0.5);
     rrdi_update_open(open, first, values, sources, output, sizeof output, &answer);
 }
 
@@ -101,10 +96,13 @@ static double now(void) {
     return 1e6 * time.tv_sec + time.tv_nsec / 1e3;
 }
 
-/* Makes one call, and returns the microseconds that it took. */
+/* Makes one call, and returns the microseconds that it took. A file that stays open is opened before its first call. */
 static double call(struct rrdi_file *open, int file) {
     sprintf(path, "%d", file);
     spell(file);
+    answer.fault = RRDI_OK;
+    if ((*way == 'o' || *way == 'n') && !open->is_open)
+        rrdi_open((uint8_t *)path, strlen(path), 5000, false, open, output, sizeof output, &answer);
     double begin = now();
     if (*way == 'l')
         by_librrd();
@@ -120,22 +118,6 @@ static double call(struct rrdi_file *open, int file) {
     return took;
 }
 
-/* Opens all files if the way has them open. */
-static struct rrdi_file *open_all(int files) {
-    struct rlimit most;
-    struct rrdi_file *open = calloc(files, sizeof *open);
-    getrlimit(RLIMIT_NOFILE, &most);
-    most.rlim_cur = most.rlim_max;
-    setrlimit(RLIMIT_NOFILE, &most);
-    for (int file = 0; file < files && (*way == 'o' || *way == 'n'); file++) {
-        sprintf(path, "%d", file);
-        rrdi_open((uint8_t *)path, strlen(path), 5000, false, &open[file], output, sizeof output, &answer);
-        if (answer.fault)
-            fail(rrdi_strerror(answer.fault));
-    }
-    return open;
-}
-
 static int order(const void *one, const void *other) {
     double a = *(const double *)one, b = *(const double *)other;
     return (a > b) - (a < b);
@@ -149,7 +131,11 @@ int main(int arguments, char **given) {
     first = atol(given[5]), sources = atoi(given[6]), count = atoi(given[7]);
     if (files < 1 || turns < 2 || sources > MOST_SOURCES || count > MOST_SAMPLES)
         return 2;
-    struct rrdi_file *open = open_all(files);
+    struct rlimit most;
+    getrlimit(RLIMIT_NOFILE, &most);
+    most.rlim_cur = most.rlim_max;
+    setrlimit(RLIMIT_NOFILE, &most);
+    struct rrdi_file *open = calloc(files, sizeof *open);
     double *took = calloc((size_t)files * turns, sizeof *took);
     for (int turn = 0; turn < turns; turn++) {
         for (int file = 0; file < files; file++)

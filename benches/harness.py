@@ -101,7 +101,7 @@ def row(work: Work, at: int, way: str, peer: str, found: Mapping[str, Sequence[V
     if not theirs:
         return told
     ratio = statistics.median(one / other for one, other in zip(ours, theirs))
-    return f"{told} {digits(work.of_rounds(theirs)):>9} {ratio:7.2f}  {peer}"
+    return f"{told} {digits(work.of_rounds(theirs)):>9} {digits(ratio):>7}  {peer}"
 
 
 def digits(value: float) -> str:

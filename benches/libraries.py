@@ -5,11 +5,11 @@ import resource
 import shutil
 import statistics
 import subprocess
-import time
 from functools import partial
 from importlib import import_module
 from importlib.util import find_spec
 from pathlib import Path
+from timeit import timeit
 from typing import Callable, Dict, List, Sequence
 
 from harness import PEERS, TOP, Bench, Sides, Values, Work, instructions
@@ -50,11 +50,11 @@ def compiled(bench: Bench) -> tuple[Path, List[str]]:
     return path, [*WAYS, *["librrd"] * has_peer]
 
 
-def span(kind: Kind, what: str, count: int, turn: int) -> List[int]:
-    """Returns the first time of a turn and the numbers of sources and samples, as calls.c takes them. A fetch has the rows
-    that are there."""
+def words_of(program: Path, way: str, kind: Kind, what: str, files: int, turns: int, count: int, turn: int) -> List[str]:
+    """Returns a run of calls.c. Updates go on where the last turn ended, and a fetch has the rows of the samples before."""
     first = 0 if what == "fetch" else BEFORE + 1 + turn * count
-    return [int(kind.sample(first).partition(":")[0]), kind.sources, count]
+    when = kind.sample(first).partition(":")[0]
+    return [str(program), way, what, str(files), str(turns), when, str(kind.sources), str(count)]
 
 
 def c_calls(kind: Kind, what: str, count: int, bench: Bench) -> Sides:
@@ -64,21 +64,21 @@ def c_calls(kind: Kind, what: str, count: int, bench: Bench) -> Sides:
     folders = copies(bench, kind, files, [way for way in ways if what == "fetch" or count == 1 or way != "numbers"])
 
     def timed(way: str, number: int) -> Values:
-        words = [program, way, what, files, 2, *span(kind, what, count, 2 * number)]
-        return float(subprocess.check_output(list(map(str, words)), cwd=folders[way])),
+        words = words_of(program, way, kind, what, files, 2, count, 2 * number)
+        return float(subprocess.check_output(words, cwd=folders[way])),
     return {WAYS.get(way, way): partial(timed, way) for way in folders}
 
 
 def c_instructions(kind: Kind, bench: Bench) -> Sides:
-    """Counts an update by the difference of two runs."""
+    """Counts an update, and how its words are written, by the difference of two runs."""
     bench.needs("valgrind", shutil.which("valgrind"))
     program, ways = compiled(bench)
     folders, few, many = copies(bench, kind, 1, ways), 10, 60
 
     def counted(way: str, number: int) -> Values:
         first = number * (few + many)
-        less = instructions([program, way, "update", 1, few, *span(kind, "update", 1, first)], folders[way])
-        more = instructions([program, way, "update", 1, many, *span(kind, "update", 1, first + few)], folders[way])
+        less, more = (instructions(words_of(program, way, kind, "update", 1, turns, 1, turn), folders[way])
+                      for turns, turn in ((few, first), (many, first + few)))
         return (more - less) / (many - few),
     return {WAYS.get(way, way): partial(counted, way) for way in folders}
 
@@ -104,25 +104,15 @@ def python_calls(kind: Kind, count: int, bench: Bench) -> Sides:
 
     def timed(way: str, number: int) -> Values:
         given = [kind.sample(BEFORE + 2 + number * count + at) for at in range(count)]
-        return 1e6 * statistics.median(seconds(partial(update, *given)) for update in ways[way]),
+        return 1e6 * statistics.median(timeit(partial(update, *given), number=1) for update in ways[way]),
     return {way: partial(timed, way) for way in ways}
-
-
-def seconds(call: Callable[[], object]) -> float:
-    begin = time.perf_counter()
-    call()
-    return time.perf_counter() - begin
-
-
-def sized(kind: Kind, count: int) -> str:
-    return f"{kind.name}, {count} sample{'s' * (count > 1)}"
 
 
 TRIED = [(kind, count) for kind in (SMALL, LARGE) for count in (1, 20)]
 WORKS = [
-    *(Work(f"python: {sized(kind, count)}", (MICROSECONDS,), partial(python_calls, kind, count)) for kind, count in TRIED),
-    *(Work(f"c: {sized(kind, count)}", (MICROSECONDS,), partial(c_calls, kind, "update", count))
+    *(Work(f"python: {kind.name}, {count} a call", (MICROSECONDS,), partial(python_calls, kind, count)) for kind, count in TRIED),
+    *(Work(f"c: {kind.name}, {count} a call", (MICROSECONDS,), partial(c_calls, kind, "update", count))
       for kind, count in (*TRIED, (HUGE, 1))),
     *(Work(f"c: {kind.name}, fetch", (MICROSECONDS,), partial(c_calls, kind, "fetch", BEFORE)) for kind in (SMALL, LARGE, HUGE)),
-    *(Work(f"c: {kind.name}, 1 sample", (COUNTED,), partial(c_instructions, kind)) for kind in (SMALL, LARGE, HUGE)),
+    *(Work(f"c: {kind.name}, 1 a call", (COUNTED,), partial(c_instructions, kind)) for kind in (SMALL, LARGE, HUGE)),
 ]

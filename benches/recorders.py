@@ -56,7 +56,8 @@ def feed(samples: int, bench: Bench) -> Sides:
         for file in range(files):
             shutil.copyfile(bench.folder / ("rrdtool" if way == "rrdcached" else "rrdi"), folders[way] / str(file))
         front = "UPDATE " if way == "rrdcached" else ""
-        lines = [f"{front}{folders[way]}/{file} {LARGE.sample(2 + at, file)}\n" for at in range(samples) for file in range(files)]
+        lines = [f"{front}{folders[way]}/{file} {LARGE.sample(2 + at, file)}\n"
+                 for at in range(samples) for file in range(files)]
         return ways[way](folders[way], "".join(lines).encode(), len(lines))
     return {way: partial(fed, way) for way in ways}
 
@@ -78,26 +79,22 @@ def through_rrdcached(folder: Path, data: bytes, count: int) -> Values:
     place = folder.with_name("socket")
     words = ["rrdcached", "-g", "-t", str(WRITERS), "-w", str(PATIENCE), "-l", f"unix:{place}",
              "-p", str(folder.with_name("process")), "-b", str(folder)]
-    with subprocess.Popen(words, stderr=subprocess.DEVNULL) as daemon:
-        wait_until(place.exists)
-        begin = time.monotonic()
-        with socket.socket(socket.AF_UNIX) as to:
+    with subprocess.Popen(words, stderr=subprocess.DEVNULL) as daemon, socket.socket(socket.AF_UNIX) as to:
+        def ask(lines: bytes) -> List[str]:
+            to.sendall(lines + b"\n")
+            first = answers.readline()
+            return [first, *(answers.readline() for _ in range(int(first.split()[0])))]
+        try:
+            wait_until(place.exists)
+            begin = time.monotonic()
             to.connect(str(place))
             answers = to.makefile("r")
-
-            def ask(lines: bytes) -> List[str]:
-                to.sendall(lines + b"\n")
-                first = answers.readline()
-                return [first, *(answers.readline() for _ in range(int(first.split()[0])))]
-
-            def is_written() -> bool:
-                return f"DataSetsWritten: {count}\n" in ask(b"STATS")
-            ask(b"BATCH")
-            ask(data + b".")
-            ask(b"FLUSHALL")
-            wait_until(is_written)
-        took = time.monotonic() - begin
-        daemon.terminate()
+            for lines in (b"BATCH", data + b".", b"FLUSHALL"):
+                ask(lines)
+            wait_until(lambda: f"DataSetsWritten: {count}\n" in ask(b"STATS"))
+            took = time.monotonic() - begin
+        finally:
+            daemon.terminate()
         spent = processor_seconds(daemon)
     return count / took, 1e6 * spent / count
 
