@@ -67,8 +67,8 @@ test: ## tries the program and the library that are built, the tools, the packag
 check: ## runs the full check: every proof, planted bug and test (over an hour, 16 GB of memory, 15 GB of disk)
 	@$(ALONE) $(PYTHON3) -B scripts/check.py $(OPTIONS)
 
-bench: ## measures updates by the program, beside rrdtool if that is installed
-	.ci/measure-updates $(PROGRAM) $$(command -v rrdtool || echo $(PROGRAM))
+bench: ## measures rrdi beside RRDtool, librrd, rrdcached and whisper (half an hour; OPTIONS="update c" takes a part)
+	benches/bench.py --program=$(PROGRAM) --library=$(BUILD)/librrdi.so.0 $(OPTIONS)
 
 clean: ## removes what was proved and built
 	rm -rf crates/*/out $(BUILD)

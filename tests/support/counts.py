@@ -25,7 +25,7 @@ class Counts:
         options = ("keyword", "markexpr", "maxfail", "deselect", "collectonly", "seeds")
         chosen = any("::" in word for word in config.args) or any(config.getoption(name, None) for name in options)
         self.is_whole, self.may_lack = not chosen, config.getoption("lacking")
-        self.records, self.more = config.getoption("record"), " --long" * config.getoption("long")
+        self.records, self.more = self.is_whole and config.getoption("record"), " --long" * config.getoption("long")
         self.tried: dict[str, Counter[str]] = defaultdict(Counter)
         self.least: dict[str, dict[str, int]] = {}
         self.rejected: set[str] = set()
@@ -74,7 +74,8 @@ class Counts:
     def pytest_terminal_summary(self, terminalreporter: Any) -> None:
         for module, tried in sorted(self.tried.items()):
             terminalreporter.line(f"{module}: " + ", ".join(f"{number} {name}" for name, number in tried.items()))
-        names = {module: module.replace(".", "/") + ".py" + self.more for module in self.tried}
-        why = results.record({names[module]: tried for module, tried in self.tried.items()}) if self.records else ""
+        whole = {module.replace(".", "/") + ".py" + self.more: tried for module, tried in self.tried.items()
+                 if module not in self.partial}
+        why = results.record(whole) if self.records and whole else ""
         for fault in self.faults() + [why] * bool(why):
             terminalreporter.line(fault, red=True)
