@@ -38,7 +38,18 @@ _rrdi_tool() {
             esac
             ((COMP_CWORD > 1)) || ends='rrdi'
             ;;
-        rrdi-export) ends='rrdi rrd' ;;
+        rrdi-export)
+            options+=' --into --in-place --whisper --jobs'
+            case ${COMP_WORDS[COMP_CWORD - 1]} in
+                --jobs) return 0 ;;
+                --into)
+                    compopt -o filenames 2>/dev/null
+                    mapfile -t COMPREPLY < <(compgen -d -- "$current")
+                    return 0
+                    ;;
+            esac
+            ends='rrdi rrd'
+            ;;
         rrdi-compare) ends='rrd rrdi' ;;
         rrdi-plot)
             if ((COMP_CWORD > 2)); then

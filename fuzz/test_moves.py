@@ -16,7 +16,7 @@ from fuzz.random_rrd import Case, random_case
 from rrdi.importing.batch import batch_of
 from rrdi.importing.dump import RrdFile
 from rrdi.importing.dump import read_rrd as read_dumped
-from rrdi.tools.exporter import as_xml
+from rrdi.tools.rrdtool_xml import as_xml
 from support.check import Check
 from support.program import Program
 

@@ -65,7 +65,8 @@ class Completion(ToolCase):
         for line, words in (
                 ("rrdi-import so", "some.rrd some.rrdi"), ("rrdi-import --j", "--journal"), ("rrdi-import --journal ", ""),
                 ("rrdi-import --in", "--into --in-place"), ("rrdi-import --into comp", ""),
-                ("rrdi-export some", "some.rrdi some.rrd"), ("rrdi-compare some.rrd --h", "--help"),
+                ("rrdi-export some", "some.rrdi some.rrd"), ("rrdi-export --in", "--into --in-place"), ("rrdi-export --jobs ", ""),
+                ("rrdi-export --into comp", ""), ("rrdi-compare some.rrd --h", "--help"),
                 ("rrdi-check so", "some.rrdi"), ("rrdi-check some.rrdi g --c", "--critical --changes"), ("rrdi-check f g --for ", ""),
                 ("rrdi-check f g --changes some.rrdi", "some.rrdi"), ("rrdi-fix so", "some.rrdi"), ("rrdi-fix some.rrdi 10 --s", "--source --samples"), ("rrdi-fix some.rrdi --source ", ""),
                 ("rrdi-fix some.rrdi 10 --samples some.rrdi", "some.rrdi"), ("rrdi-record --j", "--journal"),

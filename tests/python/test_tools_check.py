@@ -25,7 +25,8 @@ class Words(ToolCase):
     def test_usage(self) -> None:
         """Wrong arguments are UNKNOWN, which is 3: 2 would be an alarm."""
         self.assertIn("Exit status:", self.tool("rrdi-check", "--help").out)
-        for words in ([], ["f"], ["f", "g", "h"], ["f", "g", "-x"], ["f", "g", "--above"], ["f", "g", "--changes="]):
+        wrong: List[List[str]] = [[], ["f"], ["f", "g", "h"], ["f", "g", "-x"], ["f", "g", "--above"], ["f", "g", "--changes="]]
+        for words in wrong:
             ran = self.tool("rrdi-check", *words)
             self.assertEqual((ran.status, ran.out), (3, ""), words)
             self.assertTrue(ran.err.startswith(f"usage: rrdi-check {USAGE}\n"), ran.err)

@@ -97,6 +97,18 @@ def kept_name(old: str) -> str:
     return kept
 
 
+def take_owner(new: str, before: os.stat_result) -> None:
+    """Gives a file the owner and the mode of another one.
+
+    # Errors
+    `OSError` if the system refuses them.
+    """
+    found = os.stat(new)
+    if (found.st_uid, found.st_gid) != (before.st_uid, before.st_gid):
+        os.chown(new, before.st_uid, before.st_gid)
+    os.chmod(new, before.st_mode & 0o7777)
+
+
 def swap_in(old: str, lines: Iterable[str], before: os.stat_result) -> None:
     """Puts a new database in the place of a file, which keeps its content under its `kept_name`. The database gets the
     owner and the mode of the file. `before` is the file's status from before it was read. There is no moment without a
@@ -108,10 +120,7 @@ def swap_in(old: str, lines: Iterable[str], before: os.stat_result) -> None:
     """
     with NewFile(old) as made:
         program.batch(made.unfinished, lines)
-        new = os.stat(made.unfinished)
-        if (new.st_uid, new.st_gid) != (before.st_uid, before.st_gid):
-            os.chown(made.unfinished, before.st_uid, before.st_gid)
-        os.chmod(made.unfinished, before.st_mode & 0o7777)
+        take_owner(made.unfinished, before)
         if state_of(os.stat(old)) != state_of(before):
             raise Failure("it changed while it was converted; first stop what records into it")
         kept = kept_name(old)

@@ -1,20 +1,39 @@
-"""Turns an rrdi database back into an RRDtool file.
+"""Turns rrdi databases back into files of RRDtool, or into files of Graphite's whisper.
 
 usage: rrdi-export FILE.rrdi NEW.rrd
        rrdi-export FILE.rrdi > MOVED.xml
+       rrdi-export --whisper FILE.rrdi NEW.wsp
+       rrdi-export [--whisper] --into DIRECTORY FILE|TREE..
+       rrdi-export --in-place FILE.rrd|TREE..
 
-example:
+examples:
   rrdi-export room.rrdi room.rrd && rrdtool info room.rrd
+  rrdi-export --in-place /var/lib/munin
 
 The first form makes NEW.rrd, which must not exist, with `rrdtool restore`. The
 second prints the XML that `rrdtool restore` takes, and needs no RRDtool. Both
-have the data sources, the archives, all rows and the unfinished ones.
+have the data sources, the archives, all rows and the unfinished ones. A new
+file gets its name when it is on the disk, and was read back and is equal.
 
-options:
+The last two forms convert many files: those that are named, and all below the
+directories TREE whose names end in .rrdi or .rrd. They print a line for each
+file, and a line with the counts. First stop the programs that record into the
+files.
+
+options, anywhere on the line:
+  --into DIRECTORY     make DIRECTORY/NAME.rrd (or NAME.wsp) of NAME.rrdi, and
+                       keep the subdirectories of a TREE
+  --in-place           give the new file the name, owner and mode of the
+                       database NAME.rrd, which becomes NAME.rrd.rrdi
+  --whisper            make files of whisper: for a metric of Graphite, or for
+                       any database with one data source
+  --jobs N             convert N files at a time (default: one for each
+                       processor)
   -h, --help           show this help and exit
   --version            show the version and exit
 
-FILE may be - for standard input. It is read under a shared lock.
+FILE may be - for standard input in the first two forms. It is read under a
+shared lock. No existing file is ever replaced by another one.
 
 environment:
   RRDI_WAIT            seconds to wait for a program that changes FILE
@@ -22,96 +41,94 @@ environment:
 
 docs/moving-files.md says what cannot be converted.
 
-Exit status: 0; 1 and one line on standard error if FILE cannot be read or is
-not a database, or if NEW.rrd cannot be created; 2 after wrong arguments.
+Exit status: 0; 1 and one line on standard error if a file cannot be read, is
+not a database, or cannot be converted; 2 after wrong arguments.
 """
 from __future__ import annotations
 
 import os
-import subprocess
-from typing import Any, Dict, Iterator, List, Optional
+from typing import List, NamedTuple, Optional
 
-from . import rrdtool_program
-from .command_line import Failure, Progress, Tool, WrongArguments
-from .reading import read_file
+from ..reader.selected import OpenFile
+from ..words import in_one_line
+from .command_line import Failure, Progress, Tool, WrongArguments, called_name, say
+from .export_many import export_many, make_new
+from .options import given_words, number_of
+from .reading import read_file, reporting
+from .restoring import restore_equal
+from .rrdtool_xml import as_xml
 
-
-def number(value: Optional[int], unknown: str = "NaN") -> str:
-    """Returns a number with all its digits; rrdtool reads it as the nearest number that rrdtool can store."""
-    return unknown if value is None else str(value)
-
-
-def part(value: int, is_known: bool) -> str:
-    """Returns the value of an unfinished row. If no step is known, the value is unknown in RRDtool and 0 in rrdi."""
-    return number(value if is_known else None)
+WITH_VALUE = {"--into": "into", "--jobs": "jobs"}
+IN_PLACE, WHISPER = "--in-place", "--whisper"
 
 
-def sources_as_xml(database: Dict[str, Any]) -> Iterator[str]:
-    step, last = database["step"], database["last_time"]
-    for source in database["sources"]:
-        yield f"<ds><name>{source['name']}</name><type>{source['type']}</type>"
-        yield f"<minimal_heartbeat>{source['heartbeat']}</minimal_heartbeat>"
-        yield f"<min>{number(source['min'])}</min><max>{number(source['max'])}</max>"
-        yield f"<last_ds>{number(source['last_raw'], 'U')}</last_ds><value>{source['sum']}</value>"
-        yield f"<unknown_sec>{last % step - source['known_seconds']}</unknown_sec></ds>"
+class ExportOptions(NamedTuple):
+    """The files; of many files the directory of the new ones, or none if they are converted in place."""
+
+    files: List[str]
+    is_many: bool
+    into: Optional[str]
+    is_whisper: bool
+    jobs: int
 
 
-def as_xml(database: Dict[str, Any]) -> Iterator[str]:
-    """Yields the lines of the XML."""
-    step, last = database["step"], database["last_time"]
-    yield '<?xml version="1.0" encoding="utf-8"?>'
-    yield f"<rrd><version>0003</version><step>{step}</step><lastupdate>{last}</lastupdate>"
-    yield from sources_as_xml(database)
-    for archive in database["archives"]:
-        yield f"<rra><cf>{archive['function']}</cf><pdp_per_row>{archive['steps']}</pdp_per_row>"
-        yield f"<params><xff>{archive['xff']}</xff></params><cdp_prep>"
-        passed = last // step % archive["steps"]
-        for newest, preparation in zip(archive["rows"][-1]["cells"], archive["preparations"]):
-            known = preparation["known_steps"]
-            yield f"<ds><primary_value>{number(newest)}</primary_value><secondary_value>NaN</secondary_value>"
-            yield f"<value>{part(preparation['value'], known)}</value>"
-            yield f"<unknown_datapoints>{passed - known}</unknown_datapoints></ds>"
-        yield "</cdp_prep><database>"
-        for row in archive["rows"]:
-            yield "<row>" + "".join(f"<v>{number(cell)}</v>" for cell in row["cells"]) + "</row>"
-        yield "</database></rra>"
-    yield "</rrd>"
-
-
-def restore(lines: Iterator[str], new: str, progress: Progress) -> None:
-    """Creates a file of RRDtool from the lines of its XML."""
-    if os.path.lexists(new):
-        raise Failure(f"{new} already exists")
-    restoring = [rrdtool_program.found(), "restore", "-", new if not new.startswith("-") else "./" + new]
-    with subprocess.Popen(restoring, stdin=subprocess.PIPE, stdout=subprocess.PIPE, stderr=subprocess.PIPE) as child:
-        assert child.stdin and child.stderr
-        try:
-            for count, line in enumerate(lines, 1):
-                child.stdin.write(line.encode() + b"\n")
-                progress.show(count)
-            child.stdin.close()
-        except BrokenPipeError:
-            pass  # rrdtool reports why it ended
-        reason = child.stderr.read().decode(errors="replace").strip()
-        child.stdin = None
-    progress.end()
-    if child.returncode != 0:
-        raise Failure(reason or f"rrdtool restore ended with status {child.returncode}")
-
-
-def convert(words: List[str]) -> int:
-    if not 1 <= len(words) <= 2 or any(word.startswith("-") and word != "-" or not word for word in words):
+def read_options(words: List[str]) -> ExportOptions:
+    given = given_words(words, WITH_VALUE, [IN_PLACE, WHISPER])
+    into, is_in_place, is_whisper = given.values.get("into"), IN_PLACE in given.flags, WHISPER in given.flags
+    is_many, jobs = is_in_place or into is not None, number_of(given.values, "jobs")
+    if not given.others or into == "" or jobs == 0 or jobs is not None and not is_many:
         raise WrongArguments
-    lines, progress = as_xml(read_file(words[0])), Progress("lines of XML")
-    if len(words) == 2:
-        restore(lines, words[1], progress)
-        return 0
-    for count, line in enumerate(lines, 1):
+    if is_in_place and (into is not None or is_whisper):
+        raise WrongArguments("give --in-place alone; --whisper is for --into, or for one new file")
+    if not is_many and len(given.others) != 2 and (is_whisper or len(given.others) > 2):
+        raise WrongArguments
+    return ExportOptions(given.others, is_many, into, is_whisper, jobs or len(os.sched_getaffinity(0)))
+
+
+def make_whisper(file: str, new: str) -> None:
+    """Makes a file of whisper of one database."""
+    from .whisper_file import copy_of, write_equal  # most exports are for RRDtool
+    with reporting(file), OpenFile(file) as opened:
+        try:
+            copy = copy_of(opened)
+        except Failure as failure:
+            raise Failure(f"{file}: {failure}") from None
+    for note in copy.notes:
+        say(called_name(TOOL), in_one_line(f"{file}: {note}"))
+    make_new(new, lambda unfinished: write_equal(copy, unfinished))
+
+
+def make_rrd(file: str, new: str) -> None:
+    """Makes a file of RRDtool of one database."""
+    database, progress = read_file(file), Progress("lines of XML")
+    try:
+        make_new(new, lambda unfinished: restore_equal(database, unfinished, progress.show))
+    finally:
+        progress.end()
+
+
+def print_xml(file: str) -> None:
+    progress = Progress("lines of XML")
+    for count, line in enumerate(as_xml(read_file(file)), 1):
         print(line)
         progress.show(count)
     progress.end()
+
+
+def convert(words: List[str]) -> int:
+    options = read_options(words)
+    if options.is_many:
+        return export_many(options.files, options.into, options.is_whisper, options.jobs, called_name(TOOL))
+    if len(options.files) == 1:
+        print_xml(*options.files)
+    elif options.is_whisper:
+        make_whisper(*options.files)
+    else:
+        make_rrd(*options.files)
     return 0
 
 
-TOOL = Tool("rrdi-export", "FILE.rrdi [NEW.rrd]", __doc__, convert)
+TOOL = Tool("rrdi-export", "FILE.rrdi [NEW.rrd]\n"
+            "       rrdi-export --whisper FILE.rrdi NEW.wsp\n"
+            "       rrdi-export [--whisper] [--jobs N] --into DIRECTORY|--in-place FILE|TREE..", __doc__, convert)
 main = TOOL.main

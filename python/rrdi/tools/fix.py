@@ -8,7 +8,7 @@ examples:
   rrdi-fix net.rrdi 1700000160 U --source in
 
 TIME is the time of the sample: seconds since 1970, or a time of your zone as
-rrdi-show --journal prints it. VALUE takes the place of the sample's value, and
+rrdi-show --journal prints it, or one of UTC with a Z at its end. VALUE takes the place of the sample's value, and
 may be U for unknown; of several sources give all, such as 21.5:U. Without
 VALUE the file is as if the sample had never come.
 
@@ -50,7 +50,7 @@ from .command_line import Failure, Tool, WrongArguments, error_text
 from .fixing.held import HeldFile, held
 from .fixing.history import History, OneSample, SentUpdate, given_samples, history_of, with_given, wrong_change
 from .options import given_words
-from .spans import PRINTED, time_text
+from .spans import PRINTED, exact_seconds, time_text
 
 WITH_VALUE = {"--source": "source", "--samples": "samples"}
 SET_BACK = 10_800  # seconds: clocks are set back by no more, and by quarters of an hour
@@ -90,9 +90,9 @@ def times_of(text: str) -> Set[int]:
     # Errors
     `WrongArguments` if it is no time.
     """
-    found = PRINTED.fullmatch(text)
-    if re.fullmatch("[0-9]{1,10}", text):
-        return {int(text)}
+    found, exact = PRINTED.fullmatch(text), exact_seconds(f"@{text}" if text.isdigit() else text)
+    if exact is not None:
+        return {exact}
     if found is None:
         raise WrongArguments(f"the time {text!r} is neither seconds since 1970 nor like 2026-11-25 14:00:00")
     year, month, day, hour, minute, second = (int(part or 0) for part in found.groups())

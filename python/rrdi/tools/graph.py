@@ -8,6 +8,8 @@ example:
 
 The arguments are those of `rrdtool graph`, as rrdgraph(1) describes them. A DEF
 with a file of rrdi gets its rows from rrdi, with step, start, end and reduce.
+--start and --end also take 2026-11-25 14:00, 2026-11-25T14:00Z (UTC) and
+@1700000000; in RRDtool's times, -5min is five minutes and -5m five months.
 You get the size of the picture and the texts of PRINT. If PICTURE is -, the
 picture goes to standard output. RRDtool's library must be installed (Debian:
 librrd8, which comes with rrdtool).
@@ -24,18 +26,37 @@ Exit status: 0; 1 if nothing was drawn; 2 after wrong arguments.
 """
 from __future__ import annotations
 
+import re
 import sys
 from typing import List
 
 from .command_line import Tool, WrongArguments
 from .graphing import Grapher
 from .rrdtool_output import plain
+from .spans import as_of_rrdtool
+
+
+TIME = re.compile("((?:--start|--end)=|-[se])(.+)")
+
+
+def with_times(words: List[str]) -> List[str]:
+    """Returns the words of a graph with the times of --start and --end in RRDtool's form."""
+    found, before = [], ""
+    for word in words:
+        joined = TIME.fullmatch(word)
+        if before in ("-s", "-e", "--start", "--end"):
+            word = as_of_rrdtool(word)
+        elif joined is not None:
+            word = joined[1] + as_of_rrdtool(joined[2])
+        found.append(word)
+        before = word
+    return found
 
 
 def draw(words: List[str]) -> int:
     if len(words) < 2 or not words[0] or words[0].startswith("-") and words[0] != "-":
         raise WrongArguments
-    sys.stdout.buffer.write(plain(Grapher().graph(words)))
+    sys.stdout.buffer.write(plain(Grapher().graph(with_times(words))))
     return 0
 
 

@@ -2,7 +2,7 @@
 from __future__ import annotations
 
 import os
-from typing import Iterator, List, NamedTuple, Optional
+from typing import Iterator, List, NamedTuple, Optional, Tuple
 
 from ..importing.dump import Refusal
 from ..kinds import WHISPER_END, is_of_rrdi
@@ -12,6 +12,8 @@ from .command_line import Failure, Progress, error_text, say
 from .conversion import Conversion, kept_name, make, size_of, swap_in
 
 RRDTOOL_END, NEW_END = ".rrd", ".rrdi"
+Ends = Tuple[str, ...]  # of names
+OLD_ENDS = (RRDTOOL_END, WHISPER_END)
 
 
 class OldFile(NamedTuple):
@@ -21,8 +23,8 @@ class OldFile(NamedTuple):
     name: str
 
 
-def found_below(tree: str) -> Iterator[OldFile]:
-    """Yields the old files below a directory, in the order of their names. Links are passed over: what they name may be
+def found_below(tree: str, ends: Ends) -> Iterator[OldFile]:
+    """Yields the old files below a directory, whose names end so, in the order of their names. Links are passed over: what they name may be
     elsewhere, or be in the directory too.
 
     # Errors
@@ -34,18 +36,18 @@ def found_below(tree: str) -> Iterator[OldFile]:
         folders.sort()
         for name in sorted(files):
             path = os.path.join(folder, name)
-            if name.endswith((RRDTOOL_END, WHISPER_END)) and os.path.isfile(path) and not os.path.islink(path):
+            if name.endswith(ends) and os.path.isfile(path) and not os.path.islink(path):
                 yield OldFile(path, os.path.relpath(path, tree))
 
 
-def links_below(tree: str) -> int:
+def links_below(tree: str, ends: Ends) -> int:
     """Counts the links below a directory that `found_below` passes over: those to directories, and those that have the
     name of an old file."""
     return sum(os.path.islink(os.path.join(folder, name)) for folder, folders, files in os.walk(tree)
-               for name in [*folders, *(name for name in files if name.endswith((RRDTOOL_END, WHISPER_END)))])
+               for name in [*folders, *(name for name in files if name.endswith(ends))])
 
 
-def files_of(words: List[str]) -> List[OldFile]:
+def files_of(words: List[str], ends: Ends) -> List[OldFile]:
     """Returns the files that the arguments name.
 
     # Errors
@@ -54,17 +56,17 @@ def files_of(words: List[str]) -> List[OldFile]:
     """
     files: List[OldFile] = []
     for word in words:
-        below = list(found_below(word)) if os.path.isdir(word) else [OldFile(word, os.path.basename(word))]
+        below = list(found_below(word, ends)) if os.path.isdir(word) else [OldFile(word, os.path.basename(word))]
         if not below:
-            links = ", except links, which are passed over" if links_below(word) else ""
-            raise Failure(f"{word}: no file below it has a name that ends in {RRDTOOL_END} or {WHISPER_END}{links}")
+            links = ", except links, which are passed over" if links_below(word, ends) else ""
+            raise Failure(f"{word}: no file below it has a name that ends in {' or '.join(ends)}{links}")
         files += below
     return files
 
 
 def new_name(name: str) -> str:
     stem, end = os.path.splitext(name)
-    return (stem if end in (RRDTOOL_END, WHISPER_END) else name) + NEW_END
+    return (stem if end in OLD_ENDS else name) + NEW_END
 
 
 class Bar:
@@ -163,12 +165,12 @@ def import_many(words: List[str], into: Optional[str], journal: Optional[str], t
     - `Failure` if there is nothing to convert, or rrdtool is needed and not installed.
     - `OSError` if a directory can't be read.
     """
-    files = files_of(words)
+    files = files_of(words, OLD_ENDS)
     if any(not file.path.endswith(WHISPER_END) for file in files):
         rrdtool_program.found()
     bar = Bar(files)
     importer = Importer(into, journal, bar, tool)
     for file in files:
         importer.convert(file)
-    print(importer.summary(sum(links_below(word) for word in words if os.path.isdir(word))))
+    print(importer.summary(sum(links_below(word, OLD_ENDS) for word in words if os.path.isdir(word))))
     return 1 if importer.refused or importer.incomplete else 0

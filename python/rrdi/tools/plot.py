@@ -15,8 +15,9 @@ that are too narrow to be seen become one row with a band.
 
 options:
   -s, --start START    begin there (default: a day before END, or the first
-                       known row since then); times are RRDtool's, such as
-                       -7d, or 2026-11-25 14:00
+                       known row since then); times are 2026-11-25 14:00,
+                       2026-11-25T14:00Z (UTC), @1700000000, or RRDtool's,
+                       such as noon, -7d or -5min (-5m is five months)
   -e, --end END        end there (default: now, or the last update if that is
                        over a day ago)
   -r, --resolution N   choose the archive whose rows cover about N seconds

@@ -19,7 +19,9 @@ has all archives. --journal shows what the next reverts would take back.
 options, anywhere on the line:
   -s, --start START    show rows after START (default: a day before END)
   -e, --end END        show rows up to END (default: the last update); times
-                       are RRDtool's, such as -2h or noon, or 2026-11-25 14:00
+                       are 2026-11-25 14:00, 2026-11-25T14:00Z (UTC),
+                       @1700000000, or RRDtool's, such as noon, -2h or -5min
+                       (-5m is five months)
   -r, --resolution N   choose the archive whose rows cover about N seconds
   -a, --archive N      choose the archive by its number instead
   --csv                print a line of CSV for each row with a known cell

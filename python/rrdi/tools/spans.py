@@ -1,28 +1,63 @@
 """Times and spans for people: what they type, and how they are shown."""
 from __future__ import annotations
 
+import calendar
 import re
 import time
-from typing import Optional, Tuple
+from typing import Optional, Sequence, Tuple
 
 from ..compat.syntax import Untranslatable
 from ..compat.at_style import span
 from .command_line import Failure, WrongArguments
 
-# A time as these tools print it.
+# A time as these tools print it, and one of ISO 8601, which may have a zone.
 PRINTED = re.compile(r"(\d{4})-(\d\d)-(\d\d)(?:[T ](\d\d):(\d\d)(?::(\d\d))?)?")
+ISO = re.compile(PRINTED.pattern + r"(?: ?(Z)|([-+]\d\d):?(\d\d))?")
+SECONDS = re.compile("@([0-9]{1,10})")
 DAY = 86_400  # seconds
 UNITS = (("week", 7 * DAY), ("day", DAY), ("h", 3_600), ("min", 60))
 
 
+def exact_seconds(text: str) -> Optional[int]:
+    """Returns the seconds since 1970 of a time with a zone, or after an `@`; None if the text is neither.
+
+    # Errors
+    `WrongArguments` if there is no such time.
+    """
+    seconds, found = SECONDS.fullmatch(text), ISO.fullmatch(text)
+    if seconds is not None:
+        return int(seconds[1])
+    if found is None or not (found[7] or found[8]):
+        return None
+    hours, minutes = int(found[8] or 0), int(found[9] or 0)
+    told = calendar.timegm(checked(text, found.groups()[:6]) + (0, 0, 0))
+    return told - 3_600 * hours - (-60 if (found[8] or "").startswith("-") else 60) * minutes
+
+
+def checked(text: str, parts: Sequence[Optional[str]]) -> Tuple[int, int, int, int, int, int]:
+    """Returns the numbers of a date and a time of day.
+
+    # Errors
+    `WrongArguments` if there is no such date or time.
+    """
+    year, month, day, hour, minute, second = (int(part or 0) for part in parts)
+    if not (1 <= month <= 12 and 1 <= day <= calendar.monthrange(max(year, 1), month)[1] and hour < 24 and minute < 60 and second < 60):
+        raise WrongArguments(f"there is no time {text!r}")
+    return year, month, day, hour, minute, second
+
+
 def as_of_rrdtool(text: str) -> str:
-    """Returns a time in RRDtool's form; one as these tools print it is in the local time zone."""
-    found = PRINTED.fullmatch(text)
+    """Returns a time in RRDtool's form. One as these tools print it is in the local time zone, unless it has another one.
+
+    # Errors
+    `WrongArguments` if there is no such time.
+    """
+    exact, found = exact_seconds(text), PRINTED.fullmatch(text)
+    if exact is not None:
+        return f"epoch+{exact}"
     if found is None:
         return text
-    year, month, day, *of_day = (int(part or 0) for part in found.groups())
-    hour, minute, second = of_day
-    return f"epoch+{int(time.mktime((year, month, day, hour, minute, second, 0, 0, -1)))}"
+    return f"epoch+{int(time.mktime(checked(text, found.groups()) + (0, 0, -1)))}"
 
 
 def span_of(start: Optional[str], end: Optional[str], last: int) -> Tuple[int, int]:

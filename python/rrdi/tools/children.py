@@ -1,0 +1,85 @@
+"""Does the same work for many things, several at a time, each in a process of its own."""
+from __future__ import annotations
+
+import os
+from collections import deque
+from contextlib import suppress
+from typing import Callable, Deque, Iterator, NamedTuple, NoReturn, Sequence, Tuple, TypeVar
+
+Thing = TypeVar("Thing")
+
+
+class Answer(NamedTuple):
+    """What a process says of its work: whether it is done, and a text."""
+
+    is_done: bool
+    text: str
+
+
+class Child(NamedTuple):
+    """A process, and the end of a pipe from which its answer comes."""
+
+    number: int
+    pipe: int
+
+
+def answers(things: Sequence[Thing], work: Callable[[Thing], Answer], most: int) -> Iterator[Tuple[Thing, Answer]]:
+    """Yields the answers in the order of the things. At most `most` processes run at a time. If the caller gives up, those
+    that run end their work.
+
+    # Errors
+    `OSError` if the system has no pipe or process for the next one.
+    """
+    running: Deque[Tuple[Thing, Child]] = deque()
+    try:
+        for thing in things:
+            if len(running) == most:
+                first, child = running.popleft()
+                yield first, answer_of(child)
+            running.append((thing, started(thing, work)))
+        while running:
+            first, child = running.popleft()
+            yield first, answer_of(child)
+    finally:
+        for _, child in running:
+            answer_of(child)
+
+
+def started(thing: Thing, work: Callable[[Thing], Answer]) -> Child:
+    """Starts a process that does the work for a thing."""
+    pipe, end = os.pipe()
+    try:
+        number = os.fork()
+        if number == 0:
+            do(thing, work, end)
+    except OSError:
+        os.close(pipe)
+        raise
+    finally:
+        os.close(end)
+    return Child(number, pipe)
+
+
+def do(thing: Thing, work: Callable[[Thing], Answer], end: int) -> NoReturn:
+    """Does the work in a process, writes the answer, and ends the process."""
+    status = 1
+    try:
+        answer = work(thing)
+        with os.fdopen(end, "wb") as pipe:
+            pipe.write((b"+" if answer.is_done else b"-") + os.fsencode(answer.text))
+        status = 0
+    finally:
+        os._exit(status)
+
+
+def answer_of(child: Child) -> Answer:
+    """Waits for the answer of a process, and for its end."""
+    with os.fdopen(child.pipe, "rb") as pipe:
+        told = pipe.read()
+    with suppress(ChildProcessError):
+        _, status = os.waitpid(child.number, 0)
+        if os.WIFSIGNALED(status):
+            return Answer(False, f"the process was ended by signal {os.WTERMSIG(status)}")
+    if told[:1] not in (b"+", b"-"):
+        return Answer(False, "the process ended without an answer")
+    return Answer(told[:1] == b"+", os.fsdecode(told[1:]))

@@ -1,0 +1,229 @@
+"""Tests of rrdi-export with many files and in place, beside files that rrdtool itself has made, and with kills and failing
+calls."""
+from __future__ import annotations
+
+import os
+import pwd
+import re
+import shutil
+import subprocess
+import unittest
+from pathlib import Path
+from typing import List, Tuple
+
+from cases import HANG, needs_program
+from doubles import TOP
+from tool_case import NO_RRDTOOL, RRDTOOL, Ran, ToolCase
+
+from rrdi.tools.children import Answer, answers
+
+USAGE = ("FILE.rrdi [NEW.rrd]\n       rrdi-export --whisper FILE.rrdi NEW.wsp\n"
+         "       rrdi-export [--whisper] [--jobs N] --into DIRECTORY|--in-place FILE|TREE..")
+DEFINITIONS = ("DS:g:GAUGE:600:-40:U", "DS:c:DERIVE:600:0:U", "RRA:AVERAGE:0.5:1:20", "RRA:MAX:0.25:3:10")
+START, STEP = 1_700_000_100, 300
+HAS_STRACE = shutil.which("strace") is not None
+
+
+class Words(ToolCase):
+    def test_usage(self) -> None:
+        self.check_usage("rrdi-export", USAGE, [[], ["a", "b", "c"], ["-x"], [""], ["a", ""], ["--in-place"], ["--into", "d"],
+                                                ["--into=", "a"], ["--whisper", "a"], ["--jobs", "2", "a", "b"],
+                                                ["--jobs", "0", "--in-place", "a"]])
+        ran = self.tool("rrdi-export", "--in-place", "--whisper", "a")
+        self.assertEqual(ran, Ran(2, "", "rrdi-export: give --in-place alone; --whisper is for --into, or for one new file\n"))
+
+    def test_nothing_to_convert(self) -> None:
+        (self.folder / "tree").mkdir()
+        self.write("tree/a.rrdi", "")
+        self.assertEqual(self.tool("rrdi-export", "--in-place", "tree").err,
+                         "rrdi-export: tree: no file below it has a name that ends in .rrd\n")
+        self.assertEqual(self.tool("rrdi-export", "--into", "new", "tree/a.rrdi", env={"PATH": "/nowhere"}).err,
+                         "rrdi-export: rrdtool is not installed (Debian: apt install rrdtool)\n")
+
+
+class Children(unittest.TestCase):
+    def test_answers(self) -> None:
+        """They come in the order of the things, long ones too; a process that is killed has an answer."""
+        def work(number: int) -> Answer:
+            if number == 3:
+                os.kill(os.getpid(), 9)
+            if number == 4:
+                raise ValueError
+            return Answer(number != 2, f"{number}\udcff" * (99_999 if number == 1 else 1))
+        for most in (1, 2, 9):
+            found = list(answers(range(6), work, most))
+            self.assertEqual([number for number, _ in found], list(range(6)))
+            self.assertEqual([answer for _, answer in found], [
+                Answer(True, "0\udcff"), Answer(True, "1\udcff" * 99_999), Answer(False, "2\udcff"),
+                Answer(False, "the process was ended by signal 9"), Answer(False, "the process ended without an answer"),
+                Answer(True, "5\udcff")])
+
+
+class OfTree(ToolCase):
+    """A tree with two databases, and beside each a file that rrdtool has made of the same samples."""
+
+    def setUp(self) -> None:
+        super().setUp()
+        (self.folder / "tree/sub").mkdir(parents=True)
+        (self.folder / "wanted").mkdir()
+        for number, name in enumerate(("a", "sub/b")):
+            samples = [f"{START + 290 * at}:{20 + at % 7 / 4 + number}:{1000 * at + number}" for at in range(1, 30)]
+            samples[9] = re.sub(":.*", ":U:U", samples[9])
+            self.create(f"tree/{name}.rrd", *DEFINITIONS, start=START, step=STEP)
+            self.rrdi("update", f"tree/{name}.rrd", *samples)
+            wanted = f"wanted/{name[-1]}.rrd"
+            self.rrdtool("create", wanted, "--start", str(START), "--step", str(STEP), *DEFINITIONS)
+            self.rrdtool("update", wanted, *samples)
+
+    def rrdtool(self, *words: str) -> str:
+        return subprocess.run([str(RRDTOOL), *words], cwd=self.folder, check=True, capture_output=True, text=True).stdout
+
+    def rows(self, name: str) -> List[float]:
+        """Returns the times and the cells of both archives; an unknown cell is -1."""
+        texts = [self.rrdtool("fetch", name, function, "-s", str(START - 600), "-e", str(START + 12_000), "-r", str(seconds))
+                 for function, seconds in (("AVERAGE", STEP), ("MAX", 3 * STEP))]
+        return [-1 if "nan" in word else float(word.rstrip(":")) for text in texts for word in text.split()[2:]]
+
+    def same_rows(self, name: str, wanted: List[float]) -> None:
+        """rrdi rounds each step to a millionth, so a row may be that much apart."""
+        found = self.rows(name)
+        self.assertEqual(len(found), len(wanted))
+        self.assertEqual([pair for pair in zip(found, wanted) if abs(pair[0] - pair[1]) > 2e-6], [])
+
+    def export(self, *words: str) -> "Tuple[int, List[str], List[str]]":
+        ran = self.tool("rrdi-export", *words)
+        return ran.status, ran.out.splitlines(), ran.err.splitlines()
+
+    def unfinished(self) -> List[str]:
+        return [path.name for path in self.folder.rglob(".rrdi*")]
+
+
+@needs_program
+@unittest.skipUnless(RRDTOOL, NO_RRDTOOL)
+class Trees(OfTree):
+    def test_in_place(self) -> None:
+        before = self.read("tree/a.rrd")
+        mine, other = self.folder / "tree/a.rrd", pwd.getpwnam("nobody")
+        mine.chmod(0o640)
+        if os.geteuid() == 0:
+            os.chown(mine, other.pw_uid, other.pw_gid)
+        found = mine.stat()
+        status, lines, errors = self.export("--in-place", "tree")
+        self.assertEqual((status, errors), (0, []))
+        self.assertEqual(lines[0], f"tree/a.rrd: converted, the database is {mine}.rrdi (2 data sources, 2 archives)")
+        self.assertEqual(lines[2], "2 files: 2 converted")
+        now = mine.stat()
+        self.assertEqual((now.st_mode, now.st_uid, now.st_gid), (found.st_mode, found.st_uid, found.st_gid))
+        self.assertEqual(self.read("tree/a.rrd.rrdi"), before)
+        for name, wanted in (("tree/a.rrd", "wanted/a.rrd"), ("tree/sub/b.rrd", "wanted/b.rrd")):
+            self.same_rows(name, self.rows(wanted))
+            for file in (name, wanted):  # and they go on with the same unfinished step and row
+                self.rrdtool("update", file, f"{START + 9_000}:25:30000", f"{START + 9_300}:26:30100")
+            self.same_rows(name, self.rows(wanted))
+        self.assertEqual(self.export("--in-place", "tree"), (0, [
+            "tree/a.rrd: is a file of RRDtool already", "tree/sub/b.rrd: is a file of RRDtool already",
+            "2 files: 0 converted; 2 already of RRDtool"], []))
+        self.assertEqual(self.unfinished(), [])
+
+    def test_into_a_directory(self) -> None:
+        (self.folder / "tree/a.rrd").rename(self.folder / "tree/a.rrdi")
+        os.symlink("sub", self.folder / "tree/link")
+        for jobs in ("1", "3"):
+            new = f"new{jobs}"
+            self.assertEqual(self.export("--into", new, "--jobs", jobs, "tree"), (0, [
+                f"tree/a.rrdi: {new}/a.rrd (2 data sources, 2 archives)",
+                f"tree/sub/b.rrd: {new}/sub/b.rrd (2 data sources, 2 archives)", "2 files: 2 converted; 1 link passed over"], []))
+            self.same_rows(f"{new}/a.rrd", self.rows("wanted/a.rrd"))
+        before = self.read("new1/a.rrd")
+        self.assertEqual(self.export("--into", "new1", "tree/a.rrdi"), (1, ["1 file: 0 converted; 1 not converted"], [
+            "rrdi-export: tree/a.rrdi: not converted: new1/a.rrd already exists"]))
+        self.assertEqual(self.read("new1/a.rrd"), before)
+        self.assertEqual(self.tool("rrdi-export", "tree/a.rrdi", "one.rrd"), Ran(0, "", ""))
+        self.same_rows("one.rrd", self.rows("wanted/a.rrd"))
+
+    def test_what_is_left(self) -> None:
+        """A damaged file, one that is no database, and one whose other name is taken stay as they are, and have a reason."""
+        self.write("tree/cut.rrd", self.read("tree/a.rrd")[:100])
+        self.write("tree/text.rrd", "text")
+        self.write("tree/a.rrd.rrdi", "other")
+        before = {path: path.read_bytes() for path in (self.folder / "tree").glob("*.rrd*")}
+        status, lines, errors = self.export("--in-place", "tree", "tree/none.rrd", "tree/a.rrd.rrdi")
+        self.assertEqual((status, len(lines), lines[-1]), (1, 2, "6 files: 1 converted; 5 not converted"))
+        self.assertEqual(errors, [
+            f"rrdi-export: tree/a.rrd: not converted: {self.folder}/tree/a.rrd.rrdi already exists",
+            "rrdi-export: tree/cut.rrd: not converted: file: truncated at 100",
+            "rrdi-export: tree/text.rrd: not converted: file: not ours",
+            f"rrdi-export: tree/none.rrd: not converted: {self.folder}/tree/none.rrd: No such file or directory",
+            "rrdi-export: tree/a.rrd.rrdi: not converted: a file whose name ends in .rrdi is converted with --into"])
+        self.assertEqual({path: path.read_bytes() for path in before}, before)
+        self.assertEqual(self.unfinished(), [])
+
+    def test_what_rrdtool_makes_of_it(self) -> None:
+        """If rrdtool fails, or does not give back what it got, the database stays."""
+        before = self.read("tree/a.rrd")
+        for case, why in (
+                ("restore) echo 'ERROR: no space' >&2; exit 1", "ERROR: no space"),
+                ("restore) kill -9 $PPID", "the process was ended by signal 9"),
+                ("dump) exit 1", "what rrdtool restored cannot be read back: rrdtool did not read the file to its end"),
+                ("dump) $real dump $2 | sed 's/<step>300/<step>301/'", "what rrdtool restored is not equal: the step or the last time"),
+                ("dump) $real dump $2 | sed 's/2.1[0-9]*e+01/2.1e+01/'", "what rrdtool restored is not equal: archive 0"),
+                ("dump) $real dump $2 | sed 's/<xff>2.5/<xff>5.0/'", "what rrdtool restored is not equal: archive 1"),
+                ("dump) $real dump $2 | sed 's/<type> GAUGE/<type> COUNTER/'", "what rrdtool restored is not equal: the data source g"),
+                ("dump) $real dump $2 | sed 's/<last_ds>29000/<last_ds>2900/'", "what rrdtool restored is not equal: the data source c"),
+                ("dump) echo x >>tree/a.rrd.rrdi; $real dump $2", "{}/tree/a.rrd.rrdi already exists")):
+            self.stub("rrdtool", f'real={RRDTOOL}; case $1 in {case} ;; *) exec $real "$@" ;; esac')
+            ran = self.export("--in-place", "tree/a.rrd")
+            if "already" not in why:
+                self.assertEqual(ran[2], [f"rrdi-export: tree/a.rrd: not converted: {why}"])
+                self.assertEqual(sorted(os.listdir(self.folder / "tree")), ["a.rrd", "sub"] if "signal" not in why else
+                                 sorted(["a.rrd", "sub", *self.unfinished()]))
+            self.assertEqual(self.read("tree/a.rrd"), before)
+            for left in self.unfinished():
+                (self.folder / "tree" / left).unlink()
+
+
+@needs_program
+@unittest.skipUnless(RRDTOOL, NO_RRDTOOL)
+@unittest.skipUnless(HAS_STRACE, "strace is not installed")
+class Disturbed(OfTree):
+    """Each call that changes a name, an owner or a mode, or waits for the disk, fails or is the last one."""
+
+    CALLS = ("fsync", "link,linkat", "rename,renameat,renameat2", "chmod,fchmodat", "unlink,unlinkat", "chown,fchownat")
+
+    def disturbed(self, call: str, what: str, when: int) -> int:
+        """Runs rrdi-export with a call that fails, or kills the process, and returns the status."""
+        return subprocess.run(["strace", "-f", "--seccomp-bpf", "-qq", "-o", "/dev/null", "-e", f"trace={call}", "-e",
+                               f"inject={call}:{what}:when={when}", str(TOP / "tools/rrdi-export"), "--in-place", "tree/a.rrd"],
+                              cwd=self.folder, env=self.env, capture_output=True, timeout=HANG).returncode
+
+    def is_whole(self, before: bytes, wanted: List[float]) -> None:
+        """The database is there by one of its names, and what has its name is the database or the new file, whole."""
+        at, kept = self.read("tree/a.rrd"), self.folder / "tree/a.rrd.rrdi"
+        if at != before:
+            self.assertEqual(kept.read_bytes(), before)
+            self.same_rows("tree/a.rrd", wanted)
+
+    def test_each_call(self) -> None:
+        wanted, before = self.rows("wanted/a.rrd"), self.read("tree/a.rrd")
+        ends, failed = set(), set()
+        if os.geteuid() == 0:
+            os.chown(self.folder / "tree/a.rrd", 65_534, 65_534)
+        kept = self.folder / "tree/a.rrd.rrdi"
+        for call in self.CALLS:
+            for what in ("error=EIO", "error=ENOSPC", "signal=KILL"):
+                for when in (1, 2) if call == "fsync" else (1,):
+                    status = self.disturbed(call, what, when)
+                    self.is_whole(before, wanted)
+                    failed.update([call] if status else [])
+                    ends.add(self.read("tree/a.rrd") == before)
+                    self.assertEqual(self.export("--in-place", "tree/a.rrd")[0], 0, (call, what, when))
+                    self.assertEqual(kept.read_bytes(), before, (call, what, when))
+                    self.same_rows("tree/a.rrd", wanted)
+                    kept.replace(self.folder / "tree/a.rrd")
+                    for left in Path(self.folder, "tree").glob(".rrdi*"):
+                        left.unlink()
+        self.assertEqual((ends, failed), ({True, False}, set(self.CALLS) - (set() if os.geteuid() == 0 else {self.CALLS[-1]})))
+
+
+if __name__ == "__main__":
+    unittest.main()

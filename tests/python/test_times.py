@@ -1,0 +1,79 @@
+"""Tests of the times that the tools take, besides RRDtool's own: with a zone, after an @, and dates that there are not."""
+from __future__ import annotations
+
+import os
+import subprocess
+import time
+import unittest
+from unittest import mock
+
+from tool_case import NO_RRDTOOL, RRDTOOL, ToolCase
+
+from rrdi.tools.command_line import WrongArguments
+from rrdi.tools.fix import times_of
+from rrdi.tools.graph import with_times
+from rrdi.tools.spans import as_of_rrdtool, span_of
+
+NOON = 1_704_106_800  # 2024-01-01 11:00 UTC, and 12:00 in Berlin
+
+
+class Times(unittest.TestCase):
+    """Berlin is one hour ahead of UTC in January, and two in July. The seconds are those of GNU date."""
+
+    def setUp(self) -> None:
+        zone = mock.patch.dict(os.environ, {"TZ": "Europe/Berlin"})
+        zone.start()
+        time.tzset()
+        self.addCleanup(time.tzset)
+        self.addCleanup(zone.stop)
+
+    def test_zones(self) -> None:
+        for text in ("2024-01-01T11:00:00Z", "2024-01-01 11:00Z", "2024-01-01 11:00:00 Z", "2024-01-01T12:00+01:00",
+                     "2024-01-01T16:30:00+0530", "2024-01-01T07:15-03:45", "@1704106800", "2024-01-01 12:00"):
+            self.assertEqual(as_of_rrdtool(text), f"epoch+{NOON}", text)
+        self.assertEqual(as_of_rrdtool("2024-07-01T00:00Z"), "epoch+1719792000")
+        self.assertEqual(as_of_rrdtool("2024-07-01"), "epoch+1719784800")
+        self.assertEqual(as_of_rrdtool("@60"), "epoch+60")
+
+    def test_spans(self) -> None:
+        self.assertEqual(span_of("@1704106000", "2024-01-01T11:00Z", 5), (1_704_106_000, NOON))
+        self.assertEqual(span_of("end-5min", "@1704106800", 5), (NOON - 300, NOON))
+        with mock.patch.object(time, "time", lambda: NOON + 0.5):
+            self.assertEqual(span_of("-5min", "now", 5), (NOON - 300, NOON))
+
+    def test_no_times(self) -> None:
+        for text in ("2024-02-30", "2024-13-01", "2024-01-00", "2023-02-29 12:00", "2024-01-01 24:00", "2024-01-01T10:60Z",
+                     "2024-01-01T10:00:60Z"):
+            with self.assertRaisesRegex(WrongArguments, f"there is no time '{text}'"):
+                as_of_rrdtool(text)
+
+    def test_rrdi_fix(self) -> None:
+        for text in ("2024-01-01T11:00:00Z", "@1704106800", "1704106800", "2024-01-01 12:00:00"):
+            self.assertEqual(times_of(text), {NOON})
+
+    def test_words_of_a_graph(self) -> None:
+        self.assertEqual(with_times(["p.png", "--start", "2024-01-01T11:00Z", "--end=@1704106900", "-s2024-01-01 12:00", "-e", "now",
+                                     "DEF:a=f:g:LAST:start=noon"]),
+                         ["p.png", "--start", f"epoch+{NOON}", "--end=epoch+1704106900", f"-sepoch+{NOON}", "-e", "now",
+                          "DEF:a=f:g:LAST:start=noon"])
+
+
+@unittest.skipUnless(RRDTOOL, NO_RRDTOOL)
+class BesideRRDtool(ToolCase):
+    def test_m_is_a_month(self) -> None:
+        """As the help says: RRDtool goes back by months for -5m, and by minutes for -5min."""
+        def rows(start: str) -> int:
+            ran = subprocess.run([str(RRDTOOL), "fetch", "f.rrd", "LAST", "-s", start, "-e", "now"], cwd=self.folder,
+                                 env=self.env, check=True, capture_output=True, text=True)
+            first = ran.stdout.splitlines()[2]
+            return int(first.split(":")[0])
+        subprocess.run([str(RRDTOOL), "create", "f.rrd", "--step", "60", "DS:g:GAUGE:600:U:U", "RRA:LAST:0.5:1:10"], cwd=self.folder,
+                       check=True)
+        for text, least, most in (("-5min", 0, 600), ("-5m", 140 * 86_400, 160 * 86_400)):
+            now = int(time.time())
+            self.assertTrue(least <= now - rows(text) <= most, text)
+            self.assertTrue(least <= now - span_of(text, "now", now)[0] <= most, text)
+
+
+if __name__ == "__main__":
+    unittest.main()
