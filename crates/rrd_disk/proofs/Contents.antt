@@ -1,20 +1,13 @@
 -- What a file represents, before and after it is repaired or replaced.
 use Rattle.std.proofs.Common.{◌≡◌, ◌∙◌, ◌∷◌, [], ℕ, ◌<◌, List, Option, Some, None, IsSome, take, slice_index, refl, sym, ap, subst, arith, get_or-take}
 use Rattle.rrd_file.specs.Faults.{IsFile}
-use Rattle.rrd_file.specs.Laws.{FileBegins}
 use Rattle.rrd_spec.specs.Journal.Survivors.{Stored}
 use Rattle.rrd_store.specs.Storages.{Bytes, Held, IsNoFile}
 use Rattle.rrd_tail.specs.Marks.{database_mark, mark_of}
-use Rattle.rrd_tail.specs.Settled.{settled}
 use Rattle.rrd_tail.specs.declared.mark.Mark.{Mark}
 use Rattle.rrd_undo.specs.Databases.{IsDatabase}
 use Rattle.rrd_disk.specs.Contents.{IsSound, represented}
-
--- what the laws of the crates below say
-pub record Laws : Type 0 where
-  pub begins : (bytes : List ℕ) (d : Stored) → FileBegins bytes d
-  pub database : (bytes : List ℕ) → IsDatabase bytes → mark_of bytes ≡ None
-  pub unmarked : (bytes : List ℕ) → mark_of bytes ≡ None → settled bytes ≡ bytes
+use Rattle.rrd_disk.specs.Storing.{Laws}
 
 -- the first four bytes
 four : (bytes : List ℕ) (i : ℕ) → i < 4 → take 4 bytes ≡ 82 ∷ 82 ∷ 68 ∷ 73 ∷ [] → slice_index bytes i ≡ slice_index database_mark i

@@ -13,7 +13,7 @@ use Rattle.rrd_disk.specs.Power.{BecameIf, ChangesIf, HasDatabase, IsChange, IsC
 use Rattle.rrd_disk.specs.Replayed.{World, bytes_after, bytes_of, failures, held_after, is_there}
 use Rattle.rrd_disk.proofs.Asked.{stays_there}
 use Rattle.rrd_disk.proofs.Asking.{bytes_there, there_bytes}
-use Rattle.rrd_disk.proofs.Contents.{Laws}
+use Rattle.rrd_disk.specs.Storing.{Laws}
 use Rattle.rrd_disk.proofs.Kills.{cut, cut_held, cut_honest, missed_held, missed_honest, split}
 use Rattle.rrd_disk.proofs.Powering.{torn_none}
 use Rattle.rrd_disk.proofs.Storing.{there_standing}
@@ -51,7 +51,7 @@ missed_leaves d w events (e ∷ more) are c left =
 -- ---- a change that was cut off
 
 module _ (laws : Laws) (bytes : List ℕ) where
-  pub cut_change : (missed events : List Event) → IsTrue (are_failed missed) → IsChange bytes (missed ++ events) → IsChange bytes events
+  cut_change : (missed events : List Event) → IsTrue (are_failed missed) → IsChange bytes (missed ++ events) → IsChange bytes events
   cut_change missed events are change d w honest some P holds all =
       let m = failures events in
       let world = cut w m in

@@ -9,7 +9,8 @@ use Rattle.rrd_disk.specs.Events.{Event}
 use Rattle.rrd_disk.specs.Replayed.{World, held_after, is_honest_after}
 use Rattle.rrd_disk.specs.Runs.{AreHonest, AreRuns, FilesFollowSpecification, IsRecordOf, IsRun, Recorded, last_of, left_by}
 use Rattle.rrd_disk.proofs.Asked.{world_in_held}
-use Rattle.rrd_disk.proofs.Contents.{Laws, file_unmarked, itself, sound_unmarked}
+use Rattle.rrd_disk.specs.Storing.{Laws}
+use Rattle.rrd_disk.proofs.Contents.{file_unmarked, itself, sound_unmarked}
 
 -- ---- one run
 

@@ -138,13 +138,13 @@ never_there w (e ∷ earlier) is = never_there w earlier (left_missing (held_aft
 
 -- ---- a run that was killed
 
--- the run left what it left with each later call failing
+-- what a kill may leave after more calls, of which each failed and left nothing, it may leave after these
 module _ (w : World) (missed events : List Event) (run : runs.Run) where
   abbrev Left : Type 0
   Left = IsSound (held_after w events) × runs.WasKilled (represented w.start) run (represented (held_after w events))
 
   killed_there : IsTrue (are_failed missed) → held_after w events ≡ Bytes (bytes_of (held_after w events))
-      → IsTrue (is_honest_after w events) → IsSound w.start → IsRun (missed ++ events) run → Left
+      → IsTrue (is_honest_after w events) → IsSound w.start → IsKilledRun (missed ++ events) run → Left
   killed_there are there honest sound did =
       let m = failures events in
       let same = cut_held w m events (omega arith) in
@@ -152,18 +152,18 @@ module _ (w : World) (missed events : List Event) (run : runs.Run) where
       let now = subst (λ (h : Held). h ≡ Bytes (bytes_of h)) (sym same) there in
       let before = subst (λ (b : Bool). IsTrue b) (sym (cut_honest w m events (omega arith))) honest in
       let one = did (cut w m) (missed_honest w m events refl missed are now before) sound in
-      (subst IsSound after one.0, inr (inl (subst (λ (h : Held). runs.Did (represented w.start) run (represented h)) after one.1)))
+      (subst IsSound after one.0, subst (λ (h : Held). runs.WasKilled (represented w.start) run (represented h)) after one.1)
 
   -- where no file came to be, nothing changed
   killed_at : (now : Held) → held_after w events ≡ now → IsTrue (are_failed missed)
-      → IsTrue (is_honest_after w events) → IsSound w.start → IsRun (missed ++ events) run → Left
+      → IsTrue (is_honest_after w events) → IsSound w.start → IsKilledRun (missed ++ events) run → Left
   killed_at Missing is are honest sound did =
       let none = never_there w events is in
       (subst IsSound (sym is) tt, inl (subst (λ (h : Held). represented (held_after w events) ≡ represented h) (is ∙ sym none) refl))
   killed_at (Bytes bytes) is are honest sound did =
       killed_there are (is ∙ subst (λ (h : Held). Bytes bytes ≡ Bytes (bytes_of h)) (sym is) refl) honest sound did
 
-pub killed_run : (missed events : List Event) (run : runs.Run) → IsTrue (are_failed missed) → IsRun (missed ++ events) run → IsKilledRun events run
+killed_run : (missed events : List Event) (run : runs.Run) → IsTrue (are_failed missed) → IsKilledRun (missed ++ events) run → IsKilledRun events run
 killed_run missed events run are did = λ w honest sound. killed_at w missed events run (held_after w events) refl are honest sound did
 
 -- ---- the same with the call that was interrupted
@@ -187,4 +187,5 @@ interrupted_run missed events run are did =
     let parts = split missed are in
     let same : missed ++ events ≡ parts.later ++ (interrupted missed ++ events) =
     ap (λ (l : List Event). l ++ events) parts.all ∙ append_assoc parts.later (interrupted missed) events in
-    killed_run parts.later (interrupted missed ++ events) run parts.failed (subst (λ (l : List Event). IsRun l run) same did)
+    killed_run parts.later (interrupted missed ++ events) run parts.failed
+    (subst (λ (l : List Event). IsKilledRun l run) same (λ w honest sound. let one = did w honest sound in (one.0, inr (inl one.1))))

@@ -1,8 +1,8 @@
 -- A write that failed and may have been done in part, and calls that are made again after it.
 use Rattle.std.proofs.Common.{◌≡◌, ℕ, zero, suc, ◌+◌, ◌%◌, ◌<◌, ◌≤◌, inl, inr, ◌==◌, ◌||◌, nat_le, min, not, List, [], ◌∷◌, length, take, slice_index, IsTrue, refl, sym, ◌∙◌, ap, subst, arith, length-take, get_or-take}
 use Rattle.std.proofs.lemmas.Bool.{cases_lt, eqb-true, le-leb, leb-true, not-true, or_cases, true≢false}
-use Rattle.std.proofs.lemmas.List.{take_all, take_min}
-use Rattle.rrd_undo.specs.Calls.{AreAny, ArePut, AreWholeOrNot, IsFrontPut, IsSized}
+use Rattle.std.proofs.lemmas.List.{take_min}
+use Rattle.rrd_undo.specs.Calls.{ArePut, IsFrontPut, IsSized}
 use Rattle.rrd_undo.specs.Power.{IsSizedOrNot}
 use Rattle.rrd_disk.specs.Calls.{IsPartPut}
 use Rattle.rrd_disk.specs.Replayed.{is_honest_failure, overlaid, padded_or_not}
@@ -60,28 +60,9 @@ module _ (at : ℕ) where
 
     -- ---- what rrd_undo allows after a failed write
 
-    pub part_any : (f g : List ℕ) → IsPartPut at bytes f g → AreAny at (length bytes) f g
-    part_any f g (inl same) = subst (λ (b : List ℕ). AreAny at (length bytes) f b) (sym same) (record { longer = omega arith; bound = omega arith; outside = λ k away. refl })
-    part_any f g (inr (n, some, all, put)) =
-        let long = length_front n some in
-        record {
-          longer = omega (arith, put.len);
-          bound = omega (arith, put.len, long);
-          outside = λ k away. elim away [
-            | inl low ↦ put.outside k (inl low)
-            | inr high ↦ put.outside k (inr (omega (arith, high, long)))
-          ];
-        }
-
     pub part_front : (f g : List ℕ) → IsPartPut at bytes f g → IsFrontPut at bytes f g
     part_front f g (inl same) = inl same
     part_front f g (inr (n, some, all, put)) = inr (n, some, put)
-
-    pub part_whole : (f g : List ℕ) → at % 4096 + length bytes ≤ 4096 → IsPartPut at bytes f g → AreWholeOrNot at bytes f g
-    part_whole f g within (inl same) = inl same
-    part_whole f g within (inr (n, some, all, put)) =
-        let whole : take n bytes ≡ bytes = take_all n bytes (omega (arith, all within)) in
-        inr (subst (λ (b : List ℕ). ArePut at b f g) whole put)
 
     -- ---- a call that failed
 

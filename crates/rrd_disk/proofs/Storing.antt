@@ -22,12 +22,12 @@ use Rattle.rrd_disk.specs.Events.{Event}
 use Rattle.rrd_disk.specs.declared.file_bytes.Entry.{Entry}
 use Rattle.rrd_disk.specs.Loading.{IsDatabaseStanding, StandsSo}
 use Rattle.rrd_disk.specs.Replayed.{World, bytes_after, bytes_of, held_after, is_honest_after, is_there}
-use Rattle.rrd_disk.specs.Storing.{IsLoaded, IsNearly, IsPrepared, IsReadable, IsReady, IsStanding, IsWritten}
+use Rattle.rrd_disk.specs.Storing.{IsLoaded, IsNearly, IsPrepared, IsReadable, IsReady, IsStanding, IsWritten, Laws}
 use Rattle.rrd_disk.specs.declared.loading.Standing.{Standing}
 use Rattle.rrd_disk.specs.declared.loading.Standing.TheVariants.{Database, Unrecorded, Nothing}
 use Rattle.rrd_disk.specs.declared.storage.Found.{Found}
 use Rattle.rrd_disk.proofs.Asking.{bytes_there}
-use Rattle.rrd_disk.proofs.Contents.{Laws, file_database, itself, none_by_start, none_empty, not_begun, some_unmarked, sound_unmarked, unmarked_empty, unmarked_zero}
+use Rattle.rrd_disk.proofs.Contents.{file_database, itself, none_by_start, none_empty, not_begun, some_unmarked, sound_unmarked, unmarked_empty, unmarked_zero}
 
 -- ---- the state of the storage
 

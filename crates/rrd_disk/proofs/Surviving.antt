@@ -18,11 +18,11 @@ use Rattle.rrd_disk.specs.Contents.{IsSound, represented}
 use Rattle.rrd_disk.specs.Events.{Event}
 use Rattle.rrd_disk.specs.Power.{AreUnmarkedDatabase, BecameIf, ChangesIf, DiffersIn, HasDatabase, KeepsDisk, KeepsSurviving, KeepsSurvivingIf, KeepsSyncs, MayLeave, MayLeaveIn, RepresentDatabase, Survives}
 use Rattle.rrd_disk.specs.Replayed.{World, bytes_after, bytes_of, held_after, is_honest_after}
-use Rattle.rrd_disk.specs.Storing.{IsNearly, IsReady}
+use Rattle.rrd_disk.specs.Storing.{IsNearly, IsReady, Laws}
 use Rattle.rrd_disk.specs.declared.disk.Opening.{Opening}
 use Rattle.rrd_disk.specs.declared.disk.Opening.TheVariants.{Read, Write, Make}
 use Rattle.rrd_disk.proofs.Asked.{for_each, syncs_stay}
-use Rattle.rrd_disk.proofs.Contents.{Laws, itself, none_by_start, some_unmarked}
+use Rattle.rrd_disk.proofs.Contents.{itself, none_by_start, some_unmarked}
 use Rattle.rrd_disk.proofs.Storing.{database_or_not, there_standing}
 
 -- ---- whether the run syncs

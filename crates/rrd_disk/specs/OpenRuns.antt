@@ -41,10 +41,6 @@ IsOpenRun before after run =
     → IsTrue (is_honest_after w before)
     × runs.Did (represented (held_after w before)) run (represented (held_after w after))
 
--- whatever the file is, the run did what the definitions say for some valid database, or for none
-abbrev pub IsAnyRun : runs.Run → Type 0
-IsAnyRun run = runs.DidIn None run None × runs.IsComputed None None run
-
 -- a run, and the calls on the file since it was opened, the newest first
 pub record RecordedOpen : Type 0 where
   pub run : runs.Run

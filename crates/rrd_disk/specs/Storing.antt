@@ -10,6 +10,7 @@ use Rattle.rrd_disk.specs.declared.storage.Found.{Found}
 use Rattle.rrd_disk.specs.declared.storage.Found.TheVariants.{Open, Unsettled}
 use Rattle.rrd_spec.specs.Journal.Survivors.{Stored}
 use Rattle.rrd_file.specs.Faults.{IsFile}
+use Rattle.rrd_file.specs.Laws.{FileBegins}
 use Rattle.rrd_file.specs.declared.encoded.Encoded.{Encoded}
 use Rattle.rrd_file.specs.declared.span.Span.{Span}
 use Rattle.rrd_store.specs.Sessions.{HasBytes}
@@ -19,6 +20,12 @@ use Rattle.rrd_tail.specs.Marks.{mark_of}
 use Rattle.rrd_tail.specs.Settled.{settled}
 use Rattle.rrd_undo.specs.Databases.{IsDatabase}
 use Rattle.rrd_undo.specs.declared.span.Span.{Span as PageSpan}
+
+-- what the laws of the crates below say
+pub record Laws : Type 0 where
+  pub begins : (bytes : List ℕ) (d : Stored) → FileBegins bytes d
+  pub database : (bytes : List ℕ) → IsDatabase bytes → mark_of bytes ≡ None
+  pub unmarked : (bytes : List ℕ) → mark_of bytes ≡ None → settled bytes ≡ bytes
 
 -- a file that the run may change has a database
 abbrev pub IsReadable : Found → List Event → Type 0

@@ -1,4 +1,4 @@
-//! The files on which a library made calls. Only clauses read it: it takes no memory, and its methods do nothing.
+//! The paths for which a library began records. Only clauses read it: it takes no memory, and its methods do nothing.
 ghost use Rattle.std.specs.Prelude.{◌≡◌, ℕ, List, [], ◌∷◌};
 ghost use Rattle.std.specs.Borrow.{ftrue};
 ghost use Rattle.std.specs.Coded.{coded_list, coded_ℕ};
@@ -12,10 +12,10 @@ pub(crate) struct Named<'a> {
     path: &'a str,
 }
 
-/// The paths of the files of which a record was begun, for clauses: `paths` has the newest first.
+/// The paths for which records were begun, for clauses: `paths` has the newest first.
 ///
-/// No code makes such a value. A library has the one that its caller lends, and so a clause can say which records a call
-/// began: a call on another file, or on the same file by a second record, shows here.
+/// No other crate can make such a value, nor begin a record without noting the path in one, unless it has the runtime of
+/// a program. So a clause can say which records a call began.
 #[repr(C)]
 #[derive(Drop)]
 #[non_exhaustive]

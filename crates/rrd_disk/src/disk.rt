@@ -169,9 +169,8 @@ pub trait Disk {
         ensures ok { OnOk result (events self.new ≡ Streamed ∷ events self.old) }
         ensures err { OnErr result (events self.new ≡ events self.old) };
 
-    /// Writes bytes from byte `at` on by one call, and returns the number of bytes that were written.
-    ///
-    /// The file has been locked against all other programs since it was opened, unless its file system has no locks.
+    /// Writes bytes from byte `at` on by one call, and returns the number of bytes that were written. Since the last
+    /// opening of the file, the record has the run's own lock, or that the file system has no locks.
     ///
     /// # Errors
     ///
@@ -181,7 +180,7 @@ pub trait Disk {
         ensures ok { IfOk result (λ n. events self.new ≡ Put at bytes.now n ∷ events self.old) }
         ensures err { OnErr result (events self.new ≡ PutFailed at bytes.now ∷ events self.old) };
 
-    /// Sets the length of the file to `length` bytes: truncates the file, or appends zeros. The file has been locked as for
+    /// Sets the length of the file to `length` bytes: truncates the file, or appends zeros. The record has a lock as for
     /// [`Disk::write_at`].
     ///
     /// # Errors

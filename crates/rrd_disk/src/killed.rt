@@ -6,7 +6,7 @@
 ghost use Rattle.std.specs.Prelude.{◌≡◌, ◌+◌, ◌++◌, ◌<◌, [], IsTrue};
 ghost use Rattle.rrd_disk.specs.Kills.{are_failed, interrupted};
 ghost use Rattle.rrd_disk.specs.Runs.{IsKilledRun};
-ghost use Rattle.rrd_store.specs.Runs.{ByBatch, ByCommand};
+ghost use Rattle.rrd_store.specs.Runs.{batch_run, command_run};
 
 use crate::{
     Disk, Facts, FileRun, Lock, LockResult, Noted, Opening, Place, Record, run_batch_at,
@@ -148,15 +148,15 @@ impl<D: Disk> Disk for Killed<D> {
     }
 }
 
-/// Runs one command as [`run_command_at`] does, but kills the run after `calls` calls on the file, or in the next call.
+/// Runs one command as [`run_command_at`] does, but kills the run in the call on the file that follows `calls` others.
 ///
 /// The end and the text are those of a run whose later calls all fail: of a killed run nobody sees them.
 ///
 /// Theorem: if the record is that of an honest file that nobody else wrote, the file represents what it represented
-/// before the run, or what the definitions say of an accepted command; or it is damaged, if there was no database. So it
-/// is if the kill came between two calls (`between`), and if it interrupted a write that wrote a first part of its bytes
-/// (`within`), but within one page all of them or none. The body is a part of the theorem: one that makes no call on the
-/// file, and fails, would keep the contract too.
+/// before the run, or what the definitions say of an accepted command; or it is damaged, if there was no database. A write
+/// that the kill interrupted may have written a first part of its bytes, but within one page all of them or none: if it
+/// wrote none, the kill came between two calls. The body is a part of the theorem: one that makes no call on the file, and
+/// fails, would keep the contract too.
 pub fn run_command_killed<D: Disk, W: Write>(
     alloc: Global,
     disk: D,
@@ -166,29 +166,16 @@ pub fn run_command_killed<D: Disk, W: Write>(
     now: u64,
     out: &mut W,
 ) -> FileRun<Killed<D>, Result<(), TaskFault>>
-    ensures between { D.events disk ≡ [] → IsKilledRun (D.events result.disk.system)
-        (ByCommand (record {
-          words = words.now;
-          now = now;
-          out_before = W.contents out.old;
-          out_after = W.contents out.new;
-          end = result.end;
-        })) }
-    ensures within { D.events disk ≡ [] → IsKilledRun (interrupted result.disk.missed.events ++ D.events result.disk.system)
-        (ByCommand (record {
-          words = words.now;
-          now = now;
-          out_before = W.contents out.old;
-          out_after = W.contents out.new;
-          end = result.end;
-        })) }
+    requires { D.events disk ≡ [] }
+    ensures { IsKilledRun (interrupted result.disk.missed.events ++ D.events result.disk.system)
+        (command_run words.now now (W.contents out.old) (W.contents out.new) result.end) }
 {
     let killed = Killed::new(disk, calls);
     run_command_at(alloc, killed, place, words, now, out)
 }
 
-/// Runs each line of `reader` as [`run_batch_at`] does, but kills the run after `calls` calls on the file, or in the
-/// next call.
+/// Runs each line of `reader` as [`run_batch_at`] does, but kills the run in the call on the file that follows `calls`
+/// others.
 ///
 /// Theorem: as for [`run_command_killed`]. The file has the changes of all lines, or of none.
 pub fn run_batch_killed<D: Disk, R: Read, W: Write>(
@@ -201,26 +188,10 @@ pub fn run_batch_killed<D: Disk, R: Read, W: Write>(
     reader: &mut R,
     out: &mut W,
 ) -> FileRun<Killed<D>, Result<FileBatchEnd, TaskFault>>
-    ensures between { D.events disk ≡ [] → IsKilledRun (D.events result.disk.system)
-        (ByBatch (record {
-          now = now;
-          numbered = numbered;
-          in_before = R.remaining reader.old;
-          in_after = R.remaining reader.new;
-          out_before = W.contents out.old;
-          out_after = W.contents out.new;
-          end = result.end;
-        })) }
-    ensures within { D.events disk ≡ [] → IsKilledRun (interrupted result.disk.missed.events ++ D.events result.disk.system)
-        (ByBatch (record {
-          now = now;
-          numbered = numbered;
-          in_before = R.remaining reader.old;
-          in_after = R.remaining reader.new;
-          out_before = W.contents out.old;
-          out_after = W.contents out.new;
-          end = result.end;
-        })) }
+    requires { D.events disk ≡ [] }
+    ensures { IsKilledRun (interrupted result.disk.missed.events ++ D.events result.disk.system)
+        (batch_run now numbered (R.remaining reader.old) (R.remaining reader.new)
+        (W.contents out.old) (W.contents out.new) result.end) }
 {
     let killed = Killed::new(disk, calls);
     run_batch_at(alloc, killed, place, now, numbered, reader, out, &Always)

@@ -10,6 +10,8 @@ ghost use Rattle.rrd_disk.specs.OpenRuns.{OpenFilesFollowSpecification, Recorded
 ghost use Rattle.rrd_disk.specs.Power.{IsChange, IsChanged, SurvivesFailure};
 ghost use Rattle.rrd_disk.specs.Replayed.{World};
 ghost use Rattle.rrd_disk.specs.Runs.{FilesFollowSpecification, Recorded};
+ghost use Rattle.rrd_disk.specs.Storing.{Laws};
+ghost use Rattle.rrd_disk.specs.Told.{Call, HonestRecordsExist};
 ghost use Rattle.rrd_spec.specs.Journal.Survivors.{Stored};
 ghost use Rattle.rrd_store.specs.Storages.{Held, IsAnyFile};
 ghost use Rattle.rrd_undo.specs.declared.tail.Syncs.TheVariants.{Ordered};
@@ -19,6 +21,14 @@ use rrd_file::laws::file_begins;
 use rrd_store::laws::runs_follow_specification;
 use rrd_undo::laws::files_without_marks_stand_for_themselves;
 use std::io;
+
+// Theorem: what is so of the files of databases, and of files without marks.
+pub(crate) fn file_laws()
+    ensures { Laws }
+{
+    file_begins();
+    files_without_marks_stand_for_themselves();
+}
 
 /// Theorem: after any list of runs on one file, the bytes that the file represents and all printed text are what the
 /// definitions compute.
@@ -32,8 +42,7 @@ pub fn files_follow_specification()
     ensures { (start : Held) (first : Option Stored) (recorded : List Recorded) →
         FilesFollowSpecification start first recorded }
 {
-    file_begins();
-    files_without_marks_stand_for_themselves();
+    file_laws();
     runs_follow_specification();
 }
 
@@ -46,15 +55,20 @@ pub fn open_files_follow_specification()
     ensures { (w : World) (first : Option Stored) (opened : List Event) (recorded : List RecordedOpen) →
         OpenFilesFollowSpecification w first opened recorded }
 {
-    file_begins();
-    files_without_marks_stand_for_themselves();
+    file_laws();
     runs_follow_specification();
 }
+
+/// Theorem: the records that the theorems ask for exist. From each file, a file that does what it is told answers any calls
+/// of a run by answers that are honest.
+pub fn honest_records_exist()
+    ensures { (start : Held) (calls : List Call) → HonestRecordsExist start calls }
+{}
 
 /// Theorem: power failures. If the power fails while the database of a file is replaced, by a storage that syncs, whatever
 /// the disk then has represents the old bytes or the new ones; and a change that ended without an error is stored.
 ///
-/// The power fails after `calls` calls on the file (`between`), or in the next one (`within`). The record is that of an
+/// The power fails after `calls` calls on the file, in the next one, which may have done nothing. The record is that of an
 /// honest file that nobody else wrote. Before the run the file represents a database, and the disk may have other bytes
 /// than the file, as after a kill: what holds of all that they represent, and of the new bytes, holds of all that the
 /// power may leave. The premises about the disk are those of `AreTorn`, `IsSizedOrNot` and `SlotsTell`, and that a sync
@@ -65,13 +79,13 @@ pub fn changes_survive_power_failures<D: Disk, L: Location>(
     place: L,
     bytes: &[u8],
 ) -> FileRun<Killed<D>, io::Result<()>>
-    requires { IsAnyFile bytes.now }
-    ensures between { D.events disk ≡ [] → L.syncs place ≡ Ordered → IsChange bytes.now (D.events result.disk.system) }
-    ensures within { D.events disk ≡ [] → L.syncs place ≡ Ordered → IsChange bytes.now (interrupted result.disk.missed.events ++ D.events result.disk.system) }
-    ensures stored { OnOk result.end (D.events disk ≡ [] → L.syncs place ≡ Ordered → IsChanged bytes.now (result.disk.missed.events ++ D.events result.disk.system)) }
+    requires file { IsAnyFile bytes.now }
+    requires begun { D.events disk ≡ [] }
+    requires syncs { L.syncs place ≡ Ordered }
+    ensures left { IsChange bytes.now (interrupted result.disk.missed.events ++ D.events result.disk.system) }
+    ensures stored { OnOk result.end (IsChanged bytes.now (result.disk.missed.events ++ D.events result.disk.system)) }
 {
-    file_begins();
-    files_without_marks_stand_for_themselves();
+    file_laws();
     let killed = Killed::new(disk, calls);
     let mut storage = FileStorage::new(killed, place);
     let end = storage.write(bytes);

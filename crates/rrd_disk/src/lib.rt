@@ -31,4 +31,4 @@ pub use record::{Noted, Record};
 pub use rrd_undo::Syncs;
 pub use runs::{FileRun, run_batch_at, run_command_at};
 pub use settings::Settings;
-pub use storage::FileStorage;
+pub(crate) use storage::FileStorage;

@@ -1,8 +1,8 @@
 //! A database in a file that stays open between runs.
 ghost use Rattle.std.specs.Prelude.{◌≡◌, [], IfErr, IfNone, IfOk, IfSome, IsSome, None, OnOk, Some, is_ok, true};
-ghost use Rattle.rrd_disk.specs.OpenRuns.{IsAnyRun, IsKept, IsOpenRun, IsOpened, IsReload};
+ghost use Rattle.rrd_disk.specs.OpenRuns.{IsKept, IsOpenRun, IsOpened, IsReload};
 ghost use Rattle.rrd_spec.specs.Journal.Survivors.{Stored};
-ghost use Rattle.rrd_store.specs.Runs.{ByBatch, ByCommand, ByRequest, IsOfPlace};
+ghost use Rattle.rrd_store.specs.Runs.{IsOfPlace, batch_run, command_run, request_run};
 ghost use Rattle.rrd_store.specs.Sessions.{IsFileBatchOn, IsSingleOn, RunsOn};
 
 use crate::{Disk, FileStorage, OwnPlace};
@@ -36,9 +36,8 @@ impl<D: Disk + Drop> OpenFile<D> {
     ///
     /// # Errors
     ///
-    /// - `CannotOpen`: there is no such file, it cannot be written or is no regular file, another program holds its lock, or
-    ///   the file system has no locks.
-    /// - `File`: the file is not a database, or memory ran out.
+    /// `CannotOpen` if the file cannot be opened and locked for a change, `File` if its database cannot be read. The
+    /// contract says only that the fault is one of the two.
     pub fn open(alloc: Global, disk: D, place: OwnPlace) -> Result<OpenFile<D>, OpenFault>
         requires { D.events disk ≡ [] }
         ensures kept { IfOk result (λ file. IsKept (D.events file.session.storage.bytes.disk) file.session.database file.session.encoded) }
@@ -108,23 +107,9 @@ impl<D: Disk + Drop> OpenFile<D> {
             → IsKept (D.events self.new.session.storage.bytes.disk) self.new.session.database self.new.session.encoded }
         ensures file { IsKept (D.events self.old.session.storage.bytes.disk) self.old.session.database self.old.session.encoded
             → IsOpenRun (D.events self.old.session.storage.bytes.disk) (D.events self.new.session.storage.bytes.disk)
-            (ByCommand (record {
-              words = words.now;
-              now = now;
-              out_before = W.contents out.old;
-              out_after = W.contents out.new;
-              end = result;
-            })) }
+            (command_run words.now now (W.contents out.old) (W.contents out.new) result) }
         ensures on { (d : Stored) → self.old.session.database ≡ Some d
             → IsSingleOn words.now now d self.new.session.database None None (W.contents out.old) (W.contents out.new) result }
-        ensures any { IsAnyRun
-            (ByCommand (record {
-              words = words.now;
-              now = now;
-              out_before = W.contents out.old;
-              out_after = W.contents out.new;
-              end = result;
-            })) }
     {
         self.session.database_is_valid();
         self.session.storage().forget_error();
@@ -144,21 +129,9 @@ impl<D: Disk + Drop> OpenFile<D> {
             → IsKept (D.events self.new.session.storage.bytes.disk) self.new.session.database self.new.session.encoded }
         ensures file { IsKept (D.events self.old.session.storage.bytes.disk) self.old.session.database self.old.session.encoded
             → IsOpenRun (D.events self.old.session.storage.bytes.disk) (D.events self.new.session.storage.bytes.disk)
-            (ByRequest (record {
-              command = command;
-              out_before = W.contents out.old;
-              out_after = W.contents out.new;
-              end = result;
-            })) }
+            (request_run command (W.contents out.old) (W.contents out.new) result) }
         ensures on { (d : Stored) → self.old.session.database ≡ Some d
             → RunsOn command d self.new.session.database None None (W.contents out.old) (W.contents out.new) result }
-        ensures any { IsAnyRun
-            (ByRequest (record {
-              command = command;
-              out_before = W.contents out.old;
-              out_after = W.contents out.new;
-              end = result;
-            })) }
     {
         self.session.database_is_valid();
         self.session.storage().forget_error();
@@ -182,30 +155,12 @@ impl<D: Disk + Drop> OpenFile<D> {
             → IsKept (D.events self.new.session.storage.bytes.disk) self.new.session.database self.new.session.encoded }
         ensures file { IsKept (D.events self.old.session.storage.bytes.disk) self.old.session.database self.old.session.encoded
             → IsOpenRun (D.events self.old.session.storage.bytes.disk) (D.events self.new.session.storage.bytes.disk)
-            (ByBatch (record {
-              now = now;
-              numbered = numbered;
-              in_before = R.remaining reader.old;
-              in_after = R.remaining reader.new;
-              out_before = W.contents out.old;
-              out_after = W.contents out.new;
-              end = result;
-            })) }
+            (batch_run now numbered (R.remaining reader.old) (R.remaining reader.new)
+            (W.contents out.old) (W.contents out.new) result) }
         ensures on { (d : Stored) → self.old.session.database ≡ Some d
             → IsFileBatchOn now numbered d self.new.session.database None None
             (R.remaining reader.old) (R.remaining reader.new) (W.contents out.old) (W.contents out.new) result }
-        ensures any { IsAnyRun
-            (ByBatch (record {
-              now = now;
-              numbered = numbered;
-              in_before = R.remaining reader.old;
-              in_after = R.remaining reader.new;
-              out_before = W.contents out.old;
-              out_after = W.contents out.new;
-              end = result;
-            })) }
     {
-        self.session.database_is_valid();
         self.session.storage().forget_error();
         self.session
             .run_batch(alloc, now, numbered, reader, out, gate)

@@ -1,8 +1,7 @@
 //! Runs on the file at a path, each with the record of the calls that it made.
 ghost use Rattle.std.specs.Prelude.{◌≡◌, []};
-ghost use Rattle.rrd_disk.specs.OpenRuns.{IsAnyRun};
 ghost use Rattle.rrd_disk.specs.Runs.{IsRun};
-ghost use Rattle.rrd_store.specs.Runs.{ByBatch, ByCommand};
+ghost use Rattle.rrd_store.specs.Runs.{batch_run, command_run};
 
 use crate::{Disk, FileStorage, Place};
 use rrd_store::{FileBatchEnd, Gate, TaskFault, run_file_batch, run_file_command};
@@ -31,22 +30,9 @@ pub fn run_command_at<D: Disk, W: Write>(
     now: u64,
     out: &mut W,
 ) -> FileRun<D, Result<(), TaskFault>>
-    ensures run { D.events disk ≡ [] → IsRun (D.events result.disk)
-        (ByCommand (record {
-          words = words.now;
-          now = now;
-          out_before = W.contents out.old;
-          out_after = W.contents out.new;
-          end = result.end;
-        })) }
-    ensures any { IsAnyRun
-        (ByCommand (record {
-          words = words.now;
-          now = now;
-          out_before = W.contents out.old;
-          out_after = W.contents out.new;
-          end = result.end;
-        })) }
+    requires { D.events disk ≡ [] }
+    ensures { IsRun (D.events result.disk)
+        (command_run words.now now (W.contents out.old) (W.contents out.new) result.end) }
 {
     let mut storage = FileStorage::new(disk, place);
     let end = run_file_command(alloc, words, now, &mut storage, out);
@@ -70,26 +56,10 @@ pub fn run_batch_at<D: Disk, R: Read, W: Write, G: Gate>(
     out: &mut W,
     gate: &G,
 ) -> FileRun<D, Result<FileBatchEnd, TaskFault>>
-    ensures run { D.events disk ≡ [] → IsRun (D.events result.disk)
-        (ByBatch (record {
-          now = now;
-          numbered = numbered;
-          in_before = R.remaining reader.old;
-          in_after = R.remaining reader.new;
-          out_before = W.contents out.old;
-          out_after = W.contents out.new;
-          end = result.end;
-        })) }
-    ensures any { IsAnyRun
-        (ByBatch (record {
-          now = now;
-          numbered = numbered;
-          in_before = R.remaining reader.old;
-          in_after = R.remaining reader.new;
-          out_before = W.contents out.old;
-          out_after = W.contents out.new;
-          end = result.end;
-        })) }
+    requires { D.events disk ≡ [] }
+    ensures { IsRun (D.events result.disk)
+        (batch_run now numbered (R.remaining reader.old) (R.remaining reader.new)
+        (W.contents out.old) (W.contents out.new) result.end) }
 {
     let mut storage = FileStorage::new(disk, place);
     let end = run_file_batch(alloc, now, numbered, &mut storage, reader, out, gate);

@@ -15,15 +15,15 @@ ghost use Rattle.rrd_tail.specs.Settled.{settled};
 ghost use Rattle.rrd_store.specs.declared.faults.TaskFault.TheVariants.{CannotOpen};
 
 use crate::file_bytes::{Entry, FileBytes};
+use crate::laws::file_laws;
 use crate::loading::{Standing, find_standing, load, load_pipe, repair};
 use crate::opening::not_regular;
 use crate::{Cause, Disk, Location, Opening};
 use rrd_base::Database;
-use rrd_file::laws::{file_begins, one_answer};
+use rrd_file::laws::one_answer;
 use rrd_file::{FileFault, Span};
 use rrd_store::{Access, Loaded, Storage, TaskFault};
 use rrd_tail::DATABASE_MARK;
-use rrd_undo::laws::files_without_marks_stand_for_themselves;
 use rrd_undo::{Bytes, Span as PageSpan, has_mark, replace, replace_where};
 use std::alloc::{AllocError, Global};
 use std::io::{self, Error, ErrorKind};
@@ -58,7 +58,7 @@ enum Afterwards {
 
 /// The file of a system, as the storage of a database ([`Storage`]).
 #[derive(Drop)]
-pub struct FileStorage<D: Disk, L: Location> {
+pub(crate) struct FileStorage<D: Disk, L: Location> {
     bytes: FileBytes<D>,
     place: L,
     afterwards: Afterwards,
@@ -140,8 +140,7 @@ fn prepare_marked<D: Disk>(alloc: Global, file: &mut FileBytes<D>, cause: &Cause
     ensures syncs { KeepsSyncs file.old.syncs file.new.syncs (D.events file.new.disk) }
     ensures prepared { PreparesMarked (D.events file.old.disk) (D.events file.new.disk) result }
 {
-    file_begins();
-    files_without_marks_stand_for_themselves();
+    file_laws();
     match find_standing(alloc, file, cause) {
         Ok(standing) => repair(alloc, file, &standing),
         Err(fault) => Err(error_of(&fault, cause)),
@@ -154,8 +153,7 @@ fn spoil<D: Disk>(file: &mut FileBytes<D>) -> io::Result<()>
     ensures syncs { KeepsSyncs file.old.syncs file.new.syncs (D.events file.new.disk) }
     ensures spoilt { Spoils (D.events file.old.disk) (D.events file.new.disk) result }
 {
-    file_begins();
-    files_without_marks_stand_for_themselves();
+    file_laws();
     file.put_whole(0, &[0; 4])
 }
 
@@ -172,8 +170,7 @@ fn prepare_unmarked<D: Disk>(
     ensures prepared { PreparesUnmarked (D.events file.old.disk) (D.events file.new.disk) result }
 {
     one_answer();
-    file_begins();
-    files_without_marks_stand_for_themselves();
+    file_laws();
     if !begins_like_database(alloc, file)? {
         return Ok(());
     }
@@ -363,8 +360,7 @@ impl<D: Disk, L: Location> FileStorage<D, L> {
         ensures held { HasDecoded self.new.found self.new.bytes.front.bytes.items result }
         ensures valid { Finds None result }
     {
-        file_begins();
-        files_without_marks_stand_for_themselves();
+        file_laws();
         self.found = Found::Unopened;
         match find_standing(alloc, &mut self.bytes, self.place.cause()) {
             Ok(standing) => {
@@ -402,8 +398,7 @@ impl<D: Disk, L: Location> FileStorage<D, L> {
         ensures held { HasDecoded self.new.found self.new.bytes.front.bytes.items result }
         ensures valid { Finds None result }
     {
-        file_begins();
-        files_without_marks_stand_for_themselves();
+        file_laws();
         match self.is_marked(alloc) {
             Ok(true) => self.load_marked(alloc),
             Ok(false) => self.load_unmarked(alloc),
@@ -444,8 +439,7 @@ impl<D: Disk, L: Location> FileStorage<D, L> {
         ensures loads { LoadsOpen (D.events self.old.bytes.disk) (D.events self.new.bytes.disk) result }
         ensures valid { Finds None result }
     {
-        file_begins();
-        files_without_marks_stand_for_themselves();
+        file_laws();
         match self.is_marked(alloc) {
             Ok(true) => self.load_interrupted(alloc),
             Ok(false) => self.load_unmarked(alloc),
@@ -556,8 +550,7 @@ impl<D: Disk, L: Location> FileStorage<D, L> {
         ensures prepared { Prepares (D.events self.old.bytes.disk) (D.events self.new.bytes.disk) result }
         ensures found { self.new.found ≡ Unopened }
     {
-        file_begins();
-        files_without_marks_stand_for_themselves();
+        file_laws();
         match std::mem::replace(&mut self.found, Found::Unopened) {
             Found::Open => Ok(()),
             Found::Unopened => {
@@ -581,8 +574,7 @@ impl<D: Disk, L: Location> FileStorage<D, L> {
         ensures has { OnOk result (RepresentsSome (D.events self.new.bytes.disk)) }
         ensures found { self.new.found ≡ Unopened }
     {
-        file_begins();
-        files_without_marks_stand_for_themselves();
+        file_laws();
         self.open_to_write(alloc)?;
         let syncs = self.bytes.syncs();
         replace(alloc, &mut self.bytes, bytes, syncs)
@@ -599,8 +591,7 @@ impl<D: Disk, L: Location> FileStorage<D, L> {
         ensures same { KeepsOpen (D.events self.old.bytes.disk) (D.events self.new.bytes.disk) }
         ensures stays { self.new.found ≡ Unopened → ⊥ }
     {
-        file_begins();
-        files_without_marks_stand_for_themselves();
+        file_laws();
         match is_marked(alloc, &mut self.bytes) {
             Ok(false) => self.found = Found::Open,
             Ok(true) | Err(_) => self.found = Found::Unsettled,
@@ -616,8 +607,6 @@ impl<D: Disk, L: Location> FileStorage<D, L> {
         ensures syncs { KeepsSyncs self.old.bytes.syncs self.new.bytes.syncs (D.events self.new.bytes.disk) }
         ensures writes { Writes bytes.now (D.events self.old.bytes.disk) (D.events self.new.bytes.disk) result }
     {
-        file_begins();
-        files_without_marks_stand_for_themselves();
         let alloc = self.bytes.disk().alloc();
         let ended = self.put(alloc, bytes);
         match (&ended, self.afterwards) {
@@ -640,8 +629,7 @@ impl<D: Disk, L: Location> FileStorage<D, L> {
         ensures there { IsThere (D.events self.new.bytes.disk) }
         ensures found { self.new.found ≡ Unopened }
     {
-        file_begins();
-        files_without_marks_stand_for_themselves();
+        file_laws();
         self.found = Found::Unopened;
         let changed = page_spans(alloc, changed)?;
         let syncs = self.bytes.syncs();
@@ -678,8 +666,6 @@ impl<D: Disk, L: Location> FileStorage<D, L> {
         ensures syncs { KeepsSyncs self.old.bytes.syncs self.new.bytes.syncs (D.events self.new.bytes.disk) }
         ensures writes { WritesWhere changed.now bytes.now (D.events self.old.bytes.disk) (D.events self.new.bytes.disk) result }
     {
-        file_begins();
-        files_without_marks_stand_for_themselves();
         if !self.is_open() {
             return self.write(bytes);
         }
@@ -702,8 +688,7 @@ impl<D: Disk, L: Location> FileStorage<D, L> {
     fn is_open(&self) -> bool
         ensures { IsTrue result → IsThere (D.events self.now.bytes.disk) }
     {
-        file_begins();
-        files_without_marks_stand_for_themselves();
+        file_laws();
         matches!(self.found, Found::Open | Found::Unsettled)
     }
 
@@ -729,8 +714,7 @@ impl<D: Disk, L: Location> FileStorage<D, L> {
         ensures database { result.database ≡ Some database }
         ensures bytes { RepresentsBytes result.encoded (D.events self.new.bytes.disk) }
     {
-        file_begins();
-        files_without_marks_stand_for_themselves();
+        file_laws();
         let is_last = self.afterwards == Afterwards::Closed;
         match self.found {
             Found::Open if is_last && self.bytes.is_whole() => {

@@ -12,12 +12,12 @@ use Rattle.rrd_tool.specs.declared.commands.Command.{Command}
 use Rattle.rrd_tool.specs.declared.faults.Fault.{Fault}
 use Rattle.rrd_tool.specs.declared.faults.Fault.TheVariants.{Line, NoDatabase, Output, Refused}
 use Rattle.rrd_tool.specs.declared.faults.LineFault.{LineFault}
-use Rattle.rrd_store.specs.Storages.{Held, Leaves, Stays}
+use Rattle.rrd_store.specs.Storages.{Held, Leaves, Missing}
 use Rattle.rrd_store.specs.Runs.{Answers, AnswersRead, Filing, Holds, IsDone, MayStop, ReadsFile, as_written, database_in, kept_next, state_in}
 use Rattle.rrd_store.specs.Single.{EndsBy, FindsOne, RunsAs, RunsFrom, StartsBy}
 use Rattle.rrd_store.specs.declared.faults.TaskFault.{TaskFault}
 use Rattle.rrd_store.specs.declared.faults.TaskFault.TheVariants as task
-use Rattle.rrd_store.proofs.Found.{HoldsIn, IsLeftIn, NoneIs, Reading, found_is, left_after, may_stop, same_left, stays_left, unleft, valid_held}
+use Rattle.rrd_store.proofs.Found.{IsLeft, Reading, found_is, left_after, may_stop, same_left, stays_left, unleft, valid_held}
 use Rattle.rrd_store.proofs.ValidStates.{Staying, Valid, next_stands, next_valid}
 
 -- ---- what a command's effect says of the next state
@@ -87,64 +87,64 @@ text_in (Shows show) s found f = ap (λ (k : Option Stored). text_on k (Shows sh
 
 -- what is known before a command: where it is accepted it leads to a valid state, and if it changes nothing the storage
 -- that stays has what is kept
-pub record Before (old new : Option Held) (s : Option Filing) (e : Effect) : Type 0 where
+pub record Before (old new : Held) (s : Option Filing) (e : Effect) : Type 0 where
   pub stands : verdict_on (database_in s) e ≡ None → StandsFor (stored_next (database_in s) e) (next (state_in s) e)
-  pub valid : verdict_on (database_in s) e ≡ None → Valid (NoneIs old) (next (state_in s) e)
-  pub same : false ≡ is_change e → Stays old new → IsLeftIn old new (kept_next s e) None
+  pub valid : verdict_on (database_in s) e ≡ None → Valid (old ≡ Missing) (next (state_in s) e)
+  pub same : false ≡ is_change e → new ≡ old → IsLeft old new (kept_next s e) None
 
 -- over the file of a state
-pub before_kept : Staying → Reading → (old new : Option Held) (s : Option Filing) → HoldsIn old s → (e : Effect) → Before old new s e
+pub before_kept : Staying → Reading → (old new : Held) (s : Option Filing) → Holds old s → (e : Effect) → Before old new s e
 before_kept stays laws old new s held e =
     let valid = valid_held laws old s held in
     record {
-      stands = next_stands stays (NoneIs old) e (state_in s) valid;
-      valid = next_valid stays (NoneIs old) e (state_in s) valid;
+      stands = next_stands stays (old ≡ Missing) e (state_in s) valid;
+      valid = next_valid stays (old ≡ Missing) e (state_in s) valid;
       same = λ shown k. same_left old new s (kept_next s e) held (same_shown e s shown) k;
     }
 
 -- a create over bytes that are no database
-pub before_made : Staying → (old new : Option Held) (spec : CreateSpec) → Before old new None (Makes spec)
+pub before_made : Staying → (old new : Held) (spec : CreateSpec) → Before old new None (Makes spec)
 before_made stays old new spec = record {
   stands = next_stands stays (Unit {0}) (Makes spec) None tt;
   valid = next_valid stays (Unit {0}) (Makes spec) None tt;
   same = λ shown k. absurd cc;
 }
 
-module _ (old new : Option Held) (s : Option Filing) (e : Effect) (c0 c1 : Option (List ℕ)) where
+module _ (old new : Held) (s : Option Filing) (e : Effect) (c0 c1 : Option (List ℕ)) where
   abbrev pub Answered : Result (Unit {0}) TaskFault → Type 0
-  Answered end = (s1 : Option Filing) × Answers s e s1 c0 c1 end × IsLeftIn old new s1 (result_err end)
+  Answered end = (s1 : Option Filing) × Answers s e s1 c0 c1 end × IsLeft old new s1 (result_err end)
 
   -- the database after it was written, or not
-  changed_answers : (db : Option Stored) (end : Result (Unit {0}) TaskFault) → Leaves db old new end
+  changed_answers : (db : Option Stored) (end : Result (Unit {0}) TaskFault) → Leaves db (Some old) (Some new) end
       → IsDone s e (kept_next s e) × Appends c0 c1 (text_on (database_in s) e) → Answers s e (kept_next s e) c0 c1 end
   changed_answers db (Ok x) k h = h
   changed_answers db (Err task.CannotWrite) k h = h
-  changed_answers db (Err task.CannotOpen) k h = absurd (let e = unleft old new db task.CannotOpen k in cc)
-  changed_answers db (Err (task.File fault)) k h = absurd (let e = unleft old new db (task.File fault) k in cc)
-  changed_answers db (Err (task.Command fault)) k h = absurd (let e = unleft old new db (task.Command fault) k in cc)
-  changed_answers db (Err (task.Stream fault)) k h = absurd (let e = unleft old new db (task.Stream fault) k in cc)
+  changed_answers db (Err task.CannotOpen) k h = absurd (let e = unleft (Some old) (Some new) db task.CannotOpen k in cc)
+  changed_answers db (Err (task.File fault)) k h = absurd (let e = unleft (Some old) (Some new) db (task.File fault) k in cc)
+  changed_answers db (Err (task.Command fault)) k h = absurd (let e = unleft (Some old) (Some new) db (task.Command fault) k in cc)
+  changed_answers db (Err (task.Stream fault)) k h = absurd (let e = unleft (Some old) (Some new) db (task.Stream fault) k in cc)
 
   -- it ended by this fault
   by_fault : (fault : Fault) (s1 : Option Filing) (end : Result (Unit {0}) TaskFault) → Answers s e s1 c0 c1 (Err (task.Command fault))
-      → (end ≡ Err (task.Command fault)) × Stays old new → Answered end
+      → (end ≡ Err (task.Command fault)) × (new ≡ old) → Answered end
   by_fault fault s1 end a k =
       subst (λ (r : Result (Unit {0}) TaskFault). Answered r) (sym k.0) (s1, a, stays_left old new s1 (task.Command fault) k.1 tt)
 
   -- it was done
   done : Before old new s e → (db : Option Stored) (changed : Bool) (end : Result (Unit {0}) TaskFault) → ComesOver c0 c1 db changed None (database_in s) e
-      → EndsBy None changed db (text_on (database_in s) e) old new end → Answered end
+      → EndsBy None changed db (text_on (database_in s) e) (Some old) (Some new) end → Answered end
   done before db true end h k =
       let state = state_in s in
       let moved : StandsFor db (next state e) = subst (λ (d : Option Stored). StandsFor d (next state e)) (sym h.1) (before.stands h.0) in
       let left = left_after old new db (next state e) end moved (before.valid h.0) k in
-      (kept_next s e, changed_answers db end k ((h.0, refl), h.3), subst (λ (x : Option Filing). IsLeftIn old new x (result_err end)) (next_written e s h.2) left)
+      (kept_next s e, changed_answers db end k ((h.0, refl), h.3), subst (λ (x : Option Filing). IsLeft old new x (result_err end)) (next_written e s h.2) left)
   done before db false (Ok x) h k = (kept_next s e, ((h.0, refl), h.3), before.same h.2 k)
   done before db false (Err fault) h k =
       let text = text_on (database_in s) e in
       by_fault Output (kept_next s e) (Err fault) ((h.0, refl), (text, [], sym (append-nil text), h.3), k.1) (ap (λ (f : TaskFault). Err f) k.0, k.2)
 
   pub ended : Before old new s e → (db : Option Stored) (changed : Bool) (fault : Option Fault) (end : Result (Unit {0}) TaskFault) → ComesOver c0 c1 db changed fault (database_in s) e
-      → EndsBy fault changed db (text_on (database_in s) e) old new end → Answered end
+      → EndsBy fault changed db (text_on (database_in s) e) (Some old) (Some new) end → Answered end
   ended before db changed None end h k = done before db changed end h k
   ended before db changed (Some Output) end h k =
       let print = h.3 in
@@ -155,14 +155,14 @@ module _ (old new : Option Held) (s : Option Filing) (e : Effect) (c0 c1 : Optio
 
   -- ---- the file could not be read
 
-  stopped_by : (fault : TaskFault) → ReadsFile e → MayStop s fault → Keeps c0 c1 → Stays old new → Answered (Err fault)
+  stopped_by : (fault : TaskFault) → ReadsFile e → MayStop s fault → Keeps c0 c1 → new ≡ old → Answered (Err fault)
   stopped_by (task.File fault) r m k n = (s, (r, m, (refl, k)), stays_left old new s (task.File fault) n tt)
   stopped_by task.CannotOpen r m k n = (s, (r, m, (refl, k)), stays_left old new s task.CannotOpen n tt)
   stopped_by task.CannotWrite r m k n = absurd m
   stopped_by (task.Command fault) r m k n = absurd m
   stopped_by (task.Stream fault) r m k n = absurd m
 
-  pub stopped : (fault : TaskFault) (end : Result (Unit {0}) TaskFault) → ReadsFile e → MayStop s fault → (end ≡ Err fault) × Stays old new × Keeps c0 c1 → Answered end
+  pub stopped : (fault : TaskFault) (end : Result (Unit {0}) TaskFault) → ReadsFile e → MayStop s fault → (end ≡ Err fault) × (new ≡ old) × Keeps c0 c1 → Answered end
   stopped fault end r m k = subst (λ (x : Result (Unit {0}) TaskFault). Answered x) (sym k.0) (stopped_by fault r m k.2 k.1)
 
 -- ---- one command, from where it started
@@ -172,21 +172,21 @@ abbrev pub StartsIn : Effect → Option Filing → Result (Option Stored) TaskFa
 StartsIn e s (Ok found) = SameFor e s found
 StartsIn e s (Err fault) = ReadsFile e × MayStop s fault
 
-module _ (old new : Option Held) (s : Option Filing) (c0 c1 : Option (List ℕ)) (end : Result (Unit {0}) TaskFault) where
+module _ (old new : Held) (s : Option Filing) (c0 c1 : Option (List ℕ)) (end : Result (Unit {0}) TaskFault) where
   pub started : (command : Command) (start : Result (Option Stored) TaskFault) → Before old new s (effect command) → StartsIn (effect command) s start
-      → RunsFrom command start old new c0 c1 end → Answered old new s (effect command) c0 c1 end
+      → RunsFrom command start (Some old) (Some new) c0 c1 end → Answered old new s (effect command) c0 c1 end
   started command (Err fault) before f h = stopped old new s (effect command) c0 c1 fault end f.0 f.1 h
   started command (Ok found) before f h =
       let came = comes_in c0 c1 (database_left h.0) (has_changed h.0) (fault_left h.0) (effect command) s found f h.1 in
-      let ends = subst (λ (t : List ℕ). EndsBy (fault_left h.0) (has_changed h.0) (database_left h.0) t old new end) (text_in (effect command) s found f) h.2 in
+      let ends = subst (λ (t : List ℕ). EndsBy (fault_left h.0) (has_changed h.0) (database_left h.0) t (Some old) (Some new) end) (text_in (effect command) s found f) h.2 in
       ended old new s (effect command) c0 c1 before (database_left h.0) (has_changed h.0) (fault_left h.0) end came ends
 
   -- words that are no command
-  pub unread_words : (fault : LineFault) → (end ≡ Err (task.Command (Line fault))) × Stays old new × Keeps c0 c1
-      → (s1 : Option Filing) × AnswersRead s (Err fault) s1 c0 c1 end × IsLeftIn old new s1 (result_err end)
+  pub unread_words : (fault : LineFault) → (end ≡ Err (task.Command (Line fault))) × (new ≡ old) × Keeps c0 c1
+      → (s1 : Option Filing) × AnswersRead s (Err fault) s1 c0 c1 end × IsLeft old new s1 (result_err end)
   unread_words fault h =
       let left = stays_left old new s (task.Command (Line fault)) h.1 tt in
-      (s, (h.0, (refl, h.2)), subst (λ (x : Result (Unit {0}) TaskFault). IsLeftIn old new s (result_err x)) (sym h.0) left)
+      (s, (h.0, (refl, h.2)), subst (λ (x : Result (Unit {0}) TaskFault). IsLeft old new s (result_err x)) (sym h.0) left)
 
 -- ---- over the file of a state
 
@@ -205,8 +205,8 @@ module _ (stays : Staying) (laws : Reading) (old : Held) (s : Option Filing) (he
   starts_in (Shows show) (Ok found) f = found_one found f
   starts_in (Shows show) (Err fault) f = (tt, may_stop laws old s fault held f)
 
-  pub command_computed : (new : Option Held) (read : Result Command LineFault) (c0 c1 : Option (List ℕ)) (end : Result (Unit {0}) TaskFault) → RunsAs read (Some old) new c0 c1 end
-      → (s1 : Option Filing) × AnswersRead s read s1 c0 c1 end × IsLeftIn (Some old) new s1 (result_err end)
-  command_computed new (Err fault) c0 c1 end h = unread_words (Some old) new s c0 c1 end fault h
+  pub command_computed : (new : Held) (read : Result Command LineFault) (c0 c1 : Option (List ℕ)) (end : Result (Unit {0}) TaskFault) → RunsAs read (Some old) (Some new) c0 c1 end
+      → (s1 : Option Filing) × AnswersRead s read s1 c0 c1 end × IsLeft old new s1 (result_err end)
+  command_computed new (Err fault) c0 c1 end h = unread_words old new s c0 c1 end fault h
   command_computed new (Ok command) c0 c1 end h =
-      started (Some old) new s c0 c1 end command h.0 (before_kept stays laws (Some old) new s held (effect command)) (starts_in (effect command) h.0 h.1) h.2
+      started old new s c0 c1 end command h.0 (before_kept stays laws old new s held (effect command)) (starts_in (effect command) h.0 h.1) h.2

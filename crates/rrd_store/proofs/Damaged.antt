@@ -94,5 +94,5 @@ module _ (laws : Layouts) (front : List ℕ) (cut : IsTruncated front (length fr
 pub damaged_stays : Layouts → (front : List ℕ) (k : Filing) (run : Run) (new : Held) → DamagedFileStays front k run new
 damaged_stays laws front k run new is valid other h =
     let cut = front_truncated laws k.version (stored_of k.state) front is.0 is.1 valid.1 is.2 in
-    let refused = run_refused front (no_database laws front cut) (Some new) run other h in
+    let refused = run_refused front (no_database laws front cut) new run other h in
     (refused.0, refused.1, refused.2, refused.3, breaks laws front cut refused.2 refused.4)

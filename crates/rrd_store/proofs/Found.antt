@@ -11,8 +11,8 @@ use Rattle.rrd_file.specs.Laws.{FileIsLayout, HasOneAnswer, IsOfFile, LayoutIsNo
 use Rattle.rrd_file.specs.Layout.{layout, layout_in}
 use Rattle.std.specs.Result.{result_err}
 use Rattle.rrd_tool.specs.Effects.{StandsFor, stored_of}
-use Rattle.rrd_store.specs.Storages.{Bytes, Finds, HasNone, Held, IsNoFile, Leaves, Missing, Reads, Stays}
-use Rattle.rrd_store.specs.Runs.{Filing, Holds, IsUnread, IsValidFiling, MayStop, as_written, database_in, state_in}
+use Rattle.rrd_store.specs.Storages.{Bytes, Finds, HasNone, Held, IsNoFile, Leaves, Missing, Reads}
+use Rattle.rrd_store.specs.Runs.{Filing, Holds, IsUnread, MayStop, as_written, database_in, state_in}
 use Rattle.rrd_store.specs.declared.faults.TaskFault.{TaskFault}
 use Rattle.rrd_store.specs.declared.faults.TaskFault.TheVariants.{Command, Stream, File, CannotOpen, CannotWrite}
 use Rattle.rrd_store.proofs.ValidStates.{Valid, is_kept}
@@ -92,27 +92,9 @@ IsLeft old new s (Some (File fault)) = new ≡ old
 IsLeft old new s (Some (Command fault)) = new ≡ old
 IsLeft old new s (Some (Stream fault)) = new ≡ old
 
--- so it is of a storage, as far as it is known what it has; what was known stays known
-abbrev pub IsLeftIn : Option Held → Option Held → Option Filing → Option TaskFault → Type 0
-IsLeftIn None new s fault = Unit {0}
-IsLeftIn (Some old) None s fault = ⊥
-IsLeftIn (Some old) (Some new) s fault = IsLeft old new s fault
-
--- nothing is there, where that is known
-abbrev pub NoneIs : Option Held → Type 0
-NoneIs None = Unit {0}
-NoneIs (Some held) = held ≡ Missing
-
--- a storage has the file of what is kept; where it isn't known what it has, that is valid
-abbrev pub HoldsIn : Option Held → Option Filing → Type 0
-HoldsIn None s = IsValidFiling s
-HoldsIn (Some held) s = Holds held s
-
-pub valid_held : Reading → (old : Option Held) (s : Option Filing) → HoldsIn old s → Valid (NoneIs old) (state_in s)
-valid_held laws None None h = tt
-valid_held laws None (Some k) h = (h.0, laws.within k.version (stored_of k.state).content (stored_of k.state).journal h.1)
-valid_held laws (Some held) None h = h
-valid_held laws (Some held) (Some k) h = (h.1.0, laws.within k.version (stored_of k.state).content (stored_of k.state).journal h.1.1)
+pub valid_held : Reading → (old : Held) (s : Option Filing) → Holds old s → Valid (old ≡ Missing) (state_in s)
+valid_held laws old None h = h
+valid_held laws old (Some k) h = (h.1.0, laws.within k.version (stored_of k.state).content (stored_of k.state).journal h.1.1)
 
 -- only a failed write leaves it elsewhere
 pub unleft : (old new : Option Held) (last : Option Stored) (fault : TaskFault) → Leaves {T = Unit {0}} last old new (Err fault) → fault ≡ CannotWrite
@@ -144,32 +126,13 @@ module _ (old new : Held) where
   ]
 
   -- the file after a write of the database, by its end
-  left_known : (last : Option Stored) (s : Option State) (end : Result (Unit {0}) TaskFault) → StandsFor last s → Valid (old ≡ Missing) s → Leaves last (Some old) (Some new) end → IsLeft old new (as_written s) (result_err end)
-  left_known last s (Ok x) h v k = left_held last s x h v k
-  left_known last s (Err CannotWrite) h v k = left_failed last s h v k
-  left_known last s (Err CannotOpen) h v k = absurd (let e = unleft (Some old) (Some new) last CannotOpen k in cc)
-  left_known last s (Err (File fault)) h v k = absurd (let e = unleft (Some old) (Some new) last (File fault) k in cc)
-  left_known last s (Err (Command fault)) h v k = absurd (let e = unleft (Some old) (Some new) last (Command fault) k in cc)
-  left_known last s (Err (Stream fault)) h v k = absurd (let e = unleft (Some old) (Some new) last (Stream fault) k in cc)
-
--- what was known stays so
-known : (old : Held) (last : Option Stored) (end : Result (Unit {0}) TaskFault) → Leaves last (Some old) None end → ⊥
-known old None (Ok x) k = k
-known old None (Err fault) k = k
-known old (Some d) (Ok x) k = absurd cc
-known old (Some d) (Err CannotWrite) k = elim k [
-  | inl same ↦ same
-  | inr other ↦ elim other [ inl all ↦ absurd (let bad = all in cc) | inr none ↦ absurd (let bad = none.2 in cc) ]
-]
-known old (Some d) (Err CannotOpen) k = k
-known old (Some d) (Err (File fault)) k = k
-known old (Some d) (Err (Command fault)) k = k
-known old (Some d) (Err (Stream fault)) k = k
-
-pub left_after : (old new : Option Held) (last : Option Stored) (s : Option State) (end : Result (Unit {0}) TaskFault) → StandsFor last s → Valid (NoneIs old) s → Leaves last old new end → IsLeftIn old new (as_written s) (result_err end)
-left_after None new last s end h v k = tt
-left_after (Some old) None last s end h v k = absurd (known old last end k)
-left_after (Some old) (Some new) last s end h v k = left_known old new last s end h v k
+  pub left_after : (last : Option Stored) (s : Option State) (end : Result (Unit {0}) TaskFault) → StandsFor last s → Valid (old ≡ Missing) s → Leaves last (Some old) (Some new) end → IsLeft old new (as_written s) (result_err end)
+  left_after last s (Ok x) h v k = left_held last s x h v k
+  left_after last s (Err CannotWrite) h v k = left_failed last s h v k
+  left_after last s (Err CannotOpen) h v k = absurd (let e = unleft (Some old) (Some new) last CannotOpen k in cc)
+  left_after last s (Err (File fault)) h v k = absurd (let e = unleft (Some old) (Some new) last (File fault) k in cc)
+  left_after last s (Err (Command fault)) h v k = absurd (let e = unleft (Some old) (Some new) last (Command fault) k in cc)
+  left_after last s (Err (Stream fault)) h v k = absurd (let e = unleft (Some old) (Some new) last (Stream fault) k in cc)
 
 -- not because of a failed write
 abbrev pub IsUnwritten : TaskFault → Type 0
@@ -179,21 +142,14 @@ IsUnwritten (File fault) = Unit {0}
 IsUnwritten (Command fault) = Unit {0}
 IsUnwritten (Stream fault) = Unit {0}
 
-stays_held : (old new : Held) (s : Option Filing) (fault : TaskFault) → IsUnwritten fault → new ≡ old → IsLeft old new s (Some fault)
-stays_held old new s CannotWrite u h = absurd u
-stays_held old new s CannotOpen u h = h
-stays_held old new s (File fault) u h = h
-stays_held old new s (Command fault) u h = h
-stays_held old new s (Stream fault) u h = h
-
--- the storage stays
-pub stays_left : (old new : Option Held) (s : Option Filing) (fault : TaskFault) → Stays old new → IsUnwritten fault → IsLeftIn old new s (Some fault)
-stays_left None new s fault k u = tt
-stays_left (Some old) None s fault k u = absurd k
-stays_left (Some old) (Some new) s fault k u = stays_held old new s fault u k
+-- the file stays
+pub stays_left : (old new : Held) (s : Option Filing) (fault : TaskFault) → new ≡ old → IsUnwritten fault → IsLeft old new s (Some fault)
+stays_left old new s CannotWrite h u = absurd u
+stays_left old new s CannotOpen h u = h
+stays_left old new s (File fault) h u = h
+stays_left old new s (Command fault) h u = h
+stays_left old new s (Stream fault) h u = h
 
 -- so does what is kept
-pub same_left : (old new : Option Held) (s s1 : Option Filing) → HoldsIn old s → s1 ≡ s → Stays old new → IsLeftIn old new s1 None
-same_left None new s s1 h same k = tt
-same_left (Some old) None s s1 h same k = absurd k
-same_left (Some old) (Some new) s s1 h same k = subst (λ (x : Option Filing). Holds new x) (sym same) (subst (λ (b : Held). Holds b s) (sym k) h)
+pub same_left : (old new : Held) (s s1 : Option Filing) → Holds old s → s1 ≡ s → new ≡ old → IsLeft old new s1 None
+same_left old new s s1 h same k = subst (λ (x : Option Filing). Holds new x) (sym same) (subst (λ (b : Held). Holds b s) (sym k) h)

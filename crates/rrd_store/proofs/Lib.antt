@@ -4,11 +4,9 @@ pub mod ValidStates
 pub mod Found
 pub mod CommandRuns
 pub mod FileRuns
-pub mod UnknownRuns
 pub mod NoDatabase
 pub mod Damaged
 pub mod Standings
-pub mod StorageRuns
 pub mod FaultRuns
 pub mod Sessions
 pub mod Encodings

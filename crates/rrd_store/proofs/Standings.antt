@@ -2,13 +2,13 @@
 use Rattle.std.proofs.Common.{◌≡◌, ◌∷◌, [], ℕ, List, Option, Some, None, sym, refl, subst, inl, inr}
 use Rattle.rrd_spec.specs.Journal.Survivors.{Stored}
 use Rattle.rrd_tool.specs.Effects.{stored_of}
-use Rattle.rrd_store.specs.Storages.{Bytes, HasNone, Held, IsNoFile, Stays}
-use Rattle.rrd_store.specs.Runs.{ByBatch, ByCommand, ByRequest, Damaged, DidIn, Ended, Event, Filing, HappenedAll, Holds, IsFileIn, IsFileOf, Keeping, KeepsNone, Killed, Leads, LeadsAll, LeadsKilled, Run, RunIsComputed, RunsFollowSpecification, Standing, StandsBy, WasKilled, fault_of, first_of}
+use Rattle.rrd_store.specs.Storages.{Bytes, HasNone, Held, IsNoFile}
+use Rattle.rrd_store.specs.Runs.{ByBatch, ByCommand, ByRequest, Damaged, Did, Ended, Event, Filing, HappenedAll, Holds, IsFileOf, Keeping, KeepsNone, Killed, Leads, LeadsAll, LeadsKilled, Run, RunIsComputed, RunsFollowSpecification, Standing, StandsBy, WasKilled, fault_of, first_of}
 use Rattle.rrd_store.specs.declared.faults.TaskFault.{TaskFault}
 use Rattle.rrd_store.specs.declared.faults.TaskFault.TheVariants as task
 use Rattle.rrd_store.proofs.Damaged.{Layouts}
 use Rattle.rrd_store.proofs.FileRuns.{LeadsIn, batch_leads, command_leads, first_held, request_leads}
-use Rattle.rrd_store.proofs.Found.{IsFailed, IsLeft, IsLeftIn, Reading}
+use Rattle.rrd_store.proofs.Found.{IsFailed, IsLeft, Reading}
 use Rattle.rrd_store.proofs.NoDatabase.{create_leads, is_create, run_refused}
 use Rattle.rrd_store.proofs.ValidStates.{Staying}
 
@@ -19,15 +19,6 @@ pub record Laws : Type 0 where
   pub layouts : Layouts
 
 -- ---- after one run
-
--- whatever the storage has there is a standing
-pub some_standing : (t : Standing) (s1 : Option Filing) (fault : Option TaskFault) → (t1 : Standing) × StandsBy t s1 fault t1
-some_standing t s1 None = (Keeping s1, refl)
-some_standing t s1 (Some task.CannotWrite) = (t, inl refl)
-some_standing t s1 (Some task.CannotOpen) = (t, refl)
-some_standing t s1 (Some (task.File fault)) = (t, refl)
-some_standing t s1 (Some (task.Command fault)) = (t, refl)
-some_standing t s1 (Some (task.Stream fault)) = (t, refl)
 
 module _ (laws : Laws) where
   -- over no database no database is kept
@@ -59,40 +50,31 @@ module _ (laws : Laws) where
     standing s1 (Some (task.Command fault)) h = (t, refl, same_file h)
     standing s1 (Some (task.Stream fault)) h = (t, refl, same_file h)
 
-  standing_in : (old : Held) (new : Option Held) (t : Standing) → IsFileOf old t → (s1 : Option Filing) (fault : Option TaskFault) → IsLeftIn (Some old) new s1 fault
-      → (t1 : Standing) × StandsBy t s1 fault t1 × IsFileIn new t1
-  standing_in old None t file s1 fault h = absurd h
-  standing_in old (Some new) t file s1 fault h = standing old new t file s1 fault h
-
-  known_run : (old : Held) (new : Option Held) (s : Option Filing) (run : Run) → Holds old s → DidIn (Some old) run new → LeadsIn (Some old) new s run
+  known_run : (old new : Held) (s : Option Filing) (run : Run) → Holds old s → Did old run new → LeadsIn old new s run
   known_run old new s (ByCommand r) held h = command_leads laws.stays laws.reading old new s r held h
   known_run old new s (ByRequest r) held h = request_leads laws.stays laws.reading old new s r held h
   known_run old new s (ByBatch r) held h = batch_leads laws.stays laws.reading old new s r held h
 
-  bytes_stay : (bytes : List ℕ) (none : IsNoFile bytes) (new : Option Held) → Stays (Some (Bytes bytes)) new → IsFileIn new (Damaged bytes)
-  bytes_stay bytes none None k = absurd k
-  bytes_stay bytes none (Some new) k = (k, none)
-
   -- over bytes that are no database
-  damaged_leads : (bytes : List ℕ) (new : Option Held) (run : Run) → IsNoFile bytes → DidIn (Some (Bytes bytes)) run new → (t1 : Standing) × Leads (Damaged bytes) run t1 × IsFileIn new t1
+  damaged_leads : (bytes : List ℕ) (new : Held) (run : Run) → IsNoFile bytes → Did (Bytes bytes) run new → (t1 : Standing) × Leads (Damaged bytes) run t1 × IsFileOf new t1
   damaged_leads bytes new run none h = elim (is_create run) [
     | inl made ↦
-        let came = create_leads laws.stays (Some (Bytes bytes)) new run made h in
-        let after = standing_in (Bytes bytes) new (Damaged bytes) (refl, none) came.0 (fault_of run) came.2 in
+        let came = create_leads laws.stays (Bytes bytes) new run made h in
+        let after = standing (Bytes bytes) new (Damaged bytes) (refl, none) came.0 (fault_of run) came.2 in
         (after.0, inl (made, came.0, came.1, after.1), after.2)
     | inr other ↦
         let refused = run_refused bytes none new run other h in
-        (Damaged bytes, inr (other, (refused.1, refused.2, refused.3, refused.4), refl), bytes_stay bytes none new refused.0)
+        (Damaged bytes, inr (other, (refused.1, refused.2, refused.3, refused.4), refl), (refused.0, none))
   ]
 
   -- over any file that stands for something
-  pub run_leads : (old : Held) (new : Option Held) (t : Standing) (run : Run) → IsFileOf old t → DidIn (Some old) run new → (t1 : Standing) × Leads t run t1 × IsFileIn new t1
+  run_leads : (old new : Held) (t : Standing) (run : Run) → IsFileOf old t → Did old run new → (t1 : Standing) × Leads t run t1 × IsFileOf new t1
   run_leads old new (Keeping s) run file h =
       let came = known_run old new s run file h in
-      let after = standing_in old new (Keeping s) file came.0 (fault_of run) came.2 in
+      let after = standing old new (Keeping s) file came.0 (fault_of run) came.2 in
       (after.0, (came.0, came.1, after.1), after.2)
   run_leads old new (Damaged bytes) run file h =
-      damaged_leads bytes new run file.1 (subst (λ (b : Held). DidIn (Some b) run new) file.0 h)
+      damaged_leads bytes new run file.1 (subst (λ (b : Held). Did b run new) file.0 h)
 
   -- ---- after a kill
 
@@ -101,7 +83,7 @@ module _ (laws : Laws) where
     | inl same ↦ (t, inl refl, subst (λ (b : Held). IsFileOf b t) (sym same) file)
     | inr other ↦ elim other [
       | inl did ↦
-          let after = run_leads old (Some new) t run file did in
+          let after = run_leads old new t run file did in
           (after.0, inr (inl after.1), after.2)
       | inr none ↦ (Damaged none.1, inr (inr (none_kept old t file none.0, none.1, refl)), (none.2, none.3))
     ]
@@ -110,7 +92,7 @@ module _ (laws : Laws) where
   -- ---- one after another
 
   pub run_computed : (old : Held) (t : Standing) (event : Event) (new : Held) → RunIsComputed old t event new
-  run_computed old t (Ended run) new file h = run_leads old (Some new) t run file h
+  run_computed old t (Ended run) new file h = run_leads old new t run file h
   run_computed old t (Killed run) new file h = kill_leads old t run new file h
 
   events_from : (old : Held) (t : Standing) (events : List Event) (new : Held) → IsFileOf old t → HappenedAll old events new → (last : Standing) × LeadsAll t events last × IsFileOf new last

@@ -65,6 +65,16 @@ pub data Run : Type 0 where
   ByRequest : RequestRun → Run
   ByBatch : BatchRun → Run
 
+abbrev pub command_run : List (List ℕ) → ℕ → Option (List ℕ) → Option (List ℕ) → Result (Unit {0}) TaskFault → Run
+command_run words now c0 c1 end = ByCommand (record { words = words; now = now; out_before = c0; out_after = c1; end = end })
+
+abbrev pub request_run : Command → Option (List ℕ) → Option (List ℕ) → Result (Unit {0}) TaskFault → Run
+request_run command c0 c1 end = ByRequest (record { command = command; out_before = c0; out_after = c1; end = end })
+
+abbrev pub batch_run : ℕ → ℕ → Option (List ℕ) → Option (List ℕ) → Option (List ℕ) → Option (List ℕ) → Result FileBatchEnd TaskFault → Run
+batch_run now numbered r0 r1 c0 c1 end =
+    ByBatch (record { now = now; numbered = numbered; in_before = r0; in_after = r1; out_before = c0; out_after = c1; end = end })
+
 -- the run led from the old contents of the storage to the new contents: exactly as `run_file_command`,
 -- `Session::run_command` or `run_file_batch` ensures
 abbrev pub DidIn : Option Held → Run → Option Held → Type 0
@@ -105,11 +115,6 @@ as_written state = option_map (λ (s : State). let k : Filing = record { version
 abbrev pub IsValidState : Version → State → Type 0
 IsValidState version s = Stands s (stored_of s) × IsValidIn version (stored_of s)
 
--- the same for the state in a file, if there is one
-abbrev pub IsValidFiling : Option Filing → Type 0
-IsValidFiling None = Unit {0}
-IsValidFiling (Some k) = IsValidState k.version k.state
-
 -- the file has the layout of this database in its version; without a state there is no file. The version, the
 -- survivors, the number of survivors that can be reverted, and the brought entries determine every byte of the file
 abbrev pub Holds : Held → Option Filing → Type 0
@@ -131,11 +136,6 @@ pub data Standing : Type 0 where
 abbrev pub IsFileOf : Held → Standing → Type 0
 IsFileOf held (Keeping s) = Holds held s
 IsFileOf held (Damaged bytes) = (held ≡ Bytes bytes) × IsNoFile bytes
-
--- the same for a storage whose contents were known: known contents stay known
-abbrev pub IsFileIn : Option Held → Standing → Type 0
-IsFileIn None t = ⊥
-IsFileIn (Some held) t = IsFileOf held t
 
 -- ---- the results of a run that the definitions allow: the next state and its version, the printed text, and the end
 -- of the run
@@ -335,8 +335,6 @@ abbrev pub LeadsAll : Standing → List Event → Standing → Type 0
 LeadsAll t [] t1 = t1 ≡ t
 LeadsAll t (event ∷ events) t1 = (between : Standing) × LeadsBy t event between × LeadsAll between events t1
 
--- ---- one run on a storage: what `run_file_command` and `run_file_batch` ensure
-
 -- the storage could not be opened, or has no database that can be read
 abbrev pub IsOfPlace : TaskFault → Type 0
 IsOfPlace task.CannotOpen = Unit {0}
@@ -344,19 +342,6 @@ IsOfPlace (task.File fault) = Unit {0}
 IsOfPlace task.CannotWrite = ⊥
 IsOfPlace (task.Command fault) = ⊥
 IsOfPlace (task.Stream fault) = ⊥
-
--- the run ended with such a fault, and printed nothing
-abbrev pub EndsUnread : Run → Type 0
-EndsUnread run = (fault : TaskFault) × IsOfPlace fault × (fault_of run ≡ Some fault) × OutputStays run
-
--- the run does what the definitions compute from the state that the file represents, and leaves the file of the next
--- state. If the contents of the storage are not known, as for a file of the program, the run does what the definitions
--- compute from some valid state or from none, or ends without reading a database
-abbrev pub IsComputed : Option Held → Option Held → Run → Type 0
-IsComputed None new run =
-    ((s : Option Filing) × IsValidFiling s × (t1 : Standing) × Leads (Keeping s) run t1) ⊎ EndsUnread run
-IsComputed (Some old) new run =
-    (t : Standing) → IsFileOf old t → (t1 : Standing) × Leads t run t1 × IsFileIn new t1
 
 -- ---- the theorems
 

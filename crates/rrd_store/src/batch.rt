@@ -2,11 +2,9 @@
 ghost use Rattle.std.specs.Prelude.{◌≡◌, IfSome, None, Option, option_map};
 ghost use Rattle.rrd_file.specs.Laws.{IsValidStored};
 ghost use Rattle.rrd_store.specs.Batch.{IsFileBatch};
-ghost use Rattle.rrd_store.specs.Runs.{ByBatch, IsComputed};
 ghost use Rattle.rrd_store.specs.Sessions.{IsLinesOn, kept_unless};
 ghost use Rattle.rrd_store.specs.Storages.{Held, Leaves};
 
-use crate::laws::storage_runs_follow_specification;
 use crate::stored::store;
 use crate::{Access, Storage, TaskFault};
 use rrd_base::{Database, database_is_valid};
@@ -111,28 +109,6 @@ pub(crate) fn run_on<P: Storage, R: Read, W: Write, G: Gate>(
     (end, database)
 }
 
-// Reads the database, runs the lines, and writes the database that the lines left.
-fn run_over<P: Storage, R: Read, W: Write, G: Gate>(
-    alloc: Global,
-    now: u64,
-    numbered: usize,
-    storage: &mut P,
-    reader: &mut R,
-    out: &mut W,
-    gate: &G,
-) -> Result<FileBatchEnd, TaskFault>
-    ensures falls { (s : Option Held) → P.is_honest s storage.new → P.is_honest s storage.old }
-    ensures sound { (s : Option Held) → P.is_honest s storage.new → P.is_sound s storage.old
-        → P.is_sound s storage.new }
-    ensures run { (s : Option Held) → P.is_honest s storage.new → P.is_sound s storage.old
-        → IsFileBatch now numbered (P.contents s storage.old) (P.contents s storage.new)
-        (R.remaining reader.old) (R.remaining reader.new) (W.contents out.old) (W.contents out.new) result }
-{
-    let database = storage.load(alloc, Access::ReadWrite)?;
-    let (end, _database) = run_on(alloc, database, now, numbered, storage, reader, out, gate);
-    Ok(end)
-}
-
 /// Runs each line of `reader` on the database in `storage`, and writes the database at the end.
 ///
 /// Runs the lines as [`run_batch`] does. If `storage` has nothing, the batch starts without a database. If there is no
@@ -159,18 +135,8 @@ pub fn run_file_batch<P: Storage, R: Read, W: Write, G: Gate>(
     ensures run { (s : Option Held) → P.is_honest s storage.new → P.is_sound s storage.old
         → IsFileBatch now numbered (P.contents s storage.old) (P.contents s storage.new)
         (R.remaining reader.old) (R.remaining reader.new) (W.contents out.old) (W.contents out.new) result }
-    ensures computed { (s : Option Held) → P.is_honest s storage.new → P.is_sound s storage.old
-        → IsComputed (P.contents s storage.old) (P.contents s storage.new)
-        (ByBatch (record {
-          now = now;
-          numbered = numbered;
-          in_before = R.remaining reader.old;
-          in_after = R.remaining reader.new;
-          out_before = W.contents out.old;
-          out_after = W.contents out.new;
-          end = result;
-        })) }
 {
-    storage_runs_follow_specification();
-    run_over(alloc, now, numbered, storage, reader, out, gate)
+    let database = storage.load(alloc, Access::ReadWrite)?;
+    let (end, _database) = run_on(alloc, database, now, numbered, storage, reader, out, gate);
+    Ok(end)
 }

@@ -36,22 +36,6 @@ pub fn runs_follow_specification()
     versions_stay_within();
 }
 
-/// Theorem: the definitions compute what one run on a storage leaves and prints, if the storage's bytes are known.
-pub(crate) fn storage_runs_follow_specification()
-    ensures { (old : Option Held) (run : laws.Run) (new : Option Held) →
-        laws.DidIn old run new → laws.IsComputed old new run }
-{
-    action_goes_on();
-    created_is_valid();
-    database_begins();
-    database_stays();
-    file_is_layout();
-    layout_is_file();
-    one_answer();
-    sizes();
-    versions_stay_within();
-}
-
 /// Theorem: a run that ends with a fault of the command or of the file leaves the file as it was, whatever the file is,
 /// except if the fault is that the file could not be written.
 pub fn errors_change_nothing()

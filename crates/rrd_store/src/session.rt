@@ -6,14 +6,12 @@ ghost use Rattle.rrd_tool.specs.Commands.{effect};
 ghost use Rattle.rrd_tool.specs.Execution.{database_left};
 ghost use Rattle.rrd_store.specs.Batch.{IsFileBatch};
 ghost use Rattle.rrd_store.specs.Encoding.{AreOf};
-ghost use Rattle.rrd_store.specs.Runs.{ByBatch, ByCommand, ByRequest, IsComputed};
 ghost use Rattle.rrd_store.specs.Sessions.{HasBytes, IsFileBatchOn, IsInMemory, IsRead, IsSingleOn, RunsOn, beside, kept_by, started};
 ghost use Rattle.rrd_store.specs.Single.{FindsOne, IsSingle, RunsAs, StartsFrom};
 ghost use Rattle.rrd_store.specs.Storages.{Finds, Held};
 
 use crate::batch::run_on;
 use crate::encoding::{encoded_after, encoded_kept, reach_of, take_encoded};
-use crate::laws::storage_runs_follow_specification;
 use crate::single::finish;
 use crate::{Access, FileBatchEnd, Gate, Storage, TaskFault};
 use rrd_base::{Database, database_is_valid};
@@ -234,8 +232,48 @@ impl<P: Storage + Drop> Session<P> {
         self.take_one(alloc)
     }
 
-    // Runs the command, and writes the database that the command changed.
-    fn perform<W: Write>(
+    /// Runs one command, as [`crate::run_file_command`] does: with the same effect on the storage, the same output and the
+    /// same end. If a database is in memory, the command runs on it, and the storage is not read.
+    ///
+    /// # Errors
+    ///
+    /// As [`crate::run_file_command`]. After `CannotWrite` no database is kept, and the next run reads the storage.
+    pub fn run<W: Write>(
+        &mut self,
+        alloc: Global,
+        words: &Words<'_>,
+        now: u64,
+        out: &mut W,
+    ) -> Result<(), TaskFault>
+        ensures falls { (s : Option Held) → P.is_honest s self.new.storage → P.is_honest s self.old.storage }
+        ensures sound { (s : Option Held) → P.is_honest s self.new.storage → P.is_sound s self.old.storage
+            → IsInMemory (P.contents s self.old.storage) self.old.database self.old.encoded
+            → P.is_sound s self.new.storage }
+        ensures memory { (s : Option Held) → P.is_honest s self.new.storage → P.is_sound s self.old.storage
+            → IsInMemory (P.contents s self.old.storage) self.old.database self.old.encoded
+            → IsInMemory (P.contents s self.new.storage) self.new.database self.new.encoded }
+        ensures run { (s : Option Held) → P.is_honest s self.new.storage → P.is_sound s self.old.storage
+            → IsInMemory (P.contents s self.old.storage) self.old.database self.old.encoded
+            → IsSingle words.now now (P.contents s self.old.storage) (P.contents s self.new.storage)
+            (W.contents out.old) (W.contents out.new) result }
+        ensures on { (d : Stored) → self.old.database ≡ Some d
+            → (s : Option Held) → P.is_honest s self.new.storage → P.is_sound s self.old.storage
+            → IsInMemory (P.contents s self.old.storage) self.old.database self.old.encoded
+            → IsSingleOn words.now now d self.new.database (P.contents s self.old.storage) (P.contents s self.new.storage)
+            (W.contents out.old) (W.contents out.new) result }
+    {
+        self.is_written = false;
+        let parsed = read_command(alloc, words, now)?;
+        self.run_command(alloc, parsed, out)
+    }
+
+    /// Runs one command that was not read from words, as [`Session::run`] runs one that was: with the same effect on the
+    /// storage, the same output and the same end.
+    ///
+    /// # Errors
+    ///
+    /// As [`Session::run`], except for the faults of words.
+    pub fn run_command<W: Write>(
         &mut self,
         alloc: Global,
         command: Command,
@@ -276,124 +314,14 @@ impl<P: Storage + Drop> Session<P> {
         end
     }
 
-    // Parses the arguments, runs the command, and writes the database that the command changed.
-    fn run_words<W: Write>(
-        &mut self,
-        alloc: Global,
-        words: &Words<'_>,
-        now: u64,
-        out: &mut W,
-    ) -> Result<(), TaskFault>
-        ensures falls { (s : Option Held) → P.is_honest s self.new.storage → P.is_honest s self.old.storage }
-        ensures sound { (s : Option Held) → P.is_honest s self.new.storage → P.is_sound s self.old.storage
-            → IsInMemory (P.contents s self.old.storage) self.old.database self.old.encoded
-            → P.is_sound s self.new.storage }
-        ensures memory { (s : Option Held) → P.is_honest s self.new.storage → P.is_sound s self.old.storage
-            → IsInMemory (P.contents s self.old.storage) self.old.database self.old.encoded
-            → IsInMemory (P.contents s self.new.storage) self.new.database self.new.encoded }
-        ensures run { (s : Option Held) → P.is_honest s self.new.storage → P.is_sound s self.old.storage
-            → IsInMemory (P.contents s self.old.storage) self.old.database self.old.encoded
-            → IsSingle words.now now (P.contents s self.old.storage) (P.contents s self.new.storage)
-            (W.contents out.old) (W.contents out.new) result }
-        ensures on { (d : Stored) → self.old.database ≡ Some d
-            → (s : Option Held) → P.is_honest s self.new.storage → P.is_sound s self.old.storage
-            → IsInMemory (P.contents s self.old.storage) self.old.database self.old.encoded
-            → IsSingleOn words.now now d self.new.database (P.contents s self.old.storage) (P.contents s self.new.storage)
-            (W.contents out.old) (W.contents out.new) result }
-    {
-        self.is_written = false;
-        let parsed = read_command(alloc, words, now)?;
-        self.perform(alloc, parsed, out)
-    }
-
-    /// Runs one command, as [`crate::run_file_command`] does: with the same effect on the storage, the same output and the
-    /// same end. If a database is in memory, the command runs on it, and the storage is not read.
+    /// Runs each line of `reader`, and writes the database at the end, as [`crate::run_file_batch`] does: with the same effect on
+    /// the storage, the same output and the same end. If a database is in memory, the lines run on it, and the storage is not
+    /// read. If `gate` does not allow the write, the batch ends as after a failed write.
     ///
     /// # Errors
     ///
-    /// As [`crate::run_file_command`]. After `CannotWrite` no database is kept, and the next run reads the storage.
-    pub fn run<W: Write>(
-        &mut self,
-        alloc: Global,
-        words: &Words<'_>,
-        now: u64,
-        out: &mut W,
-    ) -> Result<(), TaskFault>
-        ensures falls { (s : Option Held) → P.is_honest s self.new.storage → P.is_honest s self.old.storage }
-        ensures sound { (s : Option Held) → P.is_honest s self.new.storage → P.is_sound s self.old.storage
-            → IsInMemory (P.contents s self.old.storage) self.old.database self.old.encoded
-            → P.is_sound s self.new.storage }
-        ensures memory { (s : Option Held) → P.is_honest s self.new.storage → P.is_sound s self.old.storage
-            → IsInMemory (P.contents s self.old.storage) self.old.database self.old.encoded
-            → IsInMemory (P.contents s self.new.storage) self.new.database self.new.encoded }
-        ensures run { (s : Option Held) → P.is_honest s self.new.storage → P.is_sound s self.old.storage
-            → IsInMemory (P.contents s self.old.storage) self.old.database self.old.encoded
-            → IsSingle words.now now (P.contents s self.old.storage) (P.contents s self.new.storage)
-            (W.contents out.old) (W.contents out.new) result }
-        ensures on { (d : Stored) → self.old.database ≡ Some d
-            → (s : Option Held) → P.is_honest s self.new.storage → P.is_sound s self.old.storage
-            → IsInMemory (P.contents s self.old.storage) self.old.database self.old.encoded
-            → IsSingleOn words.now now d self.new.database (P.contents s self.old.storage) (P.contents s self.new.storage)
-            (W.contents out.old) (W.contents out.new) result }
-        ensures computed { (s : Option Held) → P.is_honest s self.new.storage → P.is_sound s self.old.storage
-            → IsInMemory (P.contents s self.old.storage) self.old.database self.old.encoded
-            → IsComputed (P.contents s self.old.storage) (P.contents s self.new.storage)
-            (ByCommand (record {
-              words = words.now;
-              now = now;
-              out_before = W.contents out.old;
-              out_after = W.contents out.new;
-              end = result;
-            })) }
-    {
-        storage_runs_follow_specification();
-        self.run_words(alloc, words, now, out)
-    }
-
-    /// Runs one command that was not read from words, as [`Session::run`] runs one that was: with the same effect on the
-    /// storage, the same output and the same end.
-    ///
-    /// # Errors
-    ///
-    /// As [`Session::run`], except for the faults of words.
-    pub fn run_command<W: Write>(
-        &mut self,
-        alloc: Global,
-        command: Command,
-        out: &mut W,
-    ) -> Result<(), TaskFault>
-        ensures falls { (s : Option Held) → P.is_honest s self.new.storage → P.is_honest s self.old.storage }
-        ensures sound { (s : Option Held) → P.is_honest s self.new.storage → P.is_sound s self.old.storage
-            → IsInMemory (P.contents s self.old.storage) self.old.database self.old.encoded
-            → P.is_sound s self.new.storage }
-        ensures memory { (s : Option Held) → P.is_honest s self.new.storage → P.is_sound s self.old.storage
-            → IsInMemory (P.contents s self.old.storage) self.old.database self.old.encoded
-            → IsInMemory (P.contents s self.new.storage) self.new.database self.new.encoded }
-        ensures run { (s : Option Held) → P.is_honest s self.new.storage → P.is_sound s self.old.storage
-            → IsInMemory (P.contents s self.old.storage) self.old.database self.old.encoded
-            → RunsAs (Ok command) (P.contents s self.old.storage) (P.contents s self.new.storage)
-            (W.contents out.old) (W.contents out.new) result }
-        ensures on { (d : Stored) → self.old.database ≡ Some d
-            → (s : Option Held) → P.is_honest s self.new.storage → P.is_sound s self.old.storage
-            → IsInMemory (P.contents s self.old.storage) self.old.database self.old.encoded
-            → RunsOn command d self.new.database (P.contents s self.old.storage) (P.contents s self.new.storage)
-            (W.contents out.old) (W.contents out.new) result }
-        ensures computed { (s : Option Held) → P.is_honest s self.new.storage → P.is_sound s self.old.storage
-            → IsInMemory (P.contents s self.old.storage) self.old.database self.old.encoded
-            → IsComputed (P.contents s self.old.storage) (P.contents s self.new.storage)
-            (ByRequest (record {
-              command = command;
-              out_before = W.contents out.old;
-              out_after = W.contents out.new;
-              end = result;
-            })) }
-    {
-        storage_runs_follow_specification();
-        self.perform(alloc, command, out)
-    }
-
-    // Runs the lines, and writes the database that the lines left.
-    fn run_lines<R: Read, W: Write, G: Gate>(
+    /// As [`crate::run_file_batch`]. If the database was not written, none is kept, and the next run reads the storage.
+    pub fn run_batch<R: Read, W: Write, G: Gate>(
         &mut self,
         alloc: Global,
         now: u64,
@@ -434,52 +362,5 @@ impl<P: Storage + Drop> Session<P> {
         self.is_written = kept.is_some();
         self.database = kept;
         Ok(end)
-    }
-
-    /// Runs each line of `reader`, and writes the database at the end, as [`crate::run_file_batch`] does: with the same effect on
-    /// the storage, the same output and the same end. If a database is in memory, the lines run on it, and the storage is not
-    /// read. If `gate` does not allow the write, the batch ends as after a failed write.
-    ///
-    /// # Errors
-    ///
-    /// As [`crate::run_file_batch`]. If the database was not written, none is kept, and the next run reads the storage.
-    pub fn run_batch<R: Read, W: Write, G: Gate>(
-        &mut self,
-        alloc: Global,
-        now: u64,
-        numbered: usize,
-        reader: &mut R,
-        out: &mut W,
-        gate: &G,
-    ) -> Result<FileBatchEnd, TaskFault>
-        ensures falls { (s : Option Held) → P.is_honest s self.new.storage → P.is_honest s self.old.storage }
-        ensures sound { (s : Option Held) → P.is_honest s self.new.storage → P.is_sound s self.old.storage
-            → P.is_sound s self.new.storage }
-        ensures memory { (s : Option Held) → P.is_honest s self.new.storage → P.is_sound s self.old.storage
-            → IsInMemory (P.contents s self.old.storage) self.old.database self.old.encoded
-            → IsInMemory (P.contents s self.new.storage) self.new.database self.new.encoded }
-        ensures run { (s : Option Held) → P.is_honest s self.new.storage → P.is_sound s self.old.storage
-            → IsRead (P.contents s self.old.storage) self.old.database
-            → IsFileBatch now numbered (P.contents s self.old.storage) (P.contents s self.new.storage)
-            (R.remaining reader.old) (R.remaining reader.new) (W.contents out.old) (W.contents out.new) result }
-        ensures on { (d : Stored) → self.old.database ≡ Some d
-            → (s : Option Held) → P.is_honest s self.new.storage → P.is_sound s self.old.storage
-            → IsFileBatchOn now numbered d self.new.database (P.contents s self.old.storage) (P.contents s self.new.storage)
-            (R.remaining reader.old) (R.remaining reader.new) (W.contents out.old) (W.contents out.new) result }
-        ensures computed { (s : Option Held) → P.is_honest s self.new.storage → P.is_sound s self.old.storage
-            → IsRead (P.contents s self.old.storage) self.old.database
-            → IsComputed (P.contents s self.old.storage) (P.contents s self.new.storage)
-            (ByBatch (record {
-              now = now;
-              numbered = numbered;
-              in_before = R.remaining reader.old;
-              in_after = R.remaining reader.new;
-              out_before = W.contents out.old;
-              out_after = W.contents out.new;
-              end = result;
-            })) }
-    {
-        storage_runs_follow_specification();
-        self.run_lines(alloc, now, numbered, reader, out, gate)
     }
 }

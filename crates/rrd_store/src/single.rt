@@ -5,14 +5,12 @@ ghost use Rattle.rrd_file.specs.Encoded.{Encodes};
 ghost use Rattle.rrd_tool.specs.Commands.{effect};
 ghost use Rattle.rrd_tool.specs.Execution.{database_left, fault_left, has_changed};
 ghost use Rattle.rrd_tool.specs.Lines.{is_empty};
-ghost use Rattle.rrd_store.specs.Runs.{ByCommand, IsComputed};
 ghost use Rattle.rrd_store.specs.Sessions.{HasBytes};
 ghost use Rattle.rrd_store.specs.Single.{Ends, IsSingle, StartsFrom, access_for};
 ghost use Rattle.rrd_store.specs.Encoding.{IsOf, MayReplace};
 ghost use Rattle.rrd_store.specs.Storages.{Held, Leaves};
 
 use crate::encoding::{Encoding, encoded_after, reach_of, take_encoded};
-use crate::laws::storage_runs_follow_specification;
 use crate::stored::{store, store_encoded};
 use crate::{Access, Loaded, Storage, TaskFault};
 use rrd_base::Database;
@@ -118,36 +116,6 @@ pub(crate) fn finish<P: Storage, W: Write>(
     }
 }
 
-// Parses the arguments, reads the database, runs the command, and writes the database that the command changed.
-fn run_words<P: Storage, W: Write>(
-    alloc: Global,
-    words: &Words<'_>,
-    now: u64,
-    storage: &mut P,
-    out: &mut W,
-) -> Result<(), TaskFault>
-    ensures falls { (s : Option Held) → P.is_honest s storage.new → P.is_honest s storage.old }
-    ensures sound { (s : Option Held) → P.is_honest s storage.new → P.is_sound s storage.old
-        → P.is_sound s storage.new }
-    ensures run { (s : Option Held) → P.is_honest s storage.new → P.is_sound s storage.old
-        → IsSingle words.now now (P.contents s storage.old) (P.contents s storage.new)
-        (W.contents out.old) (W.contents out.new) result }
-{
-    let command = read_command(alloc, words, now)?;
-    layout_is_file();
-    encoded_is_layout();
-    updates_keep_newest_rows();
-    let reach = reach_of(&command);
-    let Loaded {
-        database,
-        mut encoded,
-    } = start(alloc, &command, storage)?;
-    let before = take_encoded(&mut encoded, &database);
-    let outcome = execute(alloc, database, command, out);
-    let encoding = encoded_after(alloc, before, reach, &outcome);
-    finish(alloc, &outcome, encoding.as_ref(), storage, out)
-}
-
 /// Runs one command on the database in `storage`, and writes the command's output to `out`.
 ///
 /// The arguments are parsed first. Then the database is read from `storage`, unless the command is a create. Then the
@@ -175,16 +143,18 @@ pub fn run_file_command<P: Storage, W: Write>(
     ensures run { (s : Option Held) → P.is_honest s storage.new → P.is_sound s storage.old
         → IsSingle words.now now (P.contents s storage.old) (P.contents s storage.new)
         (W.contents out.old) (W.contents out.new) result }
-    ensures computed { (s : Option Held) → P.is_honest s storage.new → P.is_sound s storage.old
-        → IsComputed (P.contents s storage.old) (P.contents s storage.new)
-        (ByCommand (record {
-          words = words.now;
-          now = now;
-          out_before = W.contents out.old;
-          out_after = W.contents out.new;
-          end = result;
-        })) }
 {
-    storage_runs_follow_specification();
-    run_words(alloc, words, now, storage, out)
+    let command = read_command(alloc, words, now)?;
+    layout_is_file();
+    encoded_is_layout();
+    updates_keep_newest_rows();
+    let reach = reach_of(&command);
+    let Loaded {
+        database,
+        mut encoded,
+    } = start(alloc, &command, storage)?;
+    let before = take_encoded(&mut encoded, &database);
+    let outcome = execute(alloc, database, command, out);
+    let encoding = encoded_after(alloc, before, reach, &outcome);
+    finish(alloc, &outcome, encoding.as_ref(), storage, out)
 }

@@ -1,6 +1,6 @@
 use Rattle.rrd_disk.specs.Replayed.{bytes_after, held_after}
 use Rattle.rrd_disk.proofs.Asking.{there_bytes}
-use Rattle.rrd_disk.proofs.Contents.{Laws}
+use Rattle.rrd_disk.specs.Storing.{Laws}
 use Rattle.rrd_disk.proofs.Storing.{database_stands, on_ok, open_kept, prepared_from, prepared_repaired, some_kept}
 use Rattle.std.proofs.Common.{◌≡◌, ◌∙◌, subst, sym}
 use Rattle.rrd_disk.specs.Power.{HasDatabase, RepresentDatabase}
@@ -9,7 +9,7 @@ use Rattle.rrd_disk.proofs.storage.prepare_marked.Goals as goal
 
 pub returns-in-Ok-clause-prepared : goal.returns-in-Ok-clause-prepared
 returns-in-Ok-clause-prepared g c = λ s honest sound is marked.
-    let laws : Laws = record { begins = c.file_begins.ensures; database = c.files_without_marks_stand_for_themselves.ensures.database; unmarked = c.files_without_marks_stand_for_themselves.ensures.unmarked } in
+    let laws : Laws = c.file_laws.ensures in
     let old = g.D.Disk.events c.args.file.now.disk in
     let mid = g.D.Disk.events c.find_standing.new.file.disk in
     let new = g.D.Disk.events c.repair.new.file.disk in

@@ -5,7 +5,7 @@ use Rattle.rrd_store.specs.declared.faults.TaskFault.{TaskFault}
 use Rattle.rrd_disk.specs.Replayed.{bytes_after, bytes_of, held_after}
 use Rattle.rrd_tail.specs.Marks.{mark_of}
 use Rattle.rrd_disk.proofs.Storing.{no_file_by_fault, open_kept, prepared_from, there_readable}
-use Rattle.rrd_disk.proofs.Contents.{Laws}
+use Rattle.rrd_disk.specs.Storing.{Laws}
 use Rattle.rrd_disk.specs.Power.{AreUnmarkedDatabase}
 use Rattle.rrd_disk.proofs.Surviving.{survives_if, survives_twice}
 use Rattle.rrd_disk.proofs.storage.prepare_unmarked.Goals as goal
@@ -27,7 +27,7 @@ returns-in-Err-File-clause-prepared g c = λ s honest is none.
 
 pub returns-in-Err-File-clause-power : goal.returns-in-Err-File-clause-power
 returns-in-Err-File-clause-power g c = λ ordered d w honest are P all.
-    let laws : Laws = record { begins = c.file_begins.ensures; database = c.files_without_marks_stand_for_themselves.ensures.database; unmarked = c.files_without_marks_stand_for_themselves.ensures.unmarked } in
+    let laws : Laws = c.file_laws.ensures in
     let old = g.D.Disk.events c.args.file.now.disk in
     let mid = g.D.Disk.events c.load.new.file.disk in
     let loaded = c.spoil.ensures.falls w honest in

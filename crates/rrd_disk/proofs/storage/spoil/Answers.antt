@@ -3,7 +3,7 @@ use Rattle.rrd_undo.specs.Calls.{ArePut, AreWholeOrNot}
 use Rattle.rrd_disk.specs.Replayed.{held_after}
 use Rattle.rrd_disk.proofs.Asked.{falls_asked, still_there}
 use Rattle.rrd_disk.proofs.Asking.{of_start, there_bytes}
-use Rattle.rrd_disk.proofs.Contents.{Laws}
+use Rattle.rrd_disk.specs.Storing.{Laws}
 use Rattle.rrd_disk.proofs.Storing.{on_err, on_ok, prepared_spoilt}
 use Rattle.rrd_disk.proofs.Asked.{syncs_stay}
 use Rattle.rrd_disk.proofs.storage.spoil.Goals as goal
@@ -13,7 +13,7 @@ returns-clause-falls g c = falls_asked (g.D.Disk.events c.args.file.now.disk) (g
 
 pub returns-clause-spoilt : goal.returns-clause-spoilt
 returns-clause-spoilt g c = λ s honest is none missing.
-    let laws : Laws = record { begins = c.file_begins.ensures; database = c.files_without_marks_stand_for_themselves.ensures.database; unmarked = c.files_without_marks_stand_for_themselves.ensures.unmarked } in
+    let laws : Laws = c.file_laws.ensures in
     let old = g.D.Disk.events c.args.file.now.disk in
     let new = g.D.Disk.events c.put_whole.new.self.disk in
     let zeros : List ℕ = 0 ∷ 0 ∷ 0 ∷ 0 ∷ [] in

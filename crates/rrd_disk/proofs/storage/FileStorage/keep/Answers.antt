@@ -3,8 +3,7 @@ use Rattle.rrd_store.specs.Storages.{IsNoFile}
 use Rattle.rrd_tail.specs.Marks.{mark_of}
 use Rattle.rrd_tail.specs.Settled.{settled}
 use Rattle.rrd_disk.specs.Replayed.{bytes_after, held_after}
-use Rattle.rrd_disk.specs.Storing.{TellsMark}
-use Rattle.rrd_disk.proofs.Contents.{Laws}
+use Rattle.rrd_disk.specs.Storing.{Laws, TellsMark}
 use Rattle.rrd_disk.proofs.Storing.{if_ok_at, there_standing, told_unmarked}
 use Rattle.rrd_disk.proofs.Surviving.{syncs_twice}
 use Rattle.rrd_disk.proofs.storage.FileStorage.keep.Goals as goal
@@ -12,7 +11,7 @@ use Rattle.rrd_disk.proofs.storage.FileStorage.keep.Goals as goal
 -- a file that represents a database, and has no mark, has this database
 pub invariant_of-self : goal.invariant_of-self
 invariant_of-self g c =
-    let laws : Laws = record { begins = c.file_begins.ensures; database = c.files_without_marks_stand_for_themselves.ensures.database; unmarked = c.files_without_marks_stand_for_themselves.ensures.unmarked } in
+    let laws : Laws = c.file_laws.ensures in
     record {
       readable = λ opened s honest denied.
           let old = g.D.Disk.events c.args.self.now.bytes.disk in
@@ -20,7 +19,7 @@ invariant_of-self g c =
           let was : c.is_marked.result ≡ Ok false = cc in
           let told = if_ok_at (λ (b : Bool). TellsMark b new) c.is_marked.result false was c.is_marked.ensures.ok in
           let none = told_unmarked false (mark_of (bytes_after s new)) (told s honest) refl in
-          let same = ap settled (sym (c.is_marked.ensures.bytes s honest)) ∙ c.files_without_marks_stand_for_themselves.ensures.unmarked (bytes_after s new) none in
+          let same = ap settled (sym (c.is_marked.ensures.bytes s honest)) ∙ laws.unmarked (bytes_after s new) none in
           c.requires.has s (c.is_marked.ensures.falls s honest) (subst IsNoFile (sym same) denied);
       standing = λ stayed s honest.
           there_standing laws (held_after s (g.D.Disk.events c.is_marked.new.file.disk)) (λ denied.
@@ -32,7 +31,7 @@ invariant_of-self g c =
 -- the same file, which may have a mark
 pub invariant_of-self-in-Ok-true : goal.invariant_of-self-in-Ok-true
 invariant_of-self-in-Ok-true g c =
-    let laws : Laws = record { begins = c.file_begins.ensures; database = c.files_without_marks_stand_for_themselves.ensures.database; unmarked = c.files_without_marks_stand_for_themselves.ensures.unmarked } in
+    let laws : Laws = c.file_laws.ensures in
     record {
       readable = λ opened s honest denied. cc;
       standing = λ stayed s honest.

@@ -1,15 +1,14 @@
 use Rattle.std.proofs.Common.{Err, subst, sym}
 use Rattle.rrd_store.specs.Storages.{Held}
 use Rattle.rrd_disk.specs.Replayed.{bytes_after, held_after}
-use Rattle.rrd_disk.specs.Storing.{IsLoaded}
+use Rattle.rrd_disk.specs.Storing.{IsLoaded, Laws}
 use Rattle.rrd_disk.proofs.Asking.{there_bytes}
-use Rattle.rrd_disk.proofs.Contents.{Laws}
 use Rattle.rrd_disk.proofs.Storing.{database_stands, finds_there, loaded_broken, loaded_from, loaded_repaired, loaded_same, open_kept, some_kept, something_stands}
 use Rattle.rrd_disk.proofs.storage.FileStorage.load_marked.Goals as goal
 
 pub returns-then-has_database-clause-loads : goal.returns-then-has_database-clause-loads
 returns-then-has_database-clause-loads g c = λ s honest sound is marked.
-    let laws : Laws = record { begins = c.file_begins.ensures; database = c.files_without_marks_stand_for_themselves.ensures.database; unmarked = c.files_without_marks_stand_for_themselves.ensures.unmarked } in
+    let laws : Laws = c.file_laws.ensures in
     let old = g.D.Disk.events c.args.self.now.bytes.disk in
     let mid = g.D.Disk.events c.find_standing.new.file.disk in
     let fixed = g.D.Disk.events c.try_repair.new.self.bytes.disk in
@@ -36,7 +35,7 @@ returns-else-has_database-clause-loads g c = λ s honest sound is marked.
 
 pub returns-then-not-try_repair-clause-loads : goal.returns-then-not-try_repair-clause-loads
 returns-then-not-try_repair-clause-loads g c = λ s honest sound is marked.
-    let laws : Laws = record { begins = c.file_begins.ensures; database = c.files_without_marks_stand_for_themselves.ensures.database; unmarked = c.files_without_marks_stand_for_themselves.ensures.unmarked } in
+    let laws : Laws = c.file_laws.ensures in
     let old = g.D.Disk.events c.args.self.now.bytes.disk in
     let mid = g.D.Disk.events c.find_standing.new.file.disk in
     let broken = g.D.Disk.events c.try_repair.new.self.bytes.disk in

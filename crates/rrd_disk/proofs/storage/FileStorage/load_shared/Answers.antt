@@ -2,8 +2,7 @@ use Rattle.std.proofs.Common.{◌≡◌, Bool, true, false, Ok, Err, Some, None,
 use Rattle.rrd_tail.specs.Marks.{mark_of}
 use Rattle.rrd_disk.specs.Replayed.{bytes_after, held_after}
 use Rattle.rrd_disk.specs.Contents.{represented}
-use Rattle.rrd_disk.specs.Storing.{TellsMark}
-use Rattle.rrd_disk.proofs.Contents.{Laws}
+use Rattle.rrd_disk.specs.Storing.{Laws, TellsMark}
 use Rattle.rrd_disk.proofs.Storing.{finds_closed, if_ok_at, loaded_from, loaded_same, loaded_unmarked, open_kept, sound_kept, told_marked, told_unmarked}
 use Rattle.rrd_disk.proofs.storage.FileStorage.load_shared.Goals as goal
 
@@ -22,7 +21,7 @@ returns-in-Ok-true-clause-loads g c = λ s honest sound is.
 
 pub returns-in-Ok-false-clause-loads : goal.returns-in-Ok-false-clause-loads
 returns-in-Ok-false-clause-loads g c = λ s honest sound is.
-    let laws : Laws = record { begins = c.file_begins.ensures; database = c.files_without_marks_stand_for_themselves.ensures.database; unmarked = c.files_without_marks_stand_for_themselves.ensures.unmarked } in
+    let laws : Laws = c.file_laws.ensures in
     let old = g.D.Disk.events c.args.self.now.bytes.disk in
     let mid = g.D.Disk.events c.is_marked.new.self.bytes.disk in
     let new = g.D.Disk.events c.load_unmarked.new.self.bytes.disk in

@@ -1,7 +1,7 @@
 use Rattle.std.proofs.Common.{◌≡◌, sym, ◌∙◌, subst}
 use Rattle.rrd_disk.specs.Replayed.{held_after}
 use Rattle.rrd_disk.specs.declared.storage.Found.TheVariants.{Open, Unsettled}
-use Rattle.rrd_disk.proofs.Contents.{Laws}
+use Rattle.rrd_disk.specs.Storing.{Laws}
 use Rattle.rrd_disk.proofs.Storing.{made_near, made_sound, on_ok, prepared_made, prepared_readable, prepared_twice, unprepared}
 use Rattle.rrd_disk.specs.Power.{RepresentDatabase}
 use Rattle.rrd_disk.specs.declared.disk.Opening.TheVariants.{Make}
@@ -10,13 +10,13 @@ use Rattle.rrd_disk.proofs.storage.FileStorage.open_to_write.Goals as goal
 
 pub returns-in-Open-clause-prepared : goal.returns-in-Open-clause-prepared
 returns-in-Open-clause-prepared g c = λ s honest sound.
-    let laws : Laws = record { begins = c.file_begins.ensures; database = c.files_without_marks_stand_for_themselves.ensures.database; unmarked = c.files_without_marks_stand_for_themselves.ensures.unmarked } in
+    let laws : Laws = c.file_laws.ensures in
     let is : c.args.self.now.found ≡ Open = sym c.replace.ensures.value ∙ c.in-Open.is in
     prepared_readable laws (held_after s (g.D.Disk.events c.args.self.now.bytes.disk)) sound (c.args.self.now.readable is s honest)
 
 pub returns-in_ok-make-in-Unopened-clause-prepared : goal.returns-in_ok-make-in-Unopened-clause-prepared
 returns-in_ok-make-in-Unopened-clause-prepared g c = λ s honest sound.
-    let laws : Laws = record { begins = c.file_begins.ensures; database = c.files_without_marks_stand_for_themselves.ensures.database; unmarked = c.files_without_marks_stand_for_themselves.ensures.unmarked } in
+    let laws : Laws = c.file_laws.ensures in
     let old = g.D.Disk.events c.args.self.now.bytes.disk in
     let mid = g.D.Disk.events c.make.new.self.bytes.disk in
     let new = g.D.Disk.events c.prepare.new.file.disk in
@@ -27,7 +27,7 @@ returns-in_ok-make-in-Unopened-clause-prepared g c = λ s honest sound.
 
 pub returns-in_err-make-in-Unopened-clause-prepared : goal.returns-in_err-make-in-Unopened-clause-prepared
 returns-in_err-make-in-Unopened-clause-prepared g c = λ s honest sound.
-    let laws : Laws = record { begins = c.file_begins.ensures; database = c.files_without_marks_stand_for_themselves.ensures.database; unmarked = c.files_without_marks_stand_for_themselves.ensures.unmarked } in
+    let laws : Laws = c.file_laws.ensures in
     let old = g.D.Disk.events c.args.self.now.bytes.disk in
     let new = g.D.Disk.events c.make.new.self.bytes.disk in
     let made = c.make.ensures.same s in
@@ -36,7 +36,7 @@ returns-in_err-make-in-Unopened-clause-prepared g c = λ s honest sound.
 
 pub returns-in-Unsettled-clause-prepared : goal.returns-in-Unsettled-clause-prepared
 returns-in-Unsettled-clause-prepared g c = λ s honest sound.
-    let laws : Laws = record { begins = c.file_begins.ensures; database = c.files_without_marks_stand_for_themselves.ensures.database; unmarked = c.files_without_marks_stand_for_themselves.ensures.unmarked } in
+    let laws : Laws = c.file_laws.ensures in
     let is : c.args.self.now.found ≡ Unsettled = sym c.replace.ensures.value ∙ c.in-Unsettled.is in
     let before = c.prepare-in-Unsettled.ensures.falls s honest in
     c.prepare-in-Unsettled.ensures.prepared s honest sound
@@ -44,7 +44,7 @@ returns-in-Unsettled-clause-prepared g c = λ s honest sound.
 
 pub returns-in-Missing-clause-prepared : goal.returns-in-Missing-clause-prepared
 returns-in-Missing-clause-prepared g c = λ s honest sound.
-    let laws : Laws = record { begins = c.file_begins.ensures; database = c.files_without_marks_stand_for_themselves.ensures.database; unmarked = c.files_without_marks_stand_for_themselves.ensures.unmarked } in
+    let laws : Laws = c.file_laws.ensures in
     let old = g.D.Disk.events c.args.self.now.bytes.disk in
     let new = g.D.Disk.events c.create.new.self.bytes.disk in
     prepared_made laws c.create.result (held_after s old) (held_after s new) (c.create.ensures.same s) sound

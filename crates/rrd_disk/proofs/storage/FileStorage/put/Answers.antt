@@ -8,7 +8,7 @@ use Rattle.rrd_disk.specs.Asked.{FallsAsked}
 use Rattle.rrd_disk.specs.Replayed.{held_after}
 use Rattle.rrd_disk.proofs.Asked.{falls_asked, still_there, syncs_stay}
 use Rattle.rrd_disk.proofs.Asking.{falls_twice, of_start, there_bytes}
-use Rattle.rrd_disk.proofs.Contents.{Laws}
+use Rattle.rrd_disk.specs.Storing.{Laws}
 use Rattle.rrd_disk.proofs.Storing.{after_replacing, on_err, on_ok}
 use Rattle.rrd_disk.proofs.Surviving.{change_stored, change_survives, database_sound, prepared_database, syncs_twice}
 use Rattle.rrd_disk.proofs.storage.FileStorage.put.Goals as goal
@@ -22,7 +22,7 @@ returns-clause-falls g c =
 
 pub returns-clause-writes : goal.returns-clause-writes
 returns-clause-writes g c = λ s honest sound.
-    let laws : Laws = record { begins = c.file_begins.ensures; database = c.files_without_marks_stand_for_themselves.ensures.database; unmarked = c.files_without_marks_stand_for_themselves.ensures.unmarked } in
+    let laws : Laws = c.file_laws.ensures in
     let old = g.D.Disk.events c.args.self.now.bytes.disk in
     let mid = g.D.Disk.events c.open_to_write.new.self.bytes.disk in
     let new = g.D.Disk.events c.replace.new.file.disk in
@@ -48,7 +48,7 @@ returns-clause-has g c =
 
 pub returns-clause-power : goal.returns-clause-power
 returns-clause-power g c = λ ordered d w honest some P holds all.
-    let laws : Laws = record { begins = c.file_begins.ensures; database = c.files_without_marks_stand_for_themselves.ensures.database; unmarked = c.files_without_marks_stand_for_themselves.ensures.unmarked } in
+    let laws : Laws = c.file_laws.ensures in
     let old = g.D.Disk.events c.args.self.now.bytes.disk in
     let mid = g.D.Disk.events c.open_to_write.new.self.bytes.disk in
     let new = g.D.Disk.events c.replace.new.file.disk in
@@ -61,7 +61,7 @@ returns-clause-power g c = λ ordered d w honest some P holds all.
 
 pub returns-clause-stored : goal.returns-clause-stored
 returns-clause-stored g c = on_ok c.replace.result _ _ (λ there ordered d w honest some P all.
-    let laws : Laws = record { begins = c.file_begins.ensures; database = c.files_without_marks_stand_for_themselves.ensures.database; unmarked = c.files_without_marks_stand_for_themselves.ensures.unmarked } in
+    let laws : Laws = c.file_laws.ensures in
     let old = g.D.Disk.events c.args.self.now.bytes.disk in
     let mid = g.D.Disk.events c.open_to_write.new.self.bytes.disk in
     let new = g.D.Disk.events c.replace.new.file.disk in

@@ -7,10 +7,10 @@ use Rattle.rrd_undo.specs.Spans.{AgreesOutside}
 use Rattle.rrd_disk.specs.Asked.{FallsAsked}
 use Rattle.rrd_disk.specs.Contents.{represented}
 use Rattle.rrd_disk.specs.Replayed.{bytes_after, held_after}
-use Rattle.rrd_disk.specs.Storing.{IsReady}
+use Rattle.rrd_disk.specs.Storing.{IsReady, Laws}
 use Rattle.rrd_disk.proofs.Asked.{falls_asked, still_there, syncs_stay}
 use Rattle.rrd_disk.proofs.Asking.{bytes_there, of_start, there_bytes}
-use Rattle.rrd_disk.proofs.Contents.{Laws, itself}
+use Rattle.rrd_disk.proofs.Contents.{itself}
 use Rattle.rrd_disk.proofs.Spans.{agrees_there, differs_there}
 use Rattle.rrd_disk.proofs.Storing.{after_replacing, on_err, on_ok}
 use Rattle.rrd_disk.proofs.Surviving.{change_stored, change_survives, syncs_twice}
@@ -29,7 +29,7 @@ returns-clause-there g c = λ s honest.
 
 pub returns-clause-writes : goal.returns-clause-writes
 returns-clause-writes g c = λ s honest sound differs.
-    let laws : Laws = record { begins = c.file_begins.ensures; database = c.files_without_marks_stand_for_themselves.ensures.database; unmarked = c.files_without_marks_stand_for_themselves.ensures.unmarked } in
+    let laws : Laws = c.file_laws.ensures in
     let old = g.D.Disk.events c.args.self.now.bytes.disk in
     let new = g.D.Disk.events c.replace_where.new.file.disk in
     let bytes : List ℕ = c.args.bytes.now in
@@ -51,7 +51,7 @@ returns-clause-writes g c = λ s honest sound differs.
 
 pub returns-clause-power : goal.returns-clause-power
 returns-clause-power g c = λ ordered d w honest differs P holds all.
-    let laws : Laws = record { begins = c.file_begins.ensures; database = c.files_without_marks_stand_for_themselves.ensures.database; unmarked = c.files_without_marks_stand_for_themselves.ensures.unmarked } in
+    let laws : Laws = c.file_laws.ensures in
     let old = g.D.Disk.events c.args.self.now.bytes.disk in
     let new = g.D.Disk.events c.replace_where.new.file.disk in
     let bytes : List ℕ = c.args.bytes.now in
@@ -69,7 +69,7 @@ returns-clause-power g c = λ ordered d w honest differs P holds all.
 
 pub returns-clause-stored : goal.returns-clause-stored
 returns-clause-stored g c = on_ok c.replace_where.result _ _ (λ safe ordered d w honest differs P all.
-    let laws : Laws = record { begins = c.file_begins.ensures; database = c.files_without_marks_stand_for_themselves.ensures.database; unmarked = c.files_without_marks_stand_for_themselves.ensures.unmarked } in
+    let laws : Laws = c.file_laws.ensures in
     let old = g.D.Disk.events c.args.self.now.bytes.disk in
     let new = g.D.Disk.events c.replace_where.new.file.disk in
     let bytes : List ℕ = c.args.bytes.now in

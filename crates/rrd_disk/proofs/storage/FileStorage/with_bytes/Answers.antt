@@ -3,13 +3,14 @@ use Rattle.rrd_file.specs.Faults.{IsFile}
 use Rattle.rrd_store.specs.Storages.{Bytes, Held}
 use Rattle.rrd_disk.specs.Contents.{represented}
 use Rattle.rrd_disk.specs.Replayed.{bytes_of, held_after}
-use Rattle.rrd_disk.proofs.Contents.{Laws, file_unmarked, itself}
+use Rattle.rrd_disk.specs.Storing.{Laws}
+use Rattle.rrd_disk.proofs.Contents.{file_unmarked, itself}
 use Rattle.rrd_disk.proofs.Storing.{there_readable}
 use Rattle.rrd_disk.proofs.storage.FileStorage.with_bytes.Goals as goal
 
 pub returns-in-Open-clause-bytes : goal.returns-in-Open-clause-bytes
 returns-in-Open-clause-bytes g c = rw c.give_front.ensures.disk (λ s honest.
-    let laws : Laws = record { begins = c.file_begins.ensures; database = c.files_without_marks_stand_for_themselves.ensures.database; unmarked = c.files_without_marks_stand_for_themselves.ensures.unmarked } in
+    let laws : Laws = c.file_laws.ensures in
     let held = held_after s (g.D.Disk.events c.args.self.now.bytes.disk) in
     let front = c.args.self.now.bytes.front.bytes.items in
     let all : front ≡ bytes_of held = c.is_whole.ensures c.if-is_whole.true s honest in

@@ -1,12 +1,8 @@
-use Rattle.rrd_store.specs.Runs.{ByCommand}
+use Rattle.std.proofs.Common.{Ok}
 use Rattle.rrd_store.proofs.session.Session.run.Goals as goal
 
-pub returns-clause-computed : goal.returns-clause-computed
-returns-clause-computed g c s honest sound read =
-    c.storage_runs_follow_specification.ensures (g.P.Storage.contents s c.args.self.now.storage) (ByCommand (record {
-      words = c.args.words.now;
-      now = c.args.now;
-      out_before = g.W.Write.contents c.args.out.now;
-      out_after = g.W.Write.contents c.run_words.new.out;
-      end = c.run_words.result;
-    })) (g.P.Storage.contents s c.run_words.new.self.storage) (c.run_words.ensures.run s honest sound read)
+pub returns-clause-run : goal.returns-clause-run
+returns-clause-run g c s honest sound read = (Ok c.in_ok-parsed.parsed, c.in_ok-parsed.ensures, c.run_command.ensures.run s honest sound read)
+
+pub returns-clause-on : goal.returns-clause-on
+returns-clause-on g c d same s honest sound memory = (Ok c.in_ok-parsed.parsed, c.in_ok-parsed.ensures, c.run_command.ensures.on d same s honest sound memory)

@@ -1,14 +1,31 @@
-use Rattle.rrd_store.specs.Runs.{ByBatch}
+use Rattle.std.proofs.Common.{◌≡◌, Option, Some, subst}
+use Rattle.rrd_spec.specs.Journal.Survivors.{Stored}
+use Rattle.rrd_spec.specs.Limits.{newest}
+use Rattle.rrd_store.specs.Sessions.{IsLinesOn}
+use Rattle.rrd_store.specs.Storages.{Held}
+use Rattle.rrd_store.proofs.Encodings.{has_none}
+use Rattle.rrd_store.proofs.Sessions.{lines_read, ok_same}
 use Rattle.rrd_store.proofs.session.Session.run_batch.Goals as goal
 
-pub returns-clause-computed : goal.returns-clause-computed
-returns-clause-computed g c s honest sound read =
-    c.storage_runs_follow_specification.ensures (g.P.Storage.contents s c.args.self.now.storage) (ByBatch (record {
-      now = c.args.now;
-      numbered = c.args.numbered;
-      in_before = g.R.Read.remaining c.args.reader.now;
-      in_after = g.R.Read.remaining c.run_lines.new.reader;
-      out_before = g.W.Write.contents c.args.out.now;
-      out_after = g.W.Write.contents c.run_lines.new.out;
-      end = c.run_lines.result;
-    })) (g.P.Storage.contents s c.run_lines.new.self.storage) (c.run_lines.ensures.run s honest sound read)
+pub returns-clause-memory : goal.returns-clause-memory
+returns-clause-memory g c s honest sound memory =
+    let loaded = c.run_on-end.ensures.falls s honest in
+    let mid = c.take.ensures.sound s loaded sound in
+    let lines = c.run_on-end.ensures.run s honest mid in
+    let read_now = lines_read (g.P.Storage.contents s c.take.new.self.storage) (g.P.Storage.contents s c.run_on-end.new.storage) lines.0.last c.run_on-end.result.1 c.run_on-end.result.0.unstored
+    (c.run_on-end.ensures.unknown s) lines.0.left lines.1 c.run_on-end.ensures.valid (λ d. c.layout_is_file.ensures.read newest d) in
+    record { read = read_now; bytes = rw c.take-before.ensures.after (has_none (g.P.Storage.contents s c.run_on-end.new.storage)) }
+
+pub returns-in_err-database-clause-memory : goal.returns-in_err-database-clause-memory
+returns-in_err-database-clause-memory g c s honest sound memory =
+    record { read = rw c.take.ensures.taken tt; bytes = c.take.ensures.bytes s honest sound memory.bytes }
+
+pub returns-clause-on : goal.returns-clause-on
+returns-clause-on g c d same s honest sound =
+    let loaded = c.run_on-end.ensures.falls s honest in
+    let mid = c.take.ensures.sound s loaded sound in
+    let taken : c.in_ok-database.database ≡ Some d = ok_same c.in_ok-database.database (Some d) (c.in_ok-database.ensures.same d same) in
+    let new = g.P.Storage.contents s c.run_on-end.new.storage in
+    let on : (found : Option Stored) (old : Option Held) → Type 0 = λ found old. IsLinesOn c.args.now c.args.numbered found c.run_on-end.result.1 old new (g.R.Read.remaining c.args.reader.now) (g.R.Read.remaining c.run_on-end.new.reader) (g.W.Write.contents c.args.out.now) (g.W.Write.contents c.run_on-end.new.out) c.run_on-end.result.0 in
+    subst (λ (old : Option Held). on (Some d) old) (c.take.ensures.stays s loaded sound)
+    (subst (λ (found : Option Stored). on found (g.P.Storage.contents s c.take.new.self.storage)) taken (c.run_on-end.ensures.run s honest mid))
