@@ -33,7 +33,9 @@ from typing import NamedTuple, Sequence
 TOP = Path(__file__).resolve().parent.parent
 # Debian's packages: those that the check needs, by a tool or a module of each, and those that only some tests need.
 NEEDED = {"cc": "gcc", "make": "make", "objcopy": "binutils", "pytest": "python3-pytest", "xdist": "python3-pytest-xdist"}
-USEFUL = {"strace": "strace", "mypy": "mypy", "rrdtool": "rrdtool", "gnuplot": "gnuplot-nox", "pkg-config": "pkg-config"}
+USEFUL = {"strace": "strace", "mypy": "mypy", "rrdtool": "rrdtool", "gnuplot": "gnuplot-nox", "pkg-config": "pkg-config",
+          "g++": "build-essential", "dh": "debhelper", "dh_python3": "dh-python", "lintian": "lintian",
+          "clang-format": "clang-format"}
 # The memory of a process of pytest, with the programs that it runs.
 WORKER = 2 << 30
 BUGS = "scripts/try-planted-bugs"

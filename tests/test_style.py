@@ -8,8 +8,8 @@ from typing import Callable, Iterator
 from support.program import TOP
 
 LONGEST = 128
-# The tests of the Python package: their lines are tables of cases.
-WITHOUT_LIMIT = ("tests/python/",)
+# Lines of tests are often tables of cases.
+WITHOUT_LIMIT = "tests/"
 PYTHON_HEADS = (b"#!/usr/bin/env python3", b"#!/usr/bin/python3")
 
 
