@@ -110,9 +110,11 @@ def python_calls(kind: Kind, count: int, bench: Bench) -> Sides:
 
 TRIED = [(kind, count) for kind in (SMALL, LARGE) for count in (1, 20)]
 WORKS = [
-    *(Work(f"python: {kind.name}, {count} a call", (MICROSECONDS,), partial(python_calls, kind, count)) for kind, count in TRIED),
+    *(Work(f"python: {kind.name}, {count} a call", (MICROSECONDS,), partial(python_calls, kind, count))
+      for kind, count in TRIED),
     *(Work(f"c: {kind.name}, {count} a call", (MICROSECONDS,), partial(c_calls, kind, "update", count))
       for kind, count in (*TRIED, (HUGE, 1))),
-    *(Work(f"c: {kind.name}, fetch", (MICROSECONDS,), partial(c_calls, kind, "fetch", BEFORE)) for kind in (SMALL, LARGE, HUGE)),
+    *(Work(f"c: {kind.name}, fetch", (MICROSECONDS,), partial(c_calls, kind, "fetch", BEFORE))
+      for kind in (SMALL, LARGE, HUGE)),
     *(Work(f"c: {kind.name}, 1 a call", (COUNTED,), partial(c_instructions, kind)) for kind in (SMALL, LARGE, HUGE)),
 ]

@@ -11,7 +11,7 @@ from typing import Callable, Dict, Iterator, List, Sequence
 
 from harness import TOP, Bench, Sides, Values, Work, instructions, run_seconds
 from support import between
-from support.program import Program
+from support.program import Answer, Program
 from support.sizes import FILES, HUGE, LARGE, ONE, SMALL, START, STEP, Kind, SizedFile
 
 PROCESSOR, COUNTED = "µs of the processor", "instructions"
@@ -29,6 +29,11 @@ def make_files(bench: Bench, kind: Kind, samples: int = 100) -> None:
         run_seconds([program, "update", bench.folder / name, *map(kind.sample, range(1, samples + 1))])
 
 
+def done(answer: Answer) -> None:
+    if answer.status:
+        raise RuntimeError(str(answer))
+
+
 # ---- Updates and fetches
 
 
@@ -37,7 +42,7 @@ def update(file: SizedFile, bench: Bench) -> Sides:
     for name, program in programs(bench).items():
         path, later = bench.folder / name, 0
         if name == "rrdi":
-            file.create(Program.at(program), path)
+            done(file.create(Program.at(program), path))
         else:  # RRDtool has no times before 1980
             later = START
             run_seconds([program, "create", path, "--step", STEP, "--start", START, ONE, *file.archives.split()])
@@ -72,10 +77,10 @@ def fetch(kind: Kind, bench: Bench) -> Sides:
 def writes(file: SizedFile, bench: Bench) -> Sides:
     path, log, program = bench.folder / "f", bench.folder / "log", Program.at(bench.program)
     library = between.build(bench.folder / "between.so", only_calls=True)
-    file.create(program, path)
+    done(file.create(program, path))
 
     def written(number: int) -> Values:
-        program.run(["update", path, file.sample(number)], env=between.settings(library, LOG=log))
+        done(program.run(["update", path, file.sample(number)], env=between.settings(library, LOG=log)))
         events = [event for event in between.events_of(log) if event.kind in ("write", "pwrite") and event.file > 2]
         return len(events), sum(event.got for event in events)
     return {"rrdi": written}

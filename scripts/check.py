@@ -34,7 +34,8 @@ TOP = Path(__file__).resolve().parent.parent
 # Debian's packages: those that the check needs, by a tool or a module of each, and those that only some tests need.
 NEEDED = {"cc": "gcc", "make": "make", "objcopy": "binutils", "pytest": "python3-pytest", "xdist": "python3-pytest-xdist"}
 USEFUL = {"strace": "strace", "mypy": "mypy", "rrdtool": "rrdtool", "gnuplot": "gnuplot-nox", "pkg-config": "pkg-config",
-          "help2man": "help2man"}
+          "g++": "build-essential", "dh": "debhelper", "dh_python3": "dh-python", "lintian": "lintian",
+          "clang-format": "clang-format", "help2man": "help2man"}
 # The memory of a process of pytest, with the programs that it runs.
 WORKER = 2 << 30
 BUGS = "scripts/try-planted-bugs"

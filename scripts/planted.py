@@ -18,6 +18,8 @@ REFUSED = re.compile(r"(?m)^refused: (\S+) (\S+)$")
 LINE = re.compile(r"(?m)^fn (\S+): (.*)$")
 OPEN = re.compile(r"did not prove ((?:`[^`]+`(?:, | and )?)+)")
 NOTE = re.compile(r"(?m)^note: \S+?:\d+:\d+: it is not proved that .*?\(`([^`]+)`\)")
+# What an answer by hand says of a goal if a tactic in it finds no proof. Other errors of answers are of their shape.
+NO_PROOF = re.compile(r"(?m)^\./proofs/(\S+)/\w+\.antt:\S+ error: `([^`]+)`: `\w+`: (?:no proof of|the goal does not follow)")
 ERROR = re.compile(r"(?m)^(\S+?:\d+:\d+: error: .*)$")
 
 
@@ -105,11 +107,14 @@ def bug_of(path: str, folder: Path) -> PlantedBug:
 
 
 def open_goals(said: str, function: str) -> set[str]:
-    """Returns the goals of a function that a check reports as not proved. A goal whose proof by hand no longer fits is not
-    among them: that says nothing of the contract."""
+    """Returns the goals of a function that a check reports as not proved, or whose answer by hand has a tactic that finds no
+    proof. A goal whose answer no longer fits otherwise is not among them: that says nothing of the contract."""
     lines = [rest for name, rest in LINE.findall(said) if name == function]
-    found = OPEN.search(lines[0]) if len(lines) == 1 else None
-    return set(re.findall(r"`([^`]+)`", found[1])) & set(NOTE.findall(said)) if found else set()
+    if len(lines) != 1 or not lines[0].startswith(("no proof", "not proved")):
+        return set()
+    found = OPEN.search(lines[0])
+    searched = set(re.findall(r"`([^`]+)`", found[1])) & set(NOTE.findall(said)) if found else set()
+    return searched | {goal for path, goal in NO_PROOF.findall(said) if path.split("/") == function.split("::")[1:]}
 
 
 def told_of(said: str, bug: PlantedBug) -> str:

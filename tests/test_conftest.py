@@ -82,7 +82,8 @@ def test_the_list_of_modules() -> None:
 
 
 def test_recorded_counts() -> None:
-    page = "# Results\n\n## Counts\n\n- `a.py` (`01`, day): 1 run,\n  2 kills\n- `b.py` (`01`, day): 1 run\n\n## Proofs\n\n- `a`\n"
+    counts = "- `a.py` (`01`, day): 1 run,\n  2 kills\n- `b.py` (`01`, day): 1 run\n"
+    page = f"# Results\n\n## Counts\n\n{counts}\n## Proofs\n\n- `a`\n"
     told = with_counts(page, {"a.py": {"runs": 1_200}, "a.py --long": {"runs": 5}}, "02")
     assert [line.split(" (")[0] for line in told.splitlines()] == [
         "# Results", "", "## Counts", "", "- `a.py`", "- `a.py --long`", "- `b.py`", "", "## Proofs", "", "- `a`"]

@@ -1,7 +1,6 @@
 """The trial of planted bugs: where a bug stands, what counts as refused, and the rounds, by a kit that refuses the word BUG."""
 from __future__ import annotations
 
-import argparse
 import importlib.machinery
 import importlib.util
 import re
@@ -16,7 +15,7 @@ import pytest
 from support.program import TOP
 
 sys.path.insert(0, str(TOP / "scripts"))
-from planted import body_at, bug_of, open_goals, stays_inside, told_of
+from planted import body_at, open_goals, stays_inside
 
 LINES = """/// Doubles.
 pub fn twice(x: u8) -> u8
@@ -47,34 +46,40 @@ pub extern "C" fn called_from_c(x: u8) -> u8 {
 """.split("\n")
 
 
-@pytest.mark.parametrize("at, name", [(5, "twice"), (2, ""), (3, ""), (7, ""), (11, "show"), (16, ""), (20, ""), (24, "called_from_c")])
+@pytest.mark.parametrize("at, name", [(5, "twice"), (2, ""), (3, ""), (7, ""), (11, "show"), (16, ""), (20, ""),
+                                      (24, "called_from_c")])
 def test_the_function_of_a_line(at: int, name: str) -> None:
     assert body_at(LINES, at) == name
 
 
 @pytest.mark.parametrize("old, new, is_inside", [
     ("x + 1", "x", True), ("if a {", "if b {", True), ("if a {", "if b", False), ("x", "x }", False), ("x", "} {", False),
-    ("let y = x else {", "if x { return; } let y = x else {", True), ("x", "fn f() {} x", False), ("a", "a; const B: u8 = 1;", False)])
+    ("let y = x else {", "if x { return; } let y = x else {", True), ("x", "fn f() {} x", False),
+    ("a", "a; const B: u8 = 1;", False)])
 def test_a_text_that_stays_in_its_body(old: str, new: str, is_inside: bool) -> None:
     assert stays_inside(old, new) == is_inside
 
 
-# What the prover said of a crate with bugs: a proof that no longer fits, an open goal, and functions above a refused one.
+# What the prover said of a crate with bugs: answers that no longer fit, open goals, and functions above a refused one.
 SAID = """./proofs/mark/read_mark/Answers.antt:15:5: error: `returns-then`: the two types differ only where one has `Short`
+./proofs/mark/finish/Answers.antt:27:75: error: `returns-clause-power`: `search`: no proof of `Never ≡ Ordered`
+./proofs/mark/finish/Answers.antt:28:75: error: `returns-clause-ok`: `rw`: no occurrence of the path's left endpoint
+fn c::mark::finish: not proved
 note: src/mark.rt:69:1: it is not proved that what the function ensures holds when it returns (`returns`)
 fn c::mark::undo_mark: no proof: expected answers in ./proofs/mark/undo_mark/Answers.antt; `search` did not prove `returns`
 fn c::mark::read_mark: not proved; it calls `c::mark::undo_mark`, which is not proved
 fn c::slot::slot_header: no proof: it calls `c::mark::undo_mark`, which is not proved
 note: src/slot.rt:68:71: it is not proved that what `slot_sum` requires holds (`slot_sum-requires`)
-fn c::slot::read_slot: no proof: expected answers in ./proofs/slot/read_slot/Answers.antt; `search` did not prove `slot_sum-requires` and `returns-2`
+fn c::slot::read_slot: no proof: expected answers in ./proofs/..; `search` did not prove `slot_sum-requires` and `returns-2`
 fn c::slot::slot_sum: proved
 logic=not-proved
 """
 
 
 @pytest.mark.parametrize("function, goals", [
-    ("mark::undo_mark", {"returns"}), ("mark::read_mark", set()), ("slot::slot_header", set()), ("slot::read_slot", {"slot_sum-requires"}),
-    ("slot::slot_sum", set()), ("slot::other", set()), ("undo_mark", set())])
+    ("mark::undo_mark", {"returns"}), ("mark::read_mark", set()), ("slot::slot_header", set()),
+    ("slot::read_slot", {"slot_sum-requires"}), ("slot::slot_sum", set()), ("slot::other", set()), ("undo_mark", set()),
+    ("mark::finish", {"returns-clause-power"})])
 def test_the_open_goals_of_a_function(function: str, goals: set[str]) -> None:
     assert open_goals(SAID, f"c::{function}") == goals
     assert not open_goals(SAID + f"fn c::{function}: proved\n", f"c::{function}")
@@ -91,7 +96,8 @@ def crate(folder: Path, bugs: dict[str, tuple[str, str]], source: str) -> None:
         (folder / f"must-fail/{name}.edit").write_text(f"file: src/lib.rt\n{said}old: let {name[0]}_is = 1;\nnew: {new}\n")
 
 
-SOURCE = "".join(f"fn {it}() {{\n    {call}\n    let {it}_is = 1;\n}}\n" for it, call in zip("abcd", ("1;", "a();", "1;", "1;")))
+CALLS = {"a": "1;", "b": "a();", "c": "1;", "d": "1;"}
+SOURCE = "".join(f"fn {name}() {{\n    {call}\n    let {name}_is = 1;\n}}\n" for name, call in CALLS.items())
 
 
 class Kit:
@@ -102,8 +108,9 @@ class Kit:
     unread = staticmethod(lambda line, texts: "unreadable" in line)
 
     def __init__(self, folder: Path) -> None:
-        of_c = types.SimpleNamespace(name="c", is_static=False, folder=str(folder / "crates/c"), below=list, build_rlib=self.build)
-        self.folder, self.rtlib.crates_below = Path(of_c.folder), lambda top: [of_c]
+        self.folder = folder / "crates/c"
+        of_c = types.SimpleNamespace(name="c", is_static=False, folder=str(self.folder), below=list, build_rlib=self.build)
+        self.rtlib.crates_below = lambda top: [of_c]
 
     def build(self, flags: list[str], anew: bool) -> int:
         (self.folder / "out/incremental").mkdir()
@@ -128,7 +135,7 @@ class Kit:
                 said += ["note: src/lib.rt:1:1: it is not proved that it is right (`returns`)",
                          f"fn c::{name}: no proof: `search` did not prove `returns`"]
             elif "SHAPE" in body:
-                said += [f"./proofs/{name}/Answers.antt:1:1: error: `returns`: the two types differ", f"fn c::{name}: not proved"]
+                said += [f"./proofs/{name}/Answers.antt:1:1: error: `returns`: types differ", f"fn c::{name}: not proved"]
             elif refused and f"{refused}();" in body:
                 said.append(f"fn c::{name}: no proof: it calls `c::{refused}`, which is not proved")
             refused = name if "BUG" in body else refused

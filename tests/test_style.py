@@ -8,15 +8,15 @@ from typing import Callable, Iterator
 from support.program import TOP
 
 LONGEST = 128
-# The tests of the Python package: their lines are tables of cases.
-WITHOUT_LIMIT = ("tests/python/", "python/tests/")
+# Lines of tests are often tables of cases.
+WITHOUT_LIMIT = "tests/"
 PYTHON_HEADS = (b"#!/usr/bin/env python3", b"#!/usr/bin/python3")
 
 
 def files(*patterns: str) -> list[Path]:
     """Returns the files of the repository that match patterns of git."""
-    listed = subprocess.run(["git", "ls-files", "-z", "--", *patterns, ":!.ci"], cwd=TOP, capture_output=True, text=True,
-                            check=True)
+    listed = subprocess.run(["git", "-c", "safe.directory=*", "ls-files", "-z", "--", *patterns], cwd=TOP,
+                            capture_output=True, text=True, check=True)
     return [Path(name) for name in listed.stdout.split("\0") if name and (TOP / name).is_file()]
 
 

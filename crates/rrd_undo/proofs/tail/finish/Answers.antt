@@ -24,7 +24,7 @@ returns-in_err-set_len_and_sync-clause-power g c d s f bytes counts is ordered s
 
 pub returns-clause-power : goal.returns-clause-power
 returns-clause-power g c d s f bytes counts is ordered stored =
-    let mid = c.in_ok-set_len_and_sync.ensures.stored d s (search rules) ordered in
+    let mid = c.in_ok-set_len_and_sync.ensures.stored d s (search rules) (search rules) in
     finish_put bytes _ _ (g.F.Bytes.may_leave d s c.put_and_sync.new.file) (sized_cut bytes _ _ counts is _ (c.in_ok-set_len_and_sync.ensures.ok s (search rules)))
     (c.put_and_sync.ensures.either s f) (λ x left.
     stored_whole 0 database_mark _ (g.F.Bytes.may_leave d s c.set_len_and_sync.new.file) mark_in_sector mid x (c.put_and_sync.ensures.power d s f x left))

@@ -142,7 +142,7 @@ returns-clause-there g c = always_ok c.reported.result _ (λ d s f old done is_o
     rw offset (c.in_ok-turn_last.ensures.ok s (search rules) old is_old is_new knows2.tail (omega (arith, counts2, knows2.below)) paged) in
     let stored = c.in_ok-turn_last.ensures.stored d s (search rules) ordered in
     let to_cut = c.in_ok-put_front.ensures.ok s (search rules) old c.args.new.now c.turn_last.new.self.offset is_old is_new counts2 refl ready in
-    let there = c.finish-finished.ensures.power d s (search rules) c.args.new.now counts2 to_cut ordered2 (c.in_ok-put_front.ensures.stored d s (search rules) ordered2) in
+    let there = c.finish-finished.ensures.power d s (search rules) c.args.new.now counts2 to_cut ordered2 (c.in_ok-put_front.ensures.stored d s (search rules) (search rules)) in
     there)
 
 pub returns-clause-caught : goal.returns-clause-caught
@@ -160,7 +160,7 @@ returns-clause-caught g c = always_err c.reported.result _ (λ d s f old done is
     rw offset (c.in_ok-turn_last.ensures.ok s (search rules) old is_old is_new knows2.tail (omega (arith, counts2, knows2.below)) paged) in
     let stored = c.in_ok-turn_last.ensures.stored d s (search rules) ordered in
     let to_cut = c.in_ok-put_front.ensures.ok s (search rules) old c.args.new.now c.turn_last.new.self.offset is_old is_new counts2 refl ready in
-    let there = c.finish-finished.ensures.power d s (search rules) c.args.new.now counts2 to_cut ordered2 (c.in_ok-put_front.ensures.stored d s (search rules) ordered2) in
+    let there = c.finish-finished.ensures.power d s (search rules) c.args.new.now counts2 to_cut ordered2 (c.in_ok-put_front.ensures.stored d s (search rules) (search rules)) in
     record {
       is = is_old;
       ordered = ordered2;

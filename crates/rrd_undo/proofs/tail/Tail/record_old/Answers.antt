@@ -26,5 +26,5 @@ returns-in_err-put_and_sync-clause-power g c d s f old is is_tail counts are sam
 pub returns-clause-power : goal.returns-clause-power
 returns-clause-power g c d s f old is is_tail counts are same ordered rests =
     let cut = cut_marked old _ _ is same (rw (c.cut_mark-mark.ensures, c.for_length.ensures, counts) at (c.in_ok-put_and_sync.ensures.ok s (search rules))) in
-    record_stand old _ is is_tail _ _ _ _ cut (c.in_ok-put_and_sync.ensures.stored d s (search rules) ordered) (c.put_record.ensures.either s (search rules) old is counts are)
+    record_stand old _ is is_tail _ _ _ _ cut (c.in_ok-put_and_sync.ensures.stored d s (search rules) (search rules)) (c.put_record.ensures.either s (search rules) old is counts are)
     (c.put_record.ensures.power d s (search rules) old is counts are)
