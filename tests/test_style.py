@@ -1,4 +1,4 @@
-"""The files are as .editorconfig, .clang-format and the settings of ruff say: ends of lines, lengths, C's format."""
+"""The files are as .editorconfig, .clang-format and the settings of ruff say, and sources name their license."""
 from __future__ import annotations
 
 import subprocess
@@ -7,7 +7,7 @@ from typing import Callable, Iterator
 
 from support.program import TOP
 
-LONGEST = 128
+LONGEST, LICENSE = 128, "SPDX-License-Identifier: MIT OR Apache-2.0"
 # Lines of tests are often tables of cases.
 WITHOUT_LIMIT = "tests/"
 PYTHON_HEADS = (b"#!/usr/bin/env python3", b"#!/usr/bin/python3")
@@ -42,6 +42,13 @@ def test_python() -> None:
     found = [f"{path}:{fault}" for path in (*files("*.py"), *programs)
              for fault in faults((TOP / path).read_text(), not str(path).startswith(WITHOUT_LIMIT))]
     assert not found
+
+
+def test_licenses() -> None:
+    """Each source names its license in its first lines, but for those of Rattle, which are proved as they are."""
+    sources = files("*.py", "*.c", "*.h", "*.pm", "tools/rrdi-*", "scripts")
+    heads = {path: (TOP / path).read_text().split("\n")[:3] for path in sources}
+    assert not [path for path, head in heads.items() if any(head) and LICENSE not in "\n".join(head)]
 
 
 def test_c(needs: Callable[..., None]) -> None:
