@@ -132,7 +132,8 @@ class Trees(OfTree):
             new = f"new{jobs}"
             self.assertEqual(self.export("--into", new, "--jobs", jobs, "tree"), (0, [
                 f"tree/a.rrdi: {new}/a.rrd (2 data sources, 2 archives)",
-                f"tree/sub/b.rrd: {new}/sub/b.rrd (2 data sources, 2 archives)", "2 files: 2 converted; 1 link passed over"], []))
+                f"tree/sub/b.rrd: {new}/sub/b.rrd (2 data sources, 2 archives)",
+                "2 files: 2 converted; 1 link passed over"], []))
             self.same_rows(f"{new}/a.rrd", self.rows("wanted/a.rrd"))
         before = self.read("new1/a.rrd")
         self.assertEqual(self.export("--into", "new1", "tree/a.rrdi"), (1, ["1 file: 0 converted; 1 not converted"], [
@@ -160,16 +161,18 @@ class Trees(OfTree):
 
     def test_what_rrdtool_makes_of_it(self) -> None:
         """If rrdtool fails, or does not give back what it got, the database stays."""
-        before = self.read("tree/a.rrd")
+        before, unequal = self.read("tree/a.rrd"), "what rrdtool restored is not equal: "
         for case, why in (
                 ("restore) echo 'ERROR: no space' >&2; exit 1", "ERROR: no space"),
                 ("restore) kill -9 $PPID", "the process was ended by signal 9"),
                 ("dump) exit 1", "what rrdtool restored cannot be read back: rrdtool did not read the file to its end"),
-                ("dump) $real dump $2 | sed 's/<step>300/<step>301/'", "what rrdtool restored is not equal: the step or the last time"),
-                ("dump) $real dump $2 | sed 's/2.1[0-9]*e+01/2.1e+01/'", "what rrdtool restored is not equal: archive 0"),
-                ("dump) $real dump $2 | sed 's/<xff>2.5/<xff>5.0/'", "what rrdtool restored is not equal: archive 1"),
-                ("dump) $real dump $2 | sed 's/<type> GAUGE/<type> COUNTER/'", "what rrdtool restored is not equal: the data source g"),
-                ("dump) $real dump $2 | sed 's/<last_ds>29000/<last_ds>2900/'", "what rrdtool restored is not equal: the data source c"),
+                ("dump) $real dump $2 | sed 's/<step>300/<step>301/'", f"{unequal}the step or the last time"),
+                ("dump) $real dump $2 | sed 's/2.1[0-9]*e+01/2.1e+01/'", f"{unequal}archive 0"),
+                ("dump) $real dump $2 | sed 's/<xff>2.5/<xff>5.0/'", f"{unequal}archive 1"),
+                ("dump) $real dump $2 | sed 's/<type> GAUGE/<type> COUNTER/'", f"{unequal}the data source g"),
+                ("dump) $real dump $2 | sed 's/<last_ds>29000/<last_ds>2900/'", f"{unequal}the data source c"),
+                ("dump) touch -d 2001-01-01 tree/a.rrd; $real dump $2",
+                 "it changed while it was converted; first stop what records into it"),
                 ("dump) echo x >>tree/a.rrd.rrdi; $real dump $2", "{}/tree/a.rrd.rrdi already exists")):
             self.stub("rrdtool", f'real={RRDTOOL}; case $1 in {case} ;; *) exec $real "$@" ;; esac')
             ran = self.export("--in-place", "tree/a.rrd")

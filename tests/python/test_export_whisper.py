@@ -117,17 +117,18 @@ class BesideWhisper(ToolCase):
         self.rrdi("create", "f.rrdi", "--step", "10", "--start", str(NOW), "DS:temp:GAUGE:20:U:U", "RRA:AVERAGE:0.5:1:60",
                   "RRA:MAX:0.5:6:10", "RRA:AVERAGE:0.25:6:120")
         self.rrdi("update", "f.rrdi", *(f"{NOW + 10 * slot}:{slot}.5" for slot in range(1, 14)))
-        self.assertEqual(self.tool("rrdi-export", "--whisper", "f.rrdi", "new.wsp"), Ran(
-            0, "", "rrdi-export: f.rrdi: left out archive 1, MAX of 60 s\n"
-            "rrdi-export: f.rrdi: all archives get the xff of the one of 10 s\n"))
+        notes = ("rrdi-export: f.rrdi: left out archive 1, MAX of 60 s\n"
+                 "rrdi-export: f.rrdi: all archives get the xff of the one of 10 s\n")
+        self.assertEqual(self.tool("rrdi-export", "--whisper", "f.rrdi", "new.wsp"), Ran(0, "", notes))
+        self.assertEqual(self.tool("rrdi-export", "--whisper", "f.rrdi", "new.wsp"),
+                         Ran(1, "", notes + "rrdi-export: new.wsp already exists\n"))
         fine, coarse = self.shown("new.wsp", NOW + 130)
-        self.assertEqual([(fine[NOW], fine[NOW + 120], fine[NOW + 130]), (coarse[NOW], coarse[NOW + 60])], [(1.5, 13.5, None), (4, 10)])
+        self.assertEqual([fine[NOW], fine[NOW + 120], fine[NOW + 130]], [1.5, 13.5, None])
+        self.assertEqual([coarse[NOW], coarse[NOW + 60]], [4, 10])
         self.rrdi("create", "g.rrdi", "--step", "10", "--start", str(NOW), "DS:temp:GAUGE:20:U:U", "RRA:AVERAGE:0.5:1:60",
                   "RRA:AVERAGE:0.5:6:10")
-        self.assertEqual(self.tool("rrdi-export", "--whisper", "g.rrdi", "g.wsp").err, "rrdi-export: g.rrdi: a file of whisper can't have these "
-                         "archives: 60:10 must reach farther back than 10:60\n")
-        self.assertEqual(self.tool("rrdi-export", "--whisper", "f.rrdi", "new.wsp").err, "rrdi-export: f.rrdi: left out archive 1, "
-                         "MAX of 60 s\nrrdi-export: f.rrdi: all archives get the xff of the one of 10 s\nrrdi-export: new.wsp already exists\n")
+        self.assertEqual(self.tool("rrdi-export", "--whisper", "g.rrdi", "g.wsp").err, "rrdi-export: g.rrdi: a file of whisper "
+                         "can't have these archives: 60:10 must reach farther back than 10:60\n")
 
     def test_a_full_disk(self) -> None:
         self.make("last", 0.5, [(NOW, 1.0), (NOW + 10, 2.0)])

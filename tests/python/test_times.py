@@ -52,8 +52,9 @@ class Times(unittest.TestCase):
             self.assertEqual(times_of(text), {NOON})
 
     def test_words_of_a_graph(self) -> None:
-        self.assertEqual(with_times(["p.png", "--start", "2024-01-01T11:00Z", "--end=@1704106900", "-s2024-01-01 12:00", "-e", "now",
-                                     "DEF:a=f:g:LAST:start=noon"]),
+        words = ["p.png", "--start", "2024-01-01T11:00Z", "--end=@1704106900", "-s2024-01-01 12:00", "-e", "now",
+                 "DEF:a=f:g:LAST:start=noon"]
+        self.assertEqual(with_times(words),
                          ["p.png", "--start", f"epoch+{NOON}", "--end=epoch+1704106900", f"-sepoch+{NOON}", "-e", "now",
                           "DEF:a=f:g:LAST:start=noon"])
 
@@ -67,8 +68,8 @@ class BesideRRDtool(ToolCase):
                                  env=self.env, check=True, capture_output=True, text=True)
             first = ran.stdout.splitlines()[2]
             return int(first.split(":")[0])
-        subprocess.run([str(RRDTOOL), "create", "f.rrd", "--step", "60", "DS:g:GAUGE:600:U:U", "RRA:LAST:0.5:1:10"], cwd=self.folder,
-                       check=True)
+        subprocess.run([str(RRDTOOL), "create", "f.rrd", "--step", "60", "DS:g:GAUGE:600:U:U", "RRA:LAST:0.5:1:10"],
+                       cwd=self.folder, check=True)
         for text, least, most in (("-5min", 0, 600), ("-5m", 140 * 86_400, 160 * 86_400)):
             now = int(time.time())
             self.assertTrue(least <= now - rows(text) <= most, text)

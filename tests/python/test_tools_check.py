@@ -47,7 +47,8 @@ class Words(ToolCase):
 
     def test_spans(self) -> None:
         """m is a minute here, as in RRDtool's lengths."""
-        for text, seconds in (("90", 90), ("90s", 90), ("5m", 300), ("5min", 300), ("2h", 7_200), ("1d", 86_400), ("1w", 604_800)):
+        for text, seconds in (("90", 90), ("90s", 90), ("5m", 300), ("5min", 300), ("2h", 7_200), ("1d", 86_400),
+                              ("1w", 604_800)):
             self.assertEqual(read_options(["f", "--for", text, "g"]).seconds, seconds)
 
     def test_ranges(self) -> None:
@@ -94,7 +95,8 @@ class Files(ToolCase):
         at = ", at 2023-11-14 22:19:00"
         for words, status, why in (
                 ("--above 32", OK, ""), ("--above 31.999999", CRITICAL, ", above 31.999999"), ("--below 32", OK, ""),
-                ("--below 33", CRITICAL, ", below 33"), ("-w 30", WARNING, ", above 30"), ("-w 30 -c 31", CRITICAL, ", above 31"),
+                ("--below 33", CRITICAL, ", below 33"), ("-w 30", WARNING, ", above 30"),
+                ("-w 30 -c 31", CRITICAL, ", above 31"),
                 ("-w 30 -c 40", WARNING, ", above 30"), ("-c @32:40", CRITICAL, ", within 32:40"), ("", OK, "")):
             self.assertEqual(self.judged(f"temp {words}"), (status, f"temp is 32{why}{at}"), words)
 
@@ -102,16 +104,20 @@ class Files(ToolCase):
         """The known rows of four minutes are 31, 30.5 and 32, and those of five have 21.5 too."""
         for words, status, why in (
                 ("--above 30 --for 1", CRITICAL, "above 30 for 1 s"), ("--above 30 --for 4m", CRITICAL, "above 30 for 4 min"),
-                ("--above 30 --for 241", OK, "above 30, but not for 241 s"), ("--above 30 --for 5m", OK, "above 30, but not for 5 min"),
-                ("--above 31 --for 2m", OK, "above 31, but not for 2 min"), ("-w 30 -c 31 --for 2m", WARNING, "above 31, but not for 2 min")):
+                ("--above 30 --for 241", OK, "above 30, but not for 241 s"),
+                ("--above 30 --for 5m", OK, "above 30, but not for 5 min"),
+                ("--above 31 --for 2m", OK, "above 31, but not for 2 min"),
+                ("-w 30 -c 31 --for 2m", WARNING, "above 31, but not for 2 min")):
             self.assertEqual(self.judged(f"temp {words}"), (status, f"temp is 32, {why}, at 2023-11-14 22:19:00"), words)
 
     def test_the_archive(self) -> None:
         """The finest one that reaches back: ten minutes, or five hours. None has six."""
         self.update(*["40:1"] * 2)
-        self.assertEqual(self.judged("temp --above 30 --for 10m")[1], "temp is 40, above 30, but not for 10 min, at 2023-11-14 22:21:00")
+        self.assertEqual(self.judged("temp --above 30 --for 10m")[1],
+                         "temp is 40, above 30, but not for 10 min, at 2023-11-14 22:21:00")
         # The row up to 22:20 has 21.5, 31, unknown, 30.5, 32 and 40, which is 31 on average.
-        self.assertEqual(self.judged("temp --above 30 --for 11m")[1], "temp is 31, above 30 for 11 min, at 2023-11-14 22:20:00")
+        self.assertEqual(self.judged("temp --above 30 --for 11m")[1],
+                         "temp is 31, above 30 for 11 min, at 2023-11-14 22:20:00")
         self.assertEqual(self.judged("temp --for 6h"), (3, "no archive has rows of the last 6 h"))
 
     def test_dead_sources(self) -> None:
@@ -121,9 +127,12 @@ class Files(ToolCase):
         self.assertEqual(self.judged("temp --above 50", 211), (CRITICAL, dead))
         self.assertEqual(self.judged("temp --stale 4m", 211)[0], OK)
         self.update(*["20:U"] * 9)
+        with mock.patch("rrdi.tools.check.ROWS_AT_ONCE", 2):
+            self.assertEqual(self.judged("dew --stale 10m"), (OK, "dew is 10, at 2023-11-14 22:19:00"))
         self.assertEqual(self.judged("temp --stale 61s")[0], OK)
         self.assertEqual(self.judged("dew --stale 10m"), (OK, "dew is 10, at 2023-11-14 22:19:00"))
-        self.assertEqual(self.judged("dew --stale 569"), (CRITICAL, "dew has no known value after 2023-11-14 22:19:00, for 570 s"))
+        self.assertEqual(self.judged("dew --stale 569"), (
+            CRITICAL, "dew has no known value after 2023-11-14 22:19:00, for 570 s"))
         self.update("20:U")
         self.assertEqual(self.judged("dew --stale 1d"), (CRITICAL, "dew has no known value"))
         self.assertEqual(self.judged("temp --stale 60"), (3, "--stale must be longer than a row, which has 1 min"))
@@ -141,7 +150,8 @@ class Files(ToolCase):
                 ("zone temp", 3, "UNKNOWN - zone: file: truncated at 0")):
             self.assertEqual(self.tool("rrdi-check", *words.split()), Ran(status, line + "\n", ""))
         ran = self.tool("rrdi-check", "room.rrdi", "temp")
-        self.assertRegex(ran.out, r"^CRITICAL - room.rrdi: temp has no known value after 2023-11-14 22:19:00, for .* \| temp=U\n$")
+        self.assertRegex(ran.out,
+                         r"^CRITICAL - room.rrdi: temp has no known value after 2023-11-14 22:19:00, for .* \| temp=U$")
         (self.folder / "room.rrdi").rename(self.folder / "a|b\n.rrdi")
         self.assertEqual(self.tool("rrdi-check", "a|b\n.rrdi", "temp", "--stale", "9999d").out,
                          "OK - a?b?.rrdi: temp is 32, at 2023-11-14 22:19:00 | temp=32\n")

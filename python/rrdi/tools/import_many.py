@@ -24,8 +24,8 @@ class OldFile(NamedTuple):
 
 
 def found_below(tree: str, ends: Ends) -> Iterator[OldFile]:
-    """Yields the old files below a directory, whose names end so, in the order of their names. Links are passed over: what they name may be
-    elsewhere, or be in the directory too.
+    """Yields the files below a directory whose names end so, in the order of their names. Links are passed over: what they
+    name may be elsewhere, or be in the directory too.
 
     # Errors
     `OSError` if a directory can't be read.

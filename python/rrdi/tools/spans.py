@@ -41,7 +41,8 @@ def checked(text: str, parts: Sequence[Optional[str]]) -> Tuple[int, int, int, i
     `WrongArguments` if there is no such date or time.
     """
     year, month, day, hour, minute, second = (int(part or 0) for part in parts)
-    if not (1 <= month <= 12 and 1 <= day <= calendar.monthrange(max(year, 1), month)[1] and hour < 24 and minute < 60 and second < 60):
+    is_date = 1 <= month <= 12 and 1 <= day <= calendar.monthrange(max(year, 1), month)[1]
+    if not (is_date and hour < 24 and minute < 60 and second < 60):
         raise WrongArguments(f"there is no time {text!r}")
     return year, month, day, hour, minute, second
 
