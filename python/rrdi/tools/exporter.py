@@ -1,3 +1,4 @@
+# SPDX-License-Identifier: MIT OR Apache-2.0
 """Turns an rrdi database back into an RRDtool file.
 
 usage: rrdi-export FILE.rrdi NEW.rrd
