@@ -1,3 +1,4 @@
+# SPDX-License-Identifier: MIT OR Apache-2.0
 """Gives the tests what they try: the program, the C library, and the library between a program and the system.
 
 tests/README.md says how to run them. A test without what it needs is skipped, and the run then fails, unless it has

@@ -1,3 +1,4 @@
+/* SPDX-License-Identifier: MIT OR Apache-2.0 */
 /* Keeps temperatures in a round-robin database, by librrdi:
  *
  *     cc -o embed embed.c $(pkg-config --cflags --libs rrdi)

@@ -1,3 +1,4 @@
+# SPDX-License-Identifier: MIT OR Apache-2.0
 # Completes the arguments of rrdi's tools in bash. Run this line in a shell, or put the line into ~/.bashrc:
 #
 #     . examples/rrdi-tools.bash

@@ -1,4 +1,5 @@
 #!/usr/bin/env python3
+# SPDX-License-Identifier: MIT OR Apache-2.0
 """Reads a database of rrdi from its file and prints it: `examples/rrdi.py --help` says more, and docs/export.md.
 
 The script starts `python3 -m rrdi.reader`, whose code is in python/rrdi/reader. If a program finds this folder first on

@@ -1,3 +1,4 @@
+# SPDX-License-Identifier: MIT OR Apache-2.0
 """Random databases as lines of a batch, and files that were damaged at random."""
 from __future__ import annotations
 

@@ -1,3 +1,4 @@
+# SPDX-License-Identifier: MIT OR Apache-2.0
 """Random files of RRDtool: their definitions and their samples. The number of a file is the seed of all its values.
 
 Its kind says which cells must agree after a move to rrdi:

@@ -1,3 +1,4 @@
+# SPDX-License-Identifier: MIT OR Apache-2.0
 """Random batches print what docs/definitions.md says: in memory, and on a file, whole and cut into batches and
 commands.
 

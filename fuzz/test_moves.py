@@ -1,3 +1,4 @@
+# SPDX-License-Identifier: MIT OR Apache-2.0
 """Random files of RRDtool lose no row on the way to rrdi and back.
 
 Each cell must agree to a millionth and to the eleventh digit: in the new file, in the file that `rrdtool restore`

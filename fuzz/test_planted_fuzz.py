@@ -1,3 +1,4 @@
+# SPDX-License-Identifier: MIT OR Apache-2.0
 """The fuzzers find wrong answers: a check that cannot fail is worth nothing."""
 from __future__ import annotations
 

@@ -1,3 +1,4 @@
+# SPDX-License-Identifier: MIT OR Apache-2.0
 """The program reads each file as the reader in Python does, which was written from docs/file-format.md alone.
 
 - Whole files of both versions: the same settings, raw values and rows, and each entry of the journal is what a revert

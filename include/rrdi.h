@@ -1,3 +1,4 @@
+/* SPDX-License-Identifier: MIT OR Apache-2.0 */
 /* Runs rrdi's commands in the process, on the file at a path or on the bytes of a file in memory. docs/embedding.md and
  * rrdi(3) explain the functions.
  *

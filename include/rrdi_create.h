@@ -1,3 +1,4 @@
+/* SPDX-License-Identifier: MIT OR Apache-2.0 */
 /* Creates a database in a program, and never in place of a file that is there. This header needs POSIX; its functions are in the
  * header alone, and call rrdi_run_file. Names that end in an underscore are not for programs.
  *

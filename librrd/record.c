@@ -1,3 +1,4 @@
+/* SPDX-License-Identifier: MIT OR Apache-2.0 */
 /* Functions of RRDtool's library for programs in C that record, such as collectd's plugin rrdtool. The functions write
  * databases of rrdi, by the library librrdi. Load this library before RRDtool's own library:
  *

@@ -1,3 +1,4 @@
+# SPDX-License-Identifier: MIT OR Apache-2.0
 package RRDs;
 
 # RRDtool's Perl module on rrdi's files. Put the directory of this file before RRDtool's own module:

@@ -1,3 +1,4 @@
+# SPDX-License-Identifier: MIT OR Apache-2.0
 """Builds the wheel and the source archive of this package for pip, by the functions that PEP 517 and PEP 660 name.
 
 If librrdi was built (`make library` leaves out/librrdi.so.0 in the repository), or the variable RRDI_LIBRARY names it,

@@ -1,4 +1,5 @@
 #!/usr/bin/python3
+# SPDX-License-Identifier: MIT OR Apache-2.0
 """Runs the full check: every proof, planted bug and test. `make check` is the same.
 
     scripts/check.py [--record]

@@ -1,3 +1,4 @@
+# SPDX-License-Identifier: MIT OR Apache-2.0
 """Planted bugs: what an edit says of itself, and whether what a check says refuses it where it says.
 
 An edit of `must-fail/` is in the kit's form, with one line more, which names the function and the goal of its proof that

@@ -1,3 +1,4 @@
+# SPDX-License-Identifier: MIT OR Apache-2.0
 """The full check fails if one of its steps fails or does too little, and says what it has left out (scripts/check.py)."""
 from __future__ import annotations
 

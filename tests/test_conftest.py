@@ -1,3 +1,4 @@
+# SPDX-License-Identifier: MIT OR Apache-2.0
 """The run of the tests itself fails if a test notes a fault, tries too little, or is left out (conftest.py)."""
 from __future__ import annotations
 

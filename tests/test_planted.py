@@ -1,3 +1,4 @@
+# SPDX-License-Identifier: MIT OR Apache-2.0
 """Each check of the program fails on wrong answers: a check that cannot fail is worth nothing.
 
 `support/fake.c` is a small program that keeps rrdi's promises on files, or breaks the one that FAKE_BUG names; other

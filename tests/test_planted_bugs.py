@@ -1,3 +1,4 @@
+# SPDX-License-Identifier: MIT OR Apache-2.0
 """The trial of planted bugs: where a bug stands, what counts as refused, and the rounds, by a kit that refuses the word BUG."""
 from __future__ import annotations
 

@@ -1,3 +1,4 @@
+# SPDX-License-Identifier: MIT OR Apache-2.0
 """The files are as .editorconfig, .clang-format and the settings of ruff say, and sources name their license."""
 from __future__ import annotations
 

@@ -1,3 +1,4 @@
+# SPDX-License-Identifier: MIT OR Apache-2.0
 """What the tests of failing calls and kills rest on: the library between a program and the system, the changes, the
 order of the calls, and the model of a disk below the system's cache."""
 from __future__ import annotations

@@ -1,3 +1,4 @@
+# SPDX-License-Identifier: MIT OR Apache-2.0
 """What the tests know of files and commands without the program: definitions, layout, marks, forms in the manual."""
 from __future__ import annotations
 

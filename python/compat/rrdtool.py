@@ -1,3 +1,4 @@
+# SPDX-License-Identifier: MIT OR Apache-2.0
 """`import rrdtool` for a program that was written for RRDtool's module: put this folder first on its path.
 
     PYTHONPATH=/usr/local/share/rrdi/python/compat python3 program.py

@@ -1,3 +1,4 @@
+# SPDX-License-Identifier: MIT OR Apache-2.0
 """Round-robin databases of rrdi: runs commands in this process by the C library librrdi, and reads files.
 
     import rrdi

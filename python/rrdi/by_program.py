@@ -1,3 +1,4 @@
+# SPDX-License-Identifier: MIT OR Apache-2.0
 """The program rrdi in the place of the C library: each call is a process."""
 from __future__ import annotations
 

@@ -1,3 +1,4 @@
+# SPDX-License-Identifier: MIT OR Apache-2.0
 """The calls of the library that run now, and the files that it keeps open: a fork waits for them, and so does the end
 of the process.
 

@@ -1,3 +1,4 @@
+# SPDX-License-Identifier: MIT OR Apache-2.0
 """Chooses what runs the commands of the tools: the program that the variable RRDI names, otherwise the C library in this
 process, or without the library the program rrdi on the PATH."""
 from __future__ import annotations

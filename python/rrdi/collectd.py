@@ -1,3 +1,4 @@
+# SPDX-License-Identifier: MIT OR Apache-2.0
 """A writer for collectd's python plugin. The files have the layout of collectd's own plugin rrdtool.
 
     LoadPlugin python

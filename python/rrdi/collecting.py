@@ -1,3 +1,4 @@
+# SPDX-License-Identifier: MIT OR Apache-2.0
 """Changes of one file that wait, and then run together, in one batch."""
 from __future__ import annotations
 

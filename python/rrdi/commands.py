@@ -1,3 +1,4 @@
+# SPDX-License-Identifier: MIT OR Apache-2.0
 """One command, or a batch of lines, on the file at a path.
 
 Like the program, each function opens and locks the file, reads the file once, writes a changed file once, and closes the

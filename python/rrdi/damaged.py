@@ -1,3 +1,4 @@
+# SPDX-License-Identifier: MIT OR Apache-2.0
 """What a program that records does with a damaged file."""
 from __future__ import annotations
 

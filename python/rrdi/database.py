@@ -1,3 +1,4 @@
+# SPDX-License-Identifier: MIT OR Apache-2.0
 """The database in a file, for a block of commands."""
 from __future__ import annotations
 

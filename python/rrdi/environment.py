@@ -1,3 +1,4 @@
+# SPDX-License-Identifier: MIT OR Apache-2.0
 """The variables RRDI_WAIT and RRDI_SYNC of the environment, which are the defaults of `busy_timeout` and `sync`."""
 from __future__ import annotations
 

@@ -1,3 +1,4 @@
+# SPDX-License-Identifier: MIT OR Apache-2.0
 """The exceptions for failed commands, by the library's numbers.
 
 `OperationalError` and `ProgrammingError` have the same names in Python's module `rrdtool`. `OperationalError` means that

@@ -1,3 +1,4 @@
+# SPDX-License-Identifier: MIT OR Apache-2.0
 """Finds which sample, value or time of a refused command was wrong; the program's text names at most the sample."""
 from __future__ import annotations
 

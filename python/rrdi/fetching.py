@@ -1,3 +1,4 @@
+# SPDX-License-Identifier: MIT OR Apache-2.0
 """Fetches rows together with the step between them. `fetch` shows this step only if it prints two rows or more."""
 from __future__ import annotations
 

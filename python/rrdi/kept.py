@@ -1,3 +1,4 @@
+# SPDX-License-Identifier: MIT OR Apache-2.0
 """A file that stays open between commands, locked, with its database in memory.
 
 A command on such a file spares the opening, reading and decoding of the file, which is most of its work, and writes its

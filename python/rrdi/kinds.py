@@ -1,3 +1,4 @@
+# SPDX-License-Identifier: MIT OR Apache-2.0
 """Tells by the first bytes of a file of which program it is."""
 
 from .locks import open_regular

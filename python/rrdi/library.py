@@ -1,3 +1,4 @@
+# SPDX-License-Identifier: MIT OR Apache-2.0
 """Finds the C library librrdi, and calls its functions.
 
 A call lends the library buffers that nothing else uses until the answer is read: other threads may call meanwhile, and

@@ -1,3 +1,4 @@
+# SPDX-License-Identifier: MIT OR Apache-2.0
 """The limits of rrdi, and its words for types and functions. docs/file-format.md says what each limit is of."""
 TYPES = ("GAUGE", "COUNTER", "DERIVE", "ABSOLUTE")
 FUNCTIONS = ("AVERAGE", "MIN", "MAX", "LAST")

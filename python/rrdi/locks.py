@@ -1,3 +1,4 @@
+# SPDX-License-Identifier: MIT OR Apache-2.0
 """Locks on open files, as rrdi takes them (`flock`).
 
 A lock belongs to the open file, not to the process: a child that was forked while the file was open has the lock too,

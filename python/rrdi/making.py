@@ -1,3 +1,4 @@
+# SPDX-License-Identifier: MIT OR Apache-2.0
 """Makes files, and never in place of another file.
 
 A file is filled under another name in the same folder, and a link gives it its own name when it is whole. A link fails if

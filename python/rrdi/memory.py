@@ -1,3 +1,4 @@
+# SPDX-License-Identifier: MIT OR Apache-2.0
 """Commands on a database in memory: on the bytes of a file, and with no file."""
 from __future__ import annotations
 

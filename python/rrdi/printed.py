@@ -1,3 +1,4 @@
+# SPDX-License-Identifier: MIT OR Apache-2.0
 """Parses what `info`, `fetch` and `lastupdate` print."""
 
 # Without `annotations` of __future__: a named tuple whose types are texts makes a tool start a tenth slower.

@@ -1,3 +1,4 @@
+# SPDX-License-Identifier: MIT OR Apache-2.0
 """Finds which setting of a refused `create` is out of its range. The texts are those of the program's second line."""
 from __future__ import annotations
 

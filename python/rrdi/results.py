@@ -1,3 +1,4 @@
+# SPDX-License-Identifier: MIT OR Apache-2.0
 """Converts the output of commands to Python values, in the forms of Python's module `rrdtool`."""
 from __future__ import annotations
 

@@ -1,3 +1,4 @@
+# SPDX-License-Identifier: MIT OR Apache-2.0
 """Writes the samples of a call as words of `update`.
 
 A sample is a text (`"1700000010:21.5"`), which stays as it is, or a tuple or list of a time and values. A value becomes

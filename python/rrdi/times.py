@@ -1,3 +1,4 @@
+# SPDX-License-Identifier: MIT OR Apache-2.0
 """Converts times and spans of Python to whole seconds."""
 from __future__ import annotations
 

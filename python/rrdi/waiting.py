@@ -1,3 +1,4 @@
+# SPDX-License-Identifier: MIT OR Apache-2.0
 """What the writers for collectd and for Graphite do with samples of a file that cannot be written: they wait for the next
 ones of that file, and of too many the oldest are lost. `rrdi-feed` can make its input wait instead, so it loses none."""
 from __future__ import annotations

@@ -1,3 +1,4 @@
+# SPDX-License-Identifier: MIT OR Apache-2.0
 """Converts the arguments of a Python call to the words of a command."""
 from __future__ import annotations
 

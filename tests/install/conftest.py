@@ -1,3 +1,4 @@
+# SPDX-License-Identifier: MIT OR Apache-2.0
 """Runs `make` in a copy of what is installed and packaged, because `make deb` writes into debian/."""
 from __future__ import annotations
 

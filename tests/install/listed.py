@@ -1,3 +1,4 @@
+# SPDX-License-Identifier: MIT OR Apache-2.0
 """The list of what is installed, installed.txt, and what a folder or a package of Debian has."""
 from __future__ import annotations
 

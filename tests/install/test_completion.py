@@ -1,3 +1,4 @@
+# SPDX-License-Identifier: MIT OR Apache-2.0
 """What the completions of an installation offer in bash, zsh and fish; and no word that is typed or offered runs.
 
 tests/python/test_completion.py tries the words of bash in full."""

@@ -1,3 +1,4 @@
+# SPDX-License-Identifier: MIT OR Apache-2.0
 """`make install` and the packages of Debian have the files of the list installed.txt, with their modes, and no others.
 
 `make uninstall` leaves what was there before, and a package that is purged leaves the databases."""

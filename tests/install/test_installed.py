@@ -1,3 +1,4 @@
+# SPDX-License-Identifier: MIT OR Apache-2.0
 """The program, the library and the tools run from an installation, from the packages and from the wheel."""
 from __future__ import annotations
 

@@ -1,3 +1,4 @@
+# SPDX-License-Identifier: MIT OR Apache-2.0
 """The version is the same everywhere; pip installs each tool, and shells complete each; the units start what is there."""
 from __future__ import annotations
 

@@ -1,3 +1,4 @@
+# SPDX-License-Identifier: MIT OR Apache-2.0
 """Graphite on rrdi shows what Graphite on whisper shows: a cluster of two nodes behind a relay, beside whisper with the
 same points. And collectd's writer of rrdi records what collectd's own plugin rrdtool records.
 

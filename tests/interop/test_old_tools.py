@@ -1,3 +1,4 @@
+# SPDX-License-Identifier: MIT OR Apache-2.0
 """Programs that were written for RRDtool record and draw on rrdi what they do on rrdtool.
 
 MRTG, munin-update and Smokeping run by perl/RRDs.pm, in four rounds at intervals of ten seconds, and then munin-graph,

@@ -1,3 +1,4 @@
+# SPDX-License-Identifier: MIT OR Apache-2.0
 """The checks of Graphite and collectd find wrong answers; and what they rest on: renders, ports, a cache's answers."""
 from __future__ import annotations
 

@@ -1,3 +1,4 @@
+# SPDX-License-Identifier: MIT OR Apache-2.0
 """Files on the way from RRDtool to rrdi and back, and RRDtool's own lines and times, beside rrdtool."""
 from __future__ import annotations
 

@@ -1,3 +1,4 @@
+# SPDX-License-Identifier: MIT OR Apache-2.0
 """Fixtures of the tests of the C library: both libraries, and the programs that use them."""
 from __future__ import annotations
 

@@ -1,3 +1,4 @@
+# SPDX-License-Identifier: MIT OR Apache-2.0
 """The library does what the program does: random batches, long updates of an open file, and allocations that fail.
 
 On a file, on an open file, there also in numbers, and in memory, the bytes of the file and the texts are those of rrdi.

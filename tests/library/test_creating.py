@@ -1,3 +1,4 @@
+# SPDX-License-Identifier: MIT OR Apache-2.0
 """rrdi_create_new makes a file once: by many processes, by processes that are killed, and with calls that fail.
 
 One process makes the file, and no other file stays. Where there are no links, an empty file may have the name after a

@@ -1,3 +1,4 @@
+# SPDX-License-Identifier: MIT OR Apache-2.0
 """Calls of the library fail, and processes that use it are killed, as tests/program tries the program.
 
 The library runs on a stack of 64 KiB, on a file and on an open file. Without --long two changes are tried."""

@@ -1,3 +1,4 @@
+# SPDX-License-Identifier: MIT OR Apache-2.0
 """The functions, faults and structs of the headers are those of the libraries, the pages and the Python package.
 
 The libraries export nothing else, call nothing that ends the process or handles signals, and nothing in a process can

@@ -1,3 +1,4 @@
+# SPDX-License-Identifier: MIT OR Apache-2.0
 """Each function of the headers: results, faults, buffers that are too small, refused lines, locks, threads.
 
 The tests are the programs in c/: functions.c for rrdi.h, inline.c for what is in the headers alone, numbers.c for calls

@@ -1,3 +1,4 @@
+# SPDX-License-Identifier: MIT OR Apache-2.0
 """The calls on a file come in their order: the lock first, then the file's length and name, then its bytes.
 
 The log of the calls shows it, for each kind of command, on a file and on an open file; and no call gives up the lock of

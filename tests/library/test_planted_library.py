@@ -1,3 +1,4 @@
+# SPDX-License-Identifier: MIT OR Apache-2.0
 """Each check of the library's tests rejects wrong answers, by small programs in place of those that use the library."""
 from __future__ import annotations
 

@@ -1,3 +1,4 @@
+# SPDX-License-Identifier: MIT OR Apache-2.0
 """Fixtures of the tests of pages: a folder with the program, the tools and the C library, in which commands run."""
 from __future__ import annotations
 

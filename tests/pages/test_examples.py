@@ -1,3 +1,4 @@
+# SPDX-License-Identifier: MIT OR Apache-2.0
 """The programs of examples/, rrdi-plot and the manual pages: they start, and show what a file has."""
 from __future__ import annotations
 

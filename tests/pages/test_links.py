@@ -1,3 +1,4 @@
+# SPDX-License-Identifier: MIT OR Apache-2.0
 """The links of the pages lead somewhere, their tables are tables, and the pages name what is in the sources."""
 from __future__ import annotations
 

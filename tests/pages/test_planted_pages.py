@@ -1,3 +1,4 @@
+# SPDX-License-Identifier: MIT OR Apache-2.0
 """The checks of pages reject pages that show something else, and plots that look otherwise."""
 from __future__ import annotations
 

@@ -1,3 +1,4 @@
+# SPDX-License-Identifier: MIT OR Apache-2.0
 """Each session that a page or a manual page shows prints what the page shows, and draws its plots.
 
 A page is left out from the first command on that needs a tool which is not installed. The plots must look as the

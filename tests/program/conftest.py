@@ -1,3 +1,4 @@
+# SPDX-License-Identifier: MIT OR Apache-2.0
 """Fixtures of the tests of the program, all in an empty folder: `t` has runs, `net` the same with a new file, and
 `losses` runs beside others."""
 from __future__ import annotations

@@ -1,3 +1,4 @@
+# SPDX-License-Identifier: MIT OR Apache-2.0
 """The line after a fault says what was wrong, and a command that is misused is followed by its usage
 (docs/commands.md)."""
 from __future__ import annotations

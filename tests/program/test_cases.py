@@ -1,3 +1,4 @@
+# SPDX-License-Identifier: MIT OR Apache-2.0
 """The program, without proofs, prints the output of the batches that are worked by hand (crates/rrdi/cases), and what
 the definitions compute of random batches. This needs `rt`, and no built program."""
 from __future__ import annotations

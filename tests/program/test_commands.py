@@ -1,3 +1,4 @@
+# SPDX-License-Identifier: MIT OR Apache-2.0
 """The commands and batches of the program on files do what the manual says (docs/commands.md): statuses, texts, files.
 So do the longest lines and the deepest journal; and the usage text says what both manuals say."""
 from __future__ import annotations

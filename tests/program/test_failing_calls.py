@@ -1,3 +1,4 @@
+# SPDX-License-Identifier: MIT OR Apache-2.0
 """Each system call of a command fails in turn, and the next command finds the right database (docs/commands.md).
 
 For each call that opens, locks, queries, truncates, syncs, reads or writes:

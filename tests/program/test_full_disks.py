@@ -1,3 +1,4 @@
+# SPDX-License-Identifier: MIT OR Apache-2.0
 """Files that cannot be written, on a full disk, under a limit, on a read-only mount, or that are no files: the old
 file stays as it was (docs/files.md). A full disk and a read-only mount need root."""
 from __future__ import annotations

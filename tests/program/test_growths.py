@@ -1,3 +1,4 @@
+# SPDX-License-Identifier: MIT OR Apache-2.0
 """Each allocation is refused in turn: the program says `out of memory`, and changes nothing (docs/commands.md).
 
 - An allocation before the first line is read, or of a single command, is refused: the program prints the line `ERROR:

@@ -1,3 +1,4 @@
+# SPDX-License-Identifier: MIT OR Apache-2.0
 """Each allocation is refused in the unit tests whose names have the word `growth`: also in functions that no command
 reaches.
 

@@ -1,3 +1,4 @@
+# SPDX-License-Identifier: MIT OR Apache-2.0
 """A kill before each call of a change, and before each call of the next command: the command after those finds the old
 database or the new one (docs/file-format.md). So it is after power failures with RRDI_SYNC=1 (support/cuts.py).
 

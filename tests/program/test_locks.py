@@ -1,3 +1,4 @@
+# SPDX-License-Identifier: MIT OR Apache-2.0
 """Many programs use one file at once: they lock it, wait for each other, and lose no update (docs/files.md)."""
 from __future__ import annotations
 

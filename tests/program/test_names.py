@@ -1,3 +1,4 @@
+# SPDX-License-Identifier: MIT OR Apache-2.0
 """Links, second names, files that others move or make meanwhile, and copies: a change goes to the file that has the
 name (docs/files.md)."""
 from __future__ import annotations

@@ -1,3 +1,4 @@
+# SPDX-License-Identifier: MIT OR Apache-2.0
 """Files at their limits and one past each, files with one byte changed, small files whose headers announce much, and a
 file of over 4 GB: the program reads what docs/file-format.md allows, refuses the rest, and needs little memory."""
 from __future__ import annotations

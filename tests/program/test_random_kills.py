@@ -1,3 +1,4 @@
+# SPDX-License-Identifier: MIT OR Apache-2.0
 """Kills at random moments of updates and other changes, on files of 1.5, 30, 400 and 4,000 kilobytes: the next command
 finds the old database or the new one. test_kills.py tries each call instead; here the moment may lie within a call."""
 from __future__ import annotations

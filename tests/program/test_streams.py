@@ -1,3 +1,4 @@
+# SPDX-License-Identifier: MIT OR Apache-2.0
 """The streams, the clock, the numbers of writes and the memory of the program on files (docs/commands.md)."""
 from __future__ import annotations
 

@@ -1,3 +1,4 @@
+# SPDX-License-Identifier: MIT OR Apache-2.0
 """One update writes few bytes, however large the file is (docs/performance.md): for the smallest file at most one page
 and the copy that protects it (8 KB), for 30 KB to 4 MB at most 24 KB, for 64 MB at most 48 KB."""
 from __future__ import annotations

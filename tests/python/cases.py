@@ -1,3 +1,4 @@
+# SPDX-License-Identifier: MIT OR Apache-2.0
 """The parts that many tests share: folders, threads, the library that a test calls, and tests that run twice."""
 from __future__ import annotations
 

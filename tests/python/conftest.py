@@ -1,3 +1,4 @@
+# SPDX-License-Identifier: MIT OR Apache-2.0
 """Lets pytest run the tests of the package, with the program and the C library that its options name:
 
     /usr/bin/python3 -m pytest tests/python --program=PATH --library=PATH"""

@@ -1,3 +1,4 @@
+# SPDX-License-Identifier: MIT OR Apache-2.0
 """Puts the package and `support` on the path, finds the C library and the program, and replaces the library by the
 program."""
 from __future__ import annotations

@@ -1,3 +1,4 @@
+# SPDX-License-Identifier: MIT OR Apache-2.0
 """Tests on the file of a database, in a folder of their own."""
 from __future__ import annotations
 

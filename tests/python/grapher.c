@@ -1,3 +1,4 @@
+/* SPDX-License-Identifier: MIT OR Apache-2.0 */
 /* A library that replaces RRDtool's in tests: a picture prints the text of each PRINT unchanged, so a test can let it
  * print any text. `\:` is a colon, and %n a line feed, as in RRDtool's texts of strftime. */
 #include <stdio.h>

@@ -1,3 +1,4 @@
+# SPDX-License-Identifier: MIT OR Apache-2.0
 """Graphite's packages for the tests: the installed ones, or else doubles of the interfaces that rrdi uses; files as
 bytes; and a C library that keeps the lines which it is given."""
 from __future__ import annotations

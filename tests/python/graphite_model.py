@@ -1,3 +1,4 @@
+# SPDX-License-Identifier: MIT OR Apache-2.0
 """A plain model of the files that Graphite's database writes: all points of a metric in a dictionary, and how far reverts
 reach. It knows nothing of files; what it shows is what whisper shows for the same points."""
 from __future__ import annotations

@@ -1,3 +1,4 @@
+# SPDX-License-Identifier: MIT OR Apache-2.0
 """Words that no program expects, for the tests of everything that builds lines and commands from words of others: none of
 them may add a line, a command or an option."""
 from __future__ import annotations

@@ -1,3 +1,4 @@
+/* SPDX-License-Identifier: MIT OR Apache-2.0 */
 /* A library that replaces librrdi in tests: it keeps the words or lines of its last call and the room for the output, and
  * accepts them, or gives the answer that a test has set. */
 #include "rrdi.h"

@@ -1,3 +1,4 @@
+# SPDX-License-Identifier: MIT OR Apache-2.0
 """The C library's functions on files, in Python: they really lock the files, and answer what a test wants."""
 from __future__ import annotations
 

@@ -1,3 +1,4 @@
+# SPDX-License-Identifier: MIT OR Apache-2.0
 """Runs something in the middle of the package's functions: before each step (bytecode) of Python's, where a handler of
 a signal and what the collector runs may come."""
 from __future__ import annotations

@@ -1,3 +1,4 @@
+# SPDX-License-Identifier: MIT OR Apache-2.0
 """Tests that start tools and scripts as processes of their own, and look at what they leave."""
 from __future__ import annotations
 

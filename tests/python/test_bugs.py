@@ -1,3 +1,4 @@
+# SPDX-License-Identifier: MIT OR Apache-2.0
 """Each bug that is planted in the Python package, the tools, RRDs.pm, librrd/record.c or examples/ is found by the
 tests of this folder that must find it.
 

@@ -1,3 +1,4 @@
+# SPDX-License-Identifier: MIT OR Apache-2.0
 """Tests of the wheel and of the source archive: their files, the tag, and what the summary says of the library."""
 from __future__ import annotations
 

@@ -1,3 +1,4 @@
+# SPDX-License-Identifier: MIT OR Apache-2.0
 """Tests of calls of the library that meet: of handlers of signals and what the collector runs within a call, of
 exceptions at each step of it, of threads, and of forks and the end of the process."""
 from __future__ import annotations

@@ -1,3 +1,4 @@
+# SPDX-License-Identifier: MIT OR Apache-2.0
 """Tests of what is chosen from several: the nearest, the first, the oldest, the last. Each has two or more to choose from, and
 the right one comes neither always first nor always last."""
 from __future__ import annotations

@@ -1,3 +1,4 @@
+# SPDX-License-Identifier: MIT OR Apache-2.0
 """Tests of the writer for collectd, with a double of collectd's module. The rows are those of the library or the program,
 if one is there."""
 from __future__ import annotations

@@ -1,3 +1,4 @@
+# SPDX-License-Identifier: MIT OR Apache-2.0
 """Tests of two processes with collectd's writer that start one file: what both count as taken in is in the file, whoever makes
 it, and no file is renamed.
 

@@ -1,3 +1,4 @@
+# SPDX-License-Identifier: MIT OR Apache-2.0
 """Tests of the functions over a path, each with its options, results and faults. The same tests are run with the C
 library, and with the built program in its place."""
 from __future__ import annotations

@@ -1,3 +1,4 @@
+# SPDX-License-Identifier: MIT OR Apache-2.0
 """Tests of `rrdi.compat`: RRDtool's syntax, and the module that replaces Python's `rrdtool`. If Python's `rrdtool` is
 installed for /usr/bin/python3, the tests make the same calls of both modules, and compare the results."""
 from __future__ import annotations

@@ -1,3 +1,4 @@
+# SPDX-License-Identifier: MIT OR Apache-2.0
 """Tests of the completions of bash in examples/: what they propose, and that no typed word is run."""
 from __future__ import annotations
 

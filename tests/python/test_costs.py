@@ -1,3 +1,4 @@
+# SPDX-License-Identifier: MIT OR Apache-2.0
 """Tests that no input costs more than its size: lines, rules, patterns and files that are made to cost much. They count what
 is done, or do what would never end."""
 from __future__ import annotations

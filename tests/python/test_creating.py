@@ -1,3 +1,4 @@
+# SPDX-License-Identifier: MIT OR Apache-2.0
 """Tests of `create`: a file is replaced only if the caller says so, and it appears whole or not at all. By the C library,
 and by the program in its place."""
 from __future__ import annotations

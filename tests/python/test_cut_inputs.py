@@ -1,3 +1,4 @@
+# SPDX-License-Identifier: MIT OR Apache-2.0
 """Tests of inputs that end in the middle: after each of their bytes, what is read is what is there, or an error; never a
 part that is taken for the whole."""
 from __future__ import annotations

@@ -1,3 +1,4 @@
+# SPDX-License-Identifier: MIT OR Apache-2.0
 """Tests of the blocks of `Database` whose commands run at once. By the library the file stays open and locked; by the
 program each command opens it."""
 from __future__ import annotations

@@ -1,3 +1,4 @@
+# SPDX-License-Identifier: MIT OR Apache-2.0
 """Tests of the writers for Graphite and collectd, and of rrdi-feed, while calls of the system fail: each sample is stored,
 waits for the next write, or is counted or named as lost. A library that only keeps the lines is in the place of the C
 library."""

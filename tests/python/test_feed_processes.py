@@ -1,3 +1,4 @@
+# SPDX-License-Identifier: MIT OR Apache-2.0
 """Tests of rrdi-feed as a process: its lines, its times, its batches, and files that cannot be opened."""
 from __future__ import annotations
 

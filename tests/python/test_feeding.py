@@ -1,3 +1,4 @@
+# SPDX-License-Identifier: MIT OR Apache-2.0
 """Tests of `rrdi.feeding`: lines, batches by a library that is a stub, what is tried again, refused and lost."""
 from __future__ import annotations
 

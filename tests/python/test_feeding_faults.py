@@ -1,3 +1,4 @@
+# SPDX-License-Identifier: MIT OR Apache-2.0
 """Tests of what rrdi-feed does if its input cannot be read, or memory or threads run out: each sample that was read is passed
 on once, or named as lost."""
 from __future__ import annotations

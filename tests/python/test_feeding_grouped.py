@@ -1,3 +1,4 @@
+# SPDX-License-Identifier: MIT OR Apache-2.0
 """Samples that the feeder passes to the library in groups: the file is the same as by an update for each."""
 from __future__ import annotations
 

@@ -1,3 +1,4 @@
+# SPDX-License-Identifier: MIT OR Apache-2.0
 """Tests of `rrdi.feeding.metrics`: rules, names, numbers, and files that are created."""
 from __future__ import annotations
 

@@ -1,3 +1,4 @@
+# SPDX-License-Identifier: MIT OR Apache-2.0
 """Tests of carbon's database. The lines for rrdi are compared with a C library that only keeps them; the rows are those
 of the library or the program, if one is there."""
 from __future__ import annotations

@@ -1,3 +1,4 @@
+# SPDX-License-Identifier: MIT OR Apache-2.0
 """Tests of what Graphite's database is made of: names, templates, slots, late points, counts. No program is needed."""
 from __future__ import annotations
 

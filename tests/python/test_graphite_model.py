@@ -1,3 +1,4 @@
+# SPDX-License-Identifier: MIT OR Apache-2.0
 """Tests of Graphite's database against a plain model: random points, with other programs and failing files in between.
 
 RRDI_ROUNDS sets how many random metrics are tried (10)."""

@@ -1,3 +1,4 @@
+# SPDX-License-Identifier: MIT OR Apache-2.0
 """Tests of Graphite's store at its edges, with a library that keeps the batches. No program is needed."""
 from __future__ import annotations
 

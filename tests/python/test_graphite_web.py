@@ -1,3 +1,4 @@
+# SPDX-License-Identifier: MIT OR Apache-2.0
 """Tests of graphite-web's finder and reader. No program is needed: the files are written here."""
 from __future__ import annotations
 

@@ -1,3 +1,4 @@
+# SPDX-License-Identifier: MIT OR Apache-2.0
 """Tests against whisper: random points give the same values in both, and files of whisper are moved to rrdi. Files of
 whisper are written by Debian's python3-whisper, or else here."""
 from __future__ import annotations

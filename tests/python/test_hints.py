@@ -1,3 +1,4 @@
+# SPDX-License-Identifier: MIT OR Apache-2.0
 """Tests of the further lines on standard error: which option was meant, what was wrong with a sample, and which tool reads a
 file of another kind."""
 from __future__ import annotations

@@ -1,3 +1,4 @@
+# SPDX-License-Identifier: MIT OR Apache-2.0
 """Tests of lines and commands that are built from words of others: of the package's calls, of rrdi-feed, of Graphite's and
 collectd's writers, and of rrdi-import. A library that keeps what it is given takes the place of rrdi."""
 from __future__ import annotations

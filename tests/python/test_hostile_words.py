@@ -1,3 +1,4 @@
+# SPDX-License-Identifier: MIT OR Apache-2.0
 """Tests of words of users that would become other words, lines or options: each call runs one command or is refused.
 
 A small library or a script takes the place of rrdi and keeps what it is given, so no database is needed.

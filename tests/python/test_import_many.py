@@ -1,3 +1,4 @@
+# SPDX-License-Identifier: MIT OR Apache-2.0
 """Tests of rrdi-import with many files. A script replaces RRDtool, except in the test that says otherwise."""
 from __future__ import annotations
 

@@ -1,3 +1,4 @@
+# SPDX-License-Identifier: MIT OR Apache-2.0
 """Tests of rrdi.importing: amounts, dumps, plans, and steps that show the cells of a row. RRDtool is not needed."""
 from __future__ import annotations
 

@@ -1,3 +1,4 @@
+# SPDX-License-Identifier: MIT OR Apache-2.0
 """Tests of `rrdi.kept`: when a file is opened, closed and opened again, with a library that really locks the file, and
 answers what a test wants."""
 from __future__ import annotations

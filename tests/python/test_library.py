@@ -1,3 +1,4 @@
+# SPDX-License-Identifier: MIT OR Apache-2.0
 """Tests of `rrdi.library`: the buffers that a call lends and their growth, with functions of Python instead of those in C;
 and the search for the library."""
 from __future__ import annotations

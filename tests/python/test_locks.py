@@ -1,3 +1,4 @@
+# SPDX-License-Identifier: MIT OR Apache-2.0
 """Tests of `rrdi.locks` and of those who hold its locks: exceptions at each step, forks, pipes in the place of a file,
 and a system whose calls are interrupted without an end."""
 from __future__ import annotations

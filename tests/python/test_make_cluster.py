@@ -1,3 +1,4 @@
+# SPDX-License-Identifier: MIT OR Apache-2.0
 """Tests of examples/make-cluster: which processes of a member `start` starts. Small servers take the place of Graphite's."""
 from __future__ import annotations
 

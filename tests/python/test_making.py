@@ -1,3 +1,4 @@
+# SPDX-License-Identifier: MIT OR Apache-2.0
 """Tests of how files are made, and of what happens to damaged ones: nothing of another program is lost."""
 from __future__ import annotations
 

@@ -1,3 +1,4 @@
+# SPDX-License-Identifier: MIT OR Apache-2.0
 """Tests that a name of the package means one thing, and that the package is as docs/ARCHITECTURE.md draws it."""
 from __future__ import annotations
 

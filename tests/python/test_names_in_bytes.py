@@ -1,3 +1,4 @@
+# SPDX-License-Identifier: MIT OR Apache-2.0
 """Tests of the limits of names: the system counts bytes, so letters of one to four bytes reach them at other lengths. The
 longest name that is taken can be created, and a longer one is refused before anything waits for it."""
 from __future__ import annotations

@@ -1,3 +1,4 @@
+# SPDX-License-Identifier: MIT OR Apache-2.0
 """The Python package once more: its tools by the C library, and the types of the package and its tests.
 
 The other tests of this folder run the tools by the program."""

@@ -1,3 +1,4 @@
+# SPDX-License-Identifier: MIT OR Apache-2.0
 """Tests that the numbers on the pages are those of the code: each is read from its page."""
 from __future__ import annotations
 

@@ -1,3 +1,4 @@
+# SPDX-License-Identifier: MIT OR Apache-2.0
 """The checks of the package find what they must: a bug that its tests do not find, and types that are wrong."""
 from __future__ import annotations
 

@@ -1,3 +1,4 @@
+# SPDX-License-Identifier: MIT OR Apache-2.0
 """Tests of the parts of a picture of rrdi-plot that depend on its size."""
 from __future__ import annotations
 

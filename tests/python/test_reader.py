@@ -1,3 +1,4 @@
+# SPDX-License-Identifier: MIT OR Apache-2.0
 """Tests of `rrdi.reader`, of its command line, and of examples/rrdi.py, which starts it. No program and no library is
 needed: the bytes of the file are written here, as docs/file-format.md describes them."""
 from __future__ import annotations

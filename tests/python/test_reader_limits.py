@@ -1,3 +1,4 @@
+# SPDX-License-Identifier: MIT OR Apache-2.0
 """Tests of the reader at each limit of docs/file-format.md, "Checks and faults": what just keeps a rule is read, and what just
 breaks it is the fault of its piece."""
 from __future__ import annotations

@@ -1,3 +1,4 @@
+# SPDX-License-Identifier: MIT OR Apache-2.0
 """Tests of the reader with files whose change was broken off, whole and forged ones. `support/marks.py` writes the bytes, as
 docs/file-format.md describes them."""
 from __future__ import annotations

@@ -1,3 +1,4 @@
+# SPDX-License-Identifier: MIT OR Apache-2.0
 """Tests of librrd/record.c: RRDtool's functions for programs in C that record, over librrdi."""
 from __future__ import annotations
 

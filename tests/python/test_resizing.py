@@ -1,3 +1,4 @@
+# SPDX-License-Identifier: MIT OR Apache-2.0
 """Tests of RRDtool's resize, which writes resize.rrd: by rrdi-rrdtool, by rrdtool-words, and by rrdi.compat.rrdtool."""
 from __future__ import annotations
 

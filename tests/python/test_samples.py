@@ -1,3 +1,4 @@
+# SPDX-License-Identifier: MIT OR Apache-2.0
 """Tests of samples: what Python's values and times become, and what the errors say about samples that are wrong. By the C
 library, and by the program in its place."""
 from __future__ import annotations

@@ -1,3 +1,4 @@
+# SPDX-License-Identifier: MIT OR Apache-2.0
 """Tests of scripts of examples/, and of the tools that move files, as processes: what they lose or falsify if they are
 wrong."""
 from __future__ import annotations

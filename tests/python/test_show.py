@@ -1,3 +1,4 @@
+# SPDX-License-Identifier: MIT OR Apache-2.0
 """Tests of rrdi-show: rows, the overview, the journal, and the words of its command line."""
 from __future__ import annotations
 

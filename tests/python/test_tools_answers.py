@@ -1,3 +1,4 @@
+# SPDX-License-Identifier: MIT OR Apache-2.0
 """Tests of the answers of rrdi-rrdtool's pipe mode and of perl/RRDs.pm: no text of a user reads as an answer."""
 from __future__ import annotations
 

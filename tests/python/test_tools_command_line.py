@@ -1,3 +1,4 @@
+# SPDX-License-Identifier: MIT OR Apache-2.0
 """Tests of what all tools share: the exit status and the message for each way in which a tool can end."""
 from __future__ import annotations
 

@@ -1,3 +1,4 @@
+# SPDX-License-Identifier: MIT OR Apache-2.0
 """Tests of rrdi-feed as a tool: its arguments, its messages, its rules, and how it ends."""
 from __future__ import annotations
 

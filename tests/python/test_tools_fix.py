@@ -1,3 +1,4 @@
+# SPDX-License-Identifier: MIT OR Apache-2.0
 """Tests of rrdi-fix: its words, what it refuses, random histories against a replay, other programs, and kills."""
 from __future__ import annotations
 

@@ -1,3 +1,4 @@
+# SPDX-License-Identifier: MIT OR Apache-2.0
 """Tests of rrdi-graph and of rrdi-rrdtool's graph, graphv and xport: pictures of an .rrd and of the same data in rrdi."""
 from __future__ import annotations
 

@@ -1,3 +1,4 @@
+# SPDX-License-Identifier: MIT OR Apache-2.0
 """Tests of what rrdi-rrdtool imports: most of the cost of a call is imports, so a call imports what its command needs."""
 from __future__ import annotations
 

@@ -1,3 +1,4 @@
+# SPDX-License-Identifier: MIT OR Apache-2.0
 """Tests of rrdi-import, rrdi-export and rrdi-compare. Scripts replace RRDtool, except in tests that say otherwise."""
 from __future__ import annotations
 

@@ -1,3 +1,4 @@
+# SPDX-License-Identifier: MIT OR Apache-2.0
 """Tests of perl/RRDs.pm: its results compared with those of RRDtool's own module, and its one process."""
 from __future__ import annotations
 

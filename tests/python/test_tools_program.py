@@ -1,3 +1,4 @@
+# SPDX-License-Identifier: MIT OR Apache-2.0
 """Tests of rrdi.tools.program: the C library in the process gives what the program gives."""
 from __future__ import annotations
 

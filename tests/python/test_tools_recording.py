@@ -1,3 +1,4 @@
+# SPDX-License-Identifier: MIT OR Apache-2.0
 """Tests of rrdi-plot and rrdi-record. A script replaces gnuplot."""
 from __future__ import annotations
 

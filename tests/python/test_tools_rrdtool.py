@@ -1,3 +1,4 @@
+# SPDX-License-Identifier: MIT OR Apache-2.0
 """Tests of rrdi-rrdtool: its output compared with rrdtool's, its errors, its pipe mode, and the choice of archives."""
 from __future__ import annotations
 

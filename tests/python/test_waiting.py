@@ -1,3 +1,4 @@
+# SPDX-License-Identifier: MIT OR Apache-2.0
 """Tests of what waits for files that cannot be written: there are bounds for a file and for all, so that a full disk takes
 no memory without end, and what is lost is counted."""
 from __future__ import annotations

@@ -1,3 +1,4 @@
+# SPDX-License-Identifier: MIT OR Apache-2.0
 """The parts that the tests of the tools share: a folder, runs of the tools, small scripts that replace other programs, and
 how rrdi-feed takes lines and passes them on."""
 from __future__ import annotations

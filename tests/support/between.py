@@ -1,3 +1,4 @@
+# SPDX-License-Identifier: MIT OR Apache-2.0
 """Builds the library `between.c`, sets which calls fail, and reads the library's log.
 
 It needs Linux with glibc, a program that is linked with the C library as a shared library, and a C compiler `cc`."""

@@ -1,3 +1,4 @@
+/* SPDX-License-Identifier: MIT OR Apache-2.0 */
 /* Writes each call of librrd's functions for recorders to the file that the variable CALLS names, as a line for
  * `rrdtool -`, and passes the call on to the next library. Load this library by LD_PRELOAD, before that library. */
 #define _GNU_SOURCE

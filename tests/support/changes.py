@@ -1,3 +1,4 @@
+# SPDX-License-Identifier: MIT OR Apache-2.0
 """Changes of every kind on files of every size, and the files that are right after a change.
 
 They are for the tests that kill the program at each call, or let each call fail."""

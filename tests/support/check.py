@@ -1,3 +1,4 @@
+# SPDX-License-Identifier: MIT OR Apache-2.0
 """What one test tried, and what went wrong: for tests that go on after a fault, and report all faults at their end."""
 from __future__ import annotations
 

@@ -1,3 +1,4 @@
+/* SPDX-License-Identifier: MIT OR Apache-2.0 */
 /* Stops the clock of a program, so that a picture does not depend on the moment: the time is the value of the variable
  * CLOCK, in seconds since 1970. Clocks that measure how long something takes go on. LD_PRELOAD loads this library. */
 #define _GNU_SOURCE

@@ -1,3 +1,4 @@
+# SPDX-License-Identifier: MIT OR Apache-2.0
 """Runs collectd: its plugin rrdtool records this machine's load in files of RRDtool."""
 from __future__ import annotations
 

@@ -1,3 +1,4 @@
+# SPDX-License-Identifier: MIT OR Apache-2.0
 """The counts of a whole run, over all its processes: whether enough was tried, and nothing left out.
 
 A module may have the dictionary LEAST (and LEAST_LONG for --long): how much all its tests together must try. A

@@ -1,3 +1,4 @@
+# SPDX-License-Identifier: MIT OR Apache-2.0
 """Power failures during a change, and during the command that recovers a file: the files that they may leave, by the
 model of `power.py`, and whether the next command finds the right database in each file."""
 from __future__ import annotations

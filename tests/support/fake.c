@@ -1,3 +1,4 @@
+/* SPDX-License-Identifier: MIT OR Apache-2.0 */
 /* A small program with rrdi's arguments and a layout of its own, on which tests/test_planted.py tries the tests. It keeps
    rrdi's promises on files, locks, kills and syncs, unless the environment names faults:
 

@@ -1,3 +1,4 @@
+# SPDX-License-Identifier: MIT OR Apache-2.0
 """Programs that stand in for rrdi: the small one of fake.c, those with fixed answers, and compiled ones."""
 from __future__ import annotations
 

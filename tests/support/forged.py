@@ -1,3 +1,4 @@
+# SPDX-License-Identifier: MIT OR Apache-2.0
 """Random files whose change was interrupted, many of them forged in one respect, by docs/file-format.md alone."""
 from __future__ import annotations
 

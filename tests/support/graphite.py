@@ -1,3 +1,4 @@
+# SPDX-License-Identifier: MIT OR Apache-2.0
 """A cluster of Graphite: examples/make-cluster runs it; points go in by lines, and come out by the render
 API. All on 127.0.0.1."""
 from __future__ import annotations

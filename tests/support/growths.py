@@ -1,3 +1,4 @@
+# SPDX-License-Identifier: MIT OR Apache-2.0
 """Runs of a batch or a command in which an allocation is refused, and where in the run each allocation was.
 
 A growth is an allocation, or a block that is made larger; support/between.c counts them."""

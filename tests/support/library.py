@@ -1,3 +1,4 @@
+# SPDX-License-Identifier: MIT OR Apache-2.0
 """The C library, and programs in C that use it: their sources are in tests/library/c."""
 from __future__ import annotations
 

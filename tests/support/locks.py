@@ -1,3 +1,4 @@
+# SPDX-License-Identifier: MIT OR Apache-2.0
 """The order of the calls on a file, by a log of between.c: the lock first, then what is known of the file, then its
 bytes.
 

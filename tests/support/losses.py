@@ -1,3 +1,4 @@
+# SPDX-License-Identifier: MIT OR Apache-2.0
 """Runs of a program on files that others use, and files that it must not lose."""
 from __future__ import annotations
 

@@ -1,3 +1,4 @@
+# SPDX-License-Identifier: MIT OR Apache-2.0
 """The pixels of pictures in PNG, as gnuplot and RRDtool write them: 8 bits a channel or a palette, not interlaced."""
 from __future__ import annotations
 

@@ -1,3 +1,4 @@
+# SPDX-License-Identifier: MIT OR Apache-2.0
 """What a power failure may leave of a file: a model of a disk below the system's cache.
 
 The cache has every change of a file at once. The disk stores a change at some time, in any order, and has it for sure

@@ -1,3 +1,4 @@
+# SPDX-License-Identifier: MIT OR Apache-2.0
 """A built program, its runs, and the answers of the runs."""
 from __future__ import annotations
 

@@ -1,3 +1,4 @@
+# SPDX-License-Identifier: MIT OR Apache-2.0
 """What programs that were written for RRDtool record and draw on rrdi, beside what rrdtool makes of the same calls."""
 from __future__ import annotations
 

@@ -1,3 +1,4 @@
+# SPDX-License-Identifier: MIT OR Apache-2.0
 """The counts in docs/results.md: for each module of tests what its last whole run has tried, on which commit and day."""
 from __future__ import annotations
 

@@ -1,3 +1,4 @@
+# SPDX-License-Identifier: MIT OR Apache-2.0
 """Runs of the program in a folder of a test, and what they must print and leave."""
 from __future__ import annotations
 

@@ -1,3 +1,4 @@
+# SPDX-License-Identifier: MIT OR Apache-2.0
 """The sessions that pages show: commands after `$ `, with what they print."""
 from __future__ import annotations
 

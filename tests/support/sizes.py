@@ -1,3 +1,4 @@
+# SPDX-License-Identifier: MIT OR Apache-2.0
 """Files of some lengths whose journal is full, and two kinds that RRDtool has too."""
 from __future__ import annotations
 

@@ -1,3 +1,4 @@
+# SPDX-License-Identifier: MIT OR Apache-2.0
 """Runs rrdi's tools, rrdtool and other programs in a folder, beside the program that is tried."""
 from __future__ import annotations
 

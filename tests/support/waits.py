@@ -1,3 +1,4 @@
+# SPDX-License-Identifier: MIT OR Apache-2.0
 """How a run waits for a lock that another program holds: its tries and its pauses, in a log of `between.c`. The pauses
 take no time there, so that no clock is asked."""
 from __future__ import annotations

@@ -1,3 +1,4 @@
+# SPDX-License-Identifier: MIT OR Apache-2.0
 # Completes the arguments of rrdi in fish, and those of a tool through a link that has the tool's name. The words come from
 # the completion of bash, which must be installed.
 set -g __rrdi_offers (dirname (realpath (status filename)))/offers

@@ -1,1 +1,2 @@
+# SPDX-License-Identifier: MIT OR Apache-2.0
 """Scripts and programs that were written for RRDtool."""

@@ -1,3 +1,4 @@
+# SPDX-License-Identifier: MIT OR Apache-2.0
 """Times as RRDtool reads them: now-1h, end-1d, 12:00, noon yesterday, 20240101."""
 from __future__ import annotations
 

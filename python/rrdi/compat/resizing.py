@@ -1,3 +1,4 @@
+# SPDX-License-Identifier: MIT OR Apache-2.0
 """RRDtool's `resize`: the file stays as it is, and resize.rrd in this directory is the resized database."""
 from __future__ import annotations
 

@@ -1,3 +1,4 @@
+# SPDX-License-Identifier: MIT OR Apache-2.0
 """Python's module `rrdtool` for databases of rrdi: its functions, words, results and exceptions.
 
     from rrdi.compat import rrdtool

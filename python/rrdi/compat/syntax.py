@@ -1,3 +1,4 @@
+# SPDX-License-Identifier: MIT OR Apache-2.0
 """RRDtool's syntax of options, numbers and lengths."""
 from __future__ import annotations
 

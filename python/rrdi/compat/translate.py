@@ -1,3 +1,4 @@
+# SPDX-License-Identifier: MIT OR Apache-2.0
 """Commands in RRDtool's syntax, as commands of rrdi."""
 from __future__ import annotations
 

@@ -1,3 +1,4 @@
+# SPDX-License-Identifier: MIT OR Apache-2.0
 """Holds samples by their files, and passes them on."""
 from __future__ import annotations
 

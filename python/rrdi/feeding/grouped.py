@@ -1,3 +1,4 @@
+# SPDX-License-Identifier: MIT OR Apache-2.0
 """Passes many samples of one file to the C library by two changes: the older ones in one update, and the newest ones in an
 update each.
 

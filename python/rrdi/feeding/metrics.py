@@ -1,3 +1,4 @@
+# SPDX-License-Identifier: MIT OR Apache-2.0
 """Feeds files from the values of metrics, in lines `NAME VALUE TIME` as Graphite's programs send them, and creates the files
 that do not exist."""
 from __future__ import annotations

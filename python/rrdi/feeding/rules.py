@@ -1,3 +1,4 @@
+# SPDX-License-Identifier: MIT OR Apache-2.0
 """Maps the names of Graphite's metrics to files: rules, each with a pattern, a FILE and the arguments of create."""
 from __future__ import annotations
 

@@ -1,3 +1,4 @@
+# SPDX-License-Identifier: MIT OR Apache-2.0
 """Threads that write the files. Each batch that is given runs once, even if the system has no room for a thread."""
 from __future__ import annotations
 

@@ -1,3 +1,4 @@
+# SPDX-License-Identifier: MIT OR Apache-2.0
 """Passes the samples of one file to rrdi, in one batch."""
 from __future__ import annotations
 

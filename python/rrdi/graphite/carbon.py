@@ -1,3 +1,4 @@
+# SPDX-License-Identifier: MIT OR Apache-2.0
 """The database `rrdi` of carbon: `DATABASE = rrdi` in carbon.conf.
 
 carbon has to import this module before it reads its settings; the program rrdi-carbon-cache does. Settings of

@@ -1,3 +1,4 @@
+# SPDX-License-Identifier: MIT OR Apache-2.0
 """Finds the files and folders of metrics that a pattern of Graphite matches, below a data folder."""
 from __future__ import annotations
 

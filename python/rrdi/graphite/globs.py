@@ -1,3 +1,4 @@
+# SPDX-License-Identifier: MIT OR Apache-2.0
 """Matches names with the words of a pattern, in which * ? and [..] stand for characters as in `fnmatch`.
 
 All words are matched at once, by the bits of a number: a word of n signs has n + 1 bits, and bit k is set if its first k

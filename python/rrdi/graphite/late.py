@@ -1,3 +1,4 @@
+# SPDX-License-Identifier: MIT OR Apache-2.0
 """Late points: which changes to revert, and what to give again.
 
 rrdi takes a sample only after the last one. So the newest updates are reverted, as far as the journal reaches, and their

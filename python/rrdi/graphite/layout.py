@@ -1,3 +1,4 @@
+# SPDX-License-Identifier: MIT OR Apache-2.0
 """How a metric of Graphite is laid out in a file: the step, the sources and the archives.
 
 A slot of whisper that begins at s is rrdi's step that ends at s + step. So the row of an archive at time t holds what

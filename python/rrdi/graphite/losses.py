@@ -1,3 +1,4 @@
+# SPDX-License-Identifier: MIT OR Apache-2.0
 """Counts points that were lost or put in later, and logs them."""
 from __future__ import annotations
 

@@ -1,3 +1,4 @@
+# SPDX-License-Identifier: MIT OR Apache-2.0
 """The file of a metric: below the data folder, whatever the metric's name is."""
 from __future__ import annotations
 

@@ -1,3 +1,4 @@
+# SPDX-License-Identifier: MIT OR Apache-2.0
 """Rows of a file as the series that Graphite shows: what whisper would give for the same points."""
 from __future__ import annotations
 

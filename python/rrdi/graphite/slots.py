@@ -1,3 +1,4 @@
+# SPDX-License-Identifier: MIT OR Apache-2.0
 """Makes updates of points: the slot of each point, and the lines of a batch."""
 from __future__ import annotations
 

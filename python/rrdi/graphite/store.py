@@ -1,3 +1,4 @@
+# SPDX-License-Identifier: MIT OR Apache-2.0
 """Takes points into the files of metrics, and loses none for the sake of another one."""
 from __future__ import annotations
 

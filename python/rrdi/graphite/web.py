@@ -1,3 +1,4 @@
+# SPDX-License-Identifier: MIT OR Apache-2.0
 """Finder and reader of graphite-web for the files that `rrdi.graphite.carbon` writes.
 
 In local_settings.py, with the folder of this package on PYTHONPATH:

@@ -1,3 +1,4 @@
+# SPDX-License-Identifier: MIT OR Apache-2.0
 """Writes the batch that creates a database from a file of RRDtool."""
 from __future__ import annotations
 

@@ -1,3 +1,4 @@
+# SPDX-License-Identifier: MIT OR Apache-2.0
 """Reads a file of RRDtool by `rrdtool dump`."""
 from __future__ import annotations
 

@@ -1,3 +1,4 @@
+# SPDX-License-Identifier: MIT OR Apache-2.0
 """Chooses the archives of a file from which the rates are computed, for each stretch of time."""
 from __future__ import annotations
 

@@ -1,3 +1,4 @@
+# SPDX-License-Identifier: MIT OR Apache-2.0
 """Computes the rates of a data source from the rows of its archives."""
 from __future__ import annotations
 

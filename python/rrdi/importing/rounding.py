@@ -1,3 +1,4 @@
+# SPDX-License-Identifier: MIT OR Apache-2.0
 """Converts numbers of RRDtool to whole millionths."""
 from __future__ import annotations
 

@@ -1,3 +1,4 @@
+# SPDX-License-Identifier: MIT OR Apache-2.0
 """Lays steps so that they show the cells of a row."""
 from __future__ import annotations
 

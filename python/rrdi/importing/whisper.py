@@ -1,3 +1,4 @@
+# SPDX-License-Identifier: MIT OR Apache-2.0
 """Writes the batch that makes a database out of a file of whisper, with the layout that Graphite's storage over rrdi has.
 
 Each time takes its value from the finest archive that has the time; a coarse point counts for all its steps. rrdi

@@ -1,3 +1,4 @@
+# SPDX-License-Identifier: MIT OR Apache-2.0
 """Reads a database of rrdi from its file, as docs/file-format.md describes the bytes. The C library is not needed."""
 from __future__ import annotations
 

@@ -1,3 +1,4 @@
+# SPDX-License-Identifier: MIT OR Apache-2.0
 """Prints a database of rrdi as JSON, CSV or OpenMetrics, without the program.
 
 usage: python3 -m rrdi.reader json|csv|openmetrics|check FILE

@@ -1,3 +1,4 @@
+# SPDX-License-Identifier: MIT OR Apache-2.0
 """Reads files that other programs may change at the same time."""
 from __future__ import annotations
 

@@ -1,3 +1,4 @@
+# SPDX-License-Identifier: MIT OR Apache-2.0
 """The pieces of a file, in their order, as docs/file-format.md describes the bytes."""
 from __future__ import annotations
 

@@ -1,3 +1,4 @@
+# SPDX-License-Identifier: MIT OR Apache-2.0
 """Prints a database as JSON, CSV and OpenMetrics."""
 from __future__ import annotations
 

@@ -1,3 +1,4 @@
+# SPDX-License-Identifier: MIT OR Apache-2.0
 """Reads parts of a database's file: its settings, some rows of one archive, and the times of the journal's updates.
 
 The file is open and locked (shared) until `close`. If a change of the file was broken off, the parts are those of the

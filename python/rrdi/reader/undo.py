@@ -1,3 +1,4 @@
+# SPDX-License-Identifier: MIT OR Apache-2.0
 """The bytes that a file stands for, also if a change of the file was broken off: those that the next command of rrdi would
 find. docs/file-format.md, "A file that is being changed", has the rules."""
 from __future__ import annotations

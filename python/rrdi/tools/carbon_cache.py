@@ -1,3 +1,4 @@
+# SPDX-License-Identifier: MIT OR Apache-2.0
 """Runs Graphite's carbon-cache with rrdi's files instead of whisper's.
 
 usage: rrdi-carbon-cache [OPTION..] start|stop|status

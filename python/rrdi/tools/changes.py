@@ -1,3 +1,4 @@
+# SPDX-License-Identifier: MIT OR Apache-2.0
 """What the changes in a journal were: the times, sources and archives before and after each of them."""
 from __future__ import annotations
 

@@ -1,3 +1,4 @@
+# SPDX-License-Identifier: MIT OR Apache-2.0
 """The parts that all tools share: help, messages, exit statuses, and reports of progress."""
 
 # Without `annotations` of __future__: a named tuple whose types are texts makes a tool start a tenth slower.

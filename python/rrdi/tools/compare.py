@@ -1,3 +1,4 @@
+# SPDX-License-Identifier: MIT OR Apache-2.0
 """Compares the rows of an RRDtool file with those of the database made from it.
 
 usage: rrdi-compare OLD.rrd NEW.rrdi

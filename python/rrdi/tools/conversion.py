@@ -1,3 +1,4 @@
+# SPDX-License-Identifier: MIT OR Apache-2.0
 """Converts one file of RRDtool or of whisper: reads the old file, and makes the new database."""
 from __future__ import annotations
 

@@ -1,3 +1,4 @@
+# SPDX-License-Identifier: MIT OR Apache-2.0
 """Numbers with an exponent, as RRDtool prints them."""
 from __future__ import annotations
 

@@ -1,3 +1,4 @@
+# SPDX-License-Identifier: MIT OR Apache-2.0
 """Feeds many databases: takes samples as lines, and writes each file once a minute.
 
 usage: rrdi-feed [OPTION..] < LINES

@@ -1,3 +1,4 @@
+# SPDX-License-Identifier: MIT OR Apache-2.0
 """Takes one wrong sample out of a database, or changes it, however many samples came after it.
 
 usage: rrdi-fix FILE TIME [VALUE] [--source NAME] [--samples FILE]

@@ -1,3 +1,4 @@
+# SPDX-License-Identifier: MIT OR Apache-2.0
 """Draws rrdi's databases, and RRDtool's files, with RRDtool's own grapher.
 
 usage: rrdi-graph PICTURE [OPTION..] DEF:x=FILE:SOURCE:FUNCTION.. LINE1:x#RGB..

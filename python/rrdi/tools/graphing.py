@@ -1,3 +1,4 @@
+# SPDX-License-Identifier: MIT OR Apache-2.0
 """Lets RRDtool's own grapher draw rrdi's files: RRDtool gets the rows of each DEF from a callback."""
 from __future__ import annotations
 

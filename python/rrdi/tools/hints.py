@@ -1,3 +1,4 @@
+# SPDX-License-Identifier: MIT OR Apache-2.0
 """What a further line on standard error says: which option or word was meant, and which tool reads a file of another kind.
 
 Few runs need this module, so it is imported when a run has failed."""

@@ -1,3 +1,4 @@
+# SPDX-License-Identifier: MIT OR Apache-2.0
 """Moves files of RRDtool, or of Graphite's whisper, to rrdi.
 
 usage: rrdi-import [--journal DEPTH] OLD.rrd|OLD.wsp NEW.rrdi

@@ -1,3 +1,4 @@
+# SPDX-License-Identifier: MIT OR Apache-2.0
 """RRDtool's library in this process: its grapher, and its callback for rows.
 
 Python's module rrdtool has the callback too, but refuses rows that begin before the requested start. Rows do so for each

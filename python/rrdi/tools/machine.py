@@ -1,3 +1,4 @@
+# SPDX-License-Identifier: MIT OR Apache-2.0
 """What a machine says of itself: its load, its memory, a file system, and a network interface."""
 from __future__ import annotations
 

@@ -1,3 +1,4 @@
+# SPDX-License-Identifier: MIT OR Apache-2.0
 """Reads command lines whose options may be before, between and after the other words."""
 from __future__ import annotations
 

@@ -1,3 +1,4 @@
+# SPDX-License-Identifier: MIT OR Apache-2.0
 """Draws rows with gnuplot: a line for each source, with gaps where none is known.
 
 usage: rrdi-plot FILE PICTURE [FUNCTION] [options]

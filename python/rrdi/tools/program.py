@@ -1,3 +1,4 @@
+# SPDX-License-Identifier: MIT OR Apache-2.0
 """Runs commands of rrdi for the tools, which use databases only through this module and the reader."""
 from __future__ import annotations
 

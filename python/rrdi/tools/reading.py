@@ -1,3 +1,4 @@
+# SPDX-License-Identifier: MIT OR Apache-2.0
 """Reads databases from their files, by the reader of this package."""
 from __future__ import annotations
 

@@ -1,3 +1,4 @@
+# SPDX-License-Identifier: MIT OR Apache-2.0
 """Records numbers of this machine, once; cron repeats it.
 
 usage: rrdi-record [--load] [--memory] [--disk DIRECTORY] [--network INTERFACE]

@@ -1,3 +1,4 @@
+# SPDX-License-Identifier: MIT OR Apache-2.0
 """What a command of RRDtool prints, and the two forms of an answer in pipe mode: RRDtool's, and one with lengths.
 
 A text of a user, such as the format of a PRINT, can have any characters. In RRDtool's form a line of the output that

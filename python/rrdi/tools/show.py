@@ -1,3 +1,4 @@
+# SPDX-License-Identifier: MIT OR Apache-2.0
 """Shows what is in a database, without the program or the C library.
 
 usage: rrdi-show FILE

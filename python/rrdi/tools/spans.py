@@ -1,3 +1,4 @@
+# SPDX-License-Identifier: MIT OR Apache-2.0
 """Times and spans for people: what they type, and how they are shown."""
 from __future__ import annotations
 

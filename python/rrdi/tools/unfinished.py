@@ -1,3 +1,4 @@
+# SPDX-License-Identifier: MIT OR Apache-2.0
 """The unfinished steps and rows of a database, which `rrdtool info` prints and `rrdi info` does not."""
 from __future__ import annotations
 

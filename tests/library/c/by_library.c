@@ -1,3 +1,4 @@
+/* SPDX-License-Identifier: MIT OR Apache-2.0 */
 /* A program that takes the arguments of rrdi and runs the command by the library, so that the tests of rrdi can try the
    library. Its own reads of standard input and writes of output bypass the C library, so that the library between.c
    sees only the calls of librrdi. The program allocates nothing.

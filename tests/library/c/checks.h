@@ -1,3 +1,4 @@
+/* SPDX-License-Identifier: MIT OR Apache-2.0 */
 /* What the tests of rrdi.h and of rrdi_create.h have in common: an answer and its output, an open file, the count of
    the checks, and files. */
 #ifndef CHECKS_H

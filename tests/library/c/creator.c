@@ -1,3 +1,4 @@
+/* SPDX-License-Identifier: MIT OR Apache-2.0 */
 /* Creates a database at the path PATH by rrdi_create_new, when standard input has ended, and prints the number of the
    fault and the error of the system. */
 #include <stdio.h>

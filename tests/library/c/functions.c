@@ -1,3 +1,4 @@
+/* SPDX-License-Identifier: MIT OR Apache-2.0 */
 /* Tests the functions of rrdi.h: results without a fault, the number of each fault, buffers that are too small, the
    numbers of refused lines, closed streams, pipes, limits, calls that fail, files that stay open, a lock that another
    process holds, threads. The library's pauses and its reads of files go by this program. Run the program in an empty

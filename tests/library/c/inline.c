@@ -1,3 +1,4 @@
+/* SPDX-License-Identifier: MIT OR Apache-2.0 */
 /* Tests the functions that are in the headers alone and do more than to name something: rrdi_words, and rrdi_create_new
    on a file system with links and on one without, with each fault, in threads. The system calls link and rename go by
    this program. Run the program in an empty folder; it prints each wrong result and the number of tests. */

@@ -1,3 +1,4 @@
+/* SPDX-License-Identifier: MIT OR Apache-2.0 */
 /* Tests the calls that take and give numbers in place of words, rrdi_update_open and rrdi_fetch_open, and the functions
    that make values of C's numbers: each call against the same command in words, on another file, and each function
    against printf and strtod. Run it in an empty folder; it prints each wrong result and the number of tests. */

@@ -1,3 +1,4 @@
+/* SPDX-License-Identifier: MIT OR Apache-2.0 */
 /* Opens the file FILE by rrdi_open, runs each line of standard input as a call of its own on the open file, and closes
    the file. After the opening and after each call it prints the number of the fault and whether another program could
    lock the file then: `held` or `free`; after the end, only the latter. A line that begins with `+` is a batch of the

@@ -1,3 +1,4 @@
+/* SPDX-License-Identifier: MIT OR Apache-2.0 */
 /* The system calls of the C library, each right, or with the bug that the environment names by BUG: those that a
    contract cannot refuse, because it says what rrdi asks of the system, and not how the system is asked. A copy of
    librrdi.a calls these functions in place of the C library's, whose names follow `planted_`.

@@ -1,3 +1,4 @@
+/* SPDX-License-Identifier: MIT OR Apache-2.0 */
 /* Tests how the library asks the system: how files are opened, with which permissions and descriptors, what another
    program may do to a file while a call waits for its lock, pauses that signals interrupt, and flushes. The library's
    pauses and flushes go by this program, and take no time. Run the program in an empty folder; it prints each wrong

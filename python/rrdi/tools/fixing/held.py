@@ -1,3 +1,4 @@
+# SPDX-License-Identifier: MIT OR Apache-2.0
 """A file that stays locked from the first look until its change is stored, by the C library or by the program."""
 from __future__ import annotations
 

@@ -1,3 +1,4 @@
+# SPDX-License-Identifier: MIT OR Apache-2.0
 """The samples of the changes that a journal can take back, and those that a user gives for them."""
 
 # Without `annotations` of __future__: a named tuple whose types are texts makes a tool start a tenth slower.

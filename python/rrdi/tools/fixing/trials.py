@@ -1,3 +1,4 @@
+# SPDX-License-Identifier: MIT OR Apache-2.0
 """Runs lines on a copy of a database, so that what they do is known before a file is changed."""
 
 # Without `annotations` of __future__: a named tuple whose types are texts makes a tool start a tenth slower.

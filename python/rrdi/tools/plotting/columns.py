@@ -1,3 +1,4 @@
+# SPDX-License-Identifier: MIT OR Apache-2.0
 """The rows of a picture, as columns of numbers, and what the legend says of them."""
 from __future__ import annotations
 

@@ -1,3 +1,4 @@
+# SPDX-License-Identifier: MIT OR Apache-2.0
 """Draws a picture by gnuplot."""
 from __future__ import annotations
 

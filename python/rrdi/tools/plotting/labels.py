@@ -1,3 +1,4 @@
+# SPDX-License-Identifier: MIT OR Apache-2.0
 """Labels at round times of the time zone."""
 from __future__ import annotations
 

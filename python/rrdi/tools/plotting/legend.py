@@ -1,3 +1,4 @@
+# SPDX-License-Identifier: MIT OR Apache-2.0
 """The table below a plot: each source with its last, least, mean and greatest value, as far as the picture has room."""
 from __future__ import annotations
 

@@ -1,3 +1,4 @@
+# SPDX-License-Identifier: MIT OR Apache-2.0
 """Colors and sizes of a picture, in light and in dark."""
 from __future__ import annotations
 

@@ -1,3 +1,4 @@
+# SPDX-License-Identifier: MIT OR Apache-2.0
 """Numbers for people: with SI prefixes, and the marks of an axis at round values."""
 from __future__ import annotations
 

@@ -1,3 +1,4 @@
+# SPDX-License-Identifier: MIT OR Apache-2.0
 """Takes RRDtool's commands for rrdi's files, and answers as RRDtool does.
 
 usage: rrdi-rrdtool [--exact | --rrdi | --show] COMMAND ARGUMENT..

@@ -1,3 +1,4 @@
+# SPDX-License-Identifier: MIT OR Apache-2.0
 """The pipe mode of RRDtool: a command per line, and an answer to each."""
 from __future__ import annotations
 

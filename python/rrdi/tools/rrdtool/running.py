@@ -1,3 +1,4 @@
+# SPDX-License-Identifier: MIT OR Apache-2.0
 """Runs RRDtool's commands on rrdi's files, and returns what RRDtool prints."""
 from __future__ import annotations
 

@@ -1,3 +1,4 @@
+# SPDX-License-Identifier: MIT OR Apache-2.0
 """RRDtool's texts: the output of `rrdtool fetch`, `lastupdate`, `info` and `updatev`."""
 
 # Without `annotations` of __future__: a named tuple whose types are texts makes a tool start a tenth slower.
