@@ -1,4 +1,5 @@
 #!/usr/bin/python3
+# SPDX-License-Identifier: MIT OR Apache-2.0
 """Measures rrdi beside RRDtool and others: the same work by turns, and the medians of the rounds.
 
     make bench [OPTIONS="[--rounds N] [WORK ..]"]

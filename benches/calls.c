@@ -1,3 +1,4 @@
+/* SPDX-License-Identifier: MIT OR Apache-2.0 */
 /* Takes the times of calls of the C library and of librrd.
 
        calls path|open|numbers|librrd update|fetch FILES TURNS FIRST SOURCES SAMPLES

@@ -1,3 +1,4 @@
+# SPDX-License-Identifier: MIT OR Apache-2.0
 """Measures works: one round of each side after the other, so that a busy moment of the machine meets all of them."""
 from __future__ import annotations
 

@@ -1,3 +1,4 @@
+# SPDX-License-Identifier: MIT OR Apache-2.0
 """What a call costs in a process that stays: from C, by librrdi and librrd; from Python, by rrdi and rrdtool."""
 from __future__ import annotations
 

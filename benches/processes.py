@@ -1,3 +1,4 @@
+# SPDX-License-Identifier: MIT OR Apache-2.0
 """What a process costs: an update, a fetch, the bytes that an update writes, a line of a batch, a call of rrdi-rrdtool."""
 from __future__ import annotations
 

@@ -1,3 +1,4 @@
+# SPDX-License-Identifier: MIT OR Apache-2.0
 """What many files cost: rrdi-feed beside rrdcached, carbon-cache on rrdi beside whisper, and carbon's writer alone."""
 from __future__ import annotations
 

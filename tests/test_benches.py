@@ -1,3 +1,4 @@
+# SPDX-License-Identifier: MIT OR Apache-2.0
 """Each work of benches/ is measured once, so that the benches still run when somebody needs them."""
 from __future__ import annotations
 

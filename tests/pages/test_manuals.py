@@ -1,3 +1,4 @@
+# SPDX-License-Identifier: MIT OR Apache-2.0
 """The manual pages of the tools are what scripts/make-manuals writes of their --help."""
 from __future__ import annotations
 

@@ -1,3 +1,4 @@
+# SPDX-License-Identifier: MIT OR Apache-2.0
 """Tests of rrdi-export with many files and in place, beside files that rrdtool itself has made, and with kills and failing
 calls."""
 from __future__ import annotations

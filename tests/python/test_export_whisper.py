@@ -1,3 +1,4 @@
+# SPDX-License-Identifier: MIT OR Apache-2.0
 """Tests of rrdi-export --whisper: files that whisper itself reads, beside those that it has made of the same points."""
 from __future__ import annotations
 

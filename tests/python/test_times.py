@@ -1,3 +1,4 @@
+# SPDX-License-Identifier: MIT OR Apache-2.0
 """Tests of the times that the tools take, besides RRDtool's own: with a zone, after an @, and dates that there are not."""
 from __future__ import annotations
 

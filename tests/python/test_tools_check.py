@@ -1,3 +1,4 @@
+# SPDX-License-Identifier: MIT OR Apache-2.0
 """Tests of rrdi-check: its words, its judgement by hand-computed values, and the status that it keeps."""
 from __future__ import annotations
 

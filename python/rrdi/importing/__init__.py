@@ -1,3 +1,4 @@
+# SPDX-License-Identifier: MIT OR Apache-2.0
 """Converts files of RRDtool into batches for rrdi.
 
 The old rows are sent once more: rows become samples, rates of gauges at the times of the rows, from which rrdi computes

@@ -1,3 +1,4 @@
+# SPDX-License-Identifier: MIT OR Apache-2.0
 """Tells whether a source's newest value is in order, as a plugin of Nagios does.
 
 usage: rrdi-check FILE SOURCE [--above N] [--below N] [-w RANGE] [-c RANGE]

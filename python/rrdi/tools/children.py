@@ -1,3 +1,4 @@
+# SPDX-License-Identifier: MIT OR Apache-2.0
 """Does the same work for many things, several at a time, each in a process of its own."""
 from __future__ import annotations
 

@@ -1,3 +1,4 @@
+# SPDX-License-Identifier: MIT OR Apache-2.0
 """Converts many databases into files of RRDtool or of whisper: those that are named, and all below a directory."""
 from __future__ import annotations
 

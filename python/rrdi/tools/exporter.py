@@ -1,3 +1,4 @@
+# SPDX-License-Identifier: MIT OR Apache-2.0
 """Turns rrdi databases back into files of RRDtool, or into files of Graphite's whisper.
 
 usage: rrdi-export FILE.rrdi NEW.rrd

@@ -1,3 +1,4 @@
+# SPDX-License-Identifier: MIT OR Apache-2.0
 """Makes a file of RRDtool of a database with `rrdtool restore`, and reads it back."""
 from __future__ import annotations
 

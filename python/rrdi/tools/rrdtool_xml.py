@@ -1,3 +1,4 @@
+# SPDX-License-Identifier: MIT OR Apache-2.0
 """Writes a database as the XML that `rrdtool restore` reads."""
 from __future__ import annotations
 

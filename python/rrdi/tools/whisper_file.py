@@ -1,3 +1,4 @@
+# SPDX-License-Identifier: MIT OR Apache-2.0
 """Makes a file of whisper of a database, with what Graphite shows of it, and reads it back."""
 from __future__ import annotations
 
