@@ -8,6 +8,7 @@ import subprocess
 from functools import partial
 from importlib import import_module
 from importlib.util import find_spec
+from itertools import product
 from pathlib import Path
 from timeit import timeit
 from typing import Callable, Dict, List, Sequence
@@ -108,11 +109,12 @@ def python_calls(kind: Kind, count: int, bench: Bench) -> Sides:
     return {way: partial(timed, way) for way in ways}
 
 
-TRIED = [(kind, count) for kind in (SMALL, LARGE) for count in (1, 20)]
+KINDS, COUNTS = (SMALL, LARGE, HUGE), (1, 20)
 WORKS = [
-    *(Work(f"python: {kind.name}, {count} a call", (MICROSECONDS,), partial(python_calls, kind, count)) for kind, count in TRIED),
+    *(Work(f"python: {kind.name}, {count} a call", (MICROSECONDS,), partial(python_calls, kind, count))
+      for kind, count in product(KINDS[:2], COUNTS)),
     *(Work(f"c: {kind.name}, {count} a call", (MICROSECONDS,), partial(c_calls, kind, "update", count))
-      for kind, count in (*TRIED, (HUGE, 1))),
-    *(Work(f"c: {kind.name}, fetch", (MICROSECONDS,), partial(c_calls, kind, "fetch", BEFORE)) for kind in (SMALL, LARGE, HUGE)),
-    *(Work(f"c: {kind.name}, 1 a call", (COUNTED,), partial(c_instructions, kind)) for kind in (SMALL, LARGE, HUGE)),
+      for kind, count in product(KINDS, COUNTS)),
+    *(Work(f"c: {kind.name}, fetch", (MICROSECONDS,), partial(c_calls, kind, "fetch", BEFORE)) for kind in KINDS),
+    *(Work(f"c: {kind.name}, 1 a call", (COUNTED,), partial(c_instructions, kind)) for kind in KINDS),
 ]
