@@ -14,7 +14,7 @@ from timeit import timeit
 from typing import Callable, Dict, List, Sequence
 
 from harness import PEERS, TOP, Bench, Sides, Values, Work, instructions
-from processes import COUNTED, make_files
+from processes import COUNTED, make_files, programs
 from support.sizes import HUGE, LARGE, SMALL, Kind
 
 import rrdi
@@ -43,8 +43,8 @@ WAYS = {"path": "by path", "open": "open", "numbers": "in numbers"}
 def compiled(bench: Bench) -> tuple[Path, List[str]]:
     """Returns calls.c as a program, and its ways."""
     library, path = Path(bench.needs_library()), bench.folder / "calls"
-    has_peer = bench.has("librrd-dev", subprocess.run(["cc", "-E", "-include", "rrd.h", "-x", "c", "/dev/null"],
-                                                      capture_output=True).returncode == 0)
+    header = subprocess.run(["cc", "-E", "-include", "rrd.h", "-x", "c", "/dev/null"], capture_output=True)
+    has_peer = bench.has("librrd-dev", header.returncode == 0 and "rrdtool" in programs(bench))
     words = ["cc", "-Wall", "-Wextra", "-Werror", "-O1", "-g", f"-I{TOP / 'include'}", TOP / "benches/calls.c", library,
              f"-Wl,-rpath,{library.parent}", *["-DLIBRRD", "-lrrd"] * has_peer, "-o", path]
     subprocess.run(list(map(str, words)), check=True)
@@ -89,7 +89,7 @@ def c_instructions(kind: Kind, bench: Bench) -> Sides:
 
 def python_calls(kind: Kind, count: int, bench: Bench) -> Sides:
     rrdi.load_library(bench.needs_library())
-    files, has_peer = bench.few(200), bench.has("python3-rrdtool", find_spec("rrdtool"))
+    files, has_peer = bench.few(200), bench.has("python3-rrdtool", find_spec("rrdtool") and "rrdtool" in programs(bench))
     folders = copies(bench, kind, files, ["rrdi", "open", *["rrdtool"] * has_peer])
     hard = resource.getrlimit(resource.RLIMIT_NOFILE)[1]
     resource.setrlimit(resource.RLIMIT_NOFILE, (hard, hard))
