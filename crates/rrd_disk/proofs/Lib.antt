@@ -16,4 +16,5 @@ pub mod Powering
 pub mod Replaying
 pub mod Storing
 pub mod Surviving
+pub mod Told
 pub mod Spans

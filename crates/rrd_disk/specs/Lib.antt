@@ -16,3 +16,4 @@ pub mod Power
 pub mod Replayed
 pub mod Runs
 pub mod Storing
+pub mod Told

@@ -11,6 +11,7 @@ ghost use Rattle.rrd_disk.specs.Power.{IsChange, IsChanged, SurvivesFailure};
 ghost use Rattle.rrd_disk.specs.Replayed.{World};
 ghost use Rattle.rrd_disk.specs.Runs.{FilesFollowSpecification, Recorded};
 ghost use Rattle.rrd_disk.specs.Storing.{Laws};
+ghost use Rattle.rrd_disk.specs.Told.{Call, HonestRecordsExist};
 ghost use Rattle.rrd_spec.specs.Journal.Survivors.{Stored};
 ghost use Rattle.rrd_store.specs.Storages.{Held, IsAnyFile};
 ghost use Rattle.rrd_undo.specs.declared.tail.Syncs.TheVariants.{Ordered};
@@ -57,6 +58,12 @@ pub fn open_files_follow_specification()
     file_laws();
     runs_follow_specification();
 }
+
+/// Theorem: the records that the theorems ask for exist. From each file, a file that does what it is told answers any calls
+/// of a run by answers that are honest.
+pub fn honest_records_exist()
+    ensures { (start : Held) (calls : List Call) → HonestRecordsExist start calls }
+{}
 
 /// Theorem: power failures. If the power fails while the database of a file is replaced, by a storage that syncs, whatever
 /// the disk then has represents the old bytes or the new ones; and a change that ended without an error is stored.
