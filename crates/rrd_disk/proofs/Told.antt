@@ -1,5 +1,6 @@
 -- The answers of a file that does what it is told are honest.
-use Rattle.std.proofs.Common.{◌≡◌, ◌∙◌, ℕ, zero, suc, ◌==◌, IsTrue, List, [], ◌∷◌, length, take, drop, refl, sym, ap, subst, arith, length-take, length-drop}
+use Rattle.std.proofs.Common.{◌≡◌, ◌∙◌, ℕ, zero, suc, ◌==◌, ◌||◌, Bool, IsTrue, List, [], ◌∷◌, length, take, drop, refl, sym, ap, subst, arith, length-take, length-drop}
+use Rattle.std.proofs.Math.Bool.{or-true}
 use Rattle.std.proofs.lemmas.Bool.{and_from, eq-eqb, le-leb}
 use Rattle.std.proofs.lemmas.List.{take_min}
 use Rattle.std.proofs.lemmas.Slice.Eq.{bytes_eq-Decides}
@@ -14,7 +15,8 @@ read_honest : (file : List ℕ) (at wanted : ℕ) (bytes : List ℕ) → bytes �
 unfolding is_honest_read
 read_honest file at zero [] is = refl
 read_honest file at (suc n) [] is =
-    le-leb (length file) at (omega (arith, ap (λ (b : List ℕ). length b) is, length-take (suc n) (drop at file), length-drop at file))
+    ap (λ (b : Bool). (suc n == 0) || b) (le-leb (length file) at (omega (arith, ap (λ (b : List ℕ). length b) is, length-take (suc n) (drop at file), length-drop at file)))
+    ∙ or-true (suc n == 0)
 read_honest file at wanted (byte ∷ more) is =
     (bytes_eq-Decides (take (length (byte ∷ more)) (drop at file)) (byte ∷ more)).1
     (subst (λ (b : List ℕ). take (length b) (drop at file) ≡ b) (sym is)
