@@ -8,12 +8,13 @@ import pwd
 import re
 import shutil
 import subprocess
+import time
 import unittest
 from pathlib import Path
 from typing import List, Tuple
 
 from cases import HANG, needs_program
-from doubles import TOP
+from doubles import PROGRAM, TOP
 from tool_case import NO_RRDTOOL, RRDTOOL, Ran, ToolCase
 
 from rrdi.tools.children import Answer, answers
@@ -159,6 +160,19 @@ class Trees(OfTree):
             "rrdi-export: tree/a.rrd.rrdi: not converted: a file whose name ends in .rrdi is converted with --into"])
         self.assertEqual({path: path.read_bytes() for path in before}, before)
         self.assertEqual(self.unfinished(), [])
+
+    def test_a_sample_that_comes_meanwhile(self) -> None:
+        """rrdi waits for the lock, and then finds RRDtool's file: the sample is refused, and gets into no other file."""
+        before, wanted = self.read("tree/a.rrd"), self.rows("wanted/a.rrd")
+        self.stub("rrdtool", f'if [ $1 = dump ]; then touch reading; sleep 1; fi; exec {RRDTOOL} "$@"')
+        with subprocess.Popen([str(TOP / "tools/rrdi-export"), "--in-place", "tree/a.rrd"], cwd=self.folder, env=self.env,
+                              stdout=subprocess.DEVNULL) as running:
+            while not (self.folder / "reading").exists() and running.poll() is None:
+                time.sleep(0.02)
+            ran = self.run_command([str(PROGRAM), "update", "tree/a.rrd", f"{START + 9_000}:1:1"], env={"RRDI_WAIT": "60"})
+        self.assertEqual((running.returncode, ran.status, ran.err.splitlines()[0]), (0, 1, "ERROR: file: not ours"))
+        self.assertEqual(self.read("tree/a.rrd.rrdi"), before)
+        self.same_rows("tree/a.rrd", wanted)
 
     def test_what_rrdtool_makes_of_it(self) -> None:
         """If rrdtool fails, or does not give back what it got, the database stays."""

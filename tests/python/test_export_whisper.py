@@ -83,9 +83,10 @@ class BesideWhisper(ToolCase):
         return known
 
     def test_each_method(self) -> None:
-        """Points with gaps, more than the finest archive has; both files then take the same points again."""
+        """Points with gaps, up to more than both archives have, which end within a coarse row; both files then take the same
+        points again."""
         for method in METHODS:
-            for xff, count in ((0.5, 97), (0.0, 30), (1.0, 130)):
+            for xff, count in ((0.5, 100), (0.0, 32), (1.0, 130), (0.5, 760)):
                 chance = random.Random(f"{method} {count}")
                 points = [(NOW + 10 * slot, round(chance.uniform(-9, 9), 3)) for slot in range(count)
                           if slot in (0, count - 1) or chance.random() < 0.8]
