@@ -1,6 +1,6 @@
 use Rattle.std.specs.List.{refill}
 use Rattle.rrd_base.proofs.TuneLemmas.{refilled}
-use Rattle.std.proofs.Common.{◌≡◌, sym, ◌∙◌, ap, subst, ℕ, ◌+◌, ◌*◌, ◌/◌, ◌%◌, ◌≤◌, ◌∷◌, map, replicate, length, arith}
+use Rattle.std.proofs.Common.{◌≡◌, sym, ◌∙◌, ap, subst, ℕ, ◌+◌, ◌*◌, ◌/◌, ◌%◌, ◌≤◌, ◌∷◌, map, replicate, length, arith, rules}
 use Rattle.std.specs.List.{fold, AllByRecursion}
 use Rattle.std.specs.Vec.{with_items}
 use Rattle.std.proofs.lemmas.List.{with_items_is}
@@ -55,11 +55,12 @@ invariant_of-self c =
     let wide : length cells ≡ k = ap length cells_are ∙ omega (arith, c.close_steps.ensures.row.one_each, count2) in
     let q = d.last / d.step in
     let stored : refill (length d.archives) d.archives c.take_all.new.archives ≡ c.take_all.new.archives = refilled d.archives c.take_all.new.archives (omega (arith, ap length c.as_mut_slice-archives.ensures.value)) in
+    let others : c.deref-3.result.now ≡ rates = search rules in
     let archives : refill (length d.archives) d.archives c.take_all.new.archives ≡ map (archive_passed k q (cells ∷ replicate m rates)) d.archives
     = stored ∙ c.take_all.ensures.value
     ∙ ap (λ xs. map (archive_passed (length cells) q (cells ∷ replicate m c.deref-3.result.now)) xs) c.as_mut_slice-archives.ensures.value
     ∙ ap (λ w. map (archive_passed w q (cells ∷ replicate m c.deref-3.result.now)) d.archives) wide
-    ∙ ap (λ row. map (archive_passed k q (cells ∷ replicate m row)) d.archives) c.deref-3.ensures.value in
+    ∙ ap (λ row. map (archive_passed k q (cells ∷ replicate m row)) d.archives) others in
     let made : cells ≡ map (step_cell d.step) whole = cells_are ∙ c.close_steps.ensures.cells ∙ ap (map (step_cell d.step)) added in
     let now = ends c.seconds_pass_at_once.ensures (content_of d) n m rates cells (with_items added_vec c.close_steps.new.preps).items (refill (length d.archives) d.archives c.take_all.new.archives) is row end made parts archives in
     stays c.seconds_stay_valid.ensures.content (content_of d) _ (n + m * d.step) rates is row in_time now
@@ -87,11 +88,12 @@ returns-clause-value c =
     let wide : length cells ≡ k = ap length cells_are ∙ omega (arith, c.close_steps.ensures.row.one_each, count2) in
     let q = d.last / d.step in
     let stored : refill (length d.archives) d.archives c.take_all.new.archives ≡ c.take_all.new.archives = refilled d.archives c.take_all.new.archives (omega (arith, ap length c.as_mut_slice-archives.ensures.value)) in
+    let others : c.deref-3.result.now ≡ rates = search rules in
     let archives : refill (length d.archives) d.archives c.take_all.new.archives ≡ map (archive_passed k q (cells ∷ replicate m rates)) d.archives
     = stored ∙ c.take_all.ensures.value
     ∙ ap (λ xs. map (archive_passed (length cells) q (cells ∷ replicate m c.deref-3.result.now)) xs) c.as_mut_slice-archives.ensures.value
     ∙ ap (λ w. map (archive_passed w q (cells ∷ replicate m c.deref-3.result.now)) d.archives) wide
-    ∙ ap (λ row. map (archive_passed k q (cells ∷ replicate m row)) d.archives) c.deref-3.ensures.value in
+    ∙ ap (λ row. map (archive_passed k q (cells ∷ replicate m row)) d.archives) others in
     let made : cells ≡ map (step_cell d.step) whole = cells_are ∙ c.close_steps.ensures.cells ∙ ap (map (step_cell d.step)) added in
     ends c.seconds_pass_at_once.ensures (content_of d) n m rates cells (with_items added_vec c.close_steps.new.preps).items (refill (length d.archives) d.archives c.take_all.new.archives) is row end made parts archives
     ∙ ap (λ (x : Content). passed x (replicate (n + m * x.step) rates)) c.self.view_is
