@@ -8,12 +8,13 @@ import subprocess
 from functools import partial
 from importlib import import_module
 from importlib.util import find_spec
+from itertools import product
 from pathlib import Path
 from timeit import timeit
 from typing import Callable, Dict, List, Sequence
 
 from harness import PEERS, TOP, Bench, Sides, Values, Work, instructions
-from processes import COUNTED, make_files
+from processes import COUNTED, make_files, programs
 from support.sizes import HUGE, LARGE, SMALL, Kind
 
 import rrdi
@@ -42,8 +43,8 @@ WAYS = {"path": "by path", "open": "open", "numbers": "in numbers"}
 def compiled(bench: Bench) -> tuple[Path, List[str]]:
     """Returns calls.c as a program, and its ways."""
     library, path = Path(bench.needs_library()), bench.folder / "calls"
-    has_peer = bench.has("librrd-dev", subprocess.run(["cc", "-E", "-include", "rrd.h", "-x", "c", "/dev/null"],
-                                                      capture_output=True).returncode == 0)
+    header = subprocess.run(["cc", "-E", "-include", "rrd.h", "-x", "c", "/dev/null"], capture_output=True)
+    has_peer = bench.has("librrd-dev", header.returncode == 0 and "rrdtool" in programs(bench))
     words = ["cc", "-Wall", "-Wextra", "-Werror", "-O1", "-g", f"-I{TOP / 'include'}", TOP / "benches/calls.c", library,
              f"-Wl,-rpath,{library.parent}", *["-DLIBRRD", "-lrrd"] * has_peer, "-o", path]
     subprocess.run(list(map(str, words)), check=True)
@@ -88,7 +89,7 @@ def c_instructions(kind: Kind, bench: Bench) -> Sides:
 
 def python_calls(kind: Kind, count: int, bench: Bench) -> Sides:
     rrdi.load_library(bench.needs_library())
-    files, has_peer = bench.few(200), bench.has("python3-rrdtool", find_spec("rrdtool"))
+    files, has_peer = bench.few(200), bench.has("python3-rrdtool", find_spec("rrdtool") and "rrdtool" in programs(bench))
     folders = copies(bench, kind, files, ["rrdi", "open", *["rrdtool"] * has_peer])
     hard = resource.getrlimit(resource.RLIMIT_NOFILE)[1]
     resource.setrlimit(resource.RLIMIT_NOFILE, (hard, hard))
@@ -108,13 +109,12 @@ def python_calls(kind: Kind, count: int, bench: Bench) -> Sides:
     return {way: partial(timed, way) for way in ways}
 
 
-TRIED = [(kind, count) for kind in (SMALL, LARGE) for count in (1, 20)]
+KINDS, COUNTS = (SMALL, LARGE, HUGE), (1, 20)
 WORKS = [
     *(Work(f"python: {kind.name}, {count} a call", (MICROSECONDS,), partial(python_calls, kind, count))
-      for kind, count in TRIED),
+      for kind, count in product(KINDS[:2], COUNTS)),
     *(Work(f"c: {kind.name}, {count} a call", (MICROSECONDS,), partial(c_calls, kind, "update", count))
-      for kind, count in (*TRIED, (HUGE, 1))),
-    *(Work(f"c: {kind.name}, fetch", (MICROSECONDS,), partial(c_calls, kind, "fetch", BEFORE))
-      for kind in (SMALL, LARGE, HUGE)),
-    *(Work(f"c: {kind.name}, 1 a call", (COUNTED,), partial(c_instructions, kind)) for kind in (SMALL, LARGE, HUGE)),
+      for kind, count in product(KINDS, COUNTS)),
+    *(Work(f"c: {kind.name}, fetch", (MICROSECONDS,), partial(c_calls, kind, "fetch", BEFORE)) for kind in KINDS),
+    *(Work(f"c: {kind.name}, 1 a call", (COUNTED,), partial(c_instructions, kind)) for kind in KINDS),
 ]

@@ -161,7 +161,7 @@ def call(words: str, bench: Bench) -> Sides:
     command, *rest = words.split()
 
     def counted(file: str, program: Sequence[object], number: int) -> Values:
-        return instructions([*program, *([command, file, *rest] if file else [])], bench.folder, RRDI=bench.program),
+        return instructions([*program, *([command, file, *rest] if file else [])], bench.folder, RRDI=bench.program) / 1e6,
     return {"compiled": partial(counted, "rrdi", [sys.executable, bench.folder / "tools/rrdi-rrdtool"]),
             "not compiled": partial(counted, "rrdi", [sys.executable, TOP / "tools/rrdi-rrdtool"]),
             "Python alone": partial(counted, "", [sys.executable, "-c", "pass"]),
@@ -177,6 +177,6 @@ WORKS = [
     Work("batch: update of 64 GAUGEs into 4 archives", (COUNTED,), partial(batch, gauges, 30)),
     Work("batch: a known row of a fetch", (COUNTED,), partial(batch, known_rows, 1_000)),
     Work("batch: a fetch of 590 unknown rows", (COUNTED,), partial(batch, unknown_rows, 10)),
-    *(Work(f"call: rrdi-rrdtool {words.split()[0]}", (COUNTED,), partial(call, words))
+    *(Work(f"call: rrdi-rrdtool {words.split()[0]}", (f"million {COUNTED}",), partial(call, words))
       for words in ("last", "update N:1.5", f"fetch AVERAGE -s {START} -e {START + 1_000}")),
 ]

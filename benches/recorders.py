@@ -16,7 +16,7 @@ from typing import Callable, Dict, List, Tuple
 from unittest import mock
 
 from harness import TOP, Bench, Sides, Values, Work, processor_seconds, run_seconds
-from processes import PROCESSOR, make_files
+from processes import PROCESSOR, make_files, programs
 from support.graphite import PACKAGES, Cluster, Point, known, python_of_graphite
 from support.program import environment
 from support.sizes import LARGE
@@ -44,7 +44,7 @@ def feed(samples: int, bench: Bench) -> Sides:
     ways: Dict[str, Callable[[Path, bytes, int], Values]] = {
         "library": partial(through_feed, {"RRDI_LIBRARY": bench.needs_library()}),
         "program": partial(through_feed, {"RRDI": bench.program})}
-    if bench.has("rrdcached", shutil.which("rrdcached")):
+    if bench.has("rrdcached", shutil.which("rrdcached") and "rrdtool" in programs(bench)):
         ways["rrdcached"] = through_rrdcached
         for way, file in product(("library", "program"), range(0, files, files // 2)):
             words = [compare, folders["rrdcached"] / str(file), folders[way] / str(file)]
