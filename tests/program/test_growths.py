@@ -39,6 +39,7 @@ NO_MEMORY = "ERROR: out of memory\n"
 # The bytes that are read when FILE is opened, or that replace its bytes, did not fit into memory.
 NOT_OPENED = f"ERROR: cannot open\nrrdi: {FILE}: out of memory\n"
 NOT_STORED = f"ERROR: cannot write\nrrdi: {FILE}: out of memory\n"
+WITH_REASON = {text.splitlines(keepends=True)[0]: text for text in (NOT_OPENED, NOT_STORED)}
 # The commands that allocate only to be parsed, except a tune that adds an archive.
 FREE = {"first", "last", "lastupdate", "info", "tune", "revert", "fetch"}
 # Which growths a run refuses, and whether a block that is made smaller counts as one. The first way is the short
@@ -212,7 +213,11 @@ class Growths:
             if place not in wanted:
                 wanted[place] = self.wanted(place, setting == "REFUSE_FROM")
             self.check.count(REFUSED)
-            self.look(end, wanted[place], f"{setting} {number}, at line {place}")
+            expected = wanted[place]
+            if setting == "REFUSE_FROM":  # no memory is left for the line that says more
+                end.told = end.told._replace(err=WITH_REASON.get(end.told.err, end.told.err))
+                expected = REPORT if self.is_reported(end) else expected
+            self.look(end, expected, f"{setting} {number}, at line {place}")
         self.want(number == len(self.places) + 1, f"{number - 1} refusals of {len(self.places)} growths")
 
     def wanted(self, place: Where, from_on: bool) -> Told | str | None:
