@@ -2,8 +2,11 @@ pub mod Options
 pub mod Fronts
 pub mod Standing
 pub mod Reading
+pub mod Spelling
+pub mod Heads
 pub mod Chains
 pub mod Laying
+pub mod Laid
 pub mod Logs
 pub mod Stepping
 pub mod Resumed

@@ -9,3 +9,4 @@ pub mod Spans
 pub mod States
 pub mod Outcomes
 pub mod Making
+pub mod Read

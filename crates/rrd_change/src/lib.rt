@@ -7,6 +7,7 @@
 mod calls;
 mod checksum;
 mod creation;
+mod decoding;
 mod encoding;
 pub mod laws;
 mod log;
