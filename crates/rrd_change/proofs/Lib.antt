@@ -6,7 +6,6 @@ pub mod Spelling
 pub mod Heads
 pub mod Chains
 pub mod Laying
-pub mod Laid
 pub mod Logs
 pub mod Stepping
 pub mod Resumed
@@ -17,6 +16,7 @@ pub mod Marking
 pub mod Spanned
 pub mod Beginning
 pub mod Placing
+pub mod Laid
 pub mod Settling
 pub mod Appending
 pub mod Outcomes

@@ -10,3 +10,4 @@ pub mod States
 pub mod Outcomes
 pub mod Making
 pub mod Read
+pub mod Found

@@ -9,6 +9,7 @@ mod checksum;
 mod creation;
 mod decoding;
 mod encoding;
+mod finding;
 pub mod laws;
 mod log;
 mod opened;

@@ -16,8 +16,8 @@ use std::io::{self, Error, ErrorKind};
 /// The first four bytes of every database.
 pub const DATABASE_MARK: [u8; 4] = [b'R', b'R', b'D', b'I'];
 
-// The first four bytes of a file that is to be cut.
-const CUT_MARK: [u8; 4] = [b'R', b'R', b'D', b'C'];
+/// The first four bytes of a file that is to be cut.
+pub(crate) const CUT_MARK: [u8; 4] = [b'R', b'R', b'D', b'C'];
 
 // The first eight bytes of a file with a log.
 const LOG_WORD: [u8; 8] = [b'R', b'R', b'D', b'L', b'o', b'g', 0, 0];
@@ -41,17 +41,17 @@ pub struct Base {
 #[derive(Drop)]
 pub struct Log {
     // The byte of the file at which the log begins.
-    tail: usize,
+    pub(crate) tail: usize,
     // The byte at which the log ends, and the file.
-    end: usize,
+    pub(crate) end: usize,
     // The spans that the changes write.
-    spans: Vec<Span>,
+    pub(crate) spans: Vec<Span>,
     // The number of the changes.
-    changes: usize,
+    pub(crate) changes: usize,
 }
 
-// Returns the mark of a file with a log that begins at byte `tail`.
-fn log_mark(tail: usize) -> [u8; 16]
+/// Returns the mark of a file with a log that begins at byte `tail`.
+pub(crate) fn log_mark(tail: usize) -> [u8; 16]
     ensures { result ≡ log_mark tail }
 {
     let mut mark = [0; 16];
