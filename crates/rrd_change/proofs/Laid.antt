@@ -11,7 +11,7 @@ use Rattle.rrd_change.specs.Spans.{IsIn}
 use Rattle.rrd_change.specs.declared.decoding.Head.{Head}
 use Rattle.rrd_change.specs.declared.log.Log.{Log}
 use Rattle.rrd_change.specs.declared.span.Span.{Span}
-use Rattle.rrd_change.proofs.Chains.{from_none, from_some}
+use Rattle.rrd_change.proofs.Chains.{from_some, none_left}
 use Rattle.rrd_change.proofs.Placing.{in_join, in_left, in_right}
 use Rattle.rrd_change.proofs.Reading.{change_is}
 use Rattle.rrd_change.proofs.Laying.{inside_is, not_inside}
@@ -136,10 +136,6 @@ one_laid old bytes new next spans more done changes size c h is within below lai
         | inr later ↦ h.only k (inr (subst Q (sym split) (inr later)))
       ];
     }
-
-none_left : (tail : ℕ) (file : List ℕ) (most at : ℕ) → change_at tail file at ≡ None → changes_from tail file most at ≡ []
-none_left tail file zero at e = refl
-none_left tail file (suc most) at e = from_none tail file most at e
 
 pub all_laid_over : (old bytes new : List ℕ) (log : Log) (done changes size : ℕ) → IsPartRead old bytes new log.spans.items done changes size →
     read_change (length old) (length old + done) (drop done bytes) ≡ None → log.tail ≡ length old → log.end ≡ length old + done → IsLogRead old bytes new log size

@@ -17,6 +17,7 @@ pub mod Spanned
 pub mod Beginning
 pub mod Placing
 pub mod Laid
+pub mod Overlaid
 pub mod Settling
 pub mod Appending
 pub mod Outcomes

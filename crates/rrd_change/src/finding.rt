@@ -1,12 +1,13 @@
 //! Finds the database that a file stands for.
-ghost use Rattle.std.specs.Prelude.{◌≡◌, ◌+◌, ◌<◌, ◌≤◌, ◌^◌, ℕ, IfOk, List, Some, length, take};
+ghost use Rattle.std.specs.Prelude.{◌≡◌, ◌+◌, ◌<◌, ◌≤◌, ◌^◌, ℕ, IfOk, List, Some, length, take, true};
+ghost use Rattle.rrd_change.specs.Bytes.{begins_with};
 ghost use Rattle.rrd_change.specs.Changes.{changes_in, laid_over};
 ghost use Rattle.rrd_change.specs.Read.{IsLogRead, IsOffset};
-ghost use Rattle.rrd_change.specs.Settled.{Cut, settled_by};
+ghost use Rattle.rrd_change.specs.Settled.{Cut, cut_mark, settled, settled_by};
 
 use crate::decoding::{lay_change, number_at, read_head};
 use crate::encoding::HEAD_SIZE;
-use crate::log::{DATABASE_MARK, log_mark};
+use crate::log::{CUT_MARK, DATABASE_MARK, log_mark};
 use crate::{Log, Span};
 use std::alloc::Global;
 use std::io;
@@ -77,7 +78,7 @@ enum Mark {
 
 /// The database that a file stands for.
 #[derive(Drop)]
-pub struct Standing {
+pub struct FoundDatabase {
     // The bytes of the file. The changes of its log are laid over those in front of the log.
     bytes: Vec<u8>,
     // The number of them that are the database.
@@ -88,26 +89,26 @@ pub struct Standing {
 }
 
 // Returns bytes that stand for themselves.
-fn unmarked(bytes: Vec<u8>) -> Standing
+fn unmarked(bytes: Vec<u8>) -> FoundDatabase
     ensures { take result.size result.bytes.items ≡ bytes.items }
 {
     let size = bytes.len();
-    Standing {
+    FoundDatabase {
         bytes,
         size,
         mark: Mark::Missing,
     }
 }
 
-// Returns the database under a cut mark.
-fn cut<L: Layout>(layout: &L, mut bytes: Vec<u8>) -> Standing
-    requires { 4 ≤ length bytes.items }
+// Returns the database under a cut mark, which differs from the first bytes of a database in the fourth byte alone.
+fn cut<L: Layout>(layout: &L, mut bytes: Vec<u8>) -> FoundDatabase
+    requires { begins_with bytes.items cut_mark ≡ true }
     ensures { take result.size result.bytes.items ≡ settled_by L.end_of (Some Cut) bytes.items }
 {
-    bytes[..4].copy_from_slice(&DATABASE_MARK);
+    bytes[3] = DATABASE_MARK[3];
     bytes.truncate(layout.end(&bytes));
     let size = bytes.len();
-    Standing {
+    FoundDatabase {
         bytes,
         size,
         mark: Mark::Cut,
@@ -115,7 +116,7 @@ fn cut<L: Layout>(layout: &L, mut bytes: Vec<u8>) -> Standing
 }
 
 // Returns the database that a log leads to. Without a right change the file stands for its own bytes.
-fn with_log(alloc: Global, mut bytes: Vec<u8>, tail: usize) -> io::Result<Standing>
+fn with_log(alloc: Global, mut bytes: Vec<u8>, tail: usize) -> io::Result<FoundDatabase>
     ensures { IfOk result (λ found. take found.size found.bytes.items ≡ laid_over (changes_in tail bytes.items) bytes.items) }
 {
     if bytes.len() < tail {
@@ -126,9 +127,38 @@ fn with_log(alloc: Global, mut bytes: Vec<u8>, tail: usize) -> io::Result<Standi
     if log.end == tail {
         return Ok(unmarked(bytes));
     }
-    Ok(Standing {
+    Ok(FoundDatabase {
         bytes,
         size,
         mark: Mark::Log(log),
     })
+}
+
+impl FoundDatabase {
+    ghost use Rattle.rrd_change.specs.Found.{database_of};
+
+    /// Finds the database that a file with these bytes stands for. A file with a wrong mark, or with a log that has no right
+    /// change, stands for its own bytes.
+    ///
+    /// # Errors
+    ///
+    /// Memory ran out.
+    pub fn read<L: Layout>(alloc: Global, layout: &L, bytes: Vec<u8>) -> io::Result<Self>
+        ensures { IfOk result (λ found. database_of found ≡ settled L.end_of bytes.items) }
+    {
+        if bytes.starts_with(&CUT_MARK) {
+            return Ok(cut(layout, bytes));
+        }
+        match log_offset(&bytes) {
+            Some(tail) => with_log(alloc, bytes, tail),
+            None => Ok(unmarked(bytes)),
+        }
+    }
+
+    /// Returns the database, or bytes that are none.
+    pub fn database(&self) -> &[u8]
+        ensures { result.now ≡ database_of self.now }
+    {
+        &self.bytes[..self.size]
+    }
 }

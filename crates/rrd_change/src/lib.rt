@@ -18,6 +18,7 @@ mod writing;
 
 pub use calls::{Bytes, Syncs};
 pub use creation::create;
+pub use finding::{FoundDatabase, Layout};
 pub use log::{Base, DATABASE_MARK, Log, begin, mark, replace, unmark};
 pub use opened::change;
 pub use span::Span;

@@ -314,6 +314,9 @@ pub fn replace<F: Bytes>(
         (λ (w v : World). (old : List ℕ) → Began base.now old → AgreesOutside changed.now old new.now → IsAtRest old w → All (RepresentsEither old new.now) v) result
         (seen syncs (F.view file.old)) (seen syncs (F.view file.new)) }
 {
+    if !is_database(new) {
+        return Err(Error::from(ErrorKind::InvalidInput));
+    }
     mark(file, syncs)?;
     let log = begin(alloc, file, base, new, changed, syncs)?;
     log.settle(file, new, syncs)?;

@@ -1,0 +1,12 @@
+use Rattle.std.proofs.Common.{◌≡◌, List, ℕ, length, take, sym, ◌∙◌, ap, arith}
+use Rattle.std.proofs.lemmas.List.{take_all}
+use Rattle.rrd_change.specs.Settled.{unmarked}
+use Rattle.rrd_change.proofs.Overlaid.{cut_unmarked}
+use Rattle.rrd_change.proofs.finding.cut.Goals as goal
+
+pub returns : goal.returns
+returns g c =
+    let file = c.args.bytes.items in
+    let is = cut_unmarked file c.requires in
+    take_all c.len-size.result c.truncate.new.self.items (omega (arith, c.len-size.ensures, c.truncate.new.self.ok.0))
+    ∙ c.truncate.ensures.items ∙ ap (λ xs. take c.end.result xs) is ∙ ap (λ n. take n (unmarked file)) (c.end.ensures ∙ ap g.L.Layout.end_of (c.deref.ensures.value ∙ is))

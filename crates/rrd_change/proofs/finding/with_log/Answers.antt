@@ -1,0 +1,23 @@
+use Rattle.std.proofs.Common.{◌≡◌, ◌++◌, List, ℕ, length, sym, ◌∙◌, arith}
+use Rattle.rrd_change.proofs.Overlaid.{overlaid, past_unlaid, unlaid}
+use Rattle.rrd_change.proofs.finding.with_log.Goals as goal
+
+pub returns-then-len-tail : goal.returns-then-len-tail
+returns-then-len-tail c =
+    let past = c.if-len-tail.true in
+    c.unmarked.ensures ∙ past_unlaid c.args.tail c.args.bytes.items (omega (arith, past, c.len.ensures, c.args.bytes.ok.0))
+
+pub returns-then-log-tail : goal.returns-then-log-tail
+returns-then-log-tail c =
+    let file = c.args.bytes.items in
+    let all : file ≡ c.split_at_mut-database.result.0.now ++ c.split_at_mut-database.result.1.now = sym c.deref_mut.ensures.value ∙ c.split_at_mut-database.ensures.value in
+    c.unmarked-then-log-tail.ensures
+    ∙ unlaid file c.split_at_mut-database.result.0.now c.split_at_mut-database.result.1.now c.lay_log.new.database c.args.tail c.args.bytes.len c.in_ok-log.size c.in_ok-log.log all
+    c.split_at_mut-database.ensures.front_len (omega (arith, c.args.bytes.ok.0)) c.in_ok-log.ensures c.if-log-tail.true
+
+pub returns : goal.returns
+returns c =
+    let file = c.args.bytes.items in
+    let all : file ≡ c.split_at_mut-database.result.0.now ++ c.split_at_mut-database.result.1.now = sym c.deref_mut.ensures.value ∙ c.split_at_mut-database.ensures.value in
+    overlaid file c.split_at_mut-database.result.0.now c.split_at_mut-database.result.1.now c.lay_log.new.database c.args.tail c.args.bytes.len c.in_ok-log.size c.in_ok-log.log all
+    c.split_at_mut-database.ensures.front_len (omega (arith, c.args.bytes.ok.0)) c.in_ok-log.ensures c.if-log-tail.false
