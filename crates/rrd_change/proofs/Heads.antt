@@ -117,11 +117,14 @@ found tail at n size count bytes fits few enough below within t =
     let P : ℕ → Type 0 = λ m. HasPieces n size (take m (drop 48 bytes)) in
     let has : HasPieces n size body = subst P width t.has in
     let begins = ap (λ m. begins_with bytes (head_bytes tail at n size (take m (drop 48 bytes)))) (sym width) ∙ t.begins in
-    let c : Change = record { size = size; pieces = spelled_pieces n body } in
-    (c, read_some tail at n size count bytes fits few enough below within begins has size_is, record {
-      size = refl;
-      within = within;
-      count = sym size_is ∙ ap length has.spelled;
-      pieces = ap (λ m. spelled_pieces n (take m (drop 48 bytes))) width;
-      has = t.has;
-    })
+    let c : Change = record { size = size; pieces = spelled_pieces n body } in (
+      c,
+      read_some tail at n size count bytes fits few enough below within begins has size_is,
+      record {
+        size = refl;
+        within = within;
+        count = sym size_is ∙ ap length has.spelled;
+        pieces = ap (λ m. spelled_pieces n (take m (drop 48 bytes))) width;
+        has = t.has;
+      },
+    )

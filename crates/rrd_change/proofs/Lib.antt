@@ -19,6 +19,7 @@ pub mod Placing
 pub mod Laid
 pub mod Overlaid
 pub mod Settling
+pub mod Loose
 pub mod Appending
 pub mod Outcomes
 pub mod Making

@@ -9,5 +9,6 @@ pub mod Spans
 pub mod States
 pub mod Outcomes
 pub mod Making
+pub mod Repairs
 pub mod Read
 pub mod Found

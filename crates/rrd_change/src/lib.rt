@@ -13,6 +13,7 @@ mod finding;
 pub mod laws;
 mod log;
 mod opened;
+mod repair;
 mod span;
 mod writing;
 
@@ -21,4 +22,5 @@ pub use creation::create;
 pub use finding::{FoundDatabase, Layout};
 pub use log::{Base, DATABASE_MARK, Log, begin, mark, replace, unmark};
 pub use opened::change;
+pub use repair::finish_cut;
 pub use span::Span;

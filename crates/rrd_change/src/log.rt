@@ -197,8 +197,8 @@ fn place<F: Bytes>(file: &mut F, new: &[u8], spans: &[Span], syncs: Syncs) -> io
     flush(file, syncs)
 }
 
-// Returns the first sixteen bytes of a database, with a cut mark.
-fn cut_front(new: &[u8]) -> [u8; 16]
+/// Returns the first sixteen bytes of a database, with a cut mark.
+pub(crate) fn cut_front(new: &[u8]) -> [u8; 16]
     requires { 16 ≤ length new.now }
     ensures { result ≡ cut_mark ++ slice_range new.now 4 16 }
 {

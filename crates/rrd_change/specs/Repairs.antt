@@ -1,0 +1,19 @@
+-- Definition: the files that failures leave, and repairs bring to the database that they stand for.
+use Rattle.std.specs.Prelude.{◌≡◌, ◌⊎◌, ℕ, ◌≤◌, List, length}
+use Rattle.rrd_change.specs.Laws.{IsUnderCut}
+use Rattle.rrd_change.specs.States.{IsDatabase, IsInPlace, RepresentsEither}
+use Rattle.rrd_change.specs.Views.{World}
+
+-- a file that the disk may have when the file that programs read stands for `now` under a cut mark: from the seventeenth byte
+-- on it has that database too, and it stands for it, or for the other one of the change
+pub record IsLoose (other now file : List ℕ) : Type 0 where
+  pub reaches : length now ≤ length file
+  pub placed : IsInPlace now file
+  pub stands : RepresentsEither other now file
+
+-- a file that stands for a database under a cut mark, or is the database, and may yet be another one on the disk
+pub record IsUncut (other now : List ℕ) (w : World) : Type 0 where
+  pub is : IsDatabase now
+  pub held : (w.held ≡ now) ⊎ IsUnderCut now w.held
+  pub leave : (c : List ℕ) → w.may_leave c → IsLoose other now c
+  pub keep : (c : List ℕ) → w.may_keep c → IsLoose other now c

@@ -1,0 +1,29 @@
+//! Repairs files that stand for a database under a mark.
+ghost use Rattle.std.specs.Prelude.{ℕ, List};
+ghost use Rattle.rrd_change.specs.Repairs.{IsUncut};
+ghost use Rattle.rrd_change.specs.States.{IsAtRest};
+ghost use Rattle.rrd_change.specs.Views.{Does, World, seen};
+
+use crate::log::{cut_front, is_database};
+use crate::writing::{mark_and_sync, resize_and_sync};
+use crate::{Bytes, Syncs, unmark};
+use std::io::{self, Error, ErrorKind};
+
+/// Cuts a file with a cut mark to the database `new` that it stands for, and removes the mark.
+///
+/// The first sixteen bytes are written again: the disk may still have the log mark in their place.
+///
+/// # Errors
+///
+/// A call of the file failed. The file stands for the same database, and this function repairs it.
+pub fn finish_cut<F: Bytes>(file: &mut F, new: &[u8], syncs: Syncs) -> io::Result<()>
+    ensures { Does (λ _ (w v : World). (other : List ℕ) → IsUncut other new.now w → IsAtRest new.now v) (λ (w v : World). (other : List ℕ) → IsUncut other new.now w → IsUncut other new.now v) result
+        (seen syncs (F.view file.old)) (seen syncs (F.view file.new)) }
+{
+    if !is_database(new) {
+        return Err(Error::from(ErrorKind::InvalidInput));
+    }
+    mark_and_sync(file, &cut_front(new), syncs)?;
+    resize_and_sync(file, new.len(), syncs)?;
+    unmark(file, syncs)
+}
