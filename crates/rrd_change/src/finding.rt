@@ -19,8 +19,12 @@ pub trait Layout {
 
     /// Returns the length of the database with which bytes begin, whatever follows the database. If they begin with none, any
     /// number will do.
-    fn end(&self, bytes: &[u8]) -> usize
-        ensures { result ≡ end_of bytes.now };
+    ///
+    /// # Errors
+    ///
+    /// Memory ran out.
+    fn end(&self, alloc: Global, bytes: &[u8]) -> io::Result<usize>
+        ensures { IfOk result (λ end. end ≡ end_of bytes.now) };
 }
 
 // Lays the changes of a log over the bytes in front of the log. Returns the log, and the length of the database after the last
@@ -101,18 +105,19 @@ fn unmarked(bytes: Vec<u8>) -> FoundDatabase
 }
 
 // Returns the database under a cut mark, which differs from the first bytes of a database in the fourth byte alone.
-fn cut<L: Layout>(layout: &L, mut bytes: Vec<u8>) -> FoundDatabase
+fn cut<L: Layout>(alloc: Global, layout: &L, mut bytes: Vec<u8>) -> io::Result<FoundDatabase>
     requires { begins_with bytes.items cut_mark ≡ true }
-    ensures { take result.size result.bytes.items ≡ settled_by L.end_of (Some Cut) bytes.items }
+    ensures { IfOk result (λ found. take found.size found.bytes.items ≡ settled_by L.end_of (Some Cut) bytes.items) }
 {
     bytes[3] = DATABASE_MARK[3];
-    bytes.truncate(layout.end(&bytes));
+    let end = layout.end(alloc, &bytes)?;
+    bytes.truncate(end);
     let size = bytes.len();
-    FoundDatabase {
+    Ok(FoundDatabase {
         bytes,
         size,
         mark: Mark::Cut,
-    }
+    })
 }
 
 // Returns the database that a log leads to. Without a right change the file stands for its own bytes.
@@ -147,7 +152,7 @@ impl FoundDatabase {
         ensures { IfOk result (λ found. database_of found ≡ settled L.end_of bytes.items) }
     {
         if bytes.starts_with(&CUT_MARK) {
-            return Ok(cut(layout, bytes));
+            return cut(alloc, layout, bytes);
         }
         match log_offset(&bytes) {
             Some(tail) => with_log(alloc, bytes, tail),

@@ -6,7 +6,7 @@
 ghost use Rattle.std.specs.Prelude.{◌≡◌, ℕ, List};
 ghost use Rattle.rrd_change.specs.Changes.{Change};
 ghost use Rattle.rrd_change.specs.Laws as laws;
-ghost use Rattle.rrd_change.specs.Outcomes.{AllStand, IsEither, IsWhole, RepresentedStands};
+ghost use Rattle.rrd_change.specs.Outcomes.{AllStand, AllStandAsTold, IsEither, IsWhole, RepresentedStands};
 ghost use Rattle.rrd_change.specs.Spans.{AgreesOutside};
 ghost use Rattle.rrd_change.specs.States.{Began, IsAtRest, IsLogOf, IsMarked};
 ghost use Rattle.rrd_change.specs.Views.{Does, World, seen};
@@ -100,7 +100,7 @@ pub fn appends_stand<F: Bytes>(
         (λ _ (w v : World). (end_of : List ℕ → ℕ) (now : List ℕ) → IsWhole end_of now → IsWhole end_of new.now → IsLogOf now log.old w → AgreesOutside changed.now now new.now
         → AllStand end_of (λ b. b ≡ new.now) v)
         (λ (w v : World). (end_of : List ℕ → ℕ) (now : List ℕ) → IsWhole end_of now → IsWhole end_of new.now → IsLogOf now log.old w → AgreesOutside changed.now now new.now
-        → AllStand end_of (IsEither now new.now) v) result
+        → AllStandAsTold end_of (IsEither now new.now) v) result
         (seen syncs (F.view file.old)) (seen syncs (F.view file.new)) }
 {
     log.append(alloc, file, new, changed, syncs)

@@ -94,7 +94,7 @@ fn encode_first(
 
 /// Checks whether bytes are a database, as far as the first ones show.
 pub(crate) fn is_database(bytes: &[u8]) -> bool
-    ensures { IsTrue result → IsDatabase bytes.now }
+    ensures { IsTrue result ↔ IsDatabase bytes.now }
 {
     16 <= bytes.len() && bytes.starts_with(&DATABASE_MARK)
 }

@@ -9,4 +9,4 @@ returns g c =
     let file = c.args.bytes.items in
     let is = cut_unmarked file c.requires in
     take_all c.len-size.result c.truncate.new.self.items (omega (arith, c.len-size.ensures, c.truncate.new.self.ok.0))
-    ∙ c.truncate.ensures.items ∙ ap (λ xs. take c.end.result xs) is ∙ ap (λ n. take n (unmarked file)) (c.end.ensures ∙ ap g.L.Layout.end_of (c.deref.ensures.value ∙ is))
+    ∙ c.truncate.ensures.items ∙ ap (λ xs. take c.in_ok-end.end xs) is ∙ ap (λ n. take n (unmarked file)) (c.in_ok-end.ensures ∙ ap g.L.Layout.end_of (c.deref.ensures.value ∙ is))

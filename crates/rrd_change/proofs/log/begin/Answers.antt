@@ -21,7 +21,7 @@ pub returns-in_err-end : goal.returns-in_err-end
 returns-in_err-end g c =
     let new = c.args.new.now in
     let changed = c.args.changed.now in
-    let is : IsDatabase new = c.is_database.ensures (search rules) in
+    let is : IsDatabase new = c.is_database.ensures.0 (search rules) in
     let are : AreSpans (length new) changed = c.in_ok-bytes.ensures.within in
     let tail_is : c.max-tail.result ≡ max c.args.base.now.length (length new) = c.max-tail.ensures in
     failed _ _ c.from_residual-in_err-end.result _ _ c.from_residual-in_err-end.ensures.0
@@ -33,7 +33,7 @@ pub returns : goal.returns
 returns g c =
     let new = c.args.new.now in
     let changed = c.args.changed.now in
-    let is : IsDatabase new = c.is_database.ensures (search rules) in
+    let is : IsDatabase new = c.is_database.ensures.0 (search rules) in
     let are : AreSpans (length new) changed = c.in_ok-bytes.ensures.within in
     let tail_is : c.max-tail.result ≡ max c.args.base.now.length (length new) = c.max-tail.ensures in
     let spans : c.extend_from_slice.new.self.items ≡ changed = c.in_ok-extend_from_slice.ensures.items ∙ ap (λ (xs : List Span). xs ++ changed) c.new-spans.ensures.items in

@@ -38,7 +38,7 @@ returns g c =
     let new = c.args.new.now in
     let syncs = c.args.syncs in
     let front = cut_front_of new in
-    let is_new : IsDatabase new = c.is_database.ensures (search rules) in
+    let is_new : IsDatabase new = c.is_database.ensures.0 (search rules) in
     let Q : List ℕ → Type 0 = λ m. Steps (Stores (ArePut 0 m)) (seen syncs (g.F.Bytes.view c.args.file.now)) (seen syncs (g.F.Bytes.view c.mark_and_sync.new.file)) in
     let Cut : Effect = λ u w. (other : List ℕ) → IsUncut other new u → IsMarked new w in
     does_then Cut _ _ _ _ c.unmark.result _ _ _ (λ x u v w cut m other h. m new (cut other h)) (λ u v w cut m other h. plain_uncut other new w is_new (m new (cut other h)))

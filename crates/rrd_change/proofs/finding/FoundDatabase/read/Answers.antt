@@ -10,7 +10,7 @@ pub returns-then-starts_with : goal.returns-then-starts_with
 returns-then-starts_with g c =
     let file = c.args.bytes.items in
     let begins : begins_with file cut_mark ≡ true = ap (λ xs. begins_with xs cut_mark) (sym c.deref.ensures.value) ∙ sym c.starts_with.ensures.value ∙ c.if-starts_with.true in
-    c.cut.ensures ∙ sym (settled_cut g.L.Layout.end_of file begins)
+    IfOk-weaker c.cut.result _ _ (λ found e. e ∙ sym (settled_cut g.L.Layout.end_of file begins)) c.cut.ensures
 
 pub returns-in-Some : goal.returns-in-Some
 returns-in-Some g c =
