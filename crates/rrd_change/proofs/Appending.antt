@@ -1,7 +1,7 @@
 -- Lemmas on a change that is appended to a log.
 use Rattle.std.proofs.Common.{◌≡◌, ℕ, ◌+◌, ◌^◌, ◌<◌, ◌≤◌, List, [], ◌∷◌, ◌++◌, length, take, get_or, refl, sym, ◌∙◌, ap, subst, arith, inl, inr, ◌⊎◌}
 use Rattle.std.proofs.lemmas.Bool.{cases_lt}
-use Rattle.std.proofs.lemmas.List.{take_all, length-take, get_or-take, take-append-le}
+use Rattle.std.proofs.lemmas.List.{length_push, take_all, length-take, get_or-take, take-append-le}
 use Rattle.rrd_change.specs.Bytes.{StandsAt}
 use Rattle.rrd_change.specs.Calls.{AreAny, ArePut, IsCut}
 use Rattle.rrd_change.specs.Changes.{Change, IsRight, change_bytes, change_size, changes_in, last_size}
@@ -12,7 +12,7 @@ use Rattle.rrd_change.specs.States.{Follows, IsBroken, IsDatabase, IsLogOf, IsOp
 use Rattle.rrd_change.specs.Views.{All, Fails, World}
 use Rattle.rrd_change.specs.declared.log.Log as logs
 use Rattle.rrd_change.specs.declared.span.Span.{Span}
-use Rattle.rrd_change.proofs.Chains.{chain_all}
+use Rattle.rrd_change.proofs.Chains.{chain_all, chain_count}
 use Rattle.rrd_change.proofs.Laying.{leads_more, leads_size}
 use Rattle.rrd_change.proofs.Logs.{append_cut, append_whole, log_read, torn_counts}
 use Rattle.rrd_change.proofs.Placing.{in_join, in_left, in_right}
@@ -100,8 +100,8 @@ fill_more size (d ∷ cs) c h more = (h.0, fill_more d.size cs c h.1 more)
 
 pub follows_more : (old now new : List ℕ) (cs : List Change) (log next : logs.Log) (changed : List Span) → Follows old now cs log → IsDatabase new → AreSpans (length new) changed →
     AgreesOutside changed now new → length new ≤ log.tail → next.tail ≡ log.tail → next.end ≡ log.end + change_size (change_of (length new) new changed) →
-    next.spans.items ≡ log.spans.items ++ changed → Follows old new (cs ++ change_of (length new) new changed ∷ []) next
-follows_more old now new cs log next changed h is are agrees below tail end spans =
+    next.changes ≡ log.changes + 1 → next.spans.items ≡ log.spans.items ++ changed → Follows old new (cs ++ change_of (length new) new changed ∷ []) next
+follows_more old now new cs log next changed h is are agrees below tail end count spans =
     let c = change_of (length new) new changed in
     let P : List Span → Type 0 = λ xs. (k : ℕ) → TouchByte k (cs ++ c ∷ []) → IsIn k xs in
     let Q : List Span → Type 0 = λ xs. (k : ℕ) → IsIn k xs → TouchByte k (cs ++ c ∷ []) in
@@ -111,6 +111,7 @@ follows_more old now new cs log next changed h is are agrees below tail end span
       fill = fill_more (length old) cs c h.fill (λ k high low. spans_fill changed now new k are agrees (omega (arith, high, leads_size old cs now h.leads)) low);
       below = omega (arith, below, tail);
       ends = end ∙ ap (λ n. n + change_size c) h.ends ∙ sym (end_more log.tail (first_of old ∷ cs) c) ∙ ap (λ n. chain_end n (first_of old ∷ (cs ++ c ∷ []))) (sym tail);
+      count = omega (arith, count, h.count, length_push cs c);
       each = subst P (sym spans) (λ k touched. elim (touch_join k cs c touched) [
         | inl front ↦ in_left k log.spans.items changed (h.each k front)
         | inr back ↦ in_right k log.spans.items changed (have_in new changed k are back)
@@ -202,3 +203,7 @@ either_broken now new w a = record { held = a.held; leave = λ c left told. a.le
 
 pub new_broken : (now new : List ℕ) (w : World) → All (Represents new) w → IsBroken now new w
 new_broken now new w a = record { held = inr a.held; leave = λ c left told. inr (a.leave c left); keep = λ c kept told. inr (a.keep c kept) }
+
+-- a log has fewer changes than a file has bytes
+pub count_fits : (old now : List ℕ) (cs : List Change) (log : logs.Log) → Follows old now cs log → log.changes + 1 ≤ log.end
+count_fits old now cs log h = omega (arith, h.count, h.ends, chain_count log.tail (first_of old ∷ cs))

@@ -172,9 +172,9 @@ leads_first old new changed are agrees = (new, spans_make changed old new are ag
 
 -- a log of one change
 pub follows_first : (base : Base) (old new : List ℕ) (changed : List Span) (log : Log) (bytes : List ℕ) → IsDatabase new → AreSpans (length new) changed → AgreesOutside changed old new →
-    IsFirst old log.tail (change_of (length new) new changed) base.length bytes → log.end ≡ base.length + length bytes → log.spans.items ≡ changed →
+    IsFirst old log.tail (change_of (length new) new changed) base.length bytes → log.end ≡ base.length + length bytes → log.changes ≡ 1 → log.spans.items ≡ changed →
     Follows old new (change_of (length new) new changed ∷ []) log
-follows_first base old new changed log bytes is are agrees h ends spans =
+follows_first base old new changed log bytes is are agrees h ends count spans =
     let P : ℕ → List Span → Type 0 = λ k xs. IsIn k xs in
     record {
       is = is;
@@ -182,6 +182,7 @@ follows_first base old new changed log bytes is are agrees h ends spans =
       fill = (λ k high low. spans_fill changed old new k are agrees high low, tt);
       below = h.within;
       ends = ends ∙ first_length old log.tail (change_of (length new) new changed) base.length bytes h;
+      count = count;
       each = λ k touched. elim touched [
         | inl has ↦ subst (P k) (sym spans) (have_in new changed k are has)
         | inr none ↦ absurd none

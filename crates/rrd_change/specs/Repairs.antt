@@ -1,8 +1,10 @@
 -- Definition: the files that failures leave, and repairs bring to the database that they stand for.
 use Rattle.std.specs.Prelude.{◌≡◌, ◌⊎◌, ℕ, ◌≤◌, List, length}
-use Rattle.rrd_change.specs.Laws.{IsUnderCut}
-use Rattle.rrd_change.specs.States.{IsDatabase, IsInPlace, RepresentsEither}
-use Rattle.rrd_change.specs.Views.{World}
+use Rattle.rrd_change.specs.Changes.{Change}
+use Rattle.rrd_change.specs.Laws.{IsLogged, IsUnderCut}
+use Rattle.rrd_change.specs.States.{Follows, IsDatabase, IsInPlace, RepresentsEither}
+use Rattle.rrd_change.specs.Views.{All, World}
+use Rattle.rrd_change.specs.declared.log.Log.{Log}
 
 -- a file that the disk may have when the file that programs read stands for `now` under a cut mark: from the seventeenth byte
 -- on it has that database too, and it stands for it, or for the other one of the change
@@ -17,3 +19,10 @@ pub record IsUncut (other now : List ℕ) (w : World) : Type 0 where
   pub held : (w.held ≡ now) ⊎ IsUnderCut now w.held
   pub leave : (c : List ℕ) → w.may_leave c → IsLoose other now c
   pub keep : (c : List ℕ) → w.may_keep c → IsLoose other now c
+
+-- each file that a failure may have left has this log, whatever follows the log
+pub record IsLogLeft (now : List ℕ) (log : Log) (w : World) : Type 0 where
+  pub old : List ℕ
+  pub changes : List Change
+  pub follows : Follows old now changes log
+  pub world : All (IsLogged old log.tail changes) w

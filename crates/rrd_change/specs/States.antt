@@ -88,6 +88,7 @@ pub record Follows (old now : List ℕ) (changes : List Change) (log : Log) : Ty
   pub fill : Fill (length old) changes
   pub below : length now ≤ log.tail
   pub ends : log.end ≡ chain_end log.tail (first_of old ∷ changes)
+  pub count : log.changes ≡ length changes
   pub each : (k : ℕ) → TouchByte k changes → IsIn k log.spans.items
   pub only : (k : ℕ) → IsIn k log.spans.items → TouchByte k changes
 

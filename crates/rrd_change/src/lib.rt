@@ -22,5 +22,5 @@ pub use creation::create;
 pub use finding::{FoundDatabase, Layout};
 pub use log::{Base, DATABASE_MARK, Log, begin, mark, replace, unmark};
 pub use opened::change;
-pub use repair::finish_cut;
+pub use repair::{finish_cut, finish_log};
 pub use span::Span;

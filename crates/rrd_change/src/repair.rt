@@ -1,12 +1,12 @@
 //! Repairs files that stand for a database under a mark.
 ghost use Rattle.std.specs.Prelude.{ℕ, List};
-ghost use Rattle.rrd_change.specs.Repairs.{IsUncut};
-ghost use Rattle.rrd_change.specs.States.{IsAtRest};
-ghost use Rattle.rrd_change.specs.Views.{Does, World, seen};
+ghost use Rattle.rrd_change.specs.Repairs.{IsLogLeft, IsUncut};
+ghost use Rattle.rrd_change.specs.States.{IsAtRest, Represents};
+ghost use Rattle.rrd_change.specs.Views.{All, Does, World, seen};
 
 use crate::log::{cut_front, is_database};
 use crate::writing::{mark_and_sync, resize_and_sync};
-use crate::{Bytes, Syncs, unmark};
+use crate::{Bytes, Log, Syncs, unmark};
 use std::io::{self, Error, ErrorKind};
 
 /// Cuts a file with a cut mark to the database `new` that it stands for, and removes the mark.
@@ -25,5 +25,20 @@ pub fn finish_cut<F: Bytes>(file: &mut F, new: &[u8], syncs: Syncs) -> io::Resul
     }
     mark_and_sync(file, &cut_front(new), syncs)?;
     resize_and_sync(file, new.len(), syncs)?;
+    unmark(file, syncs)
+}
+
+/// Brings the changes of a log into place in a file that has the log, and perhaps other bytes behind it. The file then is the
+/// database `new` that it stands for.
+///
+/// # Errors
+///
+/// A call of the file failed. The file stands for the same database.
+pub fn finish_log<F: Bytes>(file: &mut F, log: &Log, new: &[u8], syncs: Syncs) -> io::Result<()>
+    ensures { Does (λ _ (w v : World). IsLogLeft new.now log.now w → IsAtRest new.now v) (λ (w v : World). IsLogLeft new.now log.now w → All (Represents new.now) v) result
+        (seen syncs (F.view file.old)) (seen syncs (F.view file.new)) }
+{
+    resize_and_sync(file, log.end, syncs)?;
+    log.settle(file, new, syncs)?;
     unmark(file, syncs)
 }

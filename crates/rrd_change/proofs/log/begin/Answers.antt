@@ -1,4 +1,4 @@
-use Rattle.std.proofs.Common.{rules, ◌≡◌, ◌++◌, List, [], ◌∷◌, length, ◌∙◌, ap, max}
+use Rattle.std.proofs.Common.{rules, ◌≡◌, ◌++◌, List, [], ◌∷◌, length, ◌∙◌, ap, max, refl}
 use Rattle.rrd_change.specs.Spans.{AreSpans, change_of}
 use Rattle.rrd_change.specs.States.{IsDatabase}
 use Rattle.rrd_change.specs.declared.log.Log.{Log}
@@ -43,6 +43,6 @@ returns g c =
     record {
       old = old;
       changes = change_of (length new) new changed ∷ [];
-      follows = follows_first c.args.base.now old new changed log c.deref.result.now is are agrees made c.in_ok-end.ensures.end spans;
+      follows = follows_first c.args.base.now old new changed log c.deref.result.now is are agrees made c.in_ok-end.ensures.end refl spans;
       world = s old (change_of (length new) new changed) made marked;
     }) c.in_ok-end.ensures.does

@@ -5,7 +5,7 @@ use Rattle.rrd_change.specs.Spans.{AreSpans, change_of}
 use Rattle.rrd_change.specs.States.{IsDatabase, IsOpen}
 use Rattle.rrd_change.specs.Views.{Fails, Stores}
 use Rattle.rrd_change.specs.declared.log.Log.{Log}
-use Rattle.rrd_change.proofs.Appending.{append_failed, follows_more, log_unbroken, next_made, whole_appended}
+use Rattle.rrd_change.proofs.Appending.{append_failed, count_fits, follows_more, log_unbroken, next_made, whole_appended}
 use Rattle.rrd_change.proofs.Holding.{stores_all}
 use Rattle.rrd_change.proofs.Reading.{length-change}
 use Rattle.rrd_change.proofs.Spanned.{spans_make}
@@ -72,7 +72,7 @@ returns g c =
     record {
       old = is.old;
       changes = is.changes ++ change ∷ [];
-      follows = follows_more is.old now new is.changes log next changed is.follows is_new are agrees below refl end c.in_ok-extend_from_slice.ensures.items;
+      follows = follows_more is.old now new is.changes log next changed is.follows is_new are agrees below refl end (omega (arith, count_fits is.old now is.changes log is.follows, c.in-Some.ensures, c.saturating_add-self.ensures)) c.in_ok-extend_from_slice.ensures.items;
       world = stores_all (IsOpen is.old log.tail is.changes) (IsOpen is.old log.tail (is.changes ++ change ∷ [])) (ArePut at bytes) u v
           (λ x y is_open put. whole_appended is.old log.tail is.changes change at bytes x y
           (next_made is.old now new is.changes log changed bytes is.follows is_new are below spelled is.world.held.logged.log.fits few) is_open put) s is.world;
