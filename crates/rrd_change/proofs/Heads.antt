@@ -1,15 +1,13 @@
 -- Lemmas on the heads of changes.
-use Rattle.std.proofs.Common.{◌≡◌, ℕ, zero, suc, ◌+◌, ◌-◌, ◌^◌, ◌<◌, ◌≤◌, true, List, [], ◌∷◌, ◌++◌, length, take, drop, refl, sym, ◌∙◌, ap, subst, arith, append_assoc, inl, inr, Option, Some, None}
-use Rattle.std.specs.Int.{w64, to_be_bytes, from_be_bytes}
+use Rattle.std.proofs.Common.{◌≡◌, ℕ, zero, suc, ◌+◌, ◌-◌, ◌^◌, ◌<◌, ◌≤◌, true, List, [], ◌++◌, length, take, drop, refl, sym, ◌∙◌, ap, subst, arith, append_assoc, inl, inr, Some, None}
+use Rattle.std.specs.Int.{w64, from_be_bytes}
 use Rattle.std.specs.List.{flat_map}
 use Rattle.std.proofs.lemmas.List.{append-nil, length-append, length-drop, length-take, take-append-drop, take_at, drop_at}
 use Rattle.std.proofs.lemmas.Nat.{from_be_bytes-to_be_bytes_8}
 use Rattle.rrd_change.specs.Bytes.{begins_with}
 use Rattle.rrd_change.specs.Changes.{Change, IsRight, are_within, body_bytes, change_bytes, change_head, head_bytes, piece_bytes, read_change, spelled_pieces}
 use Rattle.rrd_change.specs.Read.{HasPieces, IsHeadOf}
-use Rattle.rrd_change.specs.declared.decoding.Head.{Head}
 use Rattle.rrd_change.proofs.Fronts.{begins_from, front_of}
-use Rattle.rrd_change.proofs.Options.{no_value}
 use Rattle.rrd_change.proofs.Reading.{IsReadFrom, change_is, change_read, head_body, head_count, head_size, length-head, on_change, pieces_few, pieces_spelled}
 
 length-spelled : (n : ℕ) (xs : List ℕ) → length (spelled_pieces n xs) ≡ n

@@ -1,5 +1,5 @@
 -- Lemmas on repairs of files with a mark.
-use Rattle.std.proofs.Common.{◌≡◌, ◌⊎◌, ℕ, ◌+◌, ◌<◌, ◌≤◌, List, ◌∷◌, length, get_or, sym, ap, subst, arith, inl, inr}
+use Rattle.std.proofs.Common.{◌≡◌, ◌⊎◌, ℕ, List, ◌∷◌, length, get_or, sym, ap, subst, arith, inl, inr}
 use Rattle.rrd_change.specs.Calls.{ArePut, AreWholeOrNot, IsSized, IsSizedOrNot, IsTorn}
 use Rattle.rrd_change.specs.Changes.{Change}
 use Rattle.rrd_change.specs.Laws.{IsLogged, IsUnderCut, chain_end, first_of}

@@ -1,6 +1,6 @@
 -- Lemmas on the bytes of a file over which the changes of its log are laid.
-use Rattle.std.proofs.Common.{◌≡◌, ℕ, ◌+◌, ◌<◌, ◌≤◌, List, [], ◌∷◌, ◌++◌, length, take, drop, get_or, refl, sym, ◌∙◌, ap, arith, set, true, false}
-use Rattle.std.proofs.lemmas.List.{append-nil, ext_get_or, get_or-take, get_or_append_left, length-append, length-take, length-drop, take_all, drop_all}
+use Rattle.std.proofs.Common.{◌≡◌, ℕ, ◌<◌, ◌≤◌, List, [], ◌∷◌, ◌++◌, length, take, drop, get_or, refl, sym, ◌∙◌, ap, arith, set, true, false}
+use Rattle.std.proofs.lemmas.List.{append-nil, ext_get_or, get_or-take, get_or_append_left, length-append, length-take, take_all, drop_all}
 use Rattle.rrd_change.specs.Bytes.{begins_with}
 use Rattle.rrd_change.specs.Changes.{Change, all_changed, changes_in, laid_over, last_size}
 use Rattle.rrd_change.specs.Laws.{chain_end}

@@ -1,14 +1,14 @@
 -- Lemmas on the pieces and the change that bytes spell.
-use Rattle.std.proofs.Common.{◌≡◌, ℕ, zero, suc, ◌+◌, ◌-◌, ◌^◌, ◌<◌, ◌≤◌, true, List, [], ◌∷◌, ◌++◌, length, take, drop, get_or, refl, sym, ◌∙◌, ap, subst, arith, append_assoc, inl, inr}
+use Rattle.std.proofs.Common.{◌≡◌, ℕ, suc, ◌+◌, ◌-◌, ◌^◌, ◌<◌, ◌≤◌, List, [], ◌∷◌, ◌++◌, length, take, drop, get_or, refl, sym, ◌∙◌, ap, subst, arith, append_assoc, inl, inr}
 use Rattle.std.specs.Prelude.{nat_le}
 use Rattle.std.specs.Int.{w64, to_be_bytes, from_be_bytes}
 use Rattle.std.specs.List.{slice_range, flat_map}
 use Rattle.std.proofs.lemmas.Bool.{cases_lt, and_parts, and_from, leb-true, le-leb}
 use Rattle.std.proofs.lemmas.List.{get_or_past, length-append, length-take, length-drop, take-append-drop, drop-drop, get_or-take, get_or-drop, drop_at}
 use Rattle.std.proofs.lemmas.Nat.{be_bytes_8, from_be_bytes-to_be_bytes_8}
-use Rattle.rrd_change.specs.Changes.{Piece, Change, are_within, body_bytes, piece_bytes, spelled_pieces}
+use Rattle.rrd_change.specs.Changes.{Piece, are_within, piece_bytes, spelled_pieces}
 use Rattle.rrd_change.specs.Read.{HasPieces}
-use Rattle.rrd_change.proofs.Reading.{piece_count, pieces_spelled}
+use Rattle.rrd_change.proofs.Reading.{piece_count}
 
 -- the numbers with which bytes begin, as those of a piece
 abbrev pub first_start : List ℕ → ℕ

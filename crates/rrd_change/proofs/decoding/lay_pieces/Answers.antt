@@ -1,7 +1,7 @@
-use Rattle.std.proofs.Common.{◌≡◌, ◌-◌, ◌+◌, ◌++◌, ◌≤◌, ◌<◌, ℕ, List, [], ◌∷◌, suc, length, drop, take, get_or, arith, subst, sym, refl, ◌∙◌, ap, append_assoc}
+use Rattle.std.proofs.Common.{◌≡◌, ◌-◌, ◌+◌, ◌++◌, ◌<◌, ℕ, List, [], ◌∷◌, length, drop, take, get_or, arith, subst, sym, ◌∙◌, ap, append_assoc}
 use borrow.Rule.Slice.PartMut.{put_mid}
 use Rattle.std.proofs.lemmas.List.{length-take, length-drop}
-use Rattle.rrd_change.specs.Changes.{Piece, all_laid, laid, spelled_pieces}
+use Rattle.rrd_change.specs.Changes.{Piece, all_laid, spelled_pieces}
 use Rattle.rrd_change.specs.Read.{HasPieces, spans_of}
 use Rattle.rrd_change.specs.declared.span.Span.{Span}
 use Rattle.rrd_change.proofs.Laid.{laid_mid}

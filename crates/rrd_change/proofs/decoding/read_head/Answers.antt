@@ -1,4 +1,4 @@
-use Rattle.std.proofs.Common.{rules, ◌≡◌, ◌+◌, ◌≤◌, ℕ, arith, sym, ◌∙◌, ap}
+use Rattle.std.proofs.Common.{rules, arith, sym, ◌∙◌, ap}
 use Rattle.rrd_change.specs.Bytes.{begins_with}
 use Rattle.rrd_change.proofs.Heads.{found, read_none, seen, tried}
 use Rattle.rrd_change.proofs.decoding.read_head.Goals as goal

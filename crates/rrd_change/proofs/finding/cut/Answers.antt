@@ -1,4 +1,4 @@
-use Rattle.std.proofs.Common.{◌≡◌, List, ℕ, length, take, sym, ◌∙◌, ap, arith}
+use Rattle.std.proofs.Common.{take, ◌∙◌, ap, arith}
 use Rattle.std.proofs.lemmas.List.{take_all}
 use Rattle.rrd_change.specs.Settled.{unmarked}
 use Rattle.rrd_change.proofs.Overlaid.{cut_unmarked}

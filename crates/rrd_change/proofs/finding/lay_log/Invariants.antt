@@ -1,4 +1,4 @@
-use Rattle.std.proofs.Common.{◌-◌, ◌≡◌, length}
+use Rattle.std.proofs.Common.{◌-◌, length}
 use Rattle.rrd_change.proofs.Laid.{IsPartRead}
 use Rattle.rrd_change.proofs.finding.lay_log.Given as goal
 

@@ -1,4 +1,4 @@
-use Rattle.std.proofs.Common.{◌≡◌, List, ℕ, true, false, sym, ◌∙◌, ap}
+use Rattle.std.proofs.Common.{◌≡◌, sym, ◌∙◌, ap}
 use Rattle.rrd_change.specs.Bytes.{begins_with}
 use Rattle.rrd_change.specs.Settled.{log_mark, spelled_tail}
 use Rattle.rrd_change.proofs.finding.log_offset.Goals as goal

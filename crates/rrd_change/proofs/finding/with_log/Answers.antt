@@ -1,4 +1,4 @@
-use Rattle.std.proofs.Common.{◌≡◌, ◌++◌, List, ℕ, length, sym, ◌∙◌, arith}
+use Rattle.std.proofs.Common.{◌≡◌, ◌++◌, sym, ◌∙◌, arith}
 use Rattle.rrd_change.proofs.Overlaid.{overlaid, past_unlaid, unlaid}
 use Rattle.rrd_change.proofs.finding.with_log.Goals as goal
 

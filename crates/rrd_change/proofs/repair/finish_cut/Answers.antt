@@ -3,7 +3,7 @@ use Rattle.rrd_change.specs.Calls.{ArePut, AreWholeOrNot, IsSized, IsSizedOrNot,
 use Rattle.rrd_change.specs.Laws.{IsUnderCut}
 use Rattle.rrd_change.specs.Repairs.{IsUncut}
 use Rattle.rrd_change.specs.States.{IsDatabase, IsMarked, cut_of}
-use Rattle.rrd_change.specs.Views.{All, Effect, Fails, Steps, Stores, seen}
+use Rattle.rrd_change.specs.Views.{Effect, Fails, Steps, Stores, seen}
 use Rattle.rrd_change.proofs.Holding.{fails_all, stores_all}
 use Rattle.rrd_change.proofs.Loose.{front_failed, front_stored, plain_uncut, under_uncut}
 use Rattle.rrd_change.proofs.Settling.{cut_front_of, cut_sized, sized_stands}

@@ -1,6 +1,5 @@
-use Rattle.std.proofs.Common.{ℕ, List}
 use Rattle.rrd_change.specs.Repairs.{IsLogLeft}
-use Rattle.rrd_change.specs.States.{IsLogOf, IsMarked, IsPlain, Represents}
+use Rattle.rrd_change.specs.States.{IsMarked, IsPlain, Represents}
 use Rattle.rrd_change.specs.Views.{Effect}
 use Rattle.rrd_change.proofs.Holding.{all_as}
 use Rattle.rrd_change.proofs.Loose.{length_failed, length_stored}

@@ -1,7 +1,6 @@
 use Rattle.std.proofs.Common.{◌≡◌, List, ℕ, true, false, sym, ◌∙◌, ap, subst}
 use Rattle.std.proofs.lemmas.Result.{IfOk-weaker}
 use Rattle.rrd_change.specs.Bytes.{begins_with}
-use Rattle.rrd_change.specs.Read.{IsOffset}
 use Rattle.rrd_change.specs.Settled.{cut_mark, log_mark, spelled_tail}
 use Rattle.rrd_change.proofs.Overlaid.{settled_cut, settled_log, settled_plain}
 use Rattle.rrd_change.proofs.finding.FoundDatabase.read.Goals as goal
