@@ -98,6 +98,11 @@ fill_more : (size : ℕ) (cs : List Change) (c : Change) → Fill size cs → ((
 fill_more size [] c h more = (more, tt)
 fill_more size (d ∷ cs) c h more = (h.0, fill_more d.size cs c h.1 more)
 
+pub fill_next : (old now new : List ℕ) (cs : List Change) (log : logs.Log) (changed : List Span) → Follows old now cs log → AreSpans (length new) changed → AgreesOutside changed now new →
+    Fill (length old) (cs ++ change_of (length new) new changed ∷ [])
+fill_next old now new cs log changed h are agrees =
+    fill_more (length old) cs (change_of (length new) new changed) h.fill (λ k high low. spans_fill changed now new k are agrees (omega (arith, high, leads_size old cs now h.leads)) low)
+
 pub follows_more : (old now new : List ℕ) (cs : List Change) (log next : logs.Log) (changed : List Span) → Follows old now cs log → IsDatabase new → AreSpans (length new) changed →
     AgreesOutside changed now new → length new ≤ log.tail → next.tail ≡ log.tail → next.end ≡ log.end + change_size (change_of (length new) new changed) →
     next.changes ≡ log.changes + 1 → next.spans.items ≡ log.spans.items ++ changed → Follows old new (cs ++ change_of (length new) new changed ∷ []) next
@@ -108,7 +113,7 @@ follows_more old now new cs log next changed h is are agrees below tail end coun
     record {
       is = is;
       leads = leads_more old cs c now new h.leads (spans_make changed now new are agrees);
-      fill = fill_more (length old) cs c h.fill (λ k high low. spans_fill changed now new k are agrees (omega (arith, high, leads_size old cs now h.leads)) low);
+      fill = fill_next old now new cs log changed h are agrees;
       below = omega (arith, below, tail);
       ends = end ∙ ap (λ n. n + change_size c) h.ends ∙ sym (end_more log.tail (first_of old ∷ cs) c) ∙ ap (λ n. chain_end n (first_of old ∷ (cs ++ c ∷ []))) (sym tail);
       count = omega (arith, count, h.count, length_push cs c);
@@ -154,11 +159,11 @@ torn_appended old tail cs c at count x f held is here a either tells =
     ] in
     torn_counts old tail cs c x f is.logged (λ k from to. a.outside k (inl (omega (arith, to, here)))) (omega (arith, a.longer, is.ends)) tell
 
-pub either_represents : (old now new : List ℕ) (tail : ℕ) (cs : List Change) (c : Change) (f : List ℕ) → Leads old cs now → Makes c now new →
+pub either_represents : (old now new : List ℕ) (tail : ℕ) (cs : List Change) (c : Change) (f : List ℕ) → Leads old cs now → Makes c now new → Fill (length old) cs → Fill (length old) (cs ++ c ∷ []) →
     IsLogged old tail cs f ⊎ IsLogged old tail (cs ++ c ∷ []) f → RepresentsEither now new f
-either_represents old now new tail cs c f leads makes (inl same) = inl (inr (inr (record { old = old; tail = tail; changes = cs; logged = same; leads = leads })))
-either_represents old now new tail cs c f leads makes (inr one) =
-    inr (inr (inr (record { old = old; tail = tail; changes = cs ++ c ∷ []; logged = one; leads = leads_more old cs c now new leads makes })))
+either_represents old now new tail cs c f leads makes fill more (inl same) = inl (inr (inr (record { old = old; tail = tail; changes = cs; logged = same; leads = leads; fill = fill })))
+either_represents old now new tail cs c f leads makes fill more (inr one) =
+    inr (inr (inr (record { old = old; tail = tail; changes = cs ++ c ∷ []; logged = one; leads = leads_more old cs c now new leads makes; fill = more })))
 
 -- ---- an append
 
@@ -174,11 +179,11 @@ next_made old now new cs log changed bytes h is are below spelled fits few =
       here = h.ends;
     }
 
-pub append_failed : (old now new : List ℕ) (tail at : ℕ) (cs : List Change) (c : Change) (bytes : List ℕ) (u v : World) → IsNext old tail cs c at bytes → Leads old cs now → Makes c now new →
-    All (IsOpen old tail cs) u → Fails (IsCut at bytes) (AreAny at (length bytes)) u v → IsBroken now new v
-append_failed old now new tail at cs c bytes u v next leads makes all f =
+pub append_failed : (old now new : List ℕ) (tail at : ℕ) (cs : List Change) (c : Change) (bytes : List ℕ) (u v : World) → IsNext old tail cs c at bytes → Leads old cs now → Makes c now new → Fill (length old) cs →
+    Fill (length old) (cs ++ c ∷ []) → All (IsOpen old tail cs) u → Fails (IsCut at bytes) (AreAny at (length bytes)) u v → IsBroken now new v
+append_failed old now new tail at cs c bytes u v next leads makes fill more all f =
     let held = cut_appended old tail cs c at bytes u.held v.held next all.held f.held in
-    let to : (x : List ℕ) → IsLogged old tail cs x ⊎ IsLogged old tail (cs ++ c ∷ []) x → RepresentsEither now new x = λ x h. either_represents old now new tail cs c x leads makes h in
+    let to : (x : List ℕ) → IsLogged old tail cs x ⊎ IsLogged old tail (cs ++ c ∷ []) x → RepresentsEither now new x = λ x h. either_represents old now new tail cs c x leads makes fill more h in
     record {
       held = to v.held held;
       leave = λ z left told.
@@ -195,7 +200,7 @@ append_failed old now new tail at cs c bytes u v next leads makes all f =
 pub log_unbroken : (now new : List ℕ) (log : logs.Log) (w : World) → IsLogOf now log w → IsBroken now new w
 log_unbroken now new log w h =
     let to : (x : List ℕ) → IsOpen h.old log.tail h.changes x → RepresentsEither now new x =
-    λ x is. inl (inr (inr (record { old = h.old; tail = log.tail; changes = h.changes; logged = is.logged; leads = h.follows.leads }))) in
+    λ x is. inl (inr (inr (record { old = h.old; tail = log.tail; changes = h.changes; logged = is.logged; leads = h.follows.leads; fill = h.follows.fill }))) in
     record { held = to w.held h.world.held; leave = λ c left told. to c (h.world.leave c left); keep = λ c kept told. to c (h.world.keep c kept) }
 
 pub either_broken : (now new : List ℕ) (w : World) → All (RepresentsEither now new) w → IsBroken now new w

@@ -96,7 +96,7 @@ length_failed now log u v f h =
     let P : ℕ → Type 0 = λ n. Fails (IsSizedOrNot n) (IsSizedOrNot n) u v in
     let Q : List ℕ → Type 0 = λ x. IsLogged h.old log.tail h.changes x in
     let end = chain_end log.tail (first_of h.old ∷ h.changes) in
-    all_as Q (Represents now) v (λ x is. inr (inr (record { old = h.old; tail = log.tail; changes = h.changes; logged = is; leads = h.follows.leads })))
+    all_as Q (Represents now) v (λ x is. inr (inr (record { old = h.old; tail = log.tail; changes = h.changes; logged = is; leads = h.follows.leads; fill = h.follows.fill })))
     (fails_all Q Q (IsSizedOrNot end) (IsSizedOrNot end) u v (λ x y is s. sized_or_not h.old log.tail h.changes x y is s) (λ x y is s. sized_or_not h.old log.tail h.changes x y is s)
     (subst P h.follows.ends f) h.world)
 

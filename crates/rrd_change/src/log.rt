@@ -1,7 +1,7 @@
 //! The log of a file that is changed.
 ghost use Rattle.std.specs.Prelude.{◌≡◌, ◌+◌, ◌-◌, ◌++◌, ◌∷◌, [], ◌≤◌, ◌<◌, ℕ, List, length, IfOk, OnOk, replicate, slice_range, IsTrue, ◌↔◌};
 ghost use Rattle.rrd_change.specs.Changes.{Change, change_bytes};
-ghost use Rattle.rrd_change.specs.Laws.{Leads};
+ghost use Rattle.rrd_change.specs.Laws.{Fill, Leads};
 ghost use Rattle.rrd_change.specs.Settled.{cut_mark, log_mark};
 ghost use Rattle.rrd_change.specs.Spans.{AgreesOutside, AreSpans, change_of};
 ghost use Rattle.rrd_change.specs.States.{AreAnyIn, ArePutIn, Began, IsAtRest, IsBroken, IsDatabase, IsFirst, IsOpen, IsLogOf, IsMarked, IsPlain, Represents, RepresentsEither, cut_of};
@@ -135,7 +135,7 @@ fn commit_first<F: Bytes>(
     requires { 0 < length bytes.now }
     ensures end { IfOk result (λ end. end ≡ at + length bytes.now) }
     ensures does { Does (λ _ (w v : World). (old : List ℕ) (c : Change) → IsFirst old tail c at bytes.now → IsMarked old w → All (IsOpen old tail (c ∷ [])) v)
-        (λ (w v : World). (old new : List ℕ) (c : Change) → IsFirst old tail c at bytes.now → Leads old (c ∷ []) new → IsMarked old w → All (RepresentsEither old new) v) result
+        (λ (w v : World). (old new : List ℕ) (c : Change) → IsFirst old tail c at bytes.now → Leads old (c ∷ []) new → Fill (length old) (c ∷ []) → IsMarked old w → All (RepresentsEither old new) v) result
         (seen syncs (F.view file.old)) (seen syncs (F.view file.new)) }
 {
     let Some(end) = at.checked_add(bytes.len()) else {

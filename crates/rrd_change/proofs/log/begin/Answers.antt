@@ -3,7 +3,7 @@ use Rattle.rrd_change.specs.Spans.{AreSpans, change_of}
 use Rattle.rrd_change.specs.States.{IsDatabase}
 use Rattle.rrd_change.specs.declared.log.Log.{Log}
 use Rattle.rrd_change.specs.declared.span.Span.{Span}
-use Rattle.rrd_change.proofs.Beginning.{first_made, follows_first, leads_first, marked_stands}
+use Rattle.rrd_change.proofs.Beginning.{fill_first, first_made, follows_first, leads_first, marked_stands}
 use Rattle.rrd_change.proofs.Stepping.{failed, nothing, steps_as}
 use Rattle.rrd_change.proofs.log.begin.Goals as goal
 
@@ -27,7 +27,7 @@ returns-in_err-end g c =
     failed _ _ c.from_residual-in_err-end.result _ _ c.from_residual-in_err-end.ensures.0
     (steps_as _ _ _ _ (λ u v s old began agrees marked.
     s old new (change_of (length new) new changed) (first_made c.args.base.now old new changed c.max-tail.result _ began is are tail_is (c.deref.ensures.value ∙ c.in_ok-bytes.ensures.ok))
-    (leads_first old new changed are agrees) marked) c.in_err-end.ensures.does)
+    (leads_first old new changed are agrees) (fill_first old new changed are agrees) marked) c.in_err-end.ensures.does)
 
 pub returns : goal.returns
 returns g c =

@@ -5,7 +5,7 @@ use Rattle.rrd_change.specs.Spans.{AreSpans, change_of}
 use Rattle.rrd_change.specs.States.{IsDatabase, IsOpen}
 use Rattle.rrd_change.specs.Views.{Fails, Stores}
 use Rattle.rrd_change.specs.declared.log.Log.{Log}
-use Rattle.rrd_change.proofs.Appending.{append_failed, count_fits, follows_more, log_unbroken, next_made, whole_appended}
+use Rattle.rrd_change.proofs.Appending.{append_failed, count_fits, fill_next, follows_more, log_unbroken, next_made, whole_appended}
 use Rattle.rrd_change.proofs.Holding.{stores_all}
 use Rattle.rrd_change.proofs.Reading.{length-change}
 use Rattle.rrd_change.proofs.Spanned.{spans_make}
@@ -48,7 +48,7 @@ returns-in_err-write_and_sync g c =
     (steps_as (Fails (IsCut at bytes) (AreAny at (length bytes))) _ _ _ (λ u v f now is agrees.
     append_failed is.old now new log.tail at is.changes (change_of (length new) new changed) bytes u v
     (next_made is.old now new is.changes log changed bytes is.follows is_new are below spelled is.world.held.logged.log.fits few) is.follows.leads
-    (spans_make changed now new are agrees) is.world f) c.in_err-write_and_sync.ensures)
+    (spans_make changed now new are agrees) is.follows.fill (fill_next is.old now new is.changes log changed is.follows are agrees) is.world f) c.in_err-write_and_sync.ensures)
 
 pub returns : goal.returns
 returns g c =
