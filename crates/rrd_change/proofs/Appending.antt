@@ -109,7 +109,7 @@ pub follows_more : (old now new : List ℕ) (cs : List Change) (log next : logs.
 follows_more old now new cs log next changed h is are agrees below tail end count spans =
     let c = change_of (length new) new changed in
     let P : List Span → Type 0 = λ xs. (k : ℕ) → TouchByte k (cs ++ c ∷ []) → IsIn k xs in
-    let Q : List Span → Type 0 = λ xs. (k : ℕ) → IsIn k xs → TouchByte k (cs ++ c ∷ []) in
+    let Q : List Span → Type 0 = λ xs. (k : ℕ) → 16 ≤ k → IsIn k xs → TouchByte k (cs ++ c ∷ []) in
     record {
       is = is;
       leads = leads_more old cs c now new h.leads (spans_make changed now new are agrees);
@@ -121,8 +121,8 @@ follows_more old now new cs log next changed h is are agrees below tail end coun
         | inl front ↦ in_left k log.spans.items changed (h.each k front)
         | inr back ↦ in_right k log.spans.items changed (have_in new changed k are back)
       ]);
-      only = subst Q (sym spans) (λ k is_in. elim (in_join k log.spans.items changed is_in) [
-        | inl front ↦ touch_left k cs c (h.only k front)
+      only = subst Q (sym spans) (λ k high is_in. elim (in_join k log.spans.items changed is_in) [
+        | inl front ↦ touch_left k cs c (h.only k high front)
         | inr back ↦ touch_right k cs c (in_have new changed k are back)
       ]);
     }

@@ -190,7 +190,7 @@ follows_first base old new changed log bytes is are agrees h ends count spans =
         | inl has ↦ subst (P k) (sym spans) (have_in new changed k are has)
         | inr none ↦ absurd none
       ];
-      only = λ k is_in. inl (in_have new changed k are (subst (P k) spans is_in));
+      only = λ k high is_in. inl (in_have new changed k are (subst (P k) spans is_in));
     }
 
 pub marked_stands : (old new : List ℕ) (w : World) → IsMarked old w → All (RepresentsEither old new) w

@@ -63,6 +63,7 @@ pub record IsPartRead (old bytes new : List ℕ) (spans : List Span) (done chang
   pub count : 48 * changes ≤ done
   pub len : length new ≡ length old
   pub fits : size ≤ length old
+  pub number : changes + length (changes_left old bytes done changes) ≡ length (changes_in (length old) (old ++ bytes))
   pub each : (k : ℕ) → all_changed (changes_left old bytes done changes) k (get_or new k 0) ≡ all_changed (changes_in (length old) (old ++ bytes)) k (get_or old k 0)
   pub last : last_size size (changes_left old bytes done changes) ≡ last_size 0 (changes_in (length old) (old ++ bytes))
   pub end : chain_end (length old + done) (changes_left old bytes done changes) ≡ chain_end (length old) (changes_in (length old) (old ++ bytes))
@@ -83,6 +84,7 @@ none_laid old bytes =
       count = omega arith;
       len = refl;
       fits = omega arith;
+      number = omega (arith, ap length e);
       each = λ k. ap (λ cs. all_changed cs k (get_or old k 0)) e;
       last = ap (λ cs. last_size 0 cs) e;
       end = ap (λ n. chain_end n (changes_left old bytes 0 0)) a ∙ ap (λ cs. chain_end tail cs) e;
@@ -118,6 +120,7 @@ one_laid old bytes new next spans more done changes size c h is within below lai
       count = omega (arith, count);
       len = laid.len ∙ h.len;
       fits = below;
+      number = omega (arith, h.number, ap length split);
       each = λ k. ap (λ b. all_changed rest k b) (laid.each k) ∙ ap (λ cs. all_changed cs k (get_or new k 0)) (sym split) ∙ h.each k;
       last = ap (λ cs. last_size size cs) (sym split) ∙ h.last;
       end = ap (λ n. chain_end n rest) (sym here) ∙ ap (λ cs. chain_end (tail + done) cs) (sym split) ∙ h.end;
@@ -138,13 +141,14 @@ one_laid old bytes new next spans more done changes size c h is within below lai
     }
 
 pub all_laid_over : (old bytes new : List ℕ) (log : Log) (done changes size : ℕ) → IsPartRead old bytes new log.spans.items done changes size →
-    read_change (length old) (length old + done) (drop done bytes) ≡ None → log.tail ≡ length old → log.end ≡ length old + done → IsLogRead old bytes new log size
-all_laid_over old bytes new log done changes size h none tail_is end_is =
+    read_change (length old) (length old + done) (drop done bytes) ≡ None → log.tail ≡ length old → log.end ≡ length old + done → log.changes ≡ changes - 1 → IsLogRead old bytes new log size
+all_laid_over old bytes new log done changes size h none tail_is end_is count_is =
     let rest : changes_left old bytes done changes ≡ [] = none_left (length old) (old ++ bytes) (length (old ++ bytes) - changes) (length old + done) (left_at old bytes done ∙ none) in
     record {
       tail = tail_is;
       len = h.len;
       fits = h.fits;
+      count = omega (arith, count_is, h.number, ap length rest);
       each = λ k. ap (λ cs. all_changed cs k (get_or new k 0)) (sym rest) ∙ h.each k;
       last = ap (λ cs. last_size size cs) (sym rest) ∙ h.last;
       end = end_is ∙ ap (λ cs. chain_end (length old + done) cs) (sym rest) ∙ h.end;

@@ -21,5 +21,6 @@ pub mod Overlaid
 pub mod Settling
 pub mod Loose
 pub mod Appending
+pub mod Restoring
 pub mod Outcomes
 pub mod Making

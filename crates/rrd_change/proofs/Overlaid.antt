@@ -1,11 +1,14 @@
 -- Lemmas on the bytes of a file over which the changes of its log are laid.
-use Rattle.std.proofs.Common.{◌≡◌, ℕ, ◌<◌, ◌≤◌, List, [], ◌∷◌, ◌++◌, length, take, drop, get_or, refl, sym, ◌∙◌, ap, arith, set, true, false}
+use Rattle.std.proofs.Common.{◌≡◌, ℕ, ◌<◌, ◌≤◌, List, [], ◌∷◌, ◌++◌, length, take, drop, get_or, refl, sym, subst, ◌∙◌, ap, arith, set, inr, true, false}
 use Rattle.std.proofs.lemmas.List.{append-nil, ext_get_or, get_or-take, get_or_append_left, length-append, length-take, take_all, drop_all}
 use Rattle.rrd_change.specs.Bytes.{begins_with}
 use Rattle.rrd_change.specs.Changes.{Change, all_changed, changes_in, laid_over, last_size}
 use Rattle.rrd_change.specs.Laws.{chain_end}
+use Rattle.rrd_change.specs.Marks.{IsLogIn, IsLogMark, IsMarkOf}
 use Rattle.rrd_change.specs.Read.{IsLogRead}
 use Rattle.rrd_change.specs.Settled.{cut_mark, log_mark, settled, settled_by, spelled_tail, unmarked}
+use Rattle.rrd_change.specs.declared.finding.Mark.{Mark}
+use Rattle.rrd_change.specs.declared.finding.Mark.TheVariants as marks
 use Rattle.rrd_change.specs.declared.log.Log.{Log}
 use Rattle.rrd_change.proofs.Chains.{chain_count, none_left}
 use Rattle.rrd_change.proofs.Fronts.{front_of}
@@ -55,8 +58,11 @@ unlaid file old rest new tail n size log all tail_is n_is read at =
     let none_here : changes_in tail file ≡ [] = ap (λ xs. changes_in tail xs) all ∙ ap (λ t. changes_in t (old ++ rest)) (sym tail_is) ∙ none in
     clipped n new rest file n_is len ∙ ap (λ xs. xs ++ rest) same ∙ sym all ∙ ap (λ cs. laid_over cs file) (sym none_here)
 
+pub past_log : (tail : ℕ) (file : List ℕ) → length file < tail → changes_in tail file ≡ []
+past_log tail file past = none_left tail file (length file) tail (past_read tail tail file (omega (arith, past)))
+
 pub past_unlaid : (tail : ℕ) (file : List ℕ) → length file < tail → file ≡ laid_over (changes_in tail file) file
-past_unlaid tail file past = ap (λ cs. laid_over cs file) (sym (none_left tail file (length file) tail (past_read tail tail file (omega (arith, past)))))
+past_unlaid tail file past = ap (λ cs. laid_over cs file) (sym (past_log tail file past))
 
 -- ---- by the mark
 
@@ -72,3 +78,21 @@ settled_log end_of file tail cut (is, log) = by_mark end_of file ∙ ap (λ m. s
 
 pub settled_plain : (end_of : List ℕ → ℕ) (file : List ℕ) → begins_with file cut_mark ≡ false → begins_with file (log_mark (spelled_tail file)) ≡ false → settled end_of file ≡ file
 settled_plain end_of file cut log = by_mark end_of file ∙ ap (λ m. settled_by end_of m file) (is_plain file cut log)
+
+-- ---- what was found of a log
+
+pub no_log : (file old rest new : List ℕ) (tail size : ℕ) (log : Log) → file ≡ old ++ rest → length old ≡ tail → IsLogRead old rest new log size → log.end ≡ tail → changes_in tail file ≡ []
+no_log file old rest new tail size log all tail_is read at =
+    ap (λ xs. changes_in tail xs) all ∙ ap (λ t. changes_in t (old ++ rest)) (sym tail_is)
+    ∙ no_changes (changes_in (length old) (old ++ rest)) (length old) (sym read.end ∙ at ∙ sym tail_is)
+
+pub log_in : (file old rest new : List ℕ) (tail size : ℕ) (log : Log) → file ≡ old ++ rest → length old ≡ tail → IsLogRead old rest new log size → IsLogIn log tail file
+log_in file old rest new tail size log all tail_is read =
+    let P : ℕ → Type 0 = λ t. IsLogIn log t (old ++ rest) in
+    let Q : List ℕ → Type 0 = λ xs. IsLogIn log tail xs in
+    subst Q (sym all) (subst P tail_is (record { tail_is = read.tail; ends = read.end; count = read.count; touched = read.touched; only = read.only }))
+
+pub by_log_mark : (m : Mark) (tail : ℕ) (file : List ℕ) → begins_with file cut_mark ≡ false → (tail ≡ spelled_tail file) × (begins_with file (log_mark (spelled_tail file)) ≡ true) → IsLogMark m tail file → IsMarkOf m file
+by_log_mark marks.Missing tail file cut (is, log) h = (cut, inr (ap (λ t. changes_in t file) (sym is) ∙ h))
+by_log_mark marks.Cut tail file cut (is, log) h = absurd h
+by_log_mark (marks.Log found) tail file cut (is, log) h = let P : ℕ → Type 0 = λ t. IsLogIn found t file in (cut, log, subst P is h)

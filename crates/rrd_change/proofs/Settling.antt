@@ -34,7 +34,7 @@ open_any old now cs log x f follows is a =
       logged = write_keeps old log.tail cs x f is.logged len (λ k low high. stays k (inl high)) (λ k low high. stays k (inr (omega (arith, low, below))))
           (λ k low high. elim (a.same k) [
             | inl same ↦ inl same
-            | inr there ↦ inr (touched_said cs k (follows.only k there.2))
+            | inr there ↦ inr (touched_said cs k (follows.only k there.0 there.2))
           ]);
       ends = len ∙ is.ends;
     }

@@ -11,4 +11,5 @@ pub mod Outcomes
 pub mod Making
 pub mod Repairs
 pub mod Read
+pub mod Marks
 pub mod Found

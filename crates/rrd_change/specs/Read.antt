@@ -1,5 +1,5 @@
 -- Definition, as glue: what is read of a log, and laid over a database.
-use Rattle.std.specs.Prelude.{◌≡◌, ℕ, ◌+◌, ◌≤◌, true, false, List, [], ◌∷◌, ◌++◌, length, slice_index, slice_range, Option, Some, None}
+use Rattle.std.specs.Prelude.{◌≡◌, ℕ, ◌+◌, ◌-◌, ◌≤◌, true, false, List, [], ◌∷◌, ◌++◌, length, slice_index, slice_range, Option, Some, None}
 use Rattle.std.specs.List.{flat_map}
 use Rattle.rrd_change.specs.Bytes.{begins_with}
 use Rattle.rrd_change.specs.Changes.{Change, Piece, all_changed, are_within, body_bytes, changed, changes_in, last_size, piece_bytes, spelled_pieces}
@@ -44,6 +44,7 @@ pub record IsLogRead (old bytes new : List ℕ) (log : Log) (size : ℕ) : Type 
   pub each : (k : ℕ) → slice_index new k ≡ all_changed (changes_in (length old) (old ++ bytes)) k (slice_index old k)
   pub last : size ≡ last_size 0 (changes_in (length old) (old ++ bytes))
   pub fits : size ≤ length old
+  pub count : log.changes ≡ length (changes_in (length old) (old ++ bytes)) - 1
   pub end : log.end ≡ chain_end (length old) (changes_in (length old) (old ++ bytes))
   pub touched : (k : ℕ) → TouchByte k (changes_in (length old) (old ++ bytes)) → IsIn k log.spans.items
   pub only : (k : ℕ) → IsIn k log.spans.items → TouchByte k (changes_in (length old) (old ++ bytes))

@@ -91,7 +91,7 @@ pub record Follows (old now : List ℕ) (changes : List Change) (log : Log) : Ty
   pub ends : log.end ≡ chain_end log.tail (first_of old ∷ changes)
   pub count : log.changes ≡ length changes
   pub each : (k : ℕ) → TouchByte k changes → IsIn k log.spans.items
-  pub only : (k : ℕ) → IsIn k log.spans.items → TouchByte k changes
+  pub only : (k : ℕ) → 16 ≤ k → IsIn k log.spans.items → TouchByte k changes
 
 -- the file has this log, and stands for this database
 pub record IsLogOf (now : List ℕ) (log : Log) (w : World) : Type 0 where

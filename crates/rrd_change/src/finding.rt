@@ -2,8 +2,11 @@
 ghost use Rattle.std.specs.Prelude.{◌≡◌, ◌+◌, ◌<◌, ◌≤◌, ◌^◌, ℕ, IfOk, List, Some, length, take, true};
 ghost use Rattle.rrd_change.specs.Bytes.{begins_with};
 ghost use Rattle.rrd_change.specs.Changes.{changes_in, laid_over};
+ghost use Rattle.rrd_change.specs.Marks.{IsLogMark, IsMarkOf};
 ghost use Rattle.rrd_change.specs.Read.{IsLogRead, IsOffset};
-ghost use Rattle.rrd_change.specs.Settled.{Cut, cut_mark, settled, settled_by};
+ghost use Rattle.rrd_change.specs.Settled.{cut_mark, settled_by};
+ghost use Rattle.rrd_change.specs.Settled as settled;
+ghost use Rattle.rrd_change.specs.declared.finding.Mark.TheVariants.{Cut, Missing};
 
 use crate::decoding::{lay_change, number_at, read_head};
 use crate::encoding::HEAD_SIZE;
@@ -69,14 +72,14 @@ fn log_offset(bytes: &[u8]) -> Option<usize>
     }
 }
 
-// What marks a file that does not stand for its own bytes.
+/// What marks a file that does not stand for its own bytes.
 #[derive(Drop)]
-enum Mark {
-    // The file is the database, or is none.
+pub(crate) enum Mark {
+    /// The file is the database, or is none.
     Missing,
-    // A cut mark.
+    /// A cut mark.
     Cut,
-    // A log mark, and the log that it names.
+    /// A log mark, and the log that it names.
     Log(Log),
 }
 
@@ -87,14 +90,15 @@ pub struct FoundDatabase {
     bytes: Vec<u8>,
     // The number of them that are the database.
     size: usize,
-    // The mark of the file.
-    mark: Mark,
+    /// The mark of the file.
+    pub(crate) mark: Mark,
     ghost within: { size ≤ length bytes.items },
 }
 
 // Returns bytes that stand for themselves.
 fn unmarked(bytes: Vec<u8>) -> FoundDatabase
-    ensures { take result.size result.bytes.items ≡ bytes.items }
+    ensures missing { result.mark ≡ Missing }
+    ensures same { take result.size result.bytes.items ≡ bytes.items }
 {
     let size = bytes.len();
     FoundDatabase {
@@ -107,7 +111,8 @@ fn unmarked(bytes: Vec<u8>) -> FoundDatabase
 // Returns the database under a cut mark, which differs from the first bytes of a database in the fourth byte alone.
 fn cut<L: Layout>(alloc: Global, layout: &L, mut bytes: Vec<u8>) -> io::Result<FoundDatabase>
     requires { begins_with bytes.items cut_mark ≡ true }
-    ensures { IfOk result (λ found. take found.size found.bytes.items ≡ settled_by L.end_of (Some Cut) bytes.items) }
+    ensures mark { IfOk result (λ found. found.mark ≡ Cut) }
+    ensures database { IfOk result (λ found. take found.size found.bytes.items ≡ settled_by L.end_of (Some settled.Cut) bytes.items) }
 {
     bytes[3] = DATABASE_MARK[3];
     let end = layout.end(alloc, &bytes)?;
@@ -122,7 +127,8 @@ fn cut<L: Layout>(alloc: Global, layout: &L, mut bytes: Vec<u8>) -> io::Result<F
 
 // Returns the database that a log leads to. Without a right change the file stands for its own bytes.
 fn with_log(alloc: Global, mut bytes: Vec<u8>, tail: usize) -> io::Result<FoundDatabase>
-    ensures { IfOk result (λ found. take found.size found.bytes.items ≡ laid_over (changes_in tail bytes.items) bytes.items) }
+    ensures mark { IfOk result (λ found. IsLogMark found.mark tail bytes.items) }
+    ensures database { IfOk result (λ found. take found.size found.bytes.items ≡ laid_over (changes_in tail bytes.items) bytes.items) }
 {
     if bytes.len() < tail {
         return Ok(unmarked(bytes));
@@ -149,7 +155,8 @@ impl FoundDatabase {
     ///
     /// Memory ran out.
     pub fn read<L: Layout>(alloc: Global, layout: &L, bytes: Vec<u8>) -> io::Result<Self>
-        ensures { IfOk result (λ found. database_of found ≡ settled L.end_of bytes.items) }
+        ensures mark { IfOk result (λ found. IsMarkOf found.mark bytes.items) }
+        ensures database { IfOk result (λ found. database_of found ≡ settled.settled L.end_of bytes.items) }
     {
         if bytes.starts_with(&CUT_MARK) {
             return cut(alloc, layout, bytes);

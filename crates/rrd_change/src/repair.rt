@@ -4,9 +4,10 @@ ghost use Rattle.rrd_change.specs.Repairs.{IsLogLeft, IsUncut};
 ghost use Rattle.rrd_change.specs.States.{IsAtRest, Represents};
 ghost use Rattle.rrd_change.specs.Views.{All, Does, World, seen};
 
+use crate::finding::Mark;
 use crate::log::{cut_front, is_database};
 use crate::writing::{mark_and_sync, resize_and_sync};
-use crate::{Bytes, Log, Syncs, unmark};
+use crate::{Bytes, FoundDatabase, Log, Syncs, unmark};
 use std::io::{self, Error, ErrorKind};
 
 /// Cuts a file with a cut mark to the database `new` that it stands for, and removes the mark.
@@ -41,4 +42,29 @@ pub fn finish_log<F: Bytes>(file: &mut F, log: &Log, new: &[u8], syncs: Syncs) -
     resize_and_sync(file, log.end, syncs)?;
     log.settle(file, new, syncs)?;
     unmark(file, syncs)
+}
+
+impl FoundDatabase {
+    ghost use Rattle.std.specs.Prelude.{◌≡◌};
+    ghost use Rattle.rrd_change.specs.Found.{database_of};
+    ghost use Rattle.rrd_change.specs.Repairs.{IsMarkedFor};
+
+    /// Repairs the file in which this database was found: afterwards the file is the database. A file that stands for its own
+    /// bytes is not written.
+    ///
+    /// # Errors
+    ///
+    /// A call of the file failed. Whatever a kill or a failure of the power leaves of the file stands for the same database, so
+    /// that it can be read and repaired again.
+    pub fn repair<F: Bytes>(&self, file: &mut F, syncs: Syncs) -> io::Result<()>
+        ensures { Does (λ _ (w v : World). (now : List ℕ) → database_of self.now ≡ now → IsMarkedFor now self.now.mark w → IsAtRest now v)
+            (λ (w v : World). (now : List ℕ) → database_of self.now ≡ now → IsMarkedFor now self.now.mark w → All (Represents now) v) result
+            (seen syncs (F.view file.old)) (seen syncs (F.view file.new)) }
+    {
+        match &self.mark {
+            Mark::Missing => Ok(()),
+            Mark::Cut => finish_cut(file, self.database(), syncs),
+            Mark::Log(log) => finish_log(file, log, self.database(), syncs),
+        }
+    }
 }

@@ -4,8 +4,8 @@ use Rattle.rrd_change.specs.Settled.{unmarked}
 use Rattle.rrd_change.proofs.Overlaid.{cut_unmarked}
 use Rattle.rrd_change.proofs.finding.cut.Goals as goal
 
-pub returns : goal.returns
-returns g c =
+pub returns-clause-database : goal.returns-clause-database
+returns-clause-database g c =
     let file = c.args.bytes.items in
     let is = cut_unmarked file c.requires in
     take_all c.len-size.result c.truncate.new.self.items (omega (arith, c.len-size.ensures, c.truncate.new.self.ok.0))

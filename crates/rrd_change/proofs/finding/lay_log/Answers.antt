@@ -21,3 +21,4 @@ returns c =
     let log : Log = record { tail = length c.args.database.now; end = length c.args.database.now + c.loop-head.done; spans = c.loop-head.spans; changes = c.saturating_sub.result } in
     all_laid_over c.args.database.now c.args.bytes.now c.loop-head.database log c.loop-head.done c.loop-head.changes c.loop-head.size c.loop-head.invariant
     (none_at c.args.database.now c.args.bytes.now c.loop-head.done c.in_default.ensures) refl refl
+    (omega (arith, c.saturating_sub.ensures))
