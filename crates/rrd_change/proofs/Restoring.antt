@@ -1,5 +1,5 @@
 -- Lemmas on repairs by what was found of a file.
-use Rattle.std.proofs.Common.{◌≡◌, ◌⊎◌, ℕ, ◌+◌, ◌-◌, ◌<◌, ◌≤◌, Bool, true, false, List, [], ◌∷◌, length, take, drop, refl, sym, ◌∙◌, ap, subst, arith, inl, inr, lit<}
+use Rattle.std.proofs.Common.{◌≡◌, ◌⊎◌, ℕ, ◌+◌, ◌≤◌, Bool, true, false, List, [], ◌∷◌, length, drop, refl, sym, ◌∙◌, ap, subst, arith, inl, inr, lit<}
 use Rattle.std.proofs.lemmas.List.{length-take}
 use Rattle.rrd_change.specs.Bytes.{StandsAt, begins_with}
 use Rattle.rrd_change.specs.Changes.{Change, change_size, changes_in, last_size}
@@ -7,8 +7,7 @@ use Rattle.rrd_change.specs.Laws.{IsChain, IsLogged, IsUnderCut, TouchByte, chai
 use Rattle.rrd_change.specs.Marks.{IsLogIn, IsMarkOf}
 use Rattle.rrd_change.specs.Repairs.{IsAlone, IsLogLeft, IsMarkedFor, IsUncut}
 use Rattle.rrd_change.specs.Settled.{cut_mark, database_mark, log_mark, spelled_tail}
-use Rattle.rrd_change.specs.Spans.{IsIn}
-use Rattle.rrd_change.specs.States.{IsAtRest, IsDatabase, IsLogFor, IsPlain, Represents}
+use Rattle.rrd_change.specs.States.{IsAtRest, IsDatabase, IsLogFor, Represents}
 use Rattle.rrd_change.specs.Views.{All, World}
 use Rattle.rrd_change.specs.declared.finding.Mark.TheVariants as marks
 use Rattle.rrd_change.specs.declared.log.Log.{Log}

@@ -1,5 +1,4 @@
 use Rattle.std.proofs.Common.{◌≡◌, ℕ, List, sym, subst, ◌∙◌}
-use Rattle.rrd_change.specs.Found.{database_of}
 use Rattle.rrd_change.specs.Repairs.{IsLogLeft, IsMarkedFor, IsUncut}
 use Rattle.rrd_change.specs.States.{IsAtRest, Represents}
 use Rattle.rrd_change.specs.Views.{All, World}
