@@ -1,7 +1,7 @@
 -- Lemmas on a change that is appended to a log.
 use Rattle.std.proofs.Common.{◌≡◌, ℕ, ◌+◌, ◌^◌, ◌<◌, ◌≤◌, List, [], ◌∷◌, ◌++◌, length, take, get_or, refl, sym, ◌∙◌, ap, subst, arith, inl, inr, ◌⊎◌}
 use Rattle.std.proofs.lemmas.Bool.{cases_lt}
-use Rattle.std.proofs.lemmas.List.{take_all, length-take, get_or-take, take-append-le}
+use Rattle.std.proofs.lemmas.List.{length_push, take_all, length-take, get_or-take, take-append-le}
 use Rattle.rrd_change.specs.Bytes.{StandsAt}
 use Rattle.rrd_change.specs.Calls.{AreAny, ArePut, IsCut}
 use Rattle.rrd_change.specs.Changes.{Change, IsRight, change_bytes, change_size, changes_in, last_size}
@@ -12,7 +12,7 @@ use Rattle.rrd_change.specs.States.{Follows, IsBroken, IsDatabase, IsLogOf, IsOp
 use Rattle.rrd_change.specs.Views.{All, Fails, World}
 use Rattle.rrd_change.specs.declared.log.Log as logs
 use Rattle.rrd_change.specs.declared.span.Span.{Span}
-use Rattle.rrd_change.proofs.Chains.{chain_all}
+use Rattle.rrd_change.proofs.Chains.{chain_all, chain_count}
 use Rattle.rrd_change.proofs.Laying.{leads_more, leads_size}
 use Rattle.rrd_change.proofs.Logs.{append_cut, append_whole, log_read, torn_counts}
 use Rattle.rrd_change.proofs.Placing.{in_join, in_left, in_right}
@@ -98,25 +98,31 @@ fill_more : (size : ℕ) (cs : List Change) (c : Change) → Fill size cs → ((
 fill_more size [] c h more = (more, tt)
 fill_more size (d ∷ cs) c h more = (h.0, fill_more d.size cs c h.1 more)
 
+pub fill_next : (old now new : List ℕ) (cs : List Change) (log : logs.Log) (changed : List Span) → Follows old now cs log → AreSpans (length new) changed → AgreesOutside changed now new →
+    Fill (length old) (cs ++ change_of (length new) new changed ∷ [])
+fill_next old now new cs log changed h are agrees =
+    fill_more (length old) cs (change_of (length new) new changed) h.fill (λ k high low. spans_fill changed now new k are agrees (omega (arith, high, leads_size old cs now h.leads)) low)
+
 pub follows_more : (old now new : List ℕ) (cs : List Change) (log next : logs.Log) (changed : List Span) → Follows old now cs log → IsDatabase new → AreSpans (length new) changed →
     AgreesOutside changed now new → length new ≤ log.tail → next.tail ≡ log.tail → next.end ≡ log.end + change_size (change_of (length new) new changed) →
-    next.spans.items ≡ log.spans.items ++ changed → Follows old new (cs ++ change_of (length new) new changed ∷ []) next
-follows_more old now new cs log next changed h is are agrees below tail end spans =
+    next.changes ≡ log.changes + 1 → next.spans.items ≡ log.spans.items ++ changed → Follows old new (cs ++ change_of (length new) new changed ∷ []) next
+follows_more old now new cs log next changed h is are agrees below tail end count spans =
     let c = change_of (length new) new changed in
     let P : List Span → Type 0 = λ xs. (k : ℕ) → TouchByte k (cs ++ c ∷ []) → IsIn k xs in
-    let Q : List Span → Type 0 = λ xs. (k : ℕ) → IsIn k xs → TouchByte k (cs ++ c ∷ []) in
+    let Q : List Span → Type 0 = λ xs. (k : ℕ) → 16 ≤ k → IsIn k xs → TouchByte k (cs ++ c ∷ []) in
     record {
       is = is;
       leads = leads_more old cs c now new h.leads (spans_make changed now new are agrees);
-      fill = fill_more (length old) cs c h.fill (λ k high low. spans_fill changed now new k are agrees (omega (arith, high, leads_size old cs now h.leads)) low);
+      fill = fill_next old now new cs log changed h are agrees;
       below = omega (arith, below, tail);
       ends = end ∙ ap (λ n. n + change_size c) h.ends ∙ sym (end_more log.tail (first_of old ∷ cs) c) ∙ ap (λ n. chain_end n (first_of old ∷ (cs ++ c ∷ []))) (sym tail);
+      count = omega (arith, count, h.count, length_push cs c);
       each = subst P (sym spans) (λ k touched. elim (touch_join k cs c touched) [
         | inl front ↦ in_left k log.spans.items changed (h.each k front)
         | inr back ↦ in_right k log.spans.items changed (have_in new changed k are back)
       ]);
-      only = subst Q (sym spans) (λ k is_in. elim (in_join k log.spans.items changed is_in) [
-        | inl front ↦ touch_left k cs c (h.only k front)
+      only = subst Q (sym spans) (λ k high is_in. elim (in_join k log.spans.items changed is_in) [
+        | inl front ↦ touch_left k cs c (h.only k high front)
         | inr back ↦ touch_right k cs c (in_have new changed k are back)
       ]);
     }
@@ -153,11 +159,11 @@ torn_appended old tail cs c at count x f held is here a either tells =
     ] in
     torn_counts old tail cs c x f is.logged (λ k from to. a.outside k (inl (omega (arith, to, here)))) (omega (arith, a.longer, is.ends)) tell
 
-pub either_represents : (old now new : List ℕ) (tail : ℕ) (cs : List Change) (c : Change) (f : List ℕ) → Leads old cs now → Makes c now new →
+pub either_represents : (old now new : List ℕ) (tail : ℕ) (cs : List Change) (c : Change) (f : List ℕ) → Leads old cs now → Makes c now new → Fill (length old) cs → Fill (length old) (cs ++ c ∷ []) →
     IsLogged old tail cs f ⊎ IsLogged old tail (cs ++ c ∷ []) f → RepresentsEither now new f
-either_represents old now new tail cs c f leads makes (inl same) = inl (inr (inr (record { old = old; tail = tail; changes = cs; logged = same; leads = leads })))
-either_represents old now new tail cs c f leads makes (inr one) =
-    inr (inr (inr (record { old = old; tail = tail; changes = cs ++ c ∷ []; logged = one; leads = leads_more old cs c now new leads makes })))
+either_represents old now new tail cs c f leads makes fill more (inl same) = inl (inr (inr (record { old = old; tail = tail; changes = cs; logged = same; leads = leads; fill = fill })))
+either_represents old now new tail cs c f leads makes fill more (inr one) =
+    inr (inr (inr (record { old = old; tail = tail; changes = cs ++ c ∷ []; logged = one; leads = leads_more old cs c now new leads makes; fill = more })))
 
 -- ---- an append
 
@@ -173,11 +179,11 @@ next_made old now new cs log changed bytes h is are below spelled fits few =
       here = h.ends;
     }
 
-pub append_failed : (old now new : List ℕ) (tail at : ℕ) (cs : List Change) (c : Change) (bytes : List ℕ) (u v : World) → IsNext old tail cs c at bytes → Leads old cs now → Makes c now new →
-    All (IsOpen old tail cs) u → Fails (IsCut at bytes) (AreAny at (length bytes)) u v → IsBroken now new v
-append_failed old now new tail at cs c bytes u v next leads makes all f =
+pub append_failed : (old now new : List ℕ) (tail at : ℕ) (cs : List Change) (c : Change) (bytes : List ℕ) (u v : World) → IsNext old tail cs c at bytes → Leads old cs now → Makes c now new → Fill (length old) cs →
+    Fill (length old) (cs ++ c ∷ []) → All (IsOpen old tail cs) u → Fails (IsCut at bytes) (AreAny at (length bytes)) u v → IsBroken now new v
+append_failed old now new tail at cs c bytes u v next leads makes fill more all f =
     let held = cut_appended old tail cs c at bytes u.held v.held next all.held f.held in
-    let to : (x : List ℕ) → IsLogged old tail cs x ⊎ IsLogged old tail (cs ++ c ∷ []) x → RepresentsEither now new x = λ x h. either_represents old now new tail cs c x leads makes h in
+    let to : (x : List ℕ) → IsLogged old tail cs x ⊎ IsLogged old tail (cs ++ c ∷ []) x → RepresentsEither now new x = λ x h. either_represents old now new tail cs c x leads makes fill more h in
     record {
       held = to v.held held;
       leave = λ z left told.
@@ -194,7 +200,7 @@ append_failed old now new tail at cs c bytes u v next leads makes all f =
 pub log_unbroken : (now new : List ℕ) (log : logs.Log) (w : World) → IsLogOf now log w → IsBroken now new w
 log_unbroken now new log w h =
     let to : (x : List ℕ) → IsOpen h.old log.tail h.changes x → RepresentsEither now new x =
-    λ x is. inl (inr (inr (record { old = h.old; tail = log.tail; changes = h.changes; logged = is.logged; leads = h.follows.leads }))) in
+    λ x is. inl (inr (inr (record { old = h.old; tail = log.tail; changes = h.changes; logged = is.logged; leads = h.follows.leads; fill = h.follows.fill }))) in
     record { held = to w.held h.world.held; leave = λ c left told. to c (h.world.leave c left); keep = λ c kept told. to c (h.world.keep c kept) }
 
 pub either_broken : (now new : List ℕ) (w : World) → All (RepresentsEither now new) w → IsBroken now new w
@@ -202,3 +208,7 @@ either_broken now new w a = record { held = a.held; leave = λ c left told. a.le
 
 pub new_broken : (now new : List ℕ) (w : World) → All (Represents new) w → IsBroken now new w
 new_broken now new w a = record { held = inr a.held; leave = λ c left told. inr (a.leave c left); keep = λ c kept told. inr (a.keep c kept) }
+
+-- a log has fewer changes than a file has bytes
+pub count_fits : (old now : List ℕ) (cs : List Change) (log : logs.Log) → Follows old now cs log → log.changes + 1 ≤ log.end
+count_fits old now cs log h = omega (arith, h.count, h.ends, chain_count log.tail (first_of old ∷ cs))

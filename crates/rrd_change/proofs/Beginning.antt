@@ -6,7 +6,7 @@ use Rattle.std.proofs.lemmas.List.{append-nil, length-append, length-replicate, 
 use Rattle.rrd_change.specs.Bytes.{StandsAt}
 use Rattle.rrd_change.specs.Calls.{AreAny, ArePut, AreWholeOrNot, IsTorn}
 use Rattle.rrd_change.specs.Changes.{Change, IsRight, change_bytes, change_size}
-use Rattle.rrd_change.specs.Laws.{IsUnderCut, Leads, chain_end, first_of}
+use Rattle.rrd_change.specs.Laws.{Fill, IsUnderCut, Leads, chain_end, first_of}
 use Rattle.rrd_change.specs.Settled.{log_mark}
 use Rattle.rrd_change.specs.Spans.{AgreesOutside, AreSpans, IsIn, change_of}
 use Rattle.rrd_change.specs.States.{Began, Follows, IsDatabase, IsFirst, IsMarked, IsOpen, IsReady, Represents, RepresentsEither, cut_of}
@@ -119,12 +119,12 @@ pub open_torn : (old : List ℕ) (tail : ℕ) (cs : List Change) (x f : List ℕ
 open_torn old tail cs x f ready t = open_or_not old tail cs x f ready (t.whole (omega (arith, ready.prepared.begun, ready.prepared.enough, ready.prepared.below)))
 
 -- what such a file stands for
-pub open_stands : (old new : List ℕ) (tail : ℕ) (cs : List Change) (f : List ℕ) → Leads old cs new → IsOpen old tail cs f → Represents new f
-open_stands old new tail cs f leads is = inr (inr (record { old = old; tail = tail; changes = cs; logged = is.logged; leads = leads }))
+pub open_stands : (old new : List ℕ) (tail : ℕ) (cs : List Change) (f : List ℕ) → Leads old cs new → Fill (length old) cs → IsOpen old tail cs f → Represents new f
+open_stands old new tail cs f leads fill is = inr (inr (record { old = old; tail = tail; changes = cs; logged = is.logged; leads = leads; fill = fill }))
 
-pub either_stands : (old new : List ℕ) (tail : ℕ) (cs : List Change) (f : List ℕ) → Leads old cs new → IsReadyOrOpen old tail cs f → RepresentsEither old new f
-either_stands old new tail cs f leads (inl ready) = inl (inr (inl ready.prepared.under))
-either_stands old new tail cs f leads (inr is) = inr (open_stands old new tail cs f leads is)
+pub either_stands : (old new : List ℕ) (tail : ℕ) (cs : List Change) (f : List ℕ) → Leads old cs new → Fill (length old) cs → IsReadyOrOpen old tail cs f → RepresentsEither old new f
+either_stands old new tail cs f leads fill (inl ready) = inl (inr (inl ready.prepared.under))
+either_stands old new tail cs f leads fill (inr is) = inr (open_stands old new tail cs f leads fill is)
 
 -- what is written behind a marked database changes nothing
 pub behind_stands : (old x f : List ℕ) (at count : ℕ) → IsDatabase old → x ≡ cut_of old → at ≡ length old → AreAny at count x f → IsUnderCut old f
@@ -170,23 +170,27 @@ first_made base old new changed tail bytes b is are at_tail e =
 pub leads_first : (old new : List ℕ) (changed : List Span) → AreSpans (length new) changed → AgreesOutside changed old new → Leads old (change_of (length new) new changed ∷ []) new
 leads_first old new changed are agrees = (new, spans_make changed old new are agrees, refl)
 
+pub fill_first : (old new : List ℕ) (changed : List Span) → AreSpans (length new) changed → AgreesOutside changed old new → Fill (length old) (change_of (length new) new changed ∷ [])
+fill_first old new changed are agrees = (λ k high low. spans_fill changed old new k are agrees high low, tt)
+
 -- a log of one change
 pub follows_first : (base : Base) (old new : List ℕ) (changed : List Span) (log : Log) (bytes : List ℕ) → IsDatabase new → AreSpans (length new) changed → AgreesOutside changed old new →
-    IsFirst old log.tail (change_of (length new) new changed) base.length bytes → log.end ≡ base.length + length bytes → log.spans.items ≡ changed →
+    IsFirst old log.tail (change_of (length new) new changed) base.length bytes → log.end ≡ base.length + length bytes → log.changes ≡ 1 → log.spans.items ≡ changed →
     Follows old new (change_of (length new) new changed ∷ []) log
-follows_first base old new changed log bytes is are agrees h ends spans =
+follows_first base old new changed log bytes is are agrees h ends count spans =
     let P : ℕ → List Span → Type 0 = λ k xs. IsIn k xs in
     record {
       is = is;
       leads = leads_first old new changed are agrees;
-      fill = (λ k high low. spans_fill changed old new k are agrees high low, tt);
+      fill = fill_first old new changed are agrees;
       below = h.within;
       ends = ends ∙ first_length old log.tail (change_of (length new) new changed) base.length bytes h;
+      count = count;
       each = λ k touched. elim touched [
         | inl has ↦ subst (P k) (sym spans) (have_in new changed k are has)
         | inr none ↦ absurd none
       ];
-      only = λ k is_in. inl (in_have new changed k are (subst (P k) spans is_in));
+      only = λ k high is_in. inl (in_have new changed k are (subst (P k) spans is_in));
     }
 
 pub marked_stands : (old new : List ℕ) (w : World) → IsMarked old w → All (RepresentsEither old new) w

@@ -2,6 +2,8 @@ pub mod Options
 pub mod Fronts
 pub mod Standing
 pub mod Reading
+pub mod Spelling
+pub mod Heads
 pub mod Chains
 pub mod Laying
 pub mod Logs
@@ -14,7 +16,11 @@ pub mod Marking
 pub mod Spanned
 pub mod Beginning
 pub mod Placing
+pub mod Laid
+pub mod Overlaid
 pub mod Settling
+pub mod Loose
 pub mod Appending
+pub mod Restoring
 pub mod Outcomes
 pub mod Making

@@ -1,7 +1,7 @@
 -- Lemmas on what files represent, by what they stand for.
 use Rattle.std.proofs.Common.{◌≡◌, ℕ, List, refl, sym, ◌∙◌, subst, inl, inr}
 use Rattle.rrd_change.specs.Bytes.{StandsAt}
-use Rattle.rrd_change.specs.Outcomes.{AllStand, IsEither, IsWhole}
+use Rattle.rrd_change.specs.Outcomes.{AllStand, AllStandAsTold, IsEither, IsWhole}
 use Rattle.rrd_change.specs.Settled.{database_mark, settled}
 use Rattle.rrd_change.specs.States.{IsAtRest, IsBroken, IsLogOf, IsMarked, IsPlain, Represents, RepresentsEither, cut_of}
 use Rattle.rrd_change.specs.Views.{All, World}
@@ -25,18 +25,18 @@ either end_of old new file was is (inr h) = inr (stands end_of new file is h)
 pub all_stand : (end_of : List ℕ → ℕ) (now : List ℕ) (w : World) → IsWhole end_of now → All (Represents now) w → AllStand end_of (λ b. b ≡ now) w
 all_stand end_of now w whole a = record {
   held = stands end_of now w.held whole a.held;
-  left = λ c left told. stands end_of now c whole (a.leave c left);
-  later = λ c kept told. stands end_of now c whole (a.keep c kept);
+  left = λ c left. stands end_of now c whole (a.leave c left);
+  later = λ c kept. stands end_of now c whole (a.keep c kept);
 }
 
 pub either_stand : (end_of : List ℕ → ℕ) (old new : List ℕ) (w : World) → IsWhole end_of old → IsWhole end_of new → All (RepresentsEither old new) w → AllStand end_of (IsEither old new) w
 either_stand end_of old new w was is a = record {
   held = either end_of old new w.held was is a.held;
-  left = λ c left told. either end_of old new c was is (a.leave c left);
-  later = λ c kept told. either end_of old new c was is (a.keep c kept);
+  left = λ c left. either end_of old new c was is (a.leave c left);
+  later = λ c kept. either end_of old new c was is (a.keep c kept);
 }
 
-pub broken_stand : (end_of : List ℕ → ℕ) (now new : List ℕ) (w : World) → IsWhole end_of now → IsWhole end_of new → IsBroken now new w → AllStand end_of (IsEither now new) w
+pub broken_stand : (end_of : List ℕ → ℕ) (now new : List ℕ) (w : World) → IsWhole end_of now → IsWhole end_of new → IsBroken now new w → AllStandAsTold end_of (IsEither now new) w
 broken_stand end_of now new w was is b = record {
   held = either end_of now new w.held was is b.held;
   left = λ c left told. either end_of now new c was is (b.leave c left told);

@@ -1,11 +1,10 @@
 -- Lemmas on bytes that are appended piece by piece, and on the pieces of a change.
 use Rattle.std.proofs.Common.{◌≡◌, ℕ, suc, ◌+◌, ◌<◌, ◌≤◌, List, [], ◌∷◌, ◌++◌, length, take, get_or, refl, sym, ◌∙◌, ap, subst, arith, append_assoc}
-use Rattle.std.specs.Int.{w64, to_be_bytes}
 use Rattle.std.specs.List.{flat_map}
 use Rattle.std.proofs.Math.Seq.{take-suc}
 use Rattle.std.proofs.lemmas.Grind.{flat_map-append}
 use Rattle.std.proofs.lemmas.List.{append-nil}
-use Rattle.rrd_change.specs.Changes.{Change, body_bytes, change_bytes, change_front, change_head, change_sum, piece_bytes}
+use Rattle.rrd_change.specs.Changes.{Change, body_bytes, change_bytes, change_head, head_bytes, piece_bytes}
 use Rattle.rrd_change.specs.Spans.{AreSpans, piece_of, pieces_of}
 use Rattle.rrd_change.specs.declared.span.Span.{Span}
 
@@ -48,10 +47,9 @@ length-pieces bytes [] = refl
 length-pieces bytes (s ∷ spans) = ap (λ n. suc n) (length-pieces bytes spans)
 
 -- the head and the body make a change
-pub change_pushed : (tail at : ℕ) (c : Change) (buffer front sum body new : List ℕ) → front ≡ change_front tail at c → sum ≡ to_be_bytes w64 (change_sum tail at c) → body ≡ body_bytes c →
-    new ≡ buffer ++ (front ++ (sum ++ body)) → new ≡ buffer ++ change_bytes tail at c
+pub change_pushed : (tail at : ℕ) (c : Change) (buffer head body new : List ℕ) (pieces : ℕ) → head ≡ head_bytes tail at pieces c.size body → body ≡ body_bytes c → pieces ≡ length c.pieces →
+    new ≡ (buffer ++ head) ++ body → new ≡ buffer ++ change_bytes tail at c
 unfolding change_head
-change_pushed tail at c buffer front sum body new front_is sum_is body_is all =
-    all ∙ ap (λ xs. buffer ++ (xs ++ (sum ++ body))) front_is ∙ ap (λ xs. buffer ++ (change_front tail at c ++ (xs ++ body))) sum_is
-    ∙ ap (λ xs. buffer ++ (change_front tail at c ++ (to_be_bytes w64 (change_sum tail at c) ++ xs))) body_is
-    ∙ ap (λ xs. buffer ++ xs) (sym (append_assoc (change_front tail at c) (to_be_bytes w64 (change_sum tail at c)) (body_bytes c)))
+change_pushed tail at c buffer head body new pieces is body_is pieces_is all =
+    all ∙ append_assoc buffer head body ∙ ap (λ xs. buffer ++ (xs ++ body)) is ∙ ap (λ n. buffer ++ (head_bytes tail at n c.size body ++ body)) pieces_is
+    ∙ ap (λ xs. buffer ++ (head_bytes tail at (length c.pieces) c.size xs ++ xs)) body_is

@@ -34,7 +34,7 @@ open_any old now cs log x f follows is a =
       logged = write_keeps old log.tail cs x f is.logged len (λ k low high. stays k (inl high)) (λ k low high. stays k (inr (omega (arith, low, below))))
           (λ k low high. elim (a.same k) [
             | inl same ↦ inl same
-            | inr there ↦ inr (touched_said cs k (follows.only k there.2))
+            | inr there ↦ inr (touched_said cs k (follows.only k there.0 there.2))
           ]);
       ends = len ∙ is.ends;
     }
@@ -94,7 +94,7 @@ pub cut_or_placed : (old now : List ℕ) (cs : List Change) (log : Log) (x f : L
     Represents now f
 cut_or_placed old now cs log x f follows p (inl e) =
     let P : List ℕ → Type 0 = λ xs. Represents now xs in
-    subst P (sym e) (open_stands old now log.tail cs x follows.leads p.is)
+    subst P (sym e) (open_stands old now log.tail cs x follows.leads follows.fill p.is)
 cut_or_placed old now cs log x f follows p (inr put) =
     inr (inl (cut_placed now x f follows.is (omega (arith, p.is.logged.log.begun, follows.below)) p.placed put))
 
@@ -128,7 +128,7 @@ cut_sized now x f is under s =
     ])
 
 pub log_stands_all : (now : List ℕ) (log : Log) (w : World) → IsLogOf now log w → All (Represents now) w
-log_stands_all now log w h = all_as (IsOpen h.old log.tail h.changes) (Represents now) w (λ f is. open_stands h.old now log.tail h.changes f h.follows.leads is) h.world
+log_stands_all now log w h = all_as (IsOpen h.old log.tail h.changes) (Represents now) w (λ f is. open_stands h.old now log.tail h.changes f h.follows.leads h.follows.fill is) h.world
 
 pub reach_placed : (old now : List ℕ) (cs : List Change) (log : Log) (x : List ℕ) → Follows old now cs log → IsPlaced old now cs log x → length now ≤ length x
 reach_placed old now cs log x follows p = omega (arith, p.is.logged.log.begun, follows.below)

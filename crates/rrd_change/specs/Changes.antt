@@ -28,16 +28,18 @@ body_bytes c = flat_map piece_bytes c.pieces
 abbrev pub front_bytes : ℕ → ℕ → ℕ → ℕ → ℕ → List ℕ
 front_bytes tail at count pieces size = to_be_bytes w64 at ++ to_be_bytes w64 tail ++ to_be_bytes w64 count ++ to_be_bytes w64 pieces ++ to_be_bytes w64 size
 
-abbrev pub change_front : ℕ → ℕ → Change → List ℕ
-change_front tail at c = front_bytes tail at (length (body_bytes c)) (length c.pieces) c.size
-
 -- the checksum of a change: of these numbers, and then of the bytes that follow
-abbrev pub change_sum : ℕ → ℕ → Change → ℕ
-change_sum tail at c = mix_bytes (mix_bytes seed (change_front tail at c)) (body_bytes c)
+abbrev pub sum_of : List ℕ → List ℕ → ℕ
+sum_of front body = mix_bytes (mix_bytes seed front) body
 
--- the 48 bytes before the pieces
+-- the 48 bytes before the pieces, which are `body`
+abbrev pub head_bytes : ℕ → ℕ → ℕ → ℕ → List ℕ → List ℕ
+head_bytes tail at pieces size body =
+    let front = front_bytes tail at (length body) pieces size in
+    front ++ to_be_bytes w64 (sum_of front body)
+
 unfoldable pub change_head : ℕ → ℕ → Change → List ℕ
-change_head tail at c = change_front tail at c ++ to_be_bytes w64 (change_sum tail at c)
+change_head tail at c = head_bytes tail at (length c.pieces) c.size (body_bytes c)
 
 abbrev pub change_bytes : ℕ → ℕ → Change → List ℕ
 change_bytes tail at c = change_head tail at c ++ body_bytes c

@@ -9,3 +9,7 @@ pub mod Spans
 pub mod States
 pub mod Outcomes
 pub mod Making
+pub mod Repairs
+pub mod Read
+pub mod Marks
+pub mod Found

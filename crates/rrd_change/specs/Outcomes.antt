@@ -20,5 +20,11 @@ RepresentedStands end_of now file = IsWhole end_of now → Represents now file �
 -- the file stands for bytes of which `P` holds, and so does whatever the power may leave of it
 pub record AllStand (end_of : List ℕ → ℕ) (P : List ℕ → Type 0) (w : World) : Type 0 where
   pub held : P (settled end_of w.held)
+  pub left : (c : List ℕ) → w.may_leave c → P (settled end_of c)
+  pub later : (c : List ℕ) → w.may_keep c → P (settled end_of c)
+
+-- the same, where the checksums of torn changes are wrong
+pub record AllStandAsTold (end_of : List ℕ → ℕ) (P : List ℕ → Type 0) (w : World) : Type 0 where
+  pub held : P (settled end_of w.held)
   pub left : (c : List ℕ) → w.may_leave c → Tells w.held c → P (settled end_of c)
   pub later : (c : List ℕ) → w.may_keep c → Tells w.held c → P (settled end_of c)

@@ -28,13 +28,14 @@ pub record Began (base : Base) (old : List ℕ) : Type 0 where
 abbrev pub cut_of : List ℕ → List ℕ
 cut_of bytes = cut_mark ++ drop 4 bytes
 
--- a log leads to this database
+-- a log leads to this database, and its pieces have each byte that came
 pub record IsLogFor (now file : List ℕ) : Type 0 where
   pub old : List ℕ
   pub tail : ℕ
   pub changes : List Change
   pub logged : IsLogged old tail changes file
   pub leads : Leads old changes now
+  pub fill : Fill (length old) changes
 
 -- the file stands for this database: it is the database, or has it under a cut mark, or by a log
 abbrev pub Represents : List ℕ → List ℕ → Type 0
@@ -88,8 +89,9 @@ pub record Follows (old now : List ℕ) (changes : List Change) (log : Log) : Ty
   pub fill : Fill (length old) changes
   pub below : length now ≤ log.tail
   pub ends : log.end ≡ chain_end log.tail (first_of old ∷ changes)
+  pub count : log.changes ≡ length changes
   pub each : (k : ℕ) → TouchByte k changes → IsIn k log.spans.items
-  pub only : (k : ℕ) → IsIn k log.spans.items → TouchByte k changes
+  pub only : (k : ℕ) → 16 ≤ k → IsIn k log.spans.items → TouchByte k changes
 
 -- the file has this log, and stands for this database
 pub record IsLogOf (now : List ℕ) (log : Log) (w : World) : Type 0 where

@@ -2,7 +2,7 @@
 ghost use Rattle.std.specs.Prelude.{◌≡◌, ◌+◌, ◌++◌, ◌≤◌, ◌<◌, length, OnOk};
 ghost use Rattle.std.specs.Int.{w64, to_be_bytes};
 ghost use Rattle.std.specs.List.{flat_map};
-ghost use Rattle.rrd_change.specs.Changes.{change_bytes, front_bytes, piece_bytes};
+ghost use Rattle.rrd_change.specs.Changes.{change_bytes, front_bytes, head_bytes, piece_bytes};
 ghost use Rattle.rrd_change.specs.Spans.{AreSpans, change_of, pieces_of};
 
 use crate::Span;
@@ -48,6 +48,21 @@ fn front(tail: usize, at: usize, count: usize, pieces: usize, size: usize) -> [u
     front
 }
 
+/// The number of bytes of a change's head.
+pub(crate) const HEAD_SIZE: usize = 48;
+
+/// Returns the head of a change, of which `body` are the pieces: the numbers with which it begins, and its checksum.
+pub(crate) fn head(tail: usize, at: usize, pieces: usize, size: usize, body: &[u8]) -> [u8; 48]
+    ensures { result ≡ head_bytes tail at pieces size body.now }
+{
+    let front = front(tail, at, body.len(), pieces, size);
+    let sum = mix_bytes(mix_bytes(SEED, &front), body);
+    let mut head = [0; HEAD_SIZE];
+    head[..40].copy_from_slice(&front);
+    head[40..].copy_from_slice(&sum.to_be_bytes());
+    head
+}
+
 /// Appends the bytes of a change, which puts these spans of `bytes` into a database, at byte `at` of a file, in the log that
 /// begins at byte `tail`. The database then has `size` bytes.
 ///
@@ -68,10 +83,7 @@ pub(crate) fn push_change(
 {
     let mut body = Vec::new(alloc);
     push_pieces(&mut body, bytes, spans)?;
-    let front = front(tail, at, body.len(), spans.len(), size);
-    let sum = mix_bytes(mix_bytes(SEED, &front), &body);
-    buffer.extend_from_slice(&front)?;
-    buffer.extend_from_slice(&sum.to_be_bytes())?;
+    buffer.extend_from_slice(&head(tail, at, spans.len(), size, &body))?;
     buffer.extend_from_slice(&body)?;
     Ok(())
 }

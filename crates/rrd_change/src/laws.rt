@@ -5,13 +5,15 @@
 //! too. Otherwise a theorem is the contract of a function that does nothing. No other crate calls these functions.
 ghost use Rattle.std.specs.Prelude.{◌≡◌, ℕ, List};
 ghost use Rattle.rrd_change.specs.Changes.{Change};
+ghost use Rattle.rrd_change.specs.Found.{database_of};
 ghost use Rattle.rrd_change.specs.Laws as laws;
-ghost use Rattle.rrd_change.specs.Outcomes.{AllStand, IsEither, IsWhole, RepresentedStands};
+ghost use Rattle.rrd_change.specs.Outcomes.{AllStand, AllStandAsTold, IsEither, IsWhole, RepresentedStands};
+ghost use Rattle.rrd_change.specs.Repairs.{IsMarkedFor};
 ghost use Rattle.rrd_change.specs.Spans.{AgreesOutside};
 ghost use Rattle.rrd_change.specs.States.{Began, IsAtRest, IsLogOf, IsMarked};
 ghost use Rattle.rrd_change.specs.Views.{Does, World, seen};
 
-use crate::{Base, Bytes, Log, Span, Syncs, replace};
+use crate::{Base, Bytes, FoundDatabase, Log, Span, Syncs, replace};
 use std::alloc::Global;
 use std::io;
 
@@ -100,7 +102,7 @@ pub fn appends_stand<F: Bytes>(
         (λ _ (w v : World). (end_of : List ℕ → ℕ) (now : List ℕ) → IsWhole end_of now → IsWhole end_of new.now → IsLogOf now log.old w → AgreesOutside changed.now now new.now
         → AllStand end_of (λ b. b ≡ new.now) v)
         (λ (w v : World). (end_of : List ℕ → ℕ) (now : List ℕ) → IsWhole end_of now → IsWhole end_of new.now → IsLogOf now log.old w → AgreesOutside changed.now now new.now
-        → AllStand end_of (IsEither now new.now) v) result
+        → AllStandAsTold end_of (IsEither now new.now) v) result
         (seen syncs (F.view file.old)) (seen syncs (F.view file.new)) }
 {
     log.append(alloc, file, new, changed, syncs)
@@ -125,4 +127,21 @@ pub fn settled_logs_stand<F: Bytes>(
         (seen syncs (F.view file.old)) (seen syncs (F.view file.new)) }
 {
     log.settle(file, new, syncs)
+}
+
+/// Repairs the file in which a database was found.
+///
+/// Theorem: whatever a kill or a failure of the power leaves of the file stands for the same database, also if calls failed
+/// or were cut short, syncs too. What is left can be read and repaired again, as often as that fails.
+///
+/// # Errors
+///
+/// As [`FoundDatabase::repair`].
+pub fn repairs_stand<F: Bytes>(file: &mut F, found: &FoundDatabase, syncs: Syncs) -> io::Result<()>
+    ensures { Does
+        (λ _ (w v : World). (end_of : List ℕ → ℕ) (now : List ℕ) → IsWhole end_of now → database_of found.now ≡ now → IsMarkedFor now found.now.mark w → AllStand end_of (λ b. b ≡ now) v)
+        (λ (w v : World). (end_of : List ℕ → ℕ) (now : List ℕ) → IsWhole end_of now → database_of found.now ≡ now → IsMarkedFor now found.now.mark w → AllStand end_of (λ b. b ≡ now) v)
+        result (seen syncs (F.view file.old)) (seen syncs (F.view file.new)) }
+{
+    found.repair(file, syncs)
 }

@@ -7,15 +7,20 @@
 mod calls;
 mod checksum;
 mod creation;
+mod decoding;
 mod encoding;
+mod finding;
 pub mod laws;
 mod log;
 mod opened;
+mod repair;
 mod span;
 mod writing;
 
 pub use calls::{Bytes, Syncs};
 pub use creation::create;
+pub use finding::{FoundDatabase, Layout};
 pub use log::{Base, DATABASE_MARK, Log, begin, mark, replace, unmark};
 pub use opened::change;
+pub use repair::{finish_cut, finish_log};
 pub use span::Span;

@@ -1,7 +1,7 @@
 //! The log of a file that is changed.
 ghost use Rattle.std.specs.Prelude.{◌≡◌, ◌+◌, ◌-◌, ◌++◌, ◌∷◌, [], ◌≤◌, ◌<◌, ℕ, List, length, IfOk, OnOk, replicate, slice_range, IsTrue, ◌↔◌};
 ghost use Rattle.rrd_change.specs.Changes.{Change, change_bytes};
-ghost use Rattle.rrd_change.specs.Laws.{Leads};
+ghost use Rattle.rrd_change.specs.Laws.{Fill, Leads};
 ghost use Rattle.rrd_change.specs.Settled.{cut_mark, log_mark};
 ghost use Rattle.rrd_change.specs.Spans.{AgreesOutside, AreSpans, change_of};
 ghost use Rattle.rrd_change.specs.States.{AreAnyIn, ArePutIn, Began, IsAtRest, IsBroken, IsDatabase, IsFirst, IsOpen, IsLogOf, IsMarked, IsPlain, Represents, RepresentsEither, cut_of};
@@ -16,8 +16,8 @@ use std::io::{self, Error, ErrorKind};
 /// The first four bytes of every database.
 pub const DATABASE_MARK: [u8; 4] = [b'R', b'R', b'D', b'I'];
 
-// The first four bytes of a file that is to be cut.
-const CUT_MARK: [u8; 4] = [b'R', b'R', b'D', b'C'];
+/// The first four bytes of a file that is to be cut.
+pub(crate) const CUT_MARK: [u8; 4] = [b'R', b'R', b'D', b'C'];
 
 // The first eight bytes of a file with a log.
 const LOG_WORD: [u8; 8] = [b'R', b'R', b'D', b'L', b'o', b'g', 0, 0];
@@ -41,17 +41,17 @@ pub struct Base {
 #[derive(Drop)]
 pub struct Log {
     // The byte of the file at which the log begins.
-    tail: usize,
+    pub(crate) tail: usize,
     // The byte at which the log ends, and the file.
-    end: usize,
+    pub(crate) end: usize,
     // The spans that the changes write.
-    spans: Vec<Span>,
+    pub(crate) spans: Vec<Span>,
     // The number of the changes.
-    changes: usize,
+    pub(crate) changes: usize,
 }
 
-// Returns the mark of a file with a log that begins at byte `tail`.
-fn log_mark(tail: usize) -> [u8; 16]
+/// Returns the mark of a file with a log that begins at byte `tail`.
+pub(crate) fn log_mark(tail: usize) -> [u8; 16]
     ensures { result ≡ log_mark tail }
 {
     let mut mark = [0; 16];
@@ -94,7 +94,7 @@ fn encode_first(
 
 /// Checks whether bytes are a database, as far as the first ones show.
 pub(crate) fn is_database(bytes: &[u8]) -> bool
-    ensures { IsTrue result → IsDatabase bytes.now }
+    ensures { IsTrue result ↔ IsDatabase bytes.now }
 {
     16 <= bytes.len() && bytes.starts_with(&DATABASE_MARK)
 }
@@ -135,7 +135,7 @@ fn commit_first<F: Bytes>(
     requires { 0 < length bytes.now }
     ensures end { IfOk result (λ end. end ≡ at + length bytes.now) }
     ensures does { Does (λ _ (w v : World). (old : List ℕ) (c : Change) → IsFirst old tail c at bytes.now → IsMarked old w → All (IsOpen old tail (c ∷ [])) v)
-        (λ (w v : World). (old new : List ℕ) (c : Change) → IsFirst old tail c at bytes.now → Leads old (c ∷ []) new → IsMarked old w → All (RepresentsEither old new) v) result
+        (λ (w v : World). (old new : List ℕ) (c : Change) → IsFirst old tail c at bytes.now → Leads old (c ∷ []) new → Fill (length old) (c ∷ []) → IsMarked old w → All (RepresentsEither old new) v) result
         (seen syncs (F.view file.old)) (seen syncs (F.view file.new)) }
 {
     let Some(end) = at.checked_add(bytes.len()) else {
@@ -197,8 +197,8 @@ fn place<F: Bytes>(file: &mut F, new: &[u8], spans: &[Span], syncs: Syncs) -> io
     flush(file, syncs)
 }
 
-// Returns the first sixteen bytes of a database, with a cut mark.
-fn cut_front(new: &[u8]) -> [u8; 16]
+/// Returns the first sixteen bytes of a database, with a cut mark.
+pub(crate) fn cut_front(new: &[u8]) -> [u8; 16]
     requires { 16 ≤ length new.now }
     ensures { result ≡ cut_mark ++ slice_range new.now 4 16 }
 {
@@ -314,6 +314,9 @@ pub fn replace<F: Bytes>(
         (λ (w v : World). (old : List ℕ) → Began base.now old → AgreesOutside changed.now old new.now → IsAtRest old w → All (RepresentsEither old new.now) v) result
         (seen syncs (F.view file.old)) (seen syncs (F.view file.new)) }
 {
+    if !is_database(new) {
+        return Err(Error::from(ErrorKind::InvalidInput));
+    }
     mark(file, syncs)?;
     let log = begin(alloc, file, base, new, changed, syncs)?;
     log.settle(file, new, syncs)?;

@@ -1,5 +1,5 @@
 //! Files that stay open: a log is kept, so that a further change is one append.
-ghost use Rattle.std.specs.Prelude.{ℕ, List, Option};
+ghost use Rattle.std.specs.Prelude.{◌<◌, ℕ, IfOk, IfSome, List, Option};
 ghost use Rattle.rrd_change.specs.Spans.{AgreesOutside};
 ghost use Rattle.rrd_change.specs.States.{Began, IsAtRest, IsBroken, IsKept, IsLogOf, Represents};
 ghost use Rattle.rrd_change.specs.Views.{All, Does, World, seen};
@@ -10,7 +10,8 @@ use std::io;
 
 // Brings the changes of a log into place if there are enough of them. Returns the log otherwise.
 fn keep<F: Bytes>(file: &mut F, log: Log, new: &[u8], syncs: Syncs) -> io::Result<Option<Log>>
-    ensures { Does (λ kept (w v : World). IsLogOf new.now log w → IsKept new.now kept v) (λ (w v : World). IsLogOf new.now log w → All (Represents new.now) v) result
+    ensures few { IfOk result (λ kept. IfSome kept (λ rest. rest.changes < 16)) }
+    ensures does { Does (λ kept (w v : World). IsLogOf new.now log w → IsKept new.now kept v) (λ (w v : World). IsLogOf new.now log w → All (Represents new.now) v) result
         (seen syncs (F.view file.old)) (seen syncs (F.view file.new)) }
 {
     if !log.is_due() {
@@ -39,7 +40,8 @@ pub fn change<F: Bytes>(
     changed: &[Span],
     syncs: Syncs,
 ) -> io::Result<Option<Log>>
-    ensures { Does (λ kept (w v : World). (now : List ℕ) → Began base.now now → AgreesOutside changed.now now new.now → IsKept now log w → IsKept new.now kept v)
+    ensures few { IfOk result (λ kept. IfSome kept (λ rest. rest.changes < 16)) }
+    ensures does { Does (λ kept (w v : World). (now : List ℕ) → Began base.now now → AgreesOutside changed.now now new.now → IsKept now log w → IsKept new.now kept v)
         (λ (w v : World). (now : List ℕ) → Began base.now now → AgreesOutside changed.now now new.now → IsKept now log w → IsBroken now new.now v) result
         (seen syncs (F.view file.old)) (seen syncs (F.view file.new)) }
 {

@@ -30,7 +30,7 @@ returns-in_err-write_pieces g c =
 pub returns : goal.returns
 returns g c =
     let new = c.args.new.now in
-    let is_new : IsDatabase new = c.is_database.ensures (search rules) in
+    let is_new : IsDatabase new = c.is_database.ensures.0 (search rules) in
     let Behind : Effect = λ u w. IsEmpty u → All (IsBehind new) w in
     does_then Behind _ _ _ _ c.mark_and_sync.result _ _ _
     (λ x u v w b s e.

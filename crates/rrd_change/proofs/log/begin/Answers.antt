@@ -1,9 +1,9 @@
-use Rattle.std.proofs.Common.{rules, ◌≡◌, ◌++◌, List, [], ◌∷◌, length, ◌∙◌, ap, max}
+use Rattle.std.proofs.Common.{rules, ◌≡◌, ◌++◌, List, [], ◌∷◌, length, ◌∙◌, ap, max, refl}
 use Rattle.rrd_change.specs.Spans.{AreSpans, change_of}
 use Rattle.rrd_change.specs.States.{IsDatabase}
 use Rattle.rrd_change.specs.declared.log.Log.{Log}
 use Rattle.rrd_change.specs.declared.span.Span.{Span}
-use Rattle.rrd_change.proofs.Beginning.{first_made, follows_first, leads_first, marked_stands}
+use Rattle.rrd_change.proofs.Beginning.{fill_first, first_made, follows_first, leads_first, marked_stands}
 use Rattle.rrd_change.proofs.Stepping.{failed, nothing, steps_as}
 use Rattle.rrd_change.proofs.log.begin.Goals as goal
 
@@ -21,19 +21,19 @@ pub returns-in_err-end : goal.returns-in_err-end
 returns-in_err-end g c =
     let new = c.args.new.now in
     let changed = c.args.changed.now in
-    let is : IsDatabase new = c.is_database.ensures (search rules) in
+    let is : IsDatabase new = c.is_database.ensures.0 (search rules) in
     let are : AreSpans (length new) changed = c.in_ok-bytes.ensures.within in
     let tail_is : c.max-tail.result ≡ max c.args.base.now.length (length new) = c.max-tail.ensures in
     failed _ _ c.from_residual-in_err-end.result _ _ c.from_residual-in_err-end.ensures.0
     (steps_as _ _ _ _ (λ u v s old began agrees marked.
     s old new (change_of (length new) new changed) (first_made c.args.base.now old new changed c.max-tail.result _ began is are tail_is (c.deref.ensures.value ∙ c.in_ok-bytes.ensures.ok))
-    (leads_first old new changed are agrees) marked) c.in_err-end.ensures.does)
+    (leads_first old new changed are agrees) (fill_first old new changed are agrees) marked) c.in_err-end.ensures.does)
 
 pub returns : goal.returns
 returns g c =
     let new = c.args.new.now in
     let changed = c.args.changed.now in
-    let is : IsDatabase new = c.is_database.ensures (search rules) in
+    let is : IsDatabase new = c.is_database.ensures.0 (search rules) in
     let are : AreSpans (length new) changed = c.in_ok-bytes.ensures.within in
     let tail_is : c.max-tail.result ≡ max c.args.base.now.length (length new) = c.max-tail.ensures in
     let spans : c.extend_from_slice.new.self.items ≡ changed = c.in_ok-extend_from_slice.ensures.items ∙ ap (λ (xs : List Span). xs ++ changed) c.new-spans.ensures.items in
@@ -43,6 +43,6 @@ returns g c =
     record {
       old = old;
       changes = change_of (length new) new changed ∷ [];
-      follows = follows_first c.args.base.now old new changed log c.deref.result.now is are agrees made c.in_ok-end.ensures.end spans;
+      follows = follows_first c.args.base.now old new changed log c.deref.result.now is are agrees made c.in_ok-end.ensures.end refl spans;
       world = s old (change_of (length new) new changed) made marked;
     }) c.in_ok-end.ensures.does

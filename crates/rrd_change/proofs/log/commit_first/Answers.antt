@@ -11,14 +11,14 @@ use Rattle.rrd_change.proofs.log.commit_first.Goals as goal
 
 pub returns-in_default-clause-does : goal.returns-in_default-clause-does
 returns-in_default-clause-does g c =
-    nothing _ _ (λ w old new x first leads marked. all_as (λ f. f ≡ cut_of old) (RepresentsEither old new) w (λ f e. inl (inr (inl (cut_under old f marked.is e)))) marked.world)
+    nothing _ _ (λ w old new x first leads fill marked. all_as (λ f. f ≡ cut_of old) (RepresentsEither old new) w (λ f e. inl (inr (inl (cut_under old f marked.is e)))) marked.world)
 
 pub returns-in_err-write_and_sync-clause-does : goal.returns-in_err-write_and_sync-clause-does
 returns-in_err-write_and_sync-clause-does g c =
     let at = c.args.at in
     let bytes = c.args.bytes.now in
     failed _ _ c.from_residual.result _ _ c.from_residual.ensures.0
-    (steps_as (Fails (IsCut at bytes) (AreAny at (length bytes))) _ _ _ (λ u v s old new x first leads marked.
+    (steps_as (Fails (IsCut at bytes) (AreAny at (length bytes))) _ _ _ (λ u v s old new x first leads fill marked.
     fails_all (λ f. f ≡ cut_of old) (RepresentsEither old new) (IsCut at bytes) (AreAny at (length bytes)) u v
     (λ y f e cut. inl (inr (inl (behind_stands old y f at (length bytes) marked.is e first.behind cut.any))))
     (λ y f e any. inl (inr (inl (behind_stands old y f at (length bytes) marked.is e first.behind any)))) s marked.world) c.in_err-write_and_sync.ensures)
@@ -34,8 +34,8 @@ returns-in_err-mark_and_sync-clause-does g c =
     let new = seen syncs (g.F.Bytes.view c.mark_and_sync.new.file) in
     let P : List ℕ → Type 0 = λ m. Steps (Fails (AreWholeOrNot 0 m) (IsTorn 0 m)) mid new in
     failed _ _ c.from_residual-in_err-mark_and_sync.result _ _ c.from_residual-in_err-mark_and_sync.ensures.0
-    (steps_then (Stores (ArePut at bytes)) (Fails (AreWholeOrNot 0 (log_mark tail)) (IsTorn 0 (log_mark tail))) _ _ mid new (λ u v w s f old now x first leads marked.
-    all_as (IsReadyOrOpen old tail (x ∷ [])) (RepresentsEither old now) w (λ y is. either_stands old now tail (x ∷ []) y leads is)
+    (steps_then (Stores (ArePut at bytes)) (Fails (AreWholeOrNot 0 (log_mark tail)) (IsTorn 0 (log_mark tail))) _ _ mid new (λ u v w s f old now x first leads fill marked.
+    all_as (IsReadyOrOpen old tail (x ∷ [])) (RepresentsEither old now) w (λ y is. either_stands old now tail (x ∷ []) y leads fill is)
     (fails_all (IsReady old tail (x ∷ [])) (IsReadyOrOpen old tail (x ∷ [])) (AreWholeOrNot 0 (log_mark tail)) (IsTorn 0 (log_mark tail)) v w
     (λ y z ready put. open_or_not old tail (x ∷ []) y z ready put) (λ y z ready torn. open_torn old tail (x ∷ []) y z ready torn) f
     (stores_all (λ y. y ≡ cut_of old) (IsReady old tail (x ∷ [])) (ArePut at bytes) u v (λ y z e put. ready_put old tail x at bytes y z first c.ranges.tail.fits few e put) s marked.world)))

@@ -1,11 +1,16 @@
-use Rattle.std.proofs.Common.{ℕ, List, inl, inr}
+use Rattle.std.proofs.Common.{ℕ, List, inl, inr, refl}
 use Rattle.rrd_change.specs.Spans.{AgreesOutside}
 use Rattle.rrd_change.specs.States.{Began, IsAtRest, IsLogOf, IsMarked, IsPlain, Represents, RepresentsEither}
 use Rattle.rrd_change.specs.Views.{Effect}
-use Rattle.rrd_change.proofs.Holding.{all_as}
+use Rattle.rrd_change.proofs.Holding.{all_as, held_all}
 use Rattle.rrd_change.proofs.Marking.{plain_represents}
-use Rattle.rrd_change.proofs.Stepping.{does_then, failed, steps_as, steps_then}
+use Rattle.rrd_change.proofs.Stepping.{does_then, failed, nothing, steps_as, steps_then}
 use Rattle.rrd_change.proofs.log.replace.Goals as goal
+
+pub returns-then-not-is_database : goal.returns-then-not-is_database
+returns-then-not-is_database g c =
+    nothing _ _ (λ w old began agrees rest. all_as (IsPlain old) (RepresentsEither old c.args.new.now) w (λ f plain. inl (plain_represents old f rest.is plain))
+    (held_all old (IsPlain old) w (inl refl) rest.world))
 
 pub returns-in_err-mark : goal.returns-in_err-mark
 returns-in_err-mark g c =

@@ -5,7 +5,7 @@ use Rattle.rrd_change.specs.Spans.{AreSpans, change_of}
 use Rattle.rrd_change.specs.States.{IsDatabase, IsOpen}
 use Rattle.rrd_change.specs.Views.{Fails, Stores}
 use Rattle.rrd_change.specs.declared.log.Log.{Log}
-use Rattle.rrd_change.proofs.Appending.{append_failed, follows_more, log_unbroken, next_made, whole_appended}
+use Rattle.rrd_change.proofs.Appending.{append_failed, count_fits, fill_next, follows_more, log_unbroken, next_made, whole_appended}
 use Rattle.rrd_change.proofs.Holding.{stores_all}
 use Rattle.rrd_change.proofs.Reading.{length-change}
 use Rattle.rrd_change.proofs.Spanned.{spans_make}
@@ -37,7 +37,7 @@ returns-in_err-write_and_sync g c =
     let log = c.args.self.now in
     let at = log.end in
     let bytes : List ℕ = c.deref.result.now in
-    let is_new : IsDatabase new = c.is_database.ensures (search rules) in
+    let is_new : IsDatabase new = c.is_database.ensures.0 (search rules) in
     let are : AreSpans (length new) changed = c.in_ok-push_change.ensures.within in
     let below : length new ≤ log.tail = c.if-self-new.false in
     let same = c.deref.ensures.value in
@@ -48,7 +48,7 @@ returns-in_err-write_and_sync g c =
     (steps_as (Fails (IsCut at bytes) (AreAny at (length bytes))) _ _ _ (λ u v f now is agrees.
     append_failed is.old now new log.tail at is.changes (change_of (length new) new changed) bytes u v
     (next_made is.old now new is.changes log changed bytes is.follows is_new are below spelled is.world.held.logged.log.fits few) is.follows.leads
-    (spans_make changed now new are agrees) is.world f) c.in_err-write_and_sync.ensures)
+    (spans_make changed now new are agrees) is.follows.fill (fill_next is.old now new is.changes log changed is.follows are agrees) is.world f) c.in_err-write_and_sync.ensures)
 
 pub returns : goal.returns
 returns g c =
@@ -58,7 +58,7 @@ returns g c =
     let at = log.end in
     let bytes : List ℕ = c.deref.result.now in
     let change = change_of (length new) new changed in
-    let is_new : IsDatabase new = c.is_database.ensures (search rules) in
+    let is_new : IsDatabase new = c.is_database.ensures.0 (search rules) in
     let are : AreSpans (length new) changed = c.in_ok-push_change.ensures.within in
     let below : length new ≤ log.tail = c.if-self-new.false in
     let same = c.deref.ensures.value in
@@ -72,7 +72,7 @@ returns g c =
     record {
       old = is.old;
       changes = is.changes ++ change ∷ [];
-      follows = follows_more is.old now new is.changes log next changed is.follows is_new are agrees below refl end c.in_ok-extend_from_slice.ensures.items;
+      follows = follows_more is.old now new is.changes log next changed is.follows is_new are agrees below refl end (omega (arith, count_fits is.old now is.changes log is.follows, c.in-Some.ensures, c.saturating_add-self.ensures)) c.in_ok-extend_from_slice.ensures.items;
       world = stores_all (IsOpen is.old log.tail is.changes) (IsOpen is.old log.tail (is.changes ++ change ∷ [])) (ArePut at bytes) u v
           (λ x y is_open put. whole_appended is.old log.tail is.changes change at bytes x y
           (next_made is.old now new is.changes log changed bytes is.follows is_new are below spelled is.world.held.logged.log.fits few) is_open put) s is.world;

@@ -21,7 +21,7 @@ returns-in_err-place g c =
     let P : List Span → Type 0 = λ xs. Steps (Fails (AreAnyIn xs new) (AreAnyIn xs new)) (seen c.args.syncs (g.F.Bytes.view c.args.file.now)) (seen c.args.syncs (g.F.Bytes.view c.place.new.file)) in
     failed _ _ c.from_residual.result _ _ c.from_residual.ensures.0
     (steps_as (Fails (AreAnyIn spans new) (AreAnyIn spans new)) _ _ _ (λ u v s is.
-    all_as (IsOpen is.old log.tail is.changes) (Represents new) v (λ f is_open. open_stands is.old new log.tail is.changes f is.follows.leads is_open)
+    all_as (IsOpen is.old log.tail is.changes) (Represents new) v (λ f is_open. open_stands is.old new log.tail is.changes f is.follows.leads is.follows.fill is_open)
     (fails_all (IsOpen is.old log.tail is.changes) (IsOpen is.old log.tail is.changes) (AreAnyIn spans new) (AreAnyIn spans new) u v
     (λ x f is_open any. open_any is.old new is.changes log x f is.follows is_open any) (λ x f is_open any. open_any is.old new is.changes log x f is.follows is_open any) s is.world))
     (subst P c.deref.ensures.value c.in_err-place.ensures))
@@ -56,7 +56,7 @@ returns g c =
     let cut = seen syncs (g.F.Bytes.view c.mark_and_sync.new.file) in
     let after = seen syncs (g.F.Bytes.view c.resize_and_sync.new.file) in
     let front = cut_front_of new in
-    let is_new : IsDatabase new = c.is_database.ensures (search rules) in
+    let is_new : IsDatabase new = c.is_database.ensures.0 (search rules) in
     let P : List Span → Type 0 = λ xs. Steps (Stores (ArePutIn xs new)) old mid in
     let Q : List ℕ → Type 0 = λ m. Steps (Stores (ArePut 0 m)) mid cut in
     let Under : Effect = λ u w. IsLogOf new log u → All (IsUnderCut new) w in
