@@ -1,0 +1,91 @@
+//! How many writes, bytes and syncs each kind of change takes.
+use super::disk::{Disk, NO_FAULTS};
+use super::states::{State, states};
+use rrd_change::{Span, Syncs, change, create, mark, replace};
+use std::alloc::Global;
+use std::process::Abort;
+use std::test::Fail;
+
+// Where databases of 2,000 bytes differ: in the first bytes, and in three places.
+const SPANS: &[Span] = &[
+    Span { start: 4, end: 16 },
+    Span { start: 20, end: 28 },
+    Span {
+        start: 30,
+        end: 130,
+    },
+    Span {
+        start: 1_999,
+        end: 2_000,
+    },
+];
+
+// The bytes in three places; and of a change in a log: its head, and sixteen bytes before those of each span.
+const PLACES: usize = 8 + 100 + 1;
+
+const CHANGE: usize = 48 + 4 * 16 + 12 + PLACES;
+
+// A cut mark, the log, its mark, three places, the first bytes under a cut mark, the length, and the mark.
+const REPLACED: usize = 4 + 80 + CHANGE + 16 + PLACES + 16 + 4;
+
+// The first change of an open file is the log and its mark, and each further one is one write. The sixteenth brings all
+// into place: at most three places of each.
+fn assert_opened(rt: &impl Abort, alloc: Global, state: &State, syncs: Syncs) -> Result<(), Fail> {
+    let each = if syncs == Syncs::Ordered { 1 } else { 0 };
+    let mut disk = Disk::new(alloc, &state.bytes, NO_FAULTS)?;
+    mark(&mut disk, syncs)?;
+    assert_eq!(rt; disk.take_counts(), [1, 4, each]);
+    let mut log = None;
+    for number in 0..40 {
+        log = change(
+            alloc,
+            &mut disk,
+            log,
+            &state.base(),
+            &state.bytes,
+            SPANS,
+            syncs,
+        )?;
+        let [writes, bytes, made] = disk.take_counts();
+        if number % 16 == 0 {
+            assert_eq!(rt;
+                [writes, bytes, made],
+                [2, 80 + CHANGE + 16, 2 * each],
+                "{number}"
+            );
+        } else if number % 16 < 15 {
+            assert_eq!(rt; [writes, bytes, made], [1, CHANGE, each], "{number}");
+        } else {
+            assert!(rt; log.is_none() && made == 4 * each, "{number}");
+            assert!(rt;
+                writes <= 51 && bytes <= CHANGE + 16 * PLACES + 16,
+                "{writes}, {bytes}"
+            );
+        }
+    }
+    Ok(())
+}
+
+// The length, the bytes from the seventeenth on in pieces of 65,536, and the first sixteen.
+const CREATIONS: [(usize, usize); 4] = [(16, 2), (17, 3), (65_552, 3), (65_553, 4)];
+
+#[test]
+fn counts_of_changes(rt: HostRuntime) -> Result<(), Fail> {
+    let alloc = rt.alloc();
+    for state in states(alloc, &[2_000])? {
+        for (syncs, made) in [(Syncs::Never, 0), (Syncs::Ordered, 6)] {
+            let mut disk = Disk::new(alloc, &state.bytes, NO_FAULTS)?;
+            replace(alloc, &mut disk, &state.base(), &state.bytes, SPANS, syncs)?;
+            assert_eq!(&rt; disk.take_counts(), [9, REPLACED, made]);
+            assert_opened(&rt, alloc, &state, syncs)?;
+        }
+    }
+    for (length, writes) in CREATIONS {
+        for state in states(alloc, &[length])? {
+            let mut disk = Disk::new(alloc, &[], NO_FAULTS)?;
+            create(&mut disk, &state.bytes, Syncs::Ordered)?;
+            assert_eq!(&rt; disk.take_counts(), [writes, length, 3], "{length}");
+        }
+    }
+    Ok(())
+}
