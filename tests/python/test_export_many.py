@@ -8,6 +8,7 @@ import pwd
 import re
 import shutil
 import subprocess
+import sys
 import time
 import unittest
 from pathlib import Path
@@ -126,6 +127,12 @@ class Trees(OfTree):
             "tree/a.rrd: is a file of RRDtool already", "tree/sub/b.rrd: is a file of RRDtool already",
             "2 files: 0 converted; 2 already of RRDtool"], []))
         self.assertEqual(self.unfinished(), [])
+
+    def test_without_standard_error(self) -> None:
+        """As a daemon may start it: the work is done, and nothing but the lines is printed."""
+        self.write("tree/text.rrd", "text")
+        ran = self.run_command(["sh", "-c", f"{sys.executable} {TOP}/tools/rrdi-export --in-place tree 2>&-"])
+        self.assertEqual((ran.status, ran.out.splitlines()[2:]), (1, ["3 files: 2 converted; 1 not converted"]))
 
     def test_into_a_directory(self) -> None:
         (self.folder / "tree/a.rrd").rename(self.folder / "tree/a.rrdi")

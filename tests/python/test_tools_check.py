@@ -134,6 +134,8 @@ class Files(ToolCase):
         self.assertEqual(self.judged("dew --stale 10m"), (OK, "dew is 10, at 2023-11-14 22:19:00"))
         self.assertEqual(self.judged("dew --stale 569"), (
             CRITICAL, "dew has no known value after 2023-11-14 22:19:00, for 570 s"))
+        self.assertEqual([self.judged("temp", -210)[0], self.judged("temp --stale 4m", -240)[0]], [OK, OK])
+        self.assertEqual(self.judged("temp", -211), (CRITICAL, "temp has a value of 2023-11-14 22:28:00, 211 s from now"))
         self.update("20:U")
         self.assertEqual(self.judged("dew --stale 1d"), (CRITICAL, "dew has no known value"))
         self.assertEqual(self.judged("temp --stale 60"), (3, "--stale must be longer than a row, which has 1 min"))
@@ -167,6 +169,8 @@ class Files(ToolCase):
         """Nobody takes a line that was not printed for WARNING, which is 1."""
         ran = self.tool("rrdi-check", "room.rrdi", "temp", stdout="/dev/full")
         self.assertEqual(ran, Ran(3, "", "rrdi-check: No space left on device\n"))
+        ran = self.tool("rrdi-check", "\u00e9.rrdi", "temp", env={"PYTHONIOENCODING": "ascii"})
+        self.assertEqual((ran.status, ran.out), (3, ""))
 
 
 @needs_program
@@ -189,11 +193,24 @@ class Changes(ToolCase):
             Ran(0, "", ""), Ran(2, alarm, ""), Ran(2, "", ""), Ran(0, fine, ""), Ran(0, "", "")])
         self.assertEqual(sorted(path.name for path in self.folder.glob("*.*")), ["f.rrdi", "g.state"])
 
-    def test_a_broken_state(self) -> None:
-        """A state that is empty or has something else says nothing: the line comes."""
-        for data in (b"", b"2.0\n", b"\xff" * 99):
+    def test_an_empty_state(self) -> None:
+        """It says nothing: the line comes."""
+        for data in (b"", b"\n"):
             self.write("g.state", data)
             self.assertEqual([self.check(4).out != "", self.check(4).out], [True, ""])
+
+    def test_what_is_no_state(self) -> None:
+        """A database, or whatever else has the name by a slip, stays, and the line comes each time."""
+        for data in (self.read("f.rrdi"), b"2.0\n", b"\xff" * 99, b"4\n"):
+            self.write("g.state", data)
+            for _ in range(2):
+                ran = self.check(4)
+                self.assertEqual((ran.status, ran.out[:8], ran.err), (
+                    2, "CRITICAL", "rrdi-check: g.state: the status is not kept: the file has something else\n"))
+            self.assertEqual(self.read("g.state"), data)
+        (self.folder / "g.state").unlink()
+        os.mkfifo(self.folder / "g.state")  # nobody writes
+        self.assertEqual((self.check(4).status, (self.folder / "g.state").is_fifo()), (2, True))
 
     def test_what_cannot_be_kept(self) -> None:
         """The line comes each time, with the reason, and the status is that of the check."""

@@ -23,10 +23,12 @@ options, anywhere on the line:
   -w, --warning RANGE  WARNING outside RANGE
   --for SPAN           only if all known rows of the last SPAN are outside;
                        a SPAN is in seconds, or like 30s, 5m, 2h, 1d
-  --stale SPAN         CRITICAL if the newest known row is older than SPAN
-                       (default: the source's heartbeat and one row)
+  --stale SPAN         CRITICAL if the newest known row is older than SPAN, or
+                       is that far in the future (default: the source's
+                       heartbeat and one row)
   --changes STATE      print the line only if the status is another one than
-                       that in the file STATE, and keep it there: for cron
+                       that in the file STATE, and keep it there: for cron;
+                       any other file of this name stays as it is
   -h, --help           show this help and exit
   --version            show the version and exit
 
@@ -38,12 +40,14 @@ source, or the arguments are wrong.
 """
 from __future__ import annotations
 
+import errno
 import re
 import sys
 import time
 from typing import Dict, List, NamedTuple, Optional, Tuple
 
 from ..amounts import Millionths, shortened
+from ..locks import open_regular
 from ..making import NewFile
 from ..reader.selected import OpenFile, StoredArchive
 from ..words import in_one_line
@@ -59,6 +63,7 @@ OK, WARNING, CRITICAL, UNKNOWN = range(4)
 WORDS = ("OK", "WARNING", "CRITICAL", "UNKNOWN")
 NUMBER = r"-?[0-9]{1,20}(?:\.[0-9]{1,6})?"
 RANGE = re.compile(f"(@?)(?:(~|{NUMBER})?(:))?({NUMBER})?")
+KEPT = re.compile(rb"[0-3]?\n?")
 SPAN = re.compile("([0-9]{1,9})(s|m|min|h|d|w)?")
 UNITS = {"s": 1, "m": 60, "min": 60, "h": 3_600, "d": 86_400, "w": 604_800}
 ROWS_AT_ONCE = 1_000
@@ -239,9 +244,11 @@ def judged(source: Source, options: CheckOptions, now: int) -> Verdict:
     if newest is None:
         return Verdict(CRITICAL, f"{options.source} has no known value")
     value = f"{options.source} is {number_text(newest.value)}"
-    if now - newest.time > (options.stale or source.heartbeat + length):
-        return Verdict(CRITICAL, f"{options.source} has no known value after {time_text(newest.time)}, "
-                                 f"for {length_text(now - newest.time)}")
+    age, longest = now - newest.time, options.stale or source.heartbeat + length
+    if age > longest:
+        return Verdict(CRITICAL, f"{options.source} has no known value after {time_text(newest.time)}, for {length_text(age)}")
+    if -age > longest:  # rrdi takes no sample up to that time
+        return Verdict(CRITICAL, f"{options.source} has a value of {time_text(newest.time)}, {length_text(-age)} from now")
     own, fault = status_of(newest.value, options.limits)
     rows = source.rows(newest.time - options.seconds, newest.time) if options.seconds else [newest]
     status = min(status_of(row.value, options.limits)[0] for row in rows)
@@ -274,19 +281,33 @@ def line_of(options: CheckOptions, verdict: Verdict) -> str:
 # ---- The status of the last run
 
 def kept_status(state: str) -> str:
-    """Returns the status that was kept, which is OK before the first run; nothing if it can't be read."""
+    """Returns the status that was kept, which is OK before the first run; nothing if the file is empty.
+
+    # Errors
+    `OSError` if the file can't be read, or has something else.
+    """
     try:
-        with open(state, encoding="ascii", errors="replace") as file:
-            return file.read(16).strip()
+        with open_regular(state) as file:
+            kept = file.read(3)
     except FileNotFoundError:
         return str(OK)
-    except OSError:
-        return ""
+    if not KEPT.fullmatch(kept):
+        raise OSError(errno.EINVAL, "the file has something else")
+    return kept.decode().strip()
+
+
+def is_kept(state: str, status: int) -> bool:
+    try:
+        return kept_status(state) == str(status)
+    except OSError:  # `keep_status` says why
+        return False
 
 
 def keep_status(state: str, status: int) -> None:
-    """Keeps a status. What fails is said, but the status stays that of the check, and the next run prints it again."""
+    """Keeps a status, in place of another one only: by a slip, the file may be a database. What fails is said, but the status
+    stays that of the check, and the next run prints it again."""
     try:
+        kept_status(state)
         with NewFile(state) as new:
             with open(new.unfinished, "w", encoding="ascii") as file:
                 file.write(f"{status}\n")
@@ -300,7 +321,7 @@ def check(words: List[str]) -> int:
     verdict = verdict_of(options)
     if options.state is None:
         print(line_of(options, verdict))
-    elif kept_status(options.state) != str(verdict.status):
+    elif not is_kept(options.state, verdict.status):
         if sys.stdout is None:
             raise Failure("standard output is closed")  # nobody has seen the line, so it comes again
         print(line_of(options, verdict), flush=True)

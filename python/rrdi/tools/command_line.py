@@ -107,6 +107,8 @@ def run(tool: Tool, words: Optional[List[str]] = None) -> int:
         print(f"{name}: {error_text(error)}", file=sys.stderr)
     except MemoryError:
         print(f"{name}: out of memory", file=sys.stderr)
+    except Exception:
+        sys.excepthook(*sys.exc_info())  # as Python itself, whose status is 1: that may have another meaning here
     try:
         flush_output()
     except OSError:
@@ -115,8 +117,9 @@ def run(tool: Tool, words: Optional[List[str]] = None) -> int:
 
 
 def say(tool_name: str, text: str) -> None:
-    """Prints a line of a tool on standard error."""
-    print(f"{tool_name}: {text}", file=sys.stderr, flush=True)
+    """Prints a line of a tool on standard error, if that is open."""
+    if sys.stderr is not None:
+        print(f"{tool_name}: {text}", file=sys.stderr, flush=True)
 
 
 class Progress:
@@ -130,7 +133,7 @@ class Progress:
 
     def __init__(self, what: str, clock: Callable[[], float] = time.monotonic, has_bar: bool = False):
         self.what, self.clock, self.has_bar = what, clock, has_bar
-        self.is_on = sys.stderr.isatty()
+        self.is_on = sys.stderr is not None and sys.stderr.isatty()
         self.due = clock() + self.FIRST
         self.is_shown = False
 
