@@ -115,8 +115,7 @@ UPDATE_LIBRARIES = $(if $(DESTDIR),,if [ "$$(id -u)" = 0 ]; then $(LDCONFIG); fi
 LDCONFIG = ldconfig
 
 # $(call manual,PAGE): a manual page as it is installed, where docs and examples are in other directories.
-manual = sed -e 's|^\.Pa docs/|.Pa $(PREFIX)/share/rrdi/docs/|' -e 's|^\.Pa examples/|.Pa $(PREFIX)/share/rrdi/examples/|' \
-	-e 's|< docs/|< $(PREFIX)/share/rrdi/docs/|' $(1) | gzip -9n
+manual = sed 's,\(^\|[ <]\)\(docs\|examples\)/,\1$(PREFIX)/share/rrdi/\2/,g' $(1) | gzip -9n
 
 # With PREFIX=/usr/local, below DESTDIR if that is given.
 install: install-program $(if $(HAS_LIBRARY),install-library) ## installs what was built, below PREFIX=/usr/local
