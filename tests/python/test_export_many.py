@@ -13,6 +13,7 @@ import time
 import unittest
 from pathlib import Path
 from typing import List, Tuple
+from unittest import mock
 
 from cases import HANG, needs_program
 from doubles import PROGRAM, TOP
@@ -60,6 +61,20 @@ class Children(unittest.TestCase):
                 Answer(True, "0\udcff"), Answer(True, "1\udcff" * 99_999), Answer(False, "2\udcff"),
                 Answer(False, "the process was ended by signal 9"), Answer(False, "the process ended without an answer"),
                 Answer(True, "5\udcff")])
+
+
+    def test_few_processes(self) -> None:
+        """If the system has no further process, the next one waits for one that runs; all that was done has an answer."""
+        real, calls = os.fork, iter([True, True, False, True, False, False, False])
+
+        def fork() -> int:
+            if not next(calls):
+                raise BlockingIOError
+            return real()
+        with mock.patch.object(os, "fork", fork):
+            found = answers(range(5), lambda number: Answer(True, str(number)), 3)
+            self.assertEqual([next(found)[0], next(found)[0], next(found)[0]], [0, 1, 2])
+            self.assertRaises(BlockingIOError, next, found)
 
 
 class OfTree(ToolCase):
@@ -127,6 +142,13 @@ class Trees(OfTree):
             "tree/a.rrd: is a file of RRDtool already", "tree/sub/b.rrd: is a file of RRDtool already",
             "2 files: 0 converted; 2 already of RRDtool"], []))
         self.assertEqual(self.unfinished(), [])
+
+    def test_a_secret_database(self) -> None:
+        """Nobody else can read the new file, not even before it has its name."""
+        (self.folder / "tree/a.rrd").chmod(0o600)
+        self.stub("rrdtool", f'{RRDTOOL} "$@"; status=$?; stat -c %a tree/.rrdi*.new >>modes; exit $status')
+        self.assertEqual(self.export("--in-place", "tree/a.rrd")[0], 0)
+        self.assertEqual(set(self.read("modes").split()), {b"600"})
 
     def test_without_standard_error(self) -> None:
         """As a daemon may start it: the work is done, and nothing but the lines is printed."""

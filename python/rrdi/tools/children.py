@@ -5,7 +5,7 @@ from __future__ import annotations
 import os
 from collections import deque
 from contextlib import suppress
-from typing import Callable, Deque, Iterator, NamedTuple, NoReturn, Sequence, Tuple, TypeVar
+from typing import Callable, Deque, Iterator, NamedTuple, NoReturn, Optional, Sequence, Tuple, TypeVar
 
 Thing = TypeVar("Thing")
 
@@ -25,19 +25,21 @@ class Child(NamedTuple):
 
 
 def answers(things: Sequence[Thing], work: Callable[[Thing], Answer], most: int) -> Iterator[Tuple[Thing, Answer]]:
-    """Yields the answers in the order of the things. At most `most` processes run at a time. If the caller gives up, those
-    that run end their work.
+    """Yields the answers in the order of the things. At most `most` processes run at a time, and fewer if the system has no
+    more. If the caller gives up, those that run end their work.
 
     # Errors
-    `OSError` if the system has no pipe or process for the next one.
+    `OSError` if the system has no pipe or process even for one.
     """
     running: Deque[Tuple[Thing, Child]] = deque()
     try:
         for thing in things:
-            if len(running) == most:
+            next_one = started(thing, work, bool(running)) if len(running) < most else None
+            while next_one is None:
                 first, child = running.popleft()
                 yield first, answer_of(child)
-            running.append((thing, started(thing, work)))
+                next_one = started(thing, work, bool(running))
+            running.append((thing, next_one))
         while running:
             first, child = running.popleft()
             yield first, answer_of(child)
@@ -46,8 +48,22 @@ def answers(things: Sequence[Thing], work: Callable[[Thing], Answer], most: int)
             answer_of(child)
 
 
-def started(thing: Thing, work: Callable[[Thing], Answer]) -> Child:
-    """Starts a process that does the work for a thing."""
+def started(thing: Thing, work: Callable[[Thing], Answer], can_wait: bool) -> Optional[Child]:
+    """Starts a process that does the work for a thing. Returns None if the system has no pipe or process, and the caller can
+    wait for others to end.
+
+    # Errors
+    `OSError` if the caller can't.
+    """
+    try:
+        return forked(thing, work)
+    except OSError:
+        if not can_wait:
+            raise
+    return None
+
+
+def forked(thing: Thing, work: Callable[[Thing], Answer]) -> Child:
     pipe, end = os.pipe()
     try:
         number = os.fork()

@@ -87,6 +87,7 @@ def swap_in_place(path: str) -> str:
     with opened(path) as stored, NewFile(path) as made:
         before, has_other_name = os.stat(path), is_left_over(path, kept)
         database = Reader(stored).database()
+        os.umask(0o077)  # of this process: nobody else reads the new file before it has the mode of the database
         restore_equal(database, made.unfinished)
         take_owner(made.unfinished, before)
         flush(made.unfinished)
