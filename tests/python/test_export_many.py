@@ -19,7 +19,7 @@ from cases import HANG, needs_program
 from doubles import PROGRAM, TOP
 from tool_case import NO_RRDTOOL, RRDTOOL, Ran, ToolCase
 
-from rrdi.tools.children import Answer, answers
+from rrdi.tools.children import ChildAnswer, answers
 
 USAGE = ("FILE.rrdi [NEW.rrd]\n       rrdi-export --whisper FILE.rrdi NEW.wsp\n"
          "       rrdi-export [--whisper] [--jobs N] --into DIRECTORY|--in-place FILE|TREE..")
@@ -48,19 +48,19 @@ class Words(ToolCase):
 class Children(unittest.TestCase):
     def test_answers(self) -> None:
         """They come in the order of the things, long ones too; a process that is killed has an answer."""
-        def work(number: int) -> Answer:
+        def work(number: int) -> ChildAnswer:
             if number == 3:
                 os.kill(os.getpid(), 9)
             if number == 4:
                 raise ValueError
-            return Answer(number != 2, f"{number}\udcff" * (99_999 if number == 1 else 1))
+            return ChildAnswer(number != 2, f"{number}\udcff" * (99_999 if number == 1 else 1))
         for most in (1, 2, 9):
             found = list(answers(range(6), work, most))
             self.assertEqual([number for number, _ in found], list(range(6)))
             self.assertEqual([answer for _, answer in found], [
-                Answer(True, "0\udcff"), Answer(True, "1\udcff" * 99_999), Answer(False, "2\udcff"),
-                Answer(False, "the process was ended by signal 9"), Answer(False, "the process ended without an answer"),
-                Answer(True, "5\udcff")])
+                ChildAnswer(True, "0\udcff"), ChildAnswer(True, "1\udcff" * 99_999), ChildAnswer(False, "2\udcff"),
+                ChildAnswer(False, "the process was ended by signal 9"), ChildAnswer(False, "the process ended without an answer"),
+                ChildAnswer(True, "5\udcff")])
 
 
     def test_few_processes(self) -> None:
@@ -72,7 +72,7 @@ class Children(unittest.TestCase):
                 raise BlockingIOError
             return real()
         with mock.patch.object(os, "fork", fork):
-            found = answers(range(5), lambda number: Answer(True, str(number)), 3)
+            found = answers(range(5), lambda number: ChildAnswer(True, str(number)), 3)
             self.assertEqual([next(found)[0], next(found)[0], next(found)[0]], [0, 1, 2])
             self.assertRaises(BlockingIOError, next, found)
 

@@ -69,7 +69,7 @@ UNITS = {"s": 1, "m": 60, "min": 60, "h": 3_600, "d": 86_400, "w": 604_800}
 ROWS_AT_ONCE = 1_000
 
 
-class Range(NamedTuple):
+class ValueRange(NamedTuple):
     """Values that are in order, in millionths: those from `low` to `high`, or all others. None is no limit."""
 
     text: str
@@ -91,7 +91,7 @@ class Range(NamedTuple):
 class CheckOptions(NamedTuple):
     file: str
     source: str
-    limits: Dict[int, Range]  # by the status that a value outside has, the worst first
+    limits: Dict[int, ValueRange]  # by the status that a value outside has, the worst first
     seconds: int  # for which values must be outside
     stale: Optional[int]
     state: Optional[str]
@@ -124,7 +124,7 @@ def number_of(option: str, text: Optional[str]) -> Optional[int]:
     return as_millionths(text)
 
 
-def range_of(option: str, text: str) -> Range:
+def range_of(option: str, text: str) -> ValueRange:
     """Returns a range as Nagios writes it.
 
     # Errors
@@ -138,7 +138,7 @@ def range_of(option: str, text: str) -> Range:
     high = None if end is None else as_millionths(end)
     if low is not None and high is not None and low > high:
         raise WrongArguments(f"the range {text!r} of --{option} ends below its start")
-    return Range(text, low, high, mark == "@")
+    return ValueRange(text, low, high, mark == "@")
 
 
 def span_of(option: str, text: Optional[str]) -> Optional[int]:
@@ -155,7 +155,7 @@ def span_of(option: str, text: Optional[str]) -> Optional[int]:
     return int(found[1]) * UNITS[found[2] or "s"]
 
 
-def critical_range(values: Dict[str, str]) -> Optional[Range]:
+def critical_range(values: Dict[str, str]) -> Optional[ValueRange]:
     """Returns the range outside of which a value is critical; None if there is no limit."""
     low, high = number_of("below", values.get("below")), number_of("above", values.get("above"))
     given = values.get("critical")
@@ -167,7 +167,7 @@ def critical_range(values: Dict[str, str]) -> Optional[Range]:
         raise WrongArguments("--below is greater than --above, so no value would be in order")
     if (low, high) == (None, None):
         return None
-    return Range(f"{'~' if low is None else number_text(low)}:{number_text(high)}", low, high)
+    return ValueRange(f"{'~' if low is None else number_text(low)}:{number_text(high)}", low, high)
 
 
 def read_options(words: List[str]) -> CheckOptions:
@@ -184,14 +184,14 @@ def read_options(words: List[str]) -> CheckOptions:
 
 # ---- Values
 
-class Row(NamedTuple):
+class KnownRow(NamedTuple):
     """A known cell, and the time at which its row ends."""
 
     time: int
     value: Millionths
 
 
-class Source:
+class WatchedSource:
     """A source of an open file, with the finest archive that has rows for a number of seconds.
 
     # Errors
@@ -209,12 +209,13 @@ class Source:
             raise Failure(f"no archive has rows of the last {length_text(seconds)}")
         self.archive: StoredArchive = min(reaching, key=lambda archive: archive.seconds)
 
-    def rows(self, after: int, until: int) -> List[Row]:
+    def rows(self, after: int, until: int) -> List[KnownRow]:
         """Returns the known rows that end after a time, up to another time."""
         found = self.file.rows(self.archive, after + 1, until)
-        return [Row(end, cell) for end, cell in ((end, cells[self.column]) for end, cells in found.items()) if cell is not None]
+        cells = ((end, row[self.column]) for end, row in found.items())
+        return [KnownRow(end, cell) for end, cell in cells if cell is not None]
 
-    def newest(self) -> Optional[Row]:
+    def newest(self) -> Optional[KnownRow]:
         """Looks back for the newest known row; None if no row is known."""
         until = self.file.front.last
         oldest = until - until % self.archive.seconds - self.archive.retention
@@ -227,7 +228,7 @@ class Source:
         return None
 
 
-def status_of(value: int, limits: Dict[int, Range]) -> Tuple[int, str]:
+def status_of(value: int, limits: Dict[int, ValueRange]) -> Tuple[int, str]:
     """Returns the status of a value, and why it has this status."""
     for status, limit in limits.items():
         fault = limit.fault_of(value)
@@ -236,7 +237,7 @@ def status_of(value: int, limits: Dict[int, Range]) -> Tuple[int, str]:
     return OK, ""
 
 
-def judged(source: Source, options: CheckOptions, now: int) -> Verdict:
+def judged(source: WatchedSource, options: CheckOptions, now: int) -> Verdict:
     """Judges the newest value of a source, and those before it."""
     length, newest = source.archive.seconds, source.newest()
     if options.stale is not None and options.stale <= length:
@@ -261,7 +262,7 @@ def verdict_of(options: CheckOptions) -> Verdict:
     """Reads the file; one that cannot be read, or has no such rows, is UNKNOWN."""
     try:
         with reporting(options.file), OpenFile(options.file) as file:
-            return judged(Source(file, options.source, options.seconds), options, int(time.time()))
+            return judged(WatchedSource(file, options.source, options.seconds), options, int(time.time()))
     except Failure as failure:
         text = str(failure)
         prefix = f"{options.file}: "

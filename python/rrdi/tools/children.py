@@ -10,7 +10,7 @@ from typing import Callable, Deque, Iterator, NamedTuple, NoReturn, Optional, Se
 Thing = TypeVar("Thing")
 
 
-class Answer(NamedTuple):
+class ChildAnswer(NamedTuple):
     """What a process says of its work: whether it is done, and a text."""
 
     is_done: bool
@@ -24,7 +24,7 @@ class Child(NamedTuple):
     pipe: int
 
 
-def answers(things: Sequence[Thing], work: Callable[[Thing], Answer], most: int) -> Iterator[Tuple[Thing, Answer]]:
+def answers(things: Sequence[Thing], work: Callable[[Thing], ChildAnswer], most: int) -> Iterator[Tuple[Thing, ChildAnswer]]:
     """Yields the answers in the order of the things. At most `most` processes run at a time, and fewer if the system has no
     more. If the caller gives up, those that run end their work.
 
@@ -48,7 +48,7 @@ def answers(things: Sequence[Thing], work: Callable[[Thing], Answer], most: int)
             answer_of(child)
 
 
-def started(thing: Thing, work: Callable[[Thing], Answer], can_wait: bool) -> Optional[Child]:
+def started(thing: Thing, work: Callable[[Thing], ChildAnswer], can_wait: bool) -> Optional[Child]:
     """Starts a process that does the work for a thing. Returns None if the system has no pipe or process, and the caller can
     wait for others to end.
 
@@ -63,7 +63,7 @@ def started(thing: Thing, work: Callable[[Thing], Answer], can_wait: bool) -> Op
     return None
 
 
-def forked(thing: Thing, work: Callable[[Thing], Answer]) -> Child:
+def forked(thing: Thing, work: Callable[[Thing], ChildAnswer]) -> Child:
     pipe, end = os.pipe()
     try:
         number = os.fork()
@@ -77,7 +77,7 @@ def forked(thing: Thing, work: Callable[[Thing], Answer]) -> Child:
     return Child(number, pipe)
 
 
-def do(thing: Thing, work: Callable[[Thing], Answer], end: int) -> NoReturn:
+def do(thing: Thing, work: Callable[[Thing], ChildAnswer], end: int) -> NoReturn:
     """Does the work in a process, writes the answer, and ends the process."""
     status = 1
     try:
@@ -89,14 +89,14 @@ def do(thing: Thing, work: Callable[[Thing], Answer], end: int) -> NoReturn:
         os._exit(status)
 
 
-def answer_of(child: Child) -> Answer:
+def answer_of(child: Child) -> ChildAnswer:
     """Waits for the answer of a process, and for its end."""
     with os.fdopen(child.pipe, "rb") as pipe:
         told = pipe.read()
     with suppress(ChildProcessError):
         _, status = os.waitpid(child.number, 0)
         if os.WIFSIGNALED(status):
-            return Answer(False, f"the process was ended by signal {os.WTERMSIG(status)}")
+            return ChildAnswer(False, f"the process was ended by signal {os.WTERMSIG(status)}")
     if told[:1] not in (b"+", b"-"):
-        return Answer(False, "the process ended without an answer")
-    return Answer(told[:1] == b"+", os.fsdecode(told[1:]))
+        return ChildAnswer(False, "the process ended without an answer")
+    return ChildAnswer(told[:1] == b"+", os.fsdecode(told[1:]))

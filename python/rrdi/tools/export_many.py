@@ -14,7 +14,7 @@ from ..reader import Damaged, Reader, opened
 from ..reader.selected import OpenFile
 from ..words import in_one_line
 from . import rrdtool_program
-from .children import Answer, answers
+from .children import ChildAnswer, answers
 from .command_line import Failure, error_text, say
 from .conversion import size_of, take_owner
 from .import_many import NEW_END, RRDTOOL_END, Bar, OldFile, counted, files_of, links_below
@@ -125,21 +125,21 @@ def new_path(into: str, name: str, is_whisper: bool) -> str:
     return os.path.join(into, (stem if end in (NEW_END, RRDTOOL_END) else name) + (WHISPER_END if is_whisper else RRDTOOL_END))
 
 
-def work_on(into: Optional[str], is_whisper: bool, file: OldFile) -> Answer:
+def work_on(into: Optional[str], is_whisper: bool, file: OldFile) -> ChildAnswer:
     """Converts a file, and says what was done or why it was not."""
     try:
         if first_bytes(file.path) == RRDTOOL_MARK:
-            return Answer(True, PASSED_OVER)
+            return ChildAnswer(True, PASSED_OVER)
         if into is None:
-            return Answer(True, swap_in_place(file.path))
+            return ChildAnswer(True, swap_in_place(file.path))
         new = new_path(into, file.name, is_whisper)
-        return Answer(True, into_whisper(file.path, new) if is_whisper else into_rrd(file.path, new))
+        return ChildAnswer(True, into_whisper(file.path, new) if is_whisper else into_rrd(file.path, new))
     except OSError as error:
-        return Answer(False, error_text(error))
+        return ChildAnswer(False, error_text(error))
     except MemoryError:
-        return Answer(False, "out of memory")
+        return ChildAnswer(False, "out of memory")
     except (Damaged, Failure, Refusal) as failure:
-        return Answer(False, str(failure))
+        return ChildAnswer(False, str(failure))
 
 
 def summary(total: int, passed_over: int, refused: int, links: int) -> str:
