@@ -87,8 +87,8 @@ def failing(name: str, error: BaseException, after: int) -> Iterator[List[int]]:
 class EachCall(DataCase):
     """What is tried on a new folder while one call fails, and then again while none does."""
 
-    def tried(self, check: Callable[[Kept, Path, Callable[[], Any]], None]) -> None:
-        """Calls `check` with each call that fails once, and with each fault of the library."""
+    def tried(self, look: Callable[[Kept, Path, Callable[[], Any]], None]) -> None:
+        """Calls `look` with each call that fails once, and with each fault of the library."""
         count = 0
         for name in CALLS:
             for error in ERRORS:
@@ -106,7 +106,7 @@ class EachCall(DataCase):
                             calls.append(called)
                             yield
                     with self.subTest(call=name, error=error, after=after):
-                        check(library, folder, fault)
+                        look(library, folder, fault)
                     if calls[0][0] <= after:  # no more calls, so none has failed
                         break
         for number, answer in enumerate(FAULTS):
@@ -115,7 +115,7 @@ class EachCall(DataCase):
             folder = self.folder / f"library-{number}"
             folder.mkdir()
             with self.subTest(answer=answer):
-                check(library, folder, contextlib.nullcontext)
+                look(library, folder, contextlib.nullcontext)
 
     def named(self, library: Kept, folder: Path) -> Set[int]:
         """The times of all samples in the files with a name."""
@@ -123,7 +123,7 @@ class EachCall(DataCase):
         return set(library.times).union(*(times for inode, times in library.unnamed.items() if inode in inodes))
 
     def test_graphite(self) -> None:
-        def check(library: Kept, folder: Path, fault: Callable[[], Any]) -> None:
+        def look(library: Kept, folder: Path, fault: Callable[[], Any]) -> None:
             losses = Losses(lambda text: None)
             store = Store(StoreOptions(str(folder)), losses, lambda: NOW + 100)
 
@@ -142,10 +142,10 @@ class EachCall(DataCase):
             self.assertEqual((store.waiting, sum(lost.values())), (0, 0))
             self.assertEqual(wanted - set(self.named(library, folder)), set())
             self.assertFalse(any(name.stat().st_size == 0 for name in folder.rglob("*.rrdi")), "an empty file is left")
-        self.tried(check)
+        self.tried(look)
 
     def test_collectd(self) -> None:
-        def check(library: Kept, folder: Path, fault: Callable[[], Any]) -> None:
+        def look(library: Kept, folder: Path, fault: Callable[[], Any]) -> None:
             double = graphite.Collectd()
             writer = collectd.Plugin(double, lambda: 0.0)
             writer.options.datadir = str(folder)
@@ -158,10 +158,10 @@ class EachCall(DataCase):
             writer.end()
             self.assertEqual((writer.counts["taken"], writer.counts["lost"]), (4, 0), double.lines)
             self.assertEqual({NOW, NOW + 1, NOW + 10, NOW + 11} - self.named(library, folder), set())
-        self.tried(check)
+        self.tried(look)
 
     def test_feed(self) -> None:
-        def check(library: Kept, folder: Path, fault: Callable[[], Any]) -> None:
+        def look(library: Kept, folder: Path, fault: Callable[[], Any]) -> None:
             rules = read_rules("** **.rrdi --step 10 DS:v:GAUGE:60:U:U RRA:AVERAGE:0.5:1:9")
             feeder = MetricFeeder(FeedOptions(jobs=1), BatchWriter(library), Names(os.fsencode(folder), rules))
             (folder / "old.rrdi").write_bytes(graphite.file_bytes(NOW))
@@ -173,4 +173,4 @@ class EachCall(DataCase):
                     for word in line.split("may be lost: ")[1].split()[1:]}
             self.assertEqual({NOW + 10 * at for at in range(4)} - lost, set(library.times) - lost, said.getvalue())
             self.assertTrue(all(count == 1 for count in library.times.values()))
-        self.tried(check)
+        self.tried(look)
