@@ -22,6 +22,8 @@ pub mod BodyRuns
 pub mod ValidRuns
 pub mod OneAnswer
 pub mod Fronts
+pub mod Walked
+pub mod Ended
 pub mod Filled
 pub mod Reached
 pub mod OneShape

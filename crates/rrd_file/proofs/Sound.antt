@@ -99,11 +99,11 @@ set_length [] i def = refl
 set_length (x ∷ sources) zero def = refl
 set_length (x ∷ sources) (suc i) def = ap suc (set_length sources i def)
 
-tuned_length : (sources : List DsDef) (olds : List SavedSource) → length (with_sources sources olds) ≡ length sources
+pub tuned_length : (sources : List DsDef) (olds : List SavedSource) → length (with_sources sources olds) ≡ length sources
 tuned_length sources [] = refl
 tuned_length sources (old ∷ olds) = tuned_length (slice_set sources old.number old.source) olds ∙ set_length sources old.number old.source
 
-resized_length : (defs : List RraDef) (i rows : ℕ) → length (with_row_number defs i rows) ≡ length defs
+pub resized_length : (defs : List RraDef) (i rows : ℕ) → length (with_row_number defs i rows) ≡ length defs
 resized_length [] i rows = refl
 resized_length (def ∷ defs) zero rows = refl
 resized_length (def ∷ defs) (suc i) rows = ap suc (resized_length defs i rows)

@@ -17,6 +17,7 @@ use Rattle.rrd_file.specs.declared.encoded.Encoded.{Encoded}
 use Rattle.rrd_file.specs.declared.fault.FileFault.{FileFault}
 use Rattle.rrd_file.specs.declared.fault.FileFault.TheVariants.{NotOurs, Version as WrongVersion, Truncated, BadBlock, BadEntry, Trailing, Read, OutOfMemory}
 pub use Rattle.rrd_file.specs.Faults.{IsAnswer, IsFault, IsFile, IsOfFile, IsValidIn, IsValidStored}
+use Rattle.rrd_file.specs.End.{file_end}
 use Rattle.rrd_file.specs.Layout.{entry_pieces, layout, layout_in}
 use Rattle.rrd_file.specs.Layout.Pieces.{Piece, OfSource, OfArchive, OfPrep, OfCell, OfRawAndPart, OfSavedSource, spell}
 use Rattle.rrd_file.specs.Layout.Fitting.{FitsArchive, FitsCell, FitsSavedSource, FitsPart, FitsRaw, FitsSource}
@@ -99,6 +100,10 @@ FileIsLayout bytes d = (file : IsFile bytes d) → bytes ≡ layout_in file.vers
 abbrev pub NoFrontOfAnother : Version → Version → Stored → Stored → List ℕ → Type 0
 NoFrontOfAnother v w d e more =
     IsValidIn v d → IsValidIn w e → layout_in v d ++ more ≡ layout_in w e → (v ≡ w) × (d ≡ e) × (more ≡ [])
+
+-- the end of the file of a database is found, whatever bytes follow it
+abbrev pub EndIsFound : List ℕ → Stored → Type 0
+EndIsFound bytes d = IsFile bytes d → (rest : List ℕ) → file_end (bytes ++ rest) ≡ length bytes
 
 -- a revert of an accepted command restores the file, byte by byte, except the oldest entry of a full journal
 abbrev pub RevertRestoresBytes : Stored → DatabaseChange → Type 0

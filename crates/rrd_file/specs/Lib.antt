@@ -1,6 +1,7 @@
 pub mod Layout
 pub mod Stages
 pub mod Faults
+pub mod End
 pub mod Laws
 pub mod Examples
 pub mod Refusals

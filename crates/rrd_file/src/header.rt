@@ -84,8 +84,8 @@ fn count_of(version: Version, bytes: &[u8]) -> (u64, &[u8])
     }
 }
 
-// Returns the number of bytes in a header of a version.
-fn header_length(version: Version) -> usize
+/// Returns the number of bytes in a header of a version.
+pub(crate) fn header_length(version: Version) -> usize
     ensures { result ≡ header_size version }
 {
     match version {

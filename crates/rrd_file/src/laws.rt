@@ -93,6 +93,15 @@ pub fn layouts_differ()
     versions_stay_within();
 }
 
+/// Theorem: the end of the file of a database is found, whatever bytes follow it.
+pub fn ends_are_found()
+    ensures { (bytes : List ℕ) (d : Stored) → laws.EndIsFound bytes d }
+{
+    cells_stand_in_slots();
+    outlines_judge_journals();
+    versions_stay_within();
+}
+
 /// Theorem: a revert of an accepted command restores the file, byte by byte.
 ///
 /// The oldest entry of a full journal is lost.

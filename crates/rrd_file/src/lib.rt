@@ -30,6 +30,7 @@ use writer::PieceWriter;
 mod archive;
 mod cells;
 mod encoded;
+mod end;
 mod fault;
 mod header;
 mod journal;
@@ -43,6 +44,7 @@ mod values;
 mod writer;
 
 pub use encoded::{Encoded, Updated};
+pub use end::file_end;
 pub use fault::FileFault;
 pub use length::encoded_length;
 pub use span::Span;

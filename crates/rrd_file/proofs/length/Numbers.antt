@@ -48,11 +48,11 @@ wide_at sources (old ∷ olds) (suc i) d h are = wide_at sources olds i d (omega
 abbrev pub ManyCells : Type 0
 ManyCells = (resolution last sources : ℕ) (rows : List (List Cell)) → AsManyCells resolution last sources rows
 
-one_each : (sources : ℕ) (rows : List (List Cell)) → AllByRecursion (IsRow sources) rows → AllByRecursion (HasOneEach sources) rows
+pub one_each : (sources : ℕ) (rows : List (List Cell)) → AllByRecursion (IsRow sources) rows → AllByRecursion (HasOneEach sources) rows
 one_each sources [] are = tt
 one_each sources (row ∷ rows) are = (are.0.one_each, one_each sources rows are.1)
 
-some_seconds : (step steps : ℕ) → 0 < step → 0 < steps → 0 < step * steps
+pub some_seconds : (step steps : ℕ) → 0 < step → 0 < steps → 0 < step * steps
 some_seconds step steps p q = omega (arith, mul-le 1 1 step steps (omega (arith, p)) (omega (arith, q)))
 
 archives_cells : ManyCells → (sources step last steps : ℕ) (archives : List Rra) → 0 < step → AllByRecursion (IsValidArchive sources steps) archives → length (flat_map (cells_by_slot step last) archives) ≡ sum_by rows_of archives * sources

@@ -78,13 +78,13 @@ rows_have sources (row ∷ rows) is =
     let first : row_pieces (row ∷ rows) ≡ map OfCell row ++ row_pieces rows = flat_map-cons (λ (r : List Cell). map OfCell r) row rows in
     omega (arith, ap (λ l. length (spelled l)) first, joined (map OfCell row) (row_pieces rows), cells_have row, is.0, rows_have sources rows is.1, suc-mul (length rows) sources)
 
-raws_have : (raws : List Raw) (parts : List Part) → length raws ≡ length parts → length (spelled (raws_and_parts raws parts)) ≡ length raws * 36
+pub raws_have : (raws : List Raw) (parts : List Part) → length raws ≡ length parts → length (spelled (raws_and_parts raws parts)) ≡ length raws * 36
 raws_have [] parts same = refl
 raws_have (raw ∷ raws) [] same = absurd (omega (arith, same))
 raws_have (raw ∷ raws) (part ∷ parts) same =
     omega (arith, first_and_rest spell (OfRawAndPart raw part) (raws_and_parts raws parts), raw_and_part_has raw part, raws_have raws parts (omega (arith, same)))
 
-olds_have : (olds : List SavedSource) → AllByRecursion (IsSavedSource present) olds → length (spelled (map OfSavedSource olds)) ≡ length olds * 79
+pub olds_have : (olds : List SavedSource) → AllByRecursion (IsSavedSource present) olds → length (spelled (map OfSavedSource olds)) ≡ length olds * 79
 olds_have [] are = refl
 olds_have (old ∷ olds) are =
     omega (arith, first_and_rest spell (OfSavedSource old) (map OfSavedSource olds), saved_source_has old (short_name old.source.name are.0.0.good_name), olds_have olds are.1)
@@ -128,7 +128,7 @@ sources_have (def ∷ defs) (raw ∷ raws) (part ∷ parts) are taken same =
     let s : Source = record { def = def; raw = raw; part = part } in
     omega (arith, first_and_rest spell (OfSource s) (map OfSource (sources_of defs raws parts)), source_has s (short_name def.name are.0.good_name), sources_have defs raws parts are.1 taken.1 (omega (arith, same)))
 
-head_has : (archive : Rra) → length (spelled (head_pieces (head_of archive))) ≡ 13 + length archive.parts * 20
+pub head_has : (archive : Rra) → length (spelled (head_pieces (head_of archive))) ≡ 13 + length archive.parts * 20
 unfolding spell
 head_has archive = omega (arith, first_and_rest spell (OfArchive archive.def) (map OfPrep archive.parts), preps_have archive.parts)
 
