@@ -101,6 +101,13 @@ impl<P: Storage + Drop> Session<P> {
         &self.storage
     }
 
+    /// Ends the runs, and returns the storage.
+    pub fn into_storage(self) -> P
+        ensures { result ≡ self.storage }
+    {
+        self.storage
+    }
+
     /// Checks whether the last run wrote its database to the storage.
     pub fn is_written(&self) -> bool
         ensures { result ≡ self.now.is_written }
