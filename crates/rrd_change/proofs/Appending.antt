@@ -5,16 +5,16 @@ use Rattle.std.proofs.lemmas.List.{length_push, take_all, length-take, get_or-ta
 use Rattle.rrd_change.specs.Bytes.{StandsAt}
 use Rattle.rrd_change.specs.Calls.{AreAny, ArePut, IsCut}
 use Rattle.rrd_change.specs.Changes.{Change, IsRight, change_bytes, change_size, changes_in, last_size}
-use Rattle.rrd_change.specs.Laws.{ChangesTell, Fill, HaveByte, IsLogged, Leads, Makes, TouchByte, chain_end, first_of}
-use Rattle.rrd_change.specs.Settled.{log_mark}
+use Rattle.rrd_change.specs.Laws.{Fill, HaveByte, IsLogged, Leads, Makes, TouchByte, chain_end, first_of}
+use Rattle.rrd_change.specs.Repairs.{IsLogHeld, IsOnDisk, IsStopped, IsTornLog, Torn}
 use Rattle.rrd_change.specs.Spans.{AgreesOutside, AreSpans, IsIn, change_of}
-use Rattle.rrd_change.specs.States.{Follows, IsBroken, IsDatabase, IsLogOf, IsOpen, Represents, RepresentsEither, Tells}
+use Rattle.rrd_change.specs.States.{Follows, IsDatabase, IsOpen}
 use Rattle.rrd_change.specs.Views.{All, Fails, World}
 use Rattle.rrd_change.specs.declared.log.Log as logs
 use Rattle.rrd_change.specs.declared.span.Span.{Span}
 use Rattle.rrd_change.proofs.Chains.{chain_all, chain_count}
 use Rattle.rrd_change.proofs.Laying.{leads_more, leads_size}
-use Rattle.rrd_change.proofs.Logs.{append_cut, append_whole, log_read, torn_counts}
+use Rattle.rrd_change.proofs.Logs.{append_cut, append_whole}
 use Rattle.rrd_change.proofs.Placing.{in_join, in_left, in_right}
 use Rattle.rrd_change.proofs.Reading.{length-change}
 use Rattle.rrd_change.proofs.Spanned.{have_in, in_have, pieces_within, spans_fill, spans_make}
@@ -130,7 +130,7 @@ follows_more old now new cs log next changed h is are agrees below tail end coun
 -- ---- failures of the power
 
 -- the first of these changes are the first of more
-first_of_more : (xs : List Change) (c : Change) (n : ℕ) → (m : ℕ) × (take n xs ≡ take m (xs ++ c ∷ []))
+pub first_of_more : (xs : List Change) (c : Change) (n : ℕ) → (m : ℕ) × (take n xs ≡ take m (xs ++ c ∷ []))
 first_of_more xs c n = elim (cases_lt n (length xs)) [
   | inl low ↦ (n, sym (take-append-le n xs (c ∷ []) (omega (arith, low))))
   | inr all ↦ (length xs, take_all n xs all ∙ sym (take_all (length xs) xs (omega arith)) ∙ sym (take-append-le (length xs) xs (c ∷ []) (omega arith)))
@@ -139,31 +139,17 @@ first_of_more xs c n = elim (cases_lt n (length xs)) [
 pub logged_all : (old : List ℕ) (tail : ℕ) (cs : List Change) (f : List ℕ) → IsLogged old tail cs f → changes_in tail f ≡ first_of old ∷ cs
 logged_all old tail cs f h = chain_all tail f (first_of old ∷ cs) h.log.chain h.log.begun
 
--- whatever the disk has of a change that is appended, the change is in the log or not
-pub torn_appended : (old : List ℕ) (tail : ℕ) (cs : List Change) (c : Change) (at count : ℕ) (x f held : List ℕ) → IsOpen old tail cs x → at ≡ chain_end tail (first_of old ∷ cs) →
-    AreAny at count x f → IsLogged old tail cs held ⊎ IsLogged old tail (cs ++ c ∷ []) held → Tells held f → IsLogged old tail cs f ⊎ IsLogged old tail (cs ++ c ∷ []) f
-torn_appended old tail cs c at count x f held is here a either tells =
-    let all = first_of old ∷ cs in
-    let log = is.logged.log in
-    let begun = log.begun in
-    let room = log.room in
-    let low : tail ≤ at = omega (arith, is.ends, here, begun) in
-    let marked : StandsAt f 0 (log_mark tail) = record {
-      within = omega (arith, a.longer, log.marked.within);
-      each = λ i k. a.outside (0 + i) (inl (omega (arith, k, low, room))) ∙ log.marked.each i k;
-    } in
-    let told = tells tail (log_read tail f log.fits marked) in
-    let tell : ChangesTell tail (all ++ c ∷ []) f = elim either [
-      | inl same ↦ let more = first_of_more all c told.0 in (more.0, told.1 ∙ ap (λ xs. take told.0 xs) (logged_all old tail cs held same) ∙ more.1)
-      | inr one ↦ (told.0, told.1 ∙ ap (λ xs. take told.0 xs) (logged_all old tail (cs ++ c ∷ []) held one))
-    ] in
-    torn_counts old tail cs c x f is.logged (λ k from to. a.outside k (inl (omega (arith, to, here)))) (omega (arith, a.longer, is.ends)) tell
-
-pub either_represents : (old now new : List ℕ) (tail : ℕ) (cs : List Change) (c : Change) (f : List ℕ) → Leads old cs now → Makes c now new → Fill (length old) cs → Fill (length old) (cs ++ c ∷ []) →
-    IsLogged old tail cs f ⊎ IsLogged old tail (cs ++ c ∷ []) f → RepresentsEither now new f
-either_represents old now new tail cs c f leads makes fill more (inl same) = inl (inr (inr (record { old = old; tail = tail; changes = cs; logged = same; leads = leads; fill = fill })))
-either_represents old now new tail cs c f leads makes fill more (inr one) =
-    inr (inr (inr (record { old = old; tail = tail; changes = cs ++ c ∷ []; logged = one; leads = leads_more old cs c now new leads makes; fill = more })))
+-- whatever the disk has of a change that is appended, it has the changes before it
+torn_appended : (other old : List ℕ) (tail : ℕ) (cs all : List Change) (at count : ℕ) (x f : List ℕ) → IsOpen old tail cs x → at ≡ chain_end tail (first_of old ∷ cs) → AreAny at count x f →
+    (all ≡ cs) ⊎ ((c : Change) × (all ≡ cs ++ c ∷ []) × Leads old cs other × Fill (length old) cs) → IsTornLog other old tail all f
+torn_appended other old tail cs all at count x f is here a last = record {
+  sure = cs;
+  whole = x;
+  logged = is.logged;
+  same = λ k from to. a.outside k (inl (omega (arith, to, here)));
+  reaches = omega (arith, a.longer, is.ends);
+  last = last;
+}
 
 -- ---- an append
 
@@ -179,35 +165,44 @@ next_made old now new cs log changed bytes h is are below spelled fits few =
       here = h.ends;
     }
 
-pub append_failed : (old now new : List ℕ) (tail at : ℕ) (cs : List Change) (c : Change) (bytes : List ℕ) (u v : World) → IsNext old tail cs c at bytes → Leads old cs now → Makes c now new → Fill (length old) cs →
-    Fill (length old) (cs ++ c ∷ []) → All (IsOpen old tail cs) u → Fails (IsCut at bytes) (AreAny at (length bytes)) u v → IsBroken now new v
-append_failed old now new tail at cs c bytes u v next leads makes fill more all f =
-    let held = cut_appended old tail cs c at bytes u.held v.held next all.held f.held in
-    let to : (x : List ℕ) → IsLogged old tail cs x ⊎ IsLogged old tail (cs ++ c ∷ []) x → RepresentsEither now new x = λ x h. either_represents old now new tail cs c x leads makes fill more h in
+-- the disk has any bytes behind the changes before
+torn_held : (other now old : List ℕ) (tail at : ℕ) (cs all : List Change) (bytes : List ℕ) (u v : World) → at ≡ chain_end tail (first_of old ∷ cs) →
+    (all ≡ cs) ⊎ ((c : Change) × (all ≡ cs ++ c ∷ []) × Leads old cs other × Fill (length old) cs) → All (IsOpen old tail cs) u → Fails (IsCut at bytes) (AreAny at (length bytes)) u v →
+    IsLogged old tail all v.held → IsLogHeld Torn other now old tail all v
+torn_held other now old tail at cs all bytes u v here last is f held =
+    let to : (x z : List ℕ) → IsOpen old tail cs x → AreAny at (length bytes) x z → IsOnDisk Torn other now old tail all z =
+    λ x z is_open any. inr (inr (tt, torn_appended other old tail cs all at (length bytes) x z is_open here any last)) in
     record {
-      held = to v.held held;
-      leave = λ z left told.
-          let h = f.leave z left in
-          to z (torn_appended old tail cs c at (length bytes) h.0 z v.held (all.leave h.0 h.1) next.here h.2 held told);
-      keep = λ z kept told.
+      held = held;
+      leave = λ z left. let h = f.leave z left in to h.0 z (is.leave h.0 h.1) h.2;
+      keep = λ z kept.
           let h = f.keep z kept in
           elim h.1 [
-            | inl (was, cut) ↦ to z (cut_appended old tail cs c at bytes h.0 z next (all.keep h.0 was) cut)
-            | inr (left, any) ↦ to z (torn_appended old tail cs c at (length bytes) h.0 z v.held (all.leave h.0 left) next.here any held told)
+            | inl (was, cut) ↦ to h.0 z (is.keep h.0 was) cut.any
+            | inr (left, any) ↦ to h.0 z (is.leave h.0 left) any
           ];
     }
 
-pub log_unbroken : (now new : List ℕ) (log : logs.Log) (w : World) → IsLogOf now log w → IsBroken now new w
-log_unbroken now new log w h =
-    let to : (x : List ℕ) → IsOpen h.old log.tail h.changes x → RepresentsEither now new x =
-    λ x is. inl (inr (inr (record { old = h.old; tail = log.tail; changes = h.changes; logged = is.logged; leads = h.follows.leads; fill = h.follows.fill }))) in
-    record { held = to w.held h.world.held; leave = λ c left told. to c (h.world.leave c left); keep = λ c kept told. to c (h.world.keep c kept) }
-
-pub either_broken : (now new : List ℕ) (w : World) → All (RepresentsEither now new) w → IsBroken now new w
-either_broken now new w a = record { held = a.held; leave = λ c left told. a.leave c left; keep = λ c kept told. a.keep c kept }
-
-pub new_broken : (now new : List ℕ) (w : World) → All (Represents new) w → IsBroken now new w
-new_broken now new w a = record { held = inr a.held; leave = λ c left told. inr (a.leave c left); keep = λ c kept told. inr (a.keep c kept) }
+pub append_stopped : (old now new : List ℕ) (tail at : ℕ) (cs : List Change) (c : Change) (bytes : List ℕ) (u v : World) → IsNext old tail cs c at bytes → Leads old cs now → Makes c now new →
+    Fill (length old) cs → Fill (length old) (cs ++ c ∷ []) → All (IsOpen old tail cs) u → Fails (IsCut at bytes) (AreAny at (length bytes)) u v → IsStopped Torn now new v
+append_stopped old now new tail at cs c bytes u v next leads makes fill more all f = elim (cut_appended old tail cs c at bytes u.held v.held next all.held f.held) [
+  | inl none ↦ inl (inr (inr (record {
+    old = old;
+    tail = tail;
+    changes = cs;
+    leads = leads;
+    fill = fill;
+    world = torn_held new now old tail at cs cs bytes u v next.here (inl refl) all f none;
+  })))
+  | inr one ↦ inr (inr (inr (record {
+    old = old;
+    tail = tail;
+    changes = cs ++ c ∷ [];
+    leads = leads_more old cs c now new leads makes;
+    fill = more;
+    world = torn_held now new old tail at cs (cs ++ c ∷ []) bytes u v next.here (inr (c, refl, leads, fill)) all f one;
+  })))
+]
 
 -- a log has fewer changes than a file has bytes
 pub count_fits : (old now : List ℕ) (cs : List Change) (log : logs.Log) → Follows old now cs log → log.changes + 1 ≤ log.end

@@ -9,12 +9,10 @@ use Rattle.rrd_change.specs.Changes.{Change, IsRight, change_bytes, change_size}
 use Rattle.rrd_change.specs.Laws.{Fill, IsUnderCut, Leads, chain_end, first_of}
 use Rattle.rrd_change.specs.Settled.{log_mark}
 use Rattle.rrd_change.specs.Spans.{AgreesOutside, AreSpans, IsIn, change_of}
-use Rattle.rrd_change.specs.States.{Began, Follows, IsDatabase, IsFirst, IsMarked, IsOpen, IsReady, Represents, RepresentsEither, cut_of}
-use Rattle.rrd_change.specs.Views.{All, World}
+use Rattle.rrd_change.specs.States.{Began, Follows, IsDatabase, IsFirst, IsInPlace, IsOpen, IsReady, Represents, cut_of}
 use Rattle.rrd_change.specs.declared.log.Base.{Base}
 use Rattle.rrd_change.specs.declared.log.Log.{Log}
 use Rattle.rrd_change.specs.declared.span.Span.{Span}
-use Rattle.rrd_change.proofs.Holding.{all_as}
 use Rattle.rrd_change.proofs.Spanned.{have_in, in_have, pieces_within, spans_fill, spans_make}
 use Rattle.rrd_change.proofs.Logs.{log_begins}
 use Rattle.rrd_change.proofs.Marking.{cut_under, length-cut, put_behind, under_stays}
@@ -109,11 +107,12 @@ open_put old tail cs x f ready put =
     }
 
 abbrev pub IsReadyOrOpen : List ℕ → ℕ → List Change → List ℕ → Type 0
-IsReadyOrOpen old tail cs f = IsReady old tail cs f ⊎ IsOpen old tail cs f
+IsReadyOrOpen old tail cs f = IsReady old tail cs f ⊎ (IsOpen old tail cs f × IsInPlace old f)
 
 pub open_or_not : (old : List ℕ) (tail : ℕ) (cs : List Change) (x f : List ℕ) → IsReady old tail cs x → AreWholeOrNot 0 (log_mark tail) x f → IsReadyOrOpen old tail cs f
 open_or_not old tail cs x f ready (inl e) = let P : List ℕ → Type 0 = λ xs. IsReady old tail cs xs in inl (subst P (sym e) ready)
-open_or_not old tail cs x f ready (inr p) = inr (open_put old tail cs x f ready p)
+open_or_not old tail cs x f ready (inr p) =
+    inr (open_put old tail cs x f ready p, λ k high low. put_behind (log_mark tail) x f k p high ∙ ready.prepared.under.same k (omega (arith, high)) low)
 
 pub open_torn : (old : List ℕ) (tail : ℕ) (cs : List Change) (x f : List ℕ) → IsReady old tail cs x → IsTorn 0 (log_mark tail) x f → IsReadyOrOpen old tail cs f
 open_torn old tail cs x f ready t = open_or_not old tail cs x f ready (t.whole (omega (arith, ready.prepared.begun, ready.prepared.enough, ready.prepared.below)))
@@ -121,10 +120,6 @@ open_torn old tail cs x f ready t = open_or_not old tail cs x f ready (t.whole (
 -- what such a file stands for
 pub open_stands : (old new : List ℕ) (tail : ℕ) (cs : List Change) (f : List ℕ) → Leads old cs new → Fill (length old) cs → IsOpen old tail cs f → Represents new f
 open_stands old new tail cs f leads fill is = inr (inr (record { old = old; tail = tail; changes = cs; logged = is.logged; leads = leads; fill = fill }))
-
-pub either_stands : (old new : List ℕ) (tail : ℕ) (cs : List Change) (f : List ℕ) → Leads old cs new → Fill (length old) cs → IsReadyOrOpen old tail cs f → RepresentsEither old new f
-either_stands old new tail cs f leads fill (inl ready) = inl (inr (inl ready.prepared.under))
-either_stands old new tail cs f leads fill (inr is) = inr (open_stands old new tail cs f leads fill is)
 
 -- what is written behind a marked database changes nothing
 pub behind_stands : (old x f : List ℕ) (at count : ℕ) → IsDatabase old → x ≡ cut_of old → at ≡ length old → AreAny at count x f → IsUnderCut old f
@@ -192,6 +187,3 @@ follows_first base old new changed log bytes is are agrees h ends count spans =
       ];
       only = λ k high is_in. inl (in_have new changed k are (subst (P k) spans is_in));
     }
-
-pub marked_stands : (old new : List ℕ) (w : World) → IsMarked old w → All (RepresentsEither old new) w
-marked_stands old new w m = all_as (λ f. f ≡ cut_of old) (RepresentsEither old new) w (λ f e. inl (inr (inl (cut_under old f m.is e)))) m.world

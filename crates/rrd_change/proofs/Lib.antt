@@ -18,9 +18,16 @@ pub mod Beginning
 pub mod Placing
 pub mod Laid
 pub mod Overlaid
+pub mod Joining
 pub mod Settling
 pub mod Loose
 pub mod Appending
+pub mod Rewriting
+pub mod Relogging
+pub mod Stopping
+pub mod Outgrown
 pub mod Restoring
 pub mod Outcomes
 pub mod Making
+pub mod Marked
+pub mod Paging

@@ -1,14 +1,10 @@
 -- Lemmas on repairs of files with a mark.
-use Rattle.std.proofs.Common.{◌≡◌, ◌⊎◌, ℕ, List, ◌∷◌, length, get_or, sym, ap, subst, arith, inl, inr}
-use Rattle.rrd_change.specs.Calls.{ArePut, AreWholeOrNot, IsSized, IsSizedOrNot, IsTorn}
-use Rattle.rrd_change.specs.Changes.{Change}
-use Rattle.rrd_change.specs.Laws.{IsLogged, IsUnderCut, chain_end, first_of}
-use Rattle.rrd_change.specs.Repairs.{IsLogLeft, IsLoose, IsUncut}
-use Rattle.rrd_change.specs.States.{IsDatabase, IsLogOf, IsOpen, IsPlain, Represents}
+use Rattle.std.proofs.Common.{◌≡◌, ◌⊎◌, ℕ, List, length, get_or, sym, ap, subst, arith, inl, inr}
+use Rattle.rrd_change.specs.Calls.{ArePut, AreWholeOrNot, IsTorn}
+use Rattle.rrd_change.specs.Laws.{IsUnderCut}
+use Rattle.rrd_change.specs.Repairs.{IsCutLeft, IsLoose, IsUncut}
+use Rattle.rrd_change.specs.States.{IsDatabase, IsPlain}
 use Rattle.rrd_change.specs.Views.{All, Fails, Stores, World}
-use Rattle.rrd_change.specs.declared.log.Log.{Log}
-use Rattle.rrd_change.proofs.Holding.{all_as, fails_all, stores_all}
-use Rattle.rrd_change.proofs.Logs.{logged_sized}
 use Rattle.rrd_change.proofs.Marking.{cut_under}
 use Rattle.rrd_change.proofs.Settling.{cut_front_of, cut_placed, length-front}
 
@@ -85,29 +81,14 @@ plain_uncut other now w is a = record {
   keep = λ c kept. plain_loose other now c is (a.keep c kept);
 }
 
--- ---- a log
-
-pub sized_or_not : (old : List ℕ) (tail : ℕ) (cs : List Change) (x f : List ℕ) → IsLogged old tail cs x → IsSizedOrNot (chain_end tail (first_of old ∷ cs)) x f → IsLogged old tail cs f
-sized_or_not old tail cs x f h (inl e) = let P : List ℕ → Type 0 = λ xs. IsLogged old tail cs xs in subst P (sym e) h
-sized_or_not old tail cs x f h (inr s) = logged_sized old tail cs x f h s
-
-pub length_failed : (now : List ℕ) (log : Log) (u v : World) → Fails (IsSizedOrNot log.end) (IsSizedOrNot log.end) u v → IsLogLeft now log u → All (Represents now) v
-length_failed now log u v f h =
-    let P : ℕ → Type 0 = λ n. Fails (IsSizedOrNot n) (IsSizedOrNot n) u v in
-    let Q : List ℕ → Type 0 = λ x. IsLogged h.old log.tail h.changes x in
-    let end = chain_end log.tail (first_of h.old ∷ h.changes) in
-    all_as Q (Represents now) v (λ x is. inr (inr (record { old = h.old; tail = log.tail; changes = h.changes; logged = is; leads = h.follows.leads; fill = h.follows.fill })))
-    (fails_all Q Q (IsSizedOrNot end) (IsSizedOrNot end) u v (λ x y is s. sized_or_not h.old log.tail h.changes x y is s) (λ x y is s. sized_or_not h.old log.tail h.changes x y is s)
-    (subst P h.follows.ends f) h.world)
-
-pub length_stored : (now : List ℕ) (log : Log) (u v : World) → Stores (IsSized log.end) u v → IsLogLeft now log u → IsLogOf now log v
-length_stored now log u v s h =
-    let P : ℕ → Type 0 = λ n. Stores (IsSized n) u v in
-    let end = chain_end log.tail (first_of h.old ∷ h.changes) in
+-- the mark that programs read stays
+pub front_under : (other now : List ℕ) (u v : World) → Fails (AreWholeOrNot 0 (cut_front_of now)) (IsTorn 0 (cut_front_of now)) u v → IsCutLeft other now u → IsCutLeft other now v
+front_under other now u v f h =
+    let P : List ℕ → Type 0 = λ xs. IsUnderCut now xs in
     record {
-      old = h.old;
-      changes = h.changes;
-      follows = h.follows;
-      world = stores_all (IsLogged h.old log.tail h.changes) (IsOpen h.old log.tail h.changes) (IsSized end) u v
-          (λ x y is sized. record { logged = logged_sized h.old log.tail h.changes x y is sized; ends = sized.len }) (subst P h.follows.ends s) h.world;
+      under = elim f.held [
+        | inl e ↦ subst P (sym e) h.under
+        | inr put ↦ front_put other now u.held v.held h.uncut.is (under_loose other now u.held h.under) put
+      ];
+      uncut = front_failed other now u v f h.uncut;
     }

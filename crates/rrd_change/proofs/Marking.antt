@@ -27,7 +27,7 @@ put_front mark old new k p low = ap (λ n. get_or new n 0) (sym (zero-add k)) �
 pub put_behind : (mark old new : List ℕ) (k : ℕ) → ArePut 0 mark old new → length mark ≤ k → get_or new k 0 ≡ get_or old k 0
 put_behind mark old new k p high = p.outside k (inr (omega (arith, high)))
 
-plain_length : (bytes file : List ℕ) → 4 ≤ length bytes → IsPlain bytes file → length file ≡ length bytes
+pub plain_length : (bytes file : List ℕ) → 4 ≤ length bytes → IsPlain bytes file → length file ≡ length bytes
 plain_length bytes file enough (inl e) = ap length e
 plain_length bytes file enough (inr e) = ap length e ∙ length-cut bytes enough
 

@@ -1,23 +1,27 @@
 -- Lemmas on repairs by what was found of a file.
-use Rattle.std.proofs.Common.{◌≡◌, ◌⊎◌, ℕ, ◌+◌, ◌≤◌, Bool, true, false, List, [], ◌∷◌, length, drop, refl, sym, ◌∙◌, ap, subst, arith, inl, inr, lit<}
+use Rattle.std.proofs.Common.{◌≡◌, ℕ, ◌+◌, ◌≤◌, max, Bool, true, false, List, [], ◌∷◌, length, drop, refl, sym, ◌∙◌, ap, subst, arith, inl, inr, lit<}
 use Rattle.std.proofs.lemmas.List.{length-take}
 use Rattle.rrd_change.specs.Bytes.{StandsAt, begins_with}
+use Rattle.rrd_change.specs.Calls.{ArePut, AreWholeOrNot, IsSized, IsSizedOrNot, IsTorn}
 use Rattle.rrd_change.specs.Changes.{Change, change_size, changes_in, last_size}
 use Rattle.rrd_change.specs.Laws.{IsChain, IsLogged, IsUnderCut, TouchByte, chain_end, first_of}
 use Rattle.rrd_change.specs.Marks.{IsLogIn, IsMarkOf}
-use Rattle.rrd_change.specs.Repairs.{IsAlone, IsLogLeft, IsMarkedFor, IsUncut}
+use Rattle.rrd_change.specs.Repairs.{IsCutLeft, IsFound, IsLeft, IsLogFound, IsLogHeld, IsLogLeft, IsMarkedFor, LogEnd, Whole}
 use Rattle.rrd_change.specs.Settled.{cut_mark, database_mark, log_mark, spelled_tail}
-use Rattle.rrd_change.specs.States.{IsAtRest, IsDatabase, IsLogFor, Represents}
-use Rattle.rrd_change.specs.Views.{All, World}
+use Rattle.rrd_change.specs.States.{Follows, IsAtRest, IsDatabase, IsLogFor, IsLogOf, IsOpen, Represents}
+use Rattle.rrd_change.specs.Views.{All, Effect, Fails, FailsToRestore, Stores, StoresAgain, World}
+use Rattle.rrd_change.specs.declared.finding.Mark.{Mark}
 use Rattle.rrd_change.specs.declared.finding.Mark.TheVariants as marks
 use Rattle.rrd_change.specs.declared.log.Log.{Log}
 use Rattle.rrd_change.proofs.Appending.{logged_all}
+use Rattle.rrd_change.proofs.Chains.{chain_count}
 use Rattle.rrd_change.proofs.Fronts.{front_of}
 use Rattle.rrd_change.proofs.Laying.{leads_size}
 use Rattle.rrd_change.proofs.Logs.{tail_in}
-use Rattle.rrd_change.proofs.Loose.{under_loose}
 use Rattle.rrd_change.proofs.Reading.{change_stands}
+use Rattle.rrd_change.proofs.Relogging.{IsLogAgain, IsLogCut, again_failed, again_stored, cut_failed, cut_stored, mark_failed, mark_stored}
 use Rattle.rrd_change.proofs.Standing.{begins_other, standing_begins}
+use Rattle.rrd_change.proofs.Stopping.{left_held, under_left}
 
 -- ---- which mark a file has
 
@@ -57,91 +61,158 @@ no_mark now file is (inr (inr log)) (cut, inl none) =
     absurd (not_both (begins_with file (log_mark (spelled_tail file))) (ap (λ t. begins_with file (log_mark t)) (log_spells now file log) ∙ log_begins now file log) none)
 no_mark now file is (inr (inr log)) (cut, inr none) = absurd (omega (arith, ap length (sym none ∙ log_some now file log)))
 
-pub missing_rests : (now : List ℕ) (w : World) → IsMarkedFor now marks.Missing w → IsAtRest now w
-missing_rests now w h =
-    let e = no_mark now w.held h.is h.represents h.mark_is in
-    record { is = h.is; world = record { held = e; leave = λ c left. inl (h.alone.leave c left ∙ e); keep = λ c kept. inl (h.alone.keep c kept ∙ e) } }
+-- what is left, of which programs read a log
+log_for : (end : LogEnd) (other now : List ℕ) (w : World) → IsLogLeft end other now w → IsLogFor now w.held
+log_for end other now w l = record { old = l.old; tail = l.tail; changes = l.changes; logged = l.world.held; leads = l.leads; fill = l.fill }
+
+pub missing_rests : (end : LogEnd) (other now : List ℕ) (w : World) → IsFound end other now marks.Missing w → IsAtRest now w
+missing_rests end other now w h =
+    let e = no_mark now w.held h.is (left_held end other now w h.left) h.mark_is in
+    elim h.left [
+      | inl rest ↦ rest
+      | inr (inl c) ↦ absurd (not_both (begins_with w.held cut_mark) (under_begins now w.held c.under) (plain_not_cut now w.held h.is e))
+      | inr (inr l) ↦
+          let is = log_for end other now w l in
+          absurd (not_both (begins_with w.held (log_mark (spelled_tail w.held))) (ap (λ t. begins_with w.held (log_mark t)) (log_spells now w.held is) ∙ log_begins now w.held is)
+          (plain_no_log now w.held h.is e))
+    ]
 
 -- ---- a cut mark
 
-only_cut : (now file : List ℕ) → IsDatabase now → Represents now file → IsMarkOf marks.Cut file → IsUnderCut now file
-only_cut now file is (inl e) m = absurd (not_both (begins_with file cut_mark) m (plain_not_cut now file is e))
-only_cut now file is (inr (inl under)) m = under
-only_cut now file is (inr (inr log)) m = absurd (not_both (begins_with file cut_mark) m (log_not_cut now file log))
-
-pub cut_uncut : (now : List ℕ) (w : World) → IsMarkedFor now marks.Cut w → IsUncut now now w
-cut_uncut now w h =
-    let under = only_cut now w.held h.is h.represents h.mark_is in
-    let P : List ℕ → Type 0 = λ xs. IsUnderCut now xs in
-    record {
-      is = h.is;
-      held = inr under;
-      leave = λ c left. under_loose now now c (subst P (sym (h.alone.leave c left)) under);
-      keep = λ c kept. under_loose now now c (subst P (sym (h.alone.keep c kept)) under);
-    }
-
-either_one : (now file : List ℕ) → Represents now file ⊎ Represents now file → Represents now file
-either_one now file (inl h) = h
-either_one now file (inr h) = h
-
-held_one : (now file : List ℕ) → (file ≡ now) ⊎ IsUnderCut now file → Represents now file
-held_one now file (inl e) = inl e
-held_one now file (inr under) = inr (inl under)
-
-pub uncut_all : (now : List ℕ) (w : World) → IsUncut now now w → All (Represents now) w
-uncut_all now w h = record {
-  held = held_one now w.held h.held;
-  leave = λ c left. either_one now c (h.leave c left).stands;
-  keep = λ c kept. either_one now c (h.keep c kept).stands;
-}
+pub found_cut : (end : LogEnd) (other now : List ℕ) (w : World) → IsFound end other now marks.Cut w → IsCutLeft other now w
+found_cut end other now w h = elim h.left [
+  | inl rest ↦ absurd (not_both (begins_with w.held cut_mark) h.mark_is (plain_not_cut now w.held h.is rest.world.held))
+  | inr (inl c) ↦ c
+  | inr (inr l) ↦ absurd (not_both (begins_with w.held cut_mark) h.mark_is (log_not_cut now w.held (log_for end other now w l)))
+]
 
 -- ---- a log
 
-only_log : (now file : List ℕ) (log : Log) → IsDatabase now → Represents now file → IsMarkOf (marks.Log log) file → IsLogFor now file
-only_log now file log is (inl e) m = absurd (not_both (begins_with file (log_mark (spelled_tail file))) m.1 (plain_no_log now file is e))
-only_log now file log is (inr (inl under)) m = absurd (not_both (begins_with file cut_mark) (under_begins now file under) m.0)
-only_log now file log is (inr (inr h)) m = h
+pub found_log : (end : LogEnd) (other now : List ℕ) (log : Log) (w : World) → IsFound end other now (marks.Log log) w → IsLogFound end other now log w
+unfolding log_for
+found_log end other now log w h = elim h.left [
+  | inl rest ↦ absurd (not_both (begins_with w.held (log_mark (spelled_tail w.held))) h.mark_is.1 (plain_no_log now w.held h.is rest.world.held))
+  | inr (inl c) ↦ absurd (not_both (begins_with w.held cut_mark) (under_begins now w.held c.under) h.mark_is.0)
+  | inr (inr l) ↦
+      let P : ℕ → Type 0 = λ t. IsLogIn log t w.held in
+      record { is = h.is; left = l; found = subst P (log_spells now w.held (log_for end other now w l)) h.mark_is.2 }
+]
 
 -- the last change of a chain leaves no more than reaches to the log
 last_below : (tail : ℕ) (file : List ℕ) (at size : ℕ) (cs : List Change) → IsChain tail file at cs → size ≤ tail → last_size size cs ≤ tail
 last_below tail file at size [] h few = few
 last_below tail file at size (c ∷ cs) h few = last_below tail file (at + change_size c) c.size cs h.1 (change_stands tail at c file h.0).1.below
 
-left_by : (now file : List ℕ) (log : Log) (w : World) (h : IsLogFor now file) → IsDatabase now → IsLogIn log h.tail file → changes_in h.tail file ≡ first_of h.old ∷ h.changes →
-    w.held ≡ file → IsAlone w → IsLogLeft now log w
-left_by now file log w h is found all held alone =
-    let P : ℕ → Type 0 = λ t. IsLogged h.old t h.changes file in
-    let logged : IsLogged h.old log.tail h.changes file = subst P (sym found.tail_is) h.logged in
-    let Q : List ℕ → Type 0 = λ xs. IsLogged h.old log.tail h.changes xs in
-    let chain = h.logged.log.chain in
-    let first = (change_stands h.tail h.tail (first_of h.old) file chain.0).1 in
+-- what is known of the log in memory
+log_all : (end : LogEnd) (other now : List ℕ) (log : Log) (w : World) (h : IsLogFound end other now log w) → changes_in h.left.tail w.held ≡ first_of h.left.old ∷ h.left.changes
+log_all end other now log w h = logged_all h.left.old h.left.tail h.left.changes w.held h.left.world.held
+
+log_ends : (end : LogEnd) (other now : List ℕ) (log : Log) (w : World) (h : IsLogFound end other now log w) → log.end ≡ chain_end h.left.tail (first_of h.left.old ∷ h.left.changes)
+log_ends end other now log w h = h.found.ends ∙ ap (λ cs. chain_end h.left.tail cs) (log_all end other now log w h)
+
+log_follows : (end : LogEnd) (other now : List ℕ) (log : Log) (w : World) (h : IsLogFound end other now log w) → Follows h.left.old now h.left.changes log
+log_follows end other now log w h =
+    let l = h.left in
+    let all = log_all end other now log w h in
+    let chain = l.world.held.log.chain in
+    let first = (change_stands l.tail l.tail (first_of l.old) w.held chain.0).1 in
     let T : ℕ → List Change → Type 0 = λ k cs. TouchByte k cs in
     record {
-      old = h.old;
-      changes = h.changes;
-      follows = record {
-        is = is;
-        leads = h.leads;
-        fill = h.fill;
-        below = omega (arith, leads_size h.old h.changes now h.leads, last_below h.tail file (h.tail + change_size (first_of h.old)) (length h.old) h.changes chain.1 first.below, found.tail_is);
-        ends = found.ends ∙ ap (λ cs. chain_end h.tail cs) all ∙ ap (λ t. chain_end t (first_of h.old ∷ h.changes)) (sym found.tail_is);
-        count = omega (arith, found.count, ap length all);
-        each = λ k touched. found.touched k (subst (T k) (sym all) (inr touched));
-        only = λ k high is_in. elim (subst (T k) all (found.only k is_in)) [
-          | inl (inl front) ↦ absurd (omega (arith, front.1, high, length-take 16 h.old))
-          | inl (inr none) ↦ absurd none
-          | inr later ↦ later
-        ];
-      };
-      world = record {
-        held = subst Q (sym held) logged;
-        leave = λ c left. subst Q (sym (alone.leave c left ∙ held)) logged;
-        keep = λ c kept. subst Q (sym (alone.keep c kept ∙ held)) logged;
-      };
+      is = h.is;
+      leads = l.leads;
+      fill = l.fill;
+      below = omega (arith, leads_size l.old l.changes now l.leads, last_below l.tail w.held (l.tail + change_size (first_of l.old)) (length l.old) l.changes chain.1 first.below, h.found.tail_is);
+      ends = log_ends end other now log w h ∙ ap (λ t. chain_end t (first_of l.old ∷ l.changes)) (sym h.found.tail_is);
+      count = omega (arith, h.found.count, ap length all);
+      each = λ k touched. h.found.touched k (subst (T k) (sym all) (inr touched));
+      only = λ k high is_in. elim (subst (T k) all (h.found.only k is_in)) [
+        | inl (inl front) ↦ absurd (omega (arith, front.1, high, length-take 16 l.old))
+        | inl (inr none) ↦ absurd none
+        | inr later ↦ later
+      ];
     }
 
-pub log_left : (now : List ℕ) (log : Log) (w : World) → IsMarkedFor now (marks.Log log) w → IsLogLeft now log w
-log_left now log w h =
-    let is = only_log now w.held log h.is h.represents h.mark_is in
-    let P : ℕ → Type 0 = λ t. IsLogIn log t w.held in
-    left_by now w.held log w is h.is (subst P (log_spells now w.held is) h.mark_is.2) (logged_all is.old is.tail is.changes w.held is.logged) refl h.alone
+-- ---- the steps in which the log is written again
+
+with_world : (end : LogEnd) (other now : List ℕ) (u v : World) (l : IsLogLeft end other now u) → IsLogHeld end other now l.old l.tail l.changes v → IsLogLeft end other now v
+with_world end other now u v l w = record { old = l.old; tail = l.tail; changes = l.changes; leads = l.leads; fill = l.fill; world = w }
+
+abbrev pub Cuts : Log → Effect
+Cuts log u v = (end : LogEnd) (other now : List ℕ) (h : IsLogFound end other now log u) → IsLogCut end other now h.left.old h.left.tail h.left.changes v
+
+abbrev pub Rewrites : Log → Effect
+Rewrites log u v = (end : LogEnd) (other now : List ℕ) (h : IsLogFound end other now log u) → IsLogAgain end other now h.left.old h.left.tail h.left.changes v
+
+-- a step failed
+abbrev pub Leaves : Log → Effect
+Leaves log u v = (end : LogEnd) (other now : List ℕ) → IsLogFound end other now log u → IsLogLeft end other now v
+
+pub cuts : (log : Log) (u v : World) → Stores (IsSized log.end) u v → Cuts log u v
+cuts log u v s end other now h =
+    let P : ℕ → Type 0 = λ n. Stores (IsSized n) u v in
+    cut_stored end other now h.left.old h.left.tail h.left.changes u v (subst P (log_ends end other now log u h) s) h.left.world
+
+pub cut_leaves : (log : Log) (u v : World) → Fails (IsSizedOrNot log.end) (IsSizedOrNot log.end) u v → Leaves log u v
+cut_leaves log u v f end other now h =
+    let P : ℕ → Type 0 = λ n. Fails (IsSizedOrNot n) (IsSizedOrNot n) u v in
+    with_world end other now u v h.left (cut_failed end other now h.left.old h.left.tail h.left.changes u v (subst P (log_ends end other now log u h) f) h.left.world)
+
+log_reach : (end : LogEnd) (other now : List ℕ) (log : Log) (w : World) (h : IsLogFound end other now log w) →
+    max log.tail log.end ≡ chain_end h.left.tail (first_of h.left.old ∷ h.left.changes)
+log_reach end other now log w h =
+    omega (arith, log_ends end other now log w h, h.found.tail_is, chain_count h.left.tail (first_of h.left.old ∷ h.left.changes))
+
+pub rewrites : (log : Log) (u v w : World) → Cuts log u v → StoresAgain log.tail (max log.tail log.end) v w → Rewrites log u w
+rewrites log u v w cut s end other now h =
+    let P : ℕ → Type 0 = λ n. StoresAgain n (max log.tail log.end) v w in
+    let Q : ℕ → Type 0 = λ n. StoresAgain h.left.tail n v w in
+    again_stored end other now h.left.old h.left.tail h.left.changes v w (subst Q (log_reach end other now log u h) (subst P h.found.tail_is s)) (cut end other now h)
+
+pub rewrite_leaves : (log : Log) (u v w : World) → Cuts log u v → FailsToRestore log.tail (max log.tail log.end) v w → Leaves log u w
+rewrite_leaves log u v w cut f end other now h =
+    let P : ℕ → Type 0 = λ n. FailsToRestore n (max log.tail log.end) v w in
+    let Q : ℕ → Type 0 = λ n. FailsToRestore h.left.tail n v w in
+    with_world end other now u w h.left
+    (again_failed end other now h.left.old h.left.tail h.left.changes v w (subst Q (log_reach end other now log u h) (subst P h.found.tail_is f)) (cut end other now h))
+
+pub marks_again : (log : Log) (u v w : World) → Rewrites log u v → Stores (ArePut 0 (log_mark log.tail)) v w → (end : LogEnd) (other now : List ℕ) → IsLogFound end other now log u →
+    IsLogOf now log w
+marks_again log u v w again s end other now h =
+    let l = h.left in
+    let P : ℕ → Type 0 = λ n. Stores (ArePut 0 (log_mark n)) v w in
+    let Q : ℕ → Type 0 = λ n. All (IsOpen l.old n l.changes) w in
+    record {
+      old = l.old;
+      changes = l.changes;
+      follows = log_follows end other now log u h;
+      world = subst Q (sym h.found.tail_is) (mark_stored end other now l.old l.tail l.changes v w (subst P h.found.tail_is s) (again end other now h));
+    }
+
+pub mark_leaves : (log : Log) (u v w : World) → Rewrites log u v → Fails (AreWholeOrNot 0 (log_mark log.tail)) (IsTorn 0 (log_mark log.tail)) v w → Leaves log u w
+mark_leaves log u v w again f end other now h =
+    let l = h.left in
+    let P : ℕ → Type 0 = λ n. Fails (AreWholeOrNot 0 (log_mark n)) (IsTorn 0 (log_mark n)) v w in
+    with_world end other now u w l (mark_failed end other now l.old l.tail l.changes v w (subst P h.found.tail_is f) (again end other now h))
+
+-- ---- after a failure of the power
+
+alone_left : (now : List ℕ) (mark : Mark) (w : World) → IsMarkedFor now mark w → IsLeft Whole now now w
+alone_left now mark w h = elim h.represents [
+  | inl e ↦ inl (record { is = h.is; world = record { held = e; leave = λ c left. inl (h.alone.leave c left ∙ e); keep = λ c kept. inl (h.alone.keep c kept ∙ e) } })
+  | inr (inl under) ↦
+      let P : List ℕ → Type 0 = λ xs. IsUnderCut now xs in
+      inr (inl (under_left now now w h.is (record { held = under; leave = λ c left. subst P (sym (h.alone.leave c left)) under; keep = λ c kept. subst P (sym (h.alone.keep c kept)) under })))
+  | inr (inr log) ↦
+      let P : List ℕ → Type 0 = λ xs. IsLogged log.old log.tail log.changes xs in
+      inr (inr (record {
+        old = log.old;
+        tail = log.tail;
+        changes = log.changes;
+        leads = log.leads;
+        fill = log.fill;
+        world = record { held = log.logged; leave = λ c left. inl (subst P (sym (h.alone.leave c left)) log.logged); keep = λ c kept. inl (subst P (sym (h.alone.keep c kept)) log.logged) };
+      }))
+]
+
+pub alone_found : (now : List ℕ) (mark : Mark) (w : World) → IsMarkedFor now mark w → IsFound Whole now now mark w
+alone_found now mark w h = record { is = h.is; mark_is = h.mark_is; left = alone_left now mark w h }

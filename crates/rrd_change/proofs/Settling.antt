@@ -3,7 +3,7 @@ use Rattle.std.proofs.Common.{◌≡◌, ℕ, ◌+◌, ◌-◌, ◌<◌, ◌≤�
 use Rattle.std.specs.List.{slice_range}
 use Rattle.std.proofs.lemmas.Bool.{cases_lt}
 use Rattle.std.proofs.lemmas.List.{length-append, length-take, length-drop, get_or-take, get_or-drop, get_or_append_left, get_or-append_right, get_or_past}
-use Rattle.rrd_change.specs.Calls.{ArePut, AreWholeOrNot, IsSized, IsSizedOrNot, IsTorn}
+use Rattle.rrd_change.specs.Calls.{ArePut, IsSized, IsSizedOrNot}
 use Rattle.rrd_change.specs.Changes.{Change}
 use Rattle.rrd_change.specs.Laws.{IsUnderCut}
 use Rattle.rrd_change.specs.Settled.{cut_mark}
@@ -89,19 +89,6 @@ cut_placed now x f is reach placed put =
         | inr behind ↦ put_behind (cut_front_of now) x f k put (omega (arith, behind, size)) ∙ placed k behind high
       ];
     }
-
-pub cut_or_placed : (old now : List ℕ) (cs : List Change) (log : Log) (x f : List ℕ) → Follows old now cs log → IsPlaced old now cs log x → AreWholeOrNot 0 (cut_front_of now) x f →
-    Represents now f
-cut_or_placed old now cs log x f follows p (inl e) =
-    let P : List ℕ → Type 0 = λ xs. Represents now xs in
-    subst P (sym e) (open_stands old now log.tail cs x follows.leads follows.fill p.is)
-cut_or_placed old now cs log x f follows p (inr put) =
-    inr (inl (cut_placed now x f follows.is (omega (arith, p.is.logged.log.begun, follows.below)) p.placed put))
-
-pub cut_torn : (old now : List ℕ) (cs : List Change) (log : Log) (x f : List ℕ) → Follows old now cs log → IsPlaced old now cs log x → IsTorn 0 (cut_front_of now) x f → Represents now f
-cut_torn old now cs log x f follows p t =
-    cut_or_placed old now cs log x f follows p
-    (t.whole (omega (arith, length-front now follows.is.enough, p.is.logged.log.begun, follows.below, follows.is.enough)))
 
 -- ---- the length
 

@@ -86,3 +86,8 @@ pub does_then : {X E : Type 0} (a : Effect) (b d : X → Effect) (e f : Effect) 
     ((u v w : World) → a u v → e v w → f u w) → Steps a old mid → Does b e r mid new → Does d f r old new
 does_then a b d e f (Ok x) old mid new well badly s t = steps_then a (b x) (d x) old mid new (well x) s t
 does_then a b d e f (Err x) old mid new well badly s t = steps_then a e f old mid new badly s t
+
+-- one effect of a call that ends well, and another one of the same call if it fails
+pub does_of : {X E : Type 0} (a b : X → Effect) (e f : Effect) (r : Result X E) (old new : View) → Does a e r old new → Does b f r old new → Does a f r old new
+does_of a b e f (Ok x) old new s t = s
+does_of a b e f (Err x) old new s t = t

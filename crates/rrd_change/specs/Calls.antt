@@ -48,3 +48,14 @@ pub record IsSized (count : ℕ) (old new : List ℕ) : Type 0 where
 
 abbrev pub IsSizedOrNot : ℕ → List ℕ → List ℕ → Type 0
 IsSizedOrNot count old new = (new ≡ old) ⊎ IsSized count old new
+
+-- bytes from one offset up to another are those of `read`, and all other bytes are unchanged. They were there before
+pub record AreRestored (read : List ℕ) (from end : ℕ) (old new : List ℕ) : Type 0 where
+  pub len : end ≤ length old → length new ≡ length old
+  pub inside : (k : ℕ) → from ≤ k → k < end → slice_index new k ≡ slice_index read k
+  pub outside : (k : ℕ) → (k < from) ⊎ (end ≤ k) → slice_index new k ≡ slice_index old k
+
+-- some of these bytes are, if they were there before
+pub record AreMixed (read : List ℕ) (from end : ℕ) (old new : List ℕ) : Type 0 where
+  pub len : end ≤ length old → length new ≡ length old
+  pub each : end ≤ length old → (k : ℕ) → (slice_index new k ≡ slice_index old k) ⊎ ((from ≤ k) × (k < end) × (slice_index new k ≡ slice_index read k))

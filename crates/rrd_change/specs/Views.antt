@@ -1,6 +1,6 @@
 -- Definition: what is known of a file that is changed, and what calls do to it.
 use Rattle.std.specs.Prelude.{◌≡◌, ◌⊎◌, ℕ, Bool, IsTrue, List, length, Result, Ok, Err}
-use Rattle.rrd_change.specs.Calls.{AreAny, AreAt, ArePut, AreWholeOrNot, IsCut, IsFrontPut, IsSized, IsSizedOrNot, IsTorn}
+use Rattle.rrd_change.specs.Calls.{AreAny, AreAt, AreMixed, ArePut, AreRestored, AreWholeOrNot, IsCut, IsFrontPut, IsSized, IsSizedOrNot, IsTorn}
 use Rattle.rrd_change.specs.declared.calls.Syncs.{Syncs}
 use Rattle.rrd_change.specs.declared.calls.Syncs.TheVariants.{Never, Ordered}
 
@@ -81,6 +81,13 @@ WritesWhole at bytes old new = Moves (ArePut at bytes) (IsTorn at bytes) old new
 abbrev pub FailsToWriteWhole : ℕ → List ℕ → Effect
 FailsToWriteWhole at bytes old new = Moves (AreWholeOrNot at bytes) (IsTorn at bytes) old new
 
+-- the first bytes of the file are written, at most a page
+abbrev pub WritesPage : List ℕ → Effect
+WritesPage bytes old new = Moves (ArePut 0 bytes) (AreAny 0 (length bytes)) old new
+
+abbrev pub FailsToWritePage : List ℕ → Effect
+FailsToWritePage bytes old new = Moves (AreWholeOrNot 0 bytes) (AreAny 0 (length bytes)) old new
+
 abbrev pub Sizes : ℕ → Effect
 Sizes count old new = Moves (IsSized count) (IsSizedOrNot count) old new
 
@@ -105,6 +112,26 @@ pub record Fails (call torn : List ℕ → List ℕ → Type 0) (old new : World
   pub held : call old.held new.held
   pub leave : (c : List ℕ) → new.may_leave c → (b : List ℕ) × old.may_leave b × torn b c
   pub keep : (c : List ℕ) → new.may_keep c → (b : List ℕ) × ((old.may_keep b × call b c) ⊎ (old.may_leave b × torn b c))
+
+-- ---- bytes that are written again
+
+-- bytes are written again as programs read them, sector by sector, since the disk may lack them
+pub record Restores (from end : ℕ) (old new : World) : Type 0 where
+  pub held : new.held ≡ old.held
+  pub leave : (c : List ℕ) → new.may_leave c → (b : List ℕ) × old.may_leave b × AreMixed old.held from end b c
+  pub keep : (c : List ℕ) → new.may_keep c → (b : List ℕ) × old.may_keep b × AreRestored old.held from end b c
+
+-- one of the writes failed
+pub record FailsToRestore (from end : ℕ) (old new : World) : Type 0 where
+  pub held : new.held ≡ old.held
+  pub leave : (c : List ℕ) → new.may_leave c → (b : List ℕ) × old.may_leave b × AreMixed old.held from end b c
+  pub keep : (c : List ℕ) → new.may_keep c → (b : List ℕ) × (old.may_keep b ⊎ old.may_leave b) × AreMixed old.held from end b c
+
+-- all are on the disk again
+pub record StoresAgain (from end : ℕ) (old new : World) : Type 0 where
+  pub held : new.held ≡ old.held
+  pub leave : (c : List ℕ) → new.may_leave c → (b : List ℕ) × old.may_keep b × AreRestored old.held from end b c
+  pub keep : (c : List ℕ) → new.may_keep c → (b : List ℕ) × old.may_keep b × AreRestored old.held from end b c
 
 -- ---- states
 

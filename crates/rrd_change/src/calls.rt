@@ -1,6 +1,6 @@
 //! The calls of a file that is changed.
 ghost use Rattle.std.specs.Prelude.{◌+◌, ◌≤◌, ◌%◌, length, IfOk};
-ghost use Rattle.rrd_change.specs.Views.{Counts, Does, FailsToSize, FailsToWrite, FailsToWriteWhole, IsSynced, IsUnsynced, Reads, Sizes, Stays, View, Writes, WritesWhole};
+ghost use Rattle.rrd_change.specs.Views.{Counts, Does, FailsToSize, FailsToWrite, FailsToWritePage, FailsToWriteWhole, IsSynced, IsUnsynced, Reads, Sizes, Stays, View, Writes, WritesPage, WritesWhole};
 
 use std::io;
 
@@ -17,9 +17,9 @@ pub enum Syncs {
 ///
 /// A kill leaves what the calls before the kill left, and of the call that the kill interrupts what an error of that
 /// call may leave. These clauses assume three things about the system: a kill cuts neither a write within one sector
-/// ([`Bytes::write_whole`]) nor a change of the length ([`Bytes::set_len`]); a power failure leaves all of such a write, or
-/// nothing, if the file had bytes there before; and a sync that ends well stores what was written since the last sync that
-/// failed.
+/// ([`Bytes::write_whole`]) or of the first page ([`Bytes::write_page`]) nor a change of the length ([`Bytes::set_len`]); a
+/// power failure leaves all of a write within one sector, or nothing, if the file had bytes there before; and a sync that
+/// ends well stores what was written since the last sync that failed.
 pub trait Bytes {
     // What is known of the file.
     ghost view: { Self → View };
@@ -58,6 +58,15 @@ pub trait Bytes {
     fn write_whole(&mut self, at: usize, bytes: &[u8]) -> io::Result<()>
         requires { at % 512 + length bytes.now ≤ 512 }
         ensures { Does (λ _. WritesWhole at bytes.now) (FailsToWriteWhole at bytes.now) result (view self.old) (view self.new) };
+
+    /// Writes the first bytes of the file, at most a page.
+    ///
+    /// # Errors
+    ///
+    /// The file then has all of the bytes, or none.
+    fn write_page(&mut self, bytes: &[u8]) -> io::Result<()>
+        requires { length bytes.now ≤ 4096 }
+        ensures { Does (λ _. WritesPage bytes.now) (FailsToWritePage bytes.now) result (view self.old) (view self.new) };
 
     /// Sets the length of the file to `count` bytes: truncates the file, or appends zeros.
     ///

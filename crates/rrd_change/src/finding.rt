@@ -57,8 +57,8 @@ fn lay_log(alloc: Global, database: &mut [u8], bytes: &[u8]) -> io::Result<(Log,
     Ok((log, size))
 }
 
-// Returns the byte at which the log begins, if these bytes begin with a log mark.
-fn log_offset(bytes: &[u8]) -> Option<usize>
+/// Returns the byte at which the log begins, if these bytes begin with a log mark.
+pub(crate) fn log_offset(bytes: &[u8]) -> Option<usize>
     ensures { IsOffset result bytes.now }
 {
     if bytes.len() < 16 {
@@ -125,8 +125,12 @@ fn cut<L: Layout>(alloc: Global, layout: &L, mut bytes: Vec<u8>) -> io::Result<F
     })
 }
 
-// Returns the database that a log leads to. Without a right change the file stands for its own bytes.
-fn with_log(alloc: Global, mut bytes: Vec<u8>, tail: usize) -> io::Result<FoundDatabase>
+/// Returns the database that a log leads to. Without a right change the file stands for its own bytes.
+///
+/// # Errors
+///
+/// Memory ran out.
+pub(crate) fn with_log(alloc: Global, mut bytes: Vec<u8>, tail: usize) -> io::Result<FoundDatabase>
     ensures mark { IfOk result (λ found. IsLogMark found.mark tail bytes.items) }
     ensures database { IfOk result (λ found. take found.size found.bytes.items ≡ laid_over (changes_in tail bytes.items) bytes.items) }
 {

@@ -8,12 +8,13 @@ ghost use Rattle.rrd_change.specs.Changes.{Change};
 ghost use Rattle.rrd_change.specs.Found.{database_of};
 ghost use Rattle.rrd_change.specs.Laws as laws;
 ghost use Rattle.rrd_change.specs.Outcomes.{AllStand, AllStandAsTold, IsEither, IsWhole, RepresentedStands};
-ghost use Rattle.rrd_change.specs.Repairs.{IsMarkedFor};
+ghost use Rattle.rrd_change.specs.Repairs.{IsFound, IsLeft, IsMarkedFor, LogEnd};
+ghost use Rattle.rrd_change.specs.Settled.{settled};
 ghost use Rattle.rrd_change.specs.Spans.{AgreesOutside};
 ghost use Rattle.rrd_change.specs.States.{Began, IsAtRest, IsLogOf, IsMarked};
 ghost use Rattle.rrd_change.specs.Views.{Does, World, seen};
 
-use crate::{Base, Bytes, FoundDatabase, Log, Span, Syncs, replace};
+use crate::{Base, Bytes, FoundDatabase, Layout, Log, Span, Syncs, replace};
 use std::alloc::Global;
 use std::io;
 
@@ -131,17 +132,49 @@ pub fn settled_logs_stand<F: Bytes>(
 
 /// Repairs the file in which a database was found.
 ///
-/// Theorem: whatever a kill or a failure of the power leaves of the file stands for the same database, also if calls failed
-/// or were cut short, syncs too. What is left can be read and repaired again, as often as that fails.
+/// Theorem: after a failure of the power, whatever a kill or another failure of the power leaves of the file stands for the
+/// same database, also if calls failed or were cut short, syncs too. After a kill, or after a call that failed, so does the
+/// file that programs read; the disk may still have the other database of the change that had stopped, until the repair ends
+/// well. What is left can be read and repaired again, as often as that fails.
 ///
 /// # Errors
 ///
 /// As [`FoundDatabase::repair`].
 pub fn repairs_stand<F: Bytes>(file: &mut F, found: &FoundDatabase, syncs: Syncs) -> io::Result<()>
-    ensures { Does
+    ensures alone { Does
         (λ _ (w v : World). (end_of : List ℕ → ℕ) (now : List ℕ) → IsWhole end_of now → database_of found.now ≡ now → IsMarkedFor now found.now.mark w → AllStand end_of (λ b. b ≡ now) v)
         (λ (w v : World). (end_of : List ℕ → ℕ) (now : List ℕ) → IsWhole end_of now → database_of found.now ≡ now → IsMarkedFor now found.now.mark w → AllStand end_of (λ b. b ≡ now) v)
         result (seen syncs (F.view file.old)) (seen syncs (F.view file.new)) }
+    ensures left { Does
+        (λ _ (w v : World). (end_of : List ℕ → ℕ) (end : LogEnd) (other now : List ℕ) → IsWhole end_of now → database_of found.now ≡ now → IsFound end other now found.now.mark w
+        → AllStand end_of (λ b. b ≡ now) v)
+        (λ (w v : World). (end_of : List ℕ → ℕ) (end : LogEnd) (other now : List ℕ) → IsWhole end_of other → IsWhole end_of now → database_of found.now ≡ now
+        → IsFound end other now found.now.mark w → (settled end_of v.held ≡ now) × AllStandAsTold end_of (IsEither other now) v)
+        result (seen syncs (F.view file.old)) (seen syncs (F.view file.new)) }
 {
+    found.repair(file, syncs)
+}
+
+/// Finds the database that a file stands for, and repairs the file. `bytes` are those that programs read.
+///
+/// Theorem: whatever kills, calls that failed and syncs that failed have left of a change, a repair that ends well leaves the
+/// database at rest that programs read, on the disk too. One that fails, or is killed, leaves such a file again, of which
+/// programs read the same database.
+///
+/// # Errors
+///
+/// Memory ran out, or as [`FoundDatabase::repair`].
+pub fn repairs_lead_to_rest<F: Bytes, L: Layout>(
+    alloc: Global,
+    file: &mut F,
+    layout: &L,
+    bytes: Vec<u8>,
+    syncs: Syncs,
+) -> io::Result<()>
+    ensures { Does (λ _ (w v : World). (end : LogEnd) (other now : List ℕ) → IsWhole L.end_of now → w.held ≡ bytes.items → IsLeft end other now w → IsAtRest now v)
+        (λ (w v : World). (end : LogEnd) (other now : List ℕ) → IsWhole L.end_of now → w.held ≡ bytes.items → IsLeft end other now w → IsLeft end other now v) result
+        (seen syncs (F.view file.old)) (seen syncs (F.view file.new)) }
+{
+    let found = FoundDatabase::read(alloc, layout, bytes)?;
     found.repair(file, syncs)
 }

@@ -2,12 +2,15 @@
 ghost use Rattle.std.specs.Prelude.{◌≡◌, ◌+◌, ◌-◌, ◌++◌, ◌∷◌, [], ◌≤◌, ◌<◌, ℕ, List, length, IfOk, OnOk, replicate, slice_range, IsTrue, ◌↔◌};
 ghost use Rattle.rrd_change.specs.Changes.{Change, change_bytes};
 ghost use Rattle.rrd_change.specs.Laws.{Fill, Leads};
+ghost use Rattle.rrd_change.specs.Repairs.{IsLeft, IsStopped, Torn, Whole};
 ghost use Rattle.rrd_change.specs.Settled.{cut_mark, log_mark};
 ghost use Rattle.rrd_change.specs.Spans.{AgreesOutside, AreSpans, change_of};
-ghost use Rattle.rrd_change.specs.States.{AreAnyIn, ArePutIn, Began, IsAtRest, IsBroken, IsDatabase, IsFirst, IsOpen, IsLogOf, IsMarked, IsPlain, Represents, RepresentsEither, cut_of};
+ghost use Rattle.rrd_change.specs.States.{AreAnyIn, ArePutIn, Began, IsAtRest, IsDatabase, IsFirst, IsOpen, IsLogOf, IsMarked, IsPlain, cut_of};
 ghost use Rattle.rrd_change.specs.Views.{All, Does, Fails, Moves, Stores, World, seen};
 
 use crate::encoding::push_change;
+use crate::page::{is_one_write, replace_page};
+use crate::uniting::united;
 use crate::writing::{flush, mark_and_sync, resize_and_sync, write_all, write_and_sync};
 use crate::{Bytes, Span, Syncs};
 use std::alloc::Global;
@@ -135,7 +138,7 @@ fn commit_first<F: Bytes>(
     requires { 0 < length bytes.now }
     ensures end { IfOk result (λ end. end ≡ at + length bytes.now) }
     ensures does { Does (λ _ (w v : World). (old : List ℕ) (c : Change) → IsFirst old tail c at bytes.now → IsMarked old w → All (IsOpen old tail (c ∷ [])) v)
-        (λ (w v : World). (old new : List ℕ) (c : Change) → IsFirst old tail c at bytes.now → Leads old (c ∷ []) new → Fill (length old) (c ∷ []) → IsMarked old w → All (RepresentsEither old new) v) result
+        (λ (w v : World). (old new : List ℕ) (c : Change) → IsFirst old tail c at bytes.now → Leads old (c ∷ []) new → Fill (length old) (c ∷ []) → IsMarked old w → IsStopped Whole old new v) result
         (seen syncs (F.view file.old)) (seen syncs (F.view file.new)) }
 {
     let Some(end) = at.checked_add(bytes.len()) else {
@@ -164,7 +167,7 @@ pub fn begin<F: Bytes>(
     syncs: Syncs,
 ) -> io::Result<Log>
     ensures { Does (λ log (w v : World). (old : List ℕ) → Began base.now old → AgreesOutside changed.now old new.now → IsMarked old w → IsLogOf new.now log v)
-        (λ (w v : World). (old : List ℕ) → Began base.now old → AgreesOutside changed.now old new.now → IsMarked old w → All (RepresentsEither old new.now) v) result
+        (λ (w v : World). (old : List ℕ) → Began base.now old → AgreesOutside changed.now old new.now → IsMarked old w → IsStopped Whole old new.now v) result
         (seen syncs (F.view file.old)) (seen syncs (F.view file.new)) }
 {
     if !is_database(new) {
@@ -197,6 +200,23 @@ fn place<F: Bytes>(file: &mut F, new: &[u8], spans: &[Span], syncs: Syncs) -> io
     flush(file, syncs)
 }
 
+// Brings the bytes of these spans into place. Bytes that are in several spans are written once, if there is memory to unite
+// these: a change that is committed does not fail for want of it.
+fn place_united<F: Bytes>(
+    alloc: Global,
+    file: &mut F,
+    new: &[u8],
+    spans: &[Span],
+    syncs: Syncs,
+) -> io::Result<()>
+    ensures { Does (λ _. Stores (ArePutIn spans.now new.now)) (Fails (AreAnyIn spans.now new.now) (AreAnyIn spans.now new.now)) result (seen syncs (F.view file.old)) (seen syncs (F.view file.new)) }
+{
+    match united(alloc, spans) {
+        Ok(all) => place(file, new, &all, syncs),
+        Err(_) => place(file, new, spans, syncs),
+    }
+}
+
 /// Returns the first sixteen bytes of a database, with a cut mark.
 pub(crate) fn cut_front(new: &[u8]) -> [u8; 16]
     requires { 16 ≤ length new.now }
@@ -215,15 +235,17 @@ impl Log {
     ///
     /// # Errors
     ///
-    /// A call of the file failed. The file stands for the same database.
+    /// A call of the file failed, memory ran out, or `new` is no database. The file stands for the same database, and is
+    /// repaired by what is read of it.
     pub fn settle<F: Bytes>(&self, file: &mut F, new: &[u8], syncs: Syncs) -> io::Result<()>
-        ensures { Does (λ _ (w v : World). IsLogOf new.now self.now w → IsMarked new.now v) (λ (w v : World). IsLogOf new.now self.now w → All (Represents new.now) v) result
+        ensures { Does (λ _ (w v : World). IsLogOf new.now self.now w → IsMarked new.now v) (λ (w v : World). IsLogOf new.now self.now w → IsLeft Whole new.now new.now v) result
             (seen syncs (F.view file.old)) (seen syncs (F.view file.new)) }
     {
         if !is_database(new) {
             return Err(Error::from(ErrorKind::InvalidInput));
         }
-        place(file, new, &self.spans, syncs)?;
+        let alloc = *self.spans.allocator();
+        place_united(alloc, file, new, &self.spans, syncs)?;
         mark_and_sync(file, &cut_front(new), syncs)?;
         resize_and_sync(file, new.len(), syncs)
     }
@@ -262,7 +284,7 @@ impl Log {
         syncs: Syncs,
     ) -> io::Result<()>
         ensures { Does (λ _ (w v : World). (now : List ℕ) → IsLogOf now self.old w → AgreesOutside changed.now now new.now → IsLogOf new.now self.new v)
-            (λ (w v : World). (now : List ℕ) → IsLogOf now self.old w → AgreesOutside changed.now now new.now → IsBroken now new.now v) result
+            (λ (w v : World). (now : List ℕ) → IsLogOf now self.old w → AgreesOutside changed.now now new.now → IsStopped Torn now new.now v) result
             (seen syncs (F.view file.old)) (seen syncs (F.view file.new)) }
     {
         if !is_database(new) {
@@ -293,7 +315,8 @@ impl Log {
 }
 
 /// Replaces a database by `new`: marks the file, writes a log of one change, brings the change into place, and removes the
-/// mark. The write of the log mark commits the change.
+/// mark. The write of the log mark commits the change. Where nothing is synced and one page is enough, one write is the
+/// change.
 ///
 /// Each byte of `new` that is in none of the spans `changed` must also be the byte of the database there, at the same
 /// offset. The spans may be in any order and overlap.
@@ -311,11 +334,14 @@ pub fn replace<F: Bytes>(
     syncs: Syncs,
 ) -> io::Result<()>
     ensures { Does (λ _ (w v : World). (old : List ℕ) → Began base.now old → AgreesOutside changed.now old new.now → IsAtRest old w → IsAtRest new.now v)
-        (λ (w v : World). (old : List ℕ) → Began base.now old → AgreesOutside changed.now old new.now → IsAtRest old w → All (RepresentsEither old new.now) v) result
+        (λ (w v : World). (old : List ℕ) → Began base.now old → AgreesOutside changed.now old new.now → IsAtRest old w → IsStopped Whole old new.now v) result
         (seen syncs (F.view file.old)) (seen syncs (F.view file.new)) }
 {
     if !is_database(new) {
         return Err(Error::from(ErrorKind::InvalidInput));
+    }
+    if is_one_write(base, new, syncs) {
+        return replace_page(file, base, new);
     }
     mark(file, syncs)?;
     let log = begin(alloc, file, base, new, changed, syncs)?;

@@ -1,17 +1,19 @@
 //! Files that stay open: a log is kept, so that a further change is one append.
 ghost use Rattle.std.specs.Prelude.{◌<◌, ℕ, IfOk, IfSome, List, Option};
 ghost use Rattle.rrd_change.specs.Spans.{AgreesOutside};
-ghost use Rattle.rrd_change.specs.States.{Began, IsAtRest, IsBroken, IsKept, IsLogOf, Represents};
-ghost use Rattle.rrd_change.specs.Views.{All, Does, World, seen};
+ghost use Rattle.rrd_change.specs.Repairs.{IsLeft, IsStopped, Torn, Whole};
+ghost use Rattle.rrd_change.specs.States.{Began, IsKept, IsLogOf, IsMarked};
+ghost use Rattle.rrd_change.specs.Views.{Does, World, seen};
 
-use crate::{Base, Bytes, Log, Span, Syncs, begin, unmark};
+use crate::finding::with_log;
+use crate::{Base, Bytes, Log, Span, Syncs, begin};
 use std::alloc::Global;
 use std::io;
 
 // Brings the changes of a log into place if there are enough of them. Returns the log otherwise.
 fn keep<F: Bytes>(file: &mut F, log: Log, new: &[u8], syncs: Syncs) -> io::Result<Option<Log>>
     ensures few { IfOk result (λ kept. IfSome kept (λ rest. rest.changes < 16)) }
-    ensures does { Does (λ kept (w v : World). IsLogOf new.now log w → IsKept new.now kept v) (λ (w v : World). IsLogOf new.now log w → All (Represents new.now) v) result
+    ensures does { Does (λ kept (w v : World). IsLogOf new.now log w → IsKept new.now kept v) (λ (w v : World). IsLogOf new.now log w → IsLeft Whole new.now new.now v) result
         (seen syncs (F.view file.old)) (seen syncs (F.view file.new)) }
 {
     if !log.is_due() {
@@ -21,16 +23,53 @@ fn keep<F: Bytes>(file: &mut F, log: Log, new: &[u8], syncs: Syncs) -> io::Resul
     Ok(None)
 }
 
+// Settles a log that is too short for the next database. The file then is the database before the change, under a cut mark.
+fn make_room<F: Bytes>(alloc: Global, file: &mut F, log: &Log, syncs: Syncs) -> io::Result<()>
+    ensures { Does (λ _ (w v : World). (now : List ℕ) → IsLogOf now log.now w → IsMarked now v) (λ (w v : World). (now : List ℕ) → IsLogOf now log.now w → IsLeft Whole now now v) result
+        (seen syncs (F.view file.old)) (seen syncs (F.view file.new)) }
+{
+    let mut bytes = Vec::new(alloc);
+    file.read(0, log.end, &mut bytes)?;
+    let found = with_log(alloc, bytes, log.tail)?;
+    log.settle(file, found.database(), syncs)
+}
+
+// Appends a change to the log, or begins a log with it if there is none, or none that leaves the database enough room.
+fn commit<F: Bytes>(
+    alloc: Global,
+    file: &mut F,
+    log: Option<Log>,
+    base: &Base,
+    new: &[u8],
+    changed: &[Span],
+    syncs: Syncs,
+) -> io::Result<Log>
+    ensures { Does (λ next (w v : World). (now : List ℕ) → Began base.now now → AgreesOutside changed.now now new.now → IsKept now log w → IsLogOf new.now next v)
+        (λ (w v : World). (now : List ℕ) → Began base.now now → AgreesOutside changed.now now new.now → IsKept now log w → IsStopped Torn now new.now v) result
+        (seen syncs (F.view file.old)) (seen syncs (F.view file.new)) }
+{
+    let Some(mut kept) = log else {
+        return begin(alloc, file, base, new, changed, syncs);
+    };
+    if kept.has_room(new.len()) {
+        kept.append(alloc, file, new, changed, syncs)?;
+        return Ok(kept);
+    }
+    make_room(alloc, file, &kept, syncs)?;
+    begin(alloc, file, base, new, changed, syncs)
+}
+
 /// Changes a file that stays open: it stands for `new` afterwards. The first change begins a log, a further one is one
-/// append, and after sixteen all are brought into place. The file needs a mark before the first change ([`crate::mark`]).
+/// append, and after sixteen all are brought into place; so they are before a database that would reach into the log, for
+/// which a new log begins. The file needs a mark before the first change ([`crate::mark`]).
 ///
 /// `log` is what the call before has returned, and `base` is how the database began before this change. Each byte of `new`
 /// that is in none of the spans `changed` must also be the byte of the database there, at the same offset.
 ///
 /// # Errors
 ///
-/// As [`begin`] and [`Log::append`]. The file stands for the database before the change or after it, and must be settled
-/// before it is changed again.
+/// A call of the file failed, memory ran out, `new` is no database, or a span is not within it. The file stands for the
+/// database before the change or after it, and must be repaired before it is changed again.
 pub fn change<F: Bytes>(
     alloc: Global,
     file: &mut F,
@@ -42,17 +81,9 @@ pub fn change<F: Bytes>(
 ) -> io::Result<Option<Log>>
     ensures few { IfOk result (λ kept. IfSome kept (λ rest. rest.changes < 16)) }
     ensures does { Does (λ kept (w v : World). (now : List ℕ) → Began base.now now → AgreesOutside changed.now now new.now → IsKept now log w → IsKept new.now kept v)
-        (λ (w v : World). (now : List ℕ) → Began base.now now → AgreesOutside changed.now now new.now → IsKept now log w → IsBroken now new.now v) result
+        (λ (w v : World). (now : List ℕ) → Began base.now now → AgreesOutside changed.now now new.now → IsKept now log w → IsStopped Torn now new.now v) result
         (seen syncs (F.view file.old)) (seen syncs (F.view file.new)) }
 {
-    match log {
-        None => {
-            let begun = begin(alloc, file, base, new, changed, syncs)?;
-            keep(file, begun, new, syncs)
-        }
-        Some(mut kept) => {
-            kept.append(alloc, file, new, changed, syncs)?;
-            keep(file, kept, new, syncs)
-        }
-    }
+    let next = commit(alloc, file, log, base, new, changed, syncs)?;
+    keep(file, next, new, syncs)
 }

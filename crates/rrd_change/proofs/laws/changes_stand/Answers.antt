@@ -1,9 +1,10 @@
 use Rattle.rrd_change.proofs.Holding.{does_as}
 use Rattle.rrd_change.proofs.Outcomes.{either_stand, rest_stands}
+use Rattle.rrd_change.proofs.Stopping.{stopped_either}
 use Rattle.rrd_change.proofs.laws.changes_stand.Goals as goal
 
 pub returns : goal.returns
 returns g c =
     let new = c.args.new.now in
     does_as _ _ _ _ c.replace.result _ _ (λ x u v s end_of old was is began agrees rest. rest_stands end_of new v is (s old began agrees rest))
-    (λ u v s end_of old was is began agrees rest. either_stand end_of old new v was is (s old began agrees rest)) c.replace.ensures
+    (λ u v s end_of old was is began agrees rest. either_stand end_of old new v was is (stopped_either old new v (s old began agrees rest))) c.replace.ensures

@@ -1,21 +1,22 @@
-use Rattle.std.proofs.Common.{rules, ◌≡◌, ◌++◌, List, [], ◌∷◌, length, ◌∙◌, ap, max, refl}
+use Rattle.std.proofs.Common.{rules, ◌≡◌, ◌++◌, List, [], ◌∷◌, length, ◌∙◌, ap, max, refl, inl, inr}
 use Rattle.rrd_change.specs.Spans.{AreSpans, change_of}
 use Rattle.rrd_change.specs.States.{IsDatabase}
 use Rattle.rrd_change.specs.declared.log.Log.{Log}
 use Rattle.rrd_change.specs.declared.span.Span.{Span}
-use Rattle.rrd_change.proofs.Beginning.{fill_first, first_made, follows_first, leads_first, marked_stands}
+use Rattle.rrd_change.proofs.Beginning.{fill_first, first_made, follows_first, leads_first}
 use Rattle.rrd_change.proofs.Stepping.{failed, nothing, steps_as}
+use Rattle.rrd_change.proofs.Stopping.{marked_left}
 use Rattle.rrd_change.proofs.log.begin.Goals as goal
 
 pub returns-then-not-is_database : goal.returns-then-not-is_database
-returns-then-not-is_database g c = nothing _ _ (λ w old began agrees marked. marked_stands old c.args.new.now w marked)
+returns-then-not-is_database g c = nothing _ _ (λ w old began agrees marked. inl (inr (inl (marked_left c.args.new.now old w marked))))
 
 pub returns-in_err-bytes : goal.returns-in_err-bytes
-returns-in_err-bytes g c = failed _ _ c.from_residual.result _ _ c.from_residual.ensures.0 (nothing _ _ (λ w old began agrees marked. marked_stands old c.args.new.now w marked))
+returns-in_err-bytes g c = failed _ _ c.from_residual.result _ _ c.from_residual.ensures.0 (nothing _ _ (λ w old began agrees marked. inl (inr (inl (marked_left c.args.new.now old w marked)))))
 
 pub returns-in_err-extend_from_slice : goal.returns-in_err-extend_from_slice
 returns-in_err-extend_from_slice g c =
-    failed _ _ c.from_residual-in_err-extend_from_slice.result _ _ c.from_residual-in_err-extend_from_slice.ensures.0 (nothing _ _ (λ w old began agrees marked. marked_stands old c.args.new.now w marked))
+    failed _ _ c.from_residual-in_err-extend_from_slice.result _ _ c.from_residual-in_err-extend_from_slice.ensures.0 (nothing _ _ (λ w old began agrees marked. inl (inr (inl (marked_left c.args.new.now old w marked)))))
 
 pub returns-in_err-end : goal.returns-in_err-end
 returns-in_err-end g c =

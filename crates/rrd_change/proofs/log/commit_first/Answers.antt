@@ -1,17 +1,18 @@
 use Rattle.std.proofs.Common.{◌≡◌, ◌<◌, ◌^◌, ℕ, List, [], ◌∷◌, length, arith, inl, inr, subst}
 use Rattle.rrd_change.specs.Calls.{AreAny, ArePut, AreWholeOrNot, IsCut, IsTorn}
 use Rattle.rrd_change.specs.Settled.{log_mark}
-use Rattle.rrd_change.specs.States.{IsOpen, IsReady, RepresentsEither, cut_of}
+use Rattle.rrd_change.specs.Laws.{IsUnderCut}
+use Rattle.rrd_change.specs.States.{IsOpen, IsReady, cut_of}
 use Rattle.rrd_change.specs.Views.{Fails, Steps, Stores, seen}
-use Rattle.rrd_change.proofs.Beginning.{IsReadyOrOpen, behind_stands, either_stands, open_or_not, open_put, open_torn, ready_put}
-use Rattle.rrd_change.proofs.Holding.{all_as, fails_all, stores_all}
-use Rattle.rrd_change.proofs.Marking.{cut_under}
+use Rattle.rrd_change.proofs.Beginning.{IsReadyOrOpen, behind_stands, open_or_not, open_put, open_torn, ready_put}
+use Rattle.rrd_change.proofs.Holding.{fails_all, stores_all}
 use Rattle.rrd_change.proofs.Stepping.{failed, nothing, steps_as, steps_then}
+use Rattle.rrd_change.proofs.Stopping.{begun_stopped, marked_left, under_left}
 use Rattle.rrd_change.proofs.log.commit_first.Goals as goal
 
 pub returns-in_default-clause-does : goal.returns-in_default-clause-does
 returns-in_default-clause-does g c =
-    nothing _ _ (λ w old new x first leads fill marked. all_as (λ f. f ≡ cut_of old) (RepresentsEither old new) w (λ f e. inl (inr (inl (cut_under old f marked.is e)))) marked.world)
+    nothing _ _ (λ w old new x first leads fill marked. inl (inr (inl (marked_left new old w marked))))
 
 pub returns-in_err-write_and_sync-clause-does : goal.returns-in_err-write_and_sync-clause-does
 returns-in_err-write_and_sync-clause-does g c =
@@ -19,9 +20,9 @@ returns-in_err-write_and_sync-clause-does g c =
     let bytes = c.args.bytes.now in
     failed _ _ c.from_residual.result _ _ c.from_residual.ensures.0
     (steps_as (Fails (IsCut at bytes) (AreAny at (length bytes))) _ _ _ (λ u v s old new x first leads fill marked.
-    fails_all (λ f. f ≡ cut_of old) (RepresentsEither old new) (IsCut at bytes) (AreAny at (length bytes)) u v
-    (λ y f e cut. inl (inr (inl (behind_stands old y f at (length bytes) marked.is e first.behind cut.any))))
-    (λ y f e any. inl (inr (inl (behind_stands old y f at (length bytes) marked.is e first.behind any)))) s marked.world) c.in_err-write_and_sync.ensures)
+    inl (inr (inl (under_left new old v marked.is (fails_all (λ f. f ≡ cut_of old) (IsUnderCut old) (IsCut at bytes) (AreAny at (length bytes)) u v
+    (λ y f e cut. behind_stands old y f at (length bytes) marked.is e first.behind cut.any)
+    (λ y f e any. behind_stands old y f at (length bytes) marked.is e first.behind any) s marked.world))))) c.in_err-write_and_sync.ensures)
 
 pub returns-in_err-mark_and_sync-clause-does : goal.returns-in_err-mark_and_sync-clause-does
 returns-in_err-mark_and_sync-clause-does g c =
@@ -35,7 +36,7 @@ returns-in_err-mark_and_sync-clause-does g c =
     let P : List ℕ → Type 0 = λ m. Steps (Fails (AreWholeOrNot 0 m) (IsTorn 0 m)) mid new in
     failed _ _ c.from_residual-in_err-mark_and_sync.result _ _ c.from_residual-in_err-mark_and_sync.ensures.0
     (steps_then (Stores (ArePut at bytes)) (Fails (AreWholeOrNot 0 (log_mark tail)) (IsTorn 0 (log_mark tail))) _ _ mid new (λ u v w s f old now x first leads fill marked.
-    all_as (IsReadyOrOpen old tail (x ∷ [])) (RepresentsEither old now) w (λ y is. either_stands old now tail (x ∷ []) y leads fill is)
+    begun_stopped old now tail (x ∷ []) w first.is first.below leads fill
     (fails_all (IsReady old tail (x ∷ [])) (IsReadyOrOpen old tail (x ∷ [])) (AreWholeOrNot 0 (log_mark tail)) (IsTorn 0 (log_mark tail)) v w
     (λ y z ready put. open_or_not old tail (x ∷ []) y z ready put) (λ y z ready torn. open_torn old tail (x ∷ []) y z ready torn) f
     (stores_all (λ y. y ≡ cut_of old) (IsReady old tail (x ∷ [])) (ArePut at bytes) u v (λ y z e put. ready_put old tail x at bytes y z first c.ranges.tail.fits few e put) s marked.world)))

@@ -1,30 +1,42 @@
-use Rattle.std.proofs.Common.{◌≡◌, ℕ, List, sym, subst, ◌∙◌}
-use Rattle.rrd_change.specs.Repairs.{IsLogLeft, IsMarkedFor, IsUncut}
-use Rattle.rrd_change.specs.States.{IsAtRest, Represents}
-use Rattle.rrd_change.specs.Views.{All, World}
+use Rattle.std.proofs.Common.{◌≡◌, ℕ, List, sym, subst, ◌∙◌, inl, refl}
+use Rattle.rrd_change.specs.Repairs.{IsCutLeft, IsFound, IsLeft, IsLogFound, LogEnd}
+use Rattle.rrd_change.specs.States.{IsAtRest}
+use Rattle.rrd_change.specs.Views.{World}
 use Rattle.rrd_change.specs.declared.finding.Mark.{Mark}
 use Rattle.rrd_change.proofs.Holding.{does_as}
-use Rattle.rrd_change.proofs.Restoring.{cut_uncut, log_left, missing_rests, uncut_all}
-use Rattle.rrd_change.proofs.Stepping.{nothing}
+use Rattle.rrd_change.proofs.Restoring.{found_cut, found_log, missing_rests}
+use Rattle.rrd_change.proofs.Stepping.{does_of, nothing}
+use Rattle.rrd_change.proofs.Stopping.{left_as}
 use Rattle.rrd_change.proofs.finding.FoundDatabase.repair.Goals as goal
 
 pub returns-in-Missing : goal.returns-in-Missing
-returns-in-Missing g c = nothing _ _ (λ w now e h. let P : Mark → Type 0 = λ m. IsMarkedFor now m w in missing_rests now w (subst P c.in-Missing.is h))
+returns-in-Missing g c =
+    nothing _ _ (λ w end other now e h. let P : Mark → Type 0 = λ m. IsFound end other now m w in missing_rests end other now w (subst P c.in-Missing.is h))
 
 pub returns-in-Cut : goal.returns-in-Cut
 returns-in-Cut g c =
     let found = c.database.result.now in
-    let uncut : (now : List ℕ) (u : World) → found ≡ now → IsMarkedFor now c.args.self.now.mark u → IsUncut now found u =
-    λ now u e h. let P : Mark → Type 0 = λ m. IsMarkedFor now m u in let Q : List ℕ → Type 0 = λ xs. IsUncut now xs u in subst Q (sym e) (cut_uncut now u (subst P c.in-Cut.is h)) in
+    let cut : (end : LogEnd) (other now : List ℕ) (u : World) → found ≡ now → IsFound end other now c.args.self.now.mark u → IsCutLeft other found u = λ end other now u e h.
+    let P : Mark → Type 0 = λ m. IsFound end other now m u in
+    let Q : List ℕ → Type 0 = λ xs. IsCutLeft other xs u in
+    subst Q (sym e) (found_cut end other now u (subst P c.in-Cut.is h)) in
     does_as _ _ _ _ c.finish_cut.result _ _
-    (λ x u v s now e h. let P : List ℕ → Type 0 = λ xs. IsAtRest xs v in let same = c.database.ensures ∙ e in subst P same (s now (uncut now u same h)))
-    (λ u v s now e h. let P : List ℕ → Type 0 = λ xs. IsUncut now xs v in let same = c.database.ensures ∙ e in uncut_all now v (subst P same (s now (uncut now u same h)))) c.finish_cut.ensures
+    (λ x u v s end other now e h. let P : List ℕ → Type 0 = λ xs. IsAtRest xs v in let same = c.database.ensures ∙ e in subst P same (s other (cut end other now u same h).uncut))
+    (λ u v s end other now e h.
+    let P : List ℕ → Type 0 = λ xs. IsLeft end other xs v in
+    let same = c.database.ensures ∙ e in
+    subst P same (left_as end other other found v (inl refl) (s other (cut end other now u same h))))
+    (does_of _ _ _ _ c.finish_cut.result _ _ c.finish_cut.ensures.uncut c.finish_cut.ensures.left)
 
 pub returns-in-Log : goal.returns-in-Log
 returns-in-Log g c =
     let found = c.database-in-Log.result.now in
-    let left : (now : List ℕ) (u : World) → found ≡ now → IsMarkedFor now c.args.self.now.mark u → IsLogLeft found c.in-Log.log u =
-    λ now u e h. let P : Mark → Type 0 = λ m. IsMarkedFor now m u in let Q : List ℕ → Type 0 = λ xs. IsLogLeft xs c.in-Log.log u in subst Q (sym e) (log_left now c.in-Log.log u (subst P c.in-Log.is h)) in
+    let log = c.in-Log.log in
+    let left : (end : LogEnd) (other now : List ℕ) (u : World) → found ≡ now → IsFound end other now c.args.self.now.mark u → IsLogFound end other found log u = λ end other now u e h.
+    let P : Mark → Type 0 = λ m. IsFound end other now m u in
+    let Q : List ℕ → Type 0 = λ xs. IsLogFound end other xs log u in
+    subst Q (sym e) (found_log end other now log u (subst P c.in-Log.is h)) in
     does_as _ _ _ _ c.finish_log.result _ _
-    (λ x u v s now e h. let P : List ℕ → Type 0 = λ xs. IsAtRest xs v in let same = c.database-in-Log.ensures ∙ e in subst P same (s (left now u same h)))
-    (λ u v s now e h. let P : List ℕ → Type 0 = λ xs. All (Represents xs) v in let same = c.database-in-Log.ensures ∙ e in subst P same (s (left now u same h))) c.finish_log.ensures
+    (λ x u v s end other now e h. let P : List ℕ → Type 0 = λ xs. IsAtRest xs v in let same = c.database-in-Log.ensures ∙ e in subst P same (s end other (left end other now u same h)))
+    (λ u v s end other now e h. let P : List ℕ → Type 0 = λ xs. IsLeft end other xs v in let same = c.database-in-Log.ensures ∙ e in subst P same (s end other (left end other now u same h)))
+    c.finish_log.ensures

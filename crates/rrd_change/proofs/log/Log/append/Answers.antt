@@ -1,34 +1,36 @@
-use Rattle.std.proofs.Common.{rules, ◌≡◌, ◌<◌, ◌≤◌, ◌+◌, ◌^◌, ◌++◌, ◌∙◌, ap, ℕ, List, [], ◌∷◌, length, arith, refl}
+use Rattle.std.proofs.Common.{rules, ◌≡◌, ◌<◌, ◌≤◌, ◌+◌, ◌^◌, ◌++◌, ◌∙◌, ap, ℕ, List, [], ◌∷◌, length, arith, refl, inl, inr}
 use Rattle.rrd_change.specs.Calls.{AreAny, ArePut, IsCut}
 use Rattle.rrd_change.specs.Changes.{change_bytes, change_size}
+use Rattle.rrd_change.specs.Repairs.{Torn}
 use Rattle.rrd_change.specs.Spans.{AreSpans, change_of}
 use Rattle.rrd_change.specs.States.{IsDatabase, IsOpen}
 use Rattle.rrd_change.specs.Views.{Fails, Stores}
 use Rattle.rrd_change.specs.declared.log.Log.{Log}
-use Rattle.rrd_change.proofs.Appending.{append_failed, count_fits, fill_next, follows_more, log_unbroken, next_made, whole_appended}
+use Rattle.rrd_change.proofs.Appending.{append_stopped, count_fits, fill_next, follows_more, next_made, whole_appended}
 use Rattle.rrd_change.proofs.Holding.{stores_all}
 use Rattle.rrd_change.proofs.Reading.{length-change}
 use Rattle.rrd_change.proofs.Spanned.{spans_make}
 use Rattle.rrd_change.proofs.Stepping.{failed, nothing, steps_as}
+use Rattle.rrd_change.proofs.Stopping.{log_left}
 use Rattle.rrd_change.proofs.log.Log.append.Goals as goal
 
 pub returns-then-not-is_database : goal.returns-then-not-is_database
-returns-then-not-is_database g c = nothing _ _ (λ w now is agrees. log_unbroken now c.args.new.now c.args.self.now w is)
+returns-then-not-is_database g c = nothing _ _ (λ w now is agrees. inl (inr (inr (log_left Torn c.args.new.now now c.args.self.now w is))))
 
 pub returns-then-self-new : goal.returns-then-self-new
-returns-then-self-new g c = nothing _ _ (λ w now is agrees. log_unbroken now c.args.new.now c.args.self.now w is)
+returns-then-self-new g c = nothing _ _ (λ w now is agrees. inl (inr (inr (log_left Torn c.args.new.now now c.args.self.now w is))))
 
 pub returns-in_err-push_change : goal.returns-in_err-push_change
 returns-in_err-push_change g c =
-    failed _ _ c.from_residual.result _ _ c.from_residual.ensures.0 (nothing _ _ (λ w now is agrees. log_unbroken now c.args.new.now c.args.self.now w is))
+    failed _ _ c.from_residual.result _ _ c.from_residual.ensures.0 (nothing _ _ (λ w now is agrees. inl (inr (inr (log_left Torn c.args.new.now now c.args.self.now w is)))))
 
 pub returns-in_default : goal.returns-in_default
-returns-in_default g c = nothing _ _ (λ w now is agrees. log_unbroken now c.args.new.now c.args.self.now w is)
+returns-in_default g c = nothing _ _ (λ w now is agrees. inl (inr (inr (log_left Torn c.args.new.now now c.args.self.now w is))))
 
 pub returns-in_err-extend_from_slice : goal.returns-in_err-extend_from_slice
 returns-in_err-extend_from_slice g c =
     failed _ _ c.from_residual-in_err-extend_from_slice.result _ _ c.from_residual-in_err-extend_from_slice.ensures.0
-    (nothing _ _ (λ w now is agrees. log_unbroken now c.args.new.now c.args.self.now w is))
+    (nothing _ _ (λ w now is agrees. inl (inr (inr (log_left Torn c.args.new.now now c.args.self.now w is)))))
 
 pub returns-in_err-write_and_sync : goal.returns-in_err-write_and_sync
 returns-in_err-write_and_sync g c =
@@ -46,7 +48,7 @@ returns-in_err-write_and_sync g c =
     let few : length bytes < 2 ^ 64 = omega (arith, c.deref.ensures.len, c.push_change.new.buffer.ok.0, ap length same, c.in-Some.ensures) in
     failed _ _ c.from_residual-in_err-write_and_sync.result _ _ c.from_residual-in_err-write_and_sync.ensures.0
     (steps_as (Fails (IsCut at bytes) (AreAny at (length bytes))) _ _ _ (λ u v f now is agrees.
-    append_failed is.old now new log.tail at is.changes (change_of (length new) new changed) bytes u v
+    append_stopped is.old now new log.tail at is.changes (change_of (length new) new changed) bytes u v
     (next_made is.old now new is.changes log changed bytes is.follows is_new are below spelled is.world.held.logged.log.fits few) is.follows.leads
     (spans_make changed now new are agrees) is.follows.fill (fill_next is.old now new is.changes log changed is.follows are agrees) is.world f) c.in_err-write_and_sync.ensures)
 

@@ -1,30 +1,32 @@
 use Rattle.std.proofs.Common.{rules, ◌≡◌, ℕ, List, length, inl, inr, subst}
 use Rattle.rrd_change.specs.Calls.{ArePut, AreWholeOrNot, IsSized, IsSizedOrNot, IsTorn}
 use Rattle.rrd_change.specs.Laws.{IsUnderCut}
-use Rattle.rrd_change.specs.States.{AreAnyIn, ArePutIn, IsDatabase, IsLogOf, IsOpen, Represents, cut_of}
+use Rattle.rrd_change.specs.Repairs.{Whole}
+use Rattle.rrd_change.specs.States.{AreAnyIn, ArePutIn, IsDatabase, IsLogOf, IsOpen, cut_of}
 use Rattle.rrd_change.specs.Views.{All, Effect, Fails, Steps, Stores, seen}
 use Rattle.rrd_change.specs.declared.span.Span.{Span}
-use Rattle.rrd_change.proofs.Beginning.{open_stands}
-use Rattle.rrd_change.proofs.Holding.{all_as, fails_all, stores_all}
-use Rattle.rrd_change.proofs.Settling.{IsPlaced, cut_front_of, cut_or_placed, cut_placed, cut_sized, cut_torn, log_stands_all, open_any, placed_put, reach_placed, sized_stands}
+use Rattle.rrd_change.proofs.Holding.{fails_all, stores_all}
+use Rattle.rrd_change.proofs.Relogging.{old_below}
+use Rattle.rrd_change.proofs.Settling.{IsPlaced, cut_front_of, cut_placed, cut_sized, open_any, placed_put, reach_placed, sized_stands}
 use Rattle.rrd_change.proofs.Stepping.{does_then, failed, nothing, steps_as, steps_then}
+use Rattle.rrd_change.proofs.Stopping.{IsPlacedOrCut, front_left, log_left, open_left, placed_or_cut, placed_or_torn, under_left}
 use Rattle.rrd_change.proofs.log.Log.settle.Goals as goal
 
 pub returns-then-not-is_database : goal.returns-then-not-is_database
-returns-then-not-is_database g c = nothing _ _ (λ w is. log_stands_all c.args.new.now c.args.self.now w is)
+returns-then-not-is_database g c = nothing _ _ (λ w is. inr (inr (log_left Whole c.args.new.now c.args.new.now c.args.self.now w is)))
 
-pub returns-in_err-place : goal.returns-in_err-place
-returns-in_err-place g c =
+pub returns-in_err-place_united : goal.returns-in_err-place_united
+returns-in_err-place_united g c =
     let new = c.args.new.now in
     let log = c.args.self.now in
     let spans = log.spans.items in
-    let P : List Span → Type 0 = λ xs. Steps (Fails (AreAnyIn xs new) (AreAnyIn xs new)) (seen c.args.syncs (g.F.Bytes.view c.args.file.now)) (seen c.args.syncs (g.F.Bytes.view c.place.new.file)) in
+    let P : List Span → Type 0 = λ xs. Steps (Fails (AreAnyIn xs new) (AreAnyIn xs new)) (seen c.args.syncs (g.F.Bytes.view c.args.file.now)) (seen c.args.syncs (g.F.Bytes.view c.place_united.new.file)) in
     failed _ _ c.from_residual.result _ _ c.from_residual.ensures.0
     (steps_as (Fails (AreAnyIn spans new) (AreAnyIn spans new)) _ _ _ (λ u v s is.
-    all_as (IsOpen is.old log.tail is.changes) (Represents new) v (λ f is_open. open_stands is.old new log.tail is.changes f is.follows.leads is.follows.fill is_open)
+    inr (inr (open_left Whole new new is.old log.tail is.changes v is.follows.leads is.follows.fill
     (fails_all (IsOpen is.old log.tail is.changes) (IsOpen is.old log.tail is.changes) (AreAnyIn spans new) (AreAnyIn spans new) u v
-    (λ x f is_open any. open_any is.old new is.changes log x f is.follows is_open any) (λ x f is_open any. open_any is.old new is.changes log x f is.follows is_open any) s is.world))
-    (subst P c.deref.ensures.value c.in_err-place.ensures))
+    (λ x f is_open any. open_any is.old new is.changes log x f is.follows is_open any) (λ x f is_open any. open_any is.old new is.changes log x f is.follows is_open any) s is.world))))
+    (subst P c.deref.ensures.value c.in_err-place_united.ensures))
 
 pub returns-in_err-mark_and_sync : goal.returns-in_err-mark_and_sync
 returns-in_err-mark_and_sync g c =
@@ -33,17 +35,18 @@ returns-in_err-mark_and_sync g c =
     let spans = log.spans.items in
     let syncs = c.args.syncs in
     let old = seen syncs (g.F.Bytes.view c.args.file.now) in
-    let mid = seen syncs (g.F.Bytes.view c.place.new.file) in
+    let mid = seen syncs (g.F.Bytes.view c.place_united.new.file) in
     let after = seen syncs (g.F.Bytes.view c.mark_and_sync.new.file) in
     let front = cut_front_of new in
     let P : List Span → Type 0 = λ xs. Steps (Stores (ArePutIn xs new)) old mid in
     let Q : List ℕ → Type 0 = λ m. Steps (Fails (AreWholeOrNot 0 m) (IsTorn 0 m)) mid after in
     failed _ _ c.from_residual-in_err-mark_and_sync.result _ _ c.from_residual-in_err-mark_and_sync.ensures.0
     (steps_then (Stores (ArePutIn spans new)) (Fails (AreWholeOrNot 0 front) (IsTorn 0 front)) _ old mid after (λ u v w s f is.
-    fails_all (IsPlaced is.old new is.changes log) (Represents new) (AreWholeOrNot 0 front) (IsTorn 0 front) v w
-    (λ x y placed put. cut_or_placed is.old new is.changes log x y is.follows placed put) (λ x y placed torn. cut_torn is.old new is.changes log x y is.follows placed torn) f
-    (stores_all (IsOpen is.old log.tail is.changes) (IsPlaced is.old new is.changes log) (ArePutIn spans new) u v (λ x y is_open put. placed_put is.old new is.changes log x y is.follows is_open put) s is.world))
-    (subst P c.deref.ensures.value c.in_ok-place.ensures) (subst Q c.cut_front.ensures c.in_err-mark_and_sync.ensures))
+    let below = old_below is.old log.tail is.changes u.held is.world.held.logged in
+    front_left is.old new is.changes log w is.follows (fails_all (IsPlaced is.old new is.changes log) (IsPlacedOrCut is.old new is.changes log) (AreWholeOrNot 0 front) (IsTorn 0 front) v w
+    (λ x y placed put. placed_or_cut is.old new is.changes log x y is.follows below placed put) (λ x y placed torn. placed_or_torn is.old new is.changes log x y is.follows below placed torn) f
+    (stores_all (IsOpen is.old log.tail is.changes) (IsPlaced is.old new is.changes log) (ArePutIn spans new) u v (λ x y is_open put. placed_put is.old new is.changes log x y is.follows is_open put) s is.world)))
+    (subst P c.deref.ensures.value c.in_ok-place_united.ensures) (subst Q c.cut_front.ensures c.in_err-mark_and_sync.ensures))
 
 pub returns : goal.returns
 returns g c =
@@ -52,7 +55,7 @@ returns g c =
     let spans = log.spans.items in
     let syncs = c.args.syncs in
     let old = seen syncs (g.F.Bytes.view c.args.file.now) in
-    let mid = seen syncs (g.F.Bytes.view c.place.new.file) in
+    let mid = seen syncs (g.F.Bytes.view c.place_united.new.file) in
     let cut = seen syncs (g.F.Bytes.view c.mark_and_sync.new.file) in
     let after = seen syncs (g.F.Bytes.view c.resize_and_sync.new.file) in
     let front = cut_front_of new in
@@ -62,11 +65,11 @@ returns g c =
     let Under : Effect = λ u w. IsLogOf new log u → All (IsUnderCut new) w in
     does_then Under _ _ _ _ c.resize_and_sync.result old cut after
     (λ x u v w under s is. record { is = is_new; world = stores_all (IsUnderCut new) (λ f. f ≡ cut_of new) (IsSized (length new)) v w (λ y z h sized. cut_sized new y z is_new h sized) s (under is) })
-    (λ u v w under f is. all_as (IsUnderCut new) (Represents new) w (λ y h. inr (inl h))
-    (fails_all (IsUnderCut new) (IsUnderCut new) (IsSizedOrNot (length new)) (IsSizedOrNot (length new)) v w (λ y z h sized. sized_stands new y z h sized) (λ y z h sized. sized_stands new y z h sized) f (under is)))
+    (λ u v w under f is. inr (inl (under_left new new w is_new
+    (fails_all (IsUnderCut new) (IsUnderCut new) (IsSizedOrNot (length new)) (IsSizedOrNot (length new)) v w (λ y z h sized. sized_stands new y z h sized) (λ y z h sized. sized_stands new y z h sized) f (under is)))))
     (steps_then (Stores (ArePutIn spans new)) (Stores (ArePut 0 front)) Under old mid cut (λ u v w s f is.
     stores_all (IsPlaced is.old new is.changes log) (IsUnderCut new) (ArePut 0 front) v w
     (λ x y placed put. cut_placed new x y is_new (reach_placed is.old new is.changes log x is.follows placed) placed.placed put) f
     (stores_all (IsOpen is.old log.tail is.changes) (IsPlaced is.old new is.changes log) (ArePutIn spans new) u v (λ x y is_open put. placed_put is.old new is.changes log x y is.follows is_open put) s is.world))
-    (subst P c.deref.ensures.value c.in_ok-place.ensures) (subst Q c.cut_front.ensures c.in_ok-mark_and_sync.ensures))
+    (subst P c.deref.ensures.value c.in_ok-place_united.ensures) (subst Q c.cut_front.ensures c.in_ok-mark_and_sync.ensures))
     c.resize_and_sync.ensures

@@ -1,0 +1,24 @@
+-- Lemmas on whether a file has a mark.
+use Rattle.std.proofs.Common.{◌≡◌, ◌↔◌, ℕ, Bool, true, false, List, Option, Some, None, IsSome, IsTrue, refl, sym, ◌∙◌, ap, subst}
+use Rattle.std.proofs.lemmas.Bool.{true≢false}
+use Rattle.std.specs.Option.{is_some}
+use Rattle.rrd_change.specs.Bytes.{begins_with}
+use Rattle.rrd_change.specs.Read.{IsOffset}
+use Rattle.rrd_change.specs.Settled.{Mark, cut_mark, log_mark, mark_of, spelled_tail}
+
+pub by_cut : (file : List ℕ) → begins_with file cut_mark ≡ true → IsSome (mark_of file)
+unfolding mark_of
+by_cut file begins = rw begins refl
+
+pub by_log : (file : List ℕ) → begins_with file cut_mark ≡ false → begins_with file (log_mark (spelled_tail file)) ≡ true → IsSome (mark_of file)
+unfolding mark_of
+by_log file cut begins = rw (cut, begins) refl
+
+pub by_none : (file : List ℕ) → begins_with file cut_mark ≡ false → begins_with file (log_mark (spelled_tail file)) ≡ false → IsSome (mark_of file) → ⊥
+unfolding mark_of
+by_none file cut begins some = let no = rw (cut, begins) at some in absurd (true≢false (sym no))
+
+-- a file without a cut mark, by what was looked for
+pub log_or_none : (file : List ℕ) (found : Option ℕ) → begins_with file cut_mark ≡ false → IsOffset found file → IsTrue (is_some found) ↔ IsSome (mark_of file)
+log_or_none file None cut is = (λ yes. absurd (true≢false (sym yes)), λ some. absurd (by_none file cut is some))
+log_or_none file (Some tail) cut is = (λ yes. by_log file cut is.1, λ some. refl)

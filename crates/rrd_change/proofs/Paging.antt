@@ -1,0 +1,51 @@
+-- Lemmas on a file of one page, which one write replaces.
+use Rattle.std.proofs.Common.{◌≡◌, ℕ, ◌≤◌, List, length, sym, ◌∙◌, ap, arith, inl, inr}
+use Rattle.std.specs.Prelude.{Result, Ok, Err}
+use Rattle.std.proofs.lemmas.List.{ext_get_or}
+use Rattle.rrd_change.specs.Calls.{ArePut, AreWholeOrNot}
+use Rattle.rrd_change.specs.Repairs.{IsStopped, Whole}
+use Rattle.rrd_change.specs.States.{Began, IsAtRest, IsDatabase}
+use Rattle.rrd_change.specs.Views.{Does, Moves, Steps, View, World, seen}
+use Rattle.rrd_change.specs.declared.calls.Syncs.TheVariants.{Never}
+use Rattle.rrd_change.specs.declared.log.Base.{Base}
+use Rattle.rrd_change.proofs.Marking.{put_front}
+
+-- a call on a file that is never synced: nothing is said of the disk
+pub record Puts (call : List ℕ → List ℕ → Type 0) (old new : World) : Type 0 where
+  pub held : call old.held new.held
+  pub leave : (c : List ℕ) → new.may_leave c → ⊥
+  pub keep : (c : List ℕ) → new.may_keep c → ⊥
+
+never_moves : (c t : List ℕ → List ℕ → Type 0) (old new : View) → Steps (Moves c t) old new → Steps (Puts c) (seen Never old) (seen Never new)
+never_moves c t old new s = record {
+  falls = s.falls;
+  does = λ d x honest. record { held = (s.does d x honest).held; leave = λ z left. left; keep = λ z kept. kept };
+}
+
+pub never_does : {A E : Type 0} (c e t : List ℕ → List ℕ → Type 0) (r : Result A E) (old new : View) → Does (λ x. Moves c t) (Moves e t) r old new →
+    Does (λ x. Puts c) (Puts e) r (seen Never old) (seen Never new)
+never_does c e t (Ok x) old new s = never_moves c t old new s
+never_does c e t (Err x) old new s = never_moves e t old new s
+
+put_whole : (new x f : List ℕ) → length x ≤ length new → ArePut 0 new x f → f ≡ new
+put_whole new x f few p = ext_get_or 0 f new (omega (arith, p.len, few)) (λ k low. put_front new x f k p (omega (arith, low, p.len, few)))
+
+module _ (base : Base) (old new : List ℕ) (longer : base.length ≤ length new) (began : Began base old) (is : IsDatabase new) where
+  page_held : (u v : World) → ArePut 0 new u.held v.held → IsAtRest old u → v.held ≡ new
+  page_held u v p rest =
+      let same : length u.held ≡ length old = ap (λ (xs : List ℕ). length xs) rest.world.held in
+      put_whole new u.held v.held (omega (arith, same, sym began.length, longer)) p
+
+  at_rest : (bytes : List ℕ) (v : World) → IsDatabase bytes → v.held ≡ bytes → ((c : List ℕ) → v.may_leave c → ⊥) → ((c : List ℕ) → v.may_keep c → ⊥) → IsAtRest bytes v
+  at_rest bytes v database held leave keep =
+      record { is = database; world = record { held = held; leave = λ c left. absurd (leave c left); keep = λ c kept. absurd (keep c kept) } }
+
+  pub page_put : (u v : World) → Puts (ArePut 0 new) u v → IsAtRest old u → IsAtRest new v
+  page_put u v m rest = at_rest new v is (page_held u v m.held rest) m.leave m.keep
+
+  page_or_not : (u v : World) → AreWholeOrNot 0 new u.held v.held → IsAtRest old u → ((c : List ℕ) → v.may_leave c → ⊥) → ((c : List ℕ) → v.may_keep c → ⊥) → IsStopped Whole old new v
+  page_or_not u v (inl same) rest leave keep = inl (inl (at_rest old v began.is (same ∙ rest.world.held) leave keep))
+  page_or_not u v (inr p) rest leave keep = inr (inl (at_rest new v is (page_held u v p rest) leave keep))
+
+  pub page_failed : (u v : World) → Puts (AreWholeOrNot 0 new) u v → IsAtRest old u → IsStopped Whole old new v
+  page_failed u v m rest = page_or_not u v m.held rest m.leave m.keep

@@ -1,0 +1,321 @@
+-- Lemmas on what is left of a file when a change stops.
+use Rattle.std.proofs.Common.{◌≡◌, ◌⊎◌, ℕ, ◌+◌, ◌<◌, ◌≤◌, List, [], ◌∷◌, ◌++◌, length, take, get_or, refl, sym, ◌∙◌, ap, subst, arith, inl, inr}
+use Rattle.std.proofs.lemmas.List.{length_push, length-take}
+use Rattle.rrd_change.specs.Bytes.{StandsAt}
+use Rattle.rrd_change.specs.Calls.{ArePut, AreWholeOrNot, IsTorn}
+use Rattle.rrd_change.specs.Changes.{Change, changes_in}
+use Rattle.rrd_change.specs.Laws.{AreSaid, ChangesTell, Fill, IsLogged, IsUnderCut, Leads, first_of}
+use Rattle.rrd_change.specs.Repairs.{IsCutLeft, IsLeft, IsLogLeft, IsLoose, IsOnDisk, IsStopped, IsTornLog, IsUnlogged, LogEnd, Whole}
+use Rattle.rrd_change.specs.Settled.{log_mark}
+use Rattle.rrd_change.specs.States.{Follows, IsBroken, IsDatabase, IsLogOf, IsMarked, IsOpen, IsPlain, IsReady, Represents, RepresentsEither, Tells, cut_of}
+use Rattle.rrd_change.specs.Views.{All, World}
+use Rattle.rrd_change.specs.declared.log.Log.{Log}
+use Rattle.rrd_change.proofs.Appending.{first_of_more, logged_all}
+use Rattle.rrd_change.proofs.Beginning.{IsReadyOrOpen, open_stands}
+use Rattle.rrd_change.proofs.Chains.{chain_count}
+use Rattle.rrd_change.proofs.Holding.{all_as, held_all}
+use Rattle.rrd_change.proofs.Logs.{log_read, torn_counts}
+use Rattle.rrd_change.proofs.Loose.{plain_uncut, under_loose, under_uncut}
+use Rattle.rrd_change.proofs.Marking.{cut_under, plain_represents, put_behind}
+use Rattle.rrd_change.proofs.Settling.{IsPlaced, cut_front_of, cut_placed, length-front, reach_placed}
+
+-- ---- a database, or one under a cut mark
+
+pub under_left : (other now : List ℕ) (w : World) → IsDatabase now → All (IsUnderCut now) w → IsCutLeft other now w
+under_left other now w is a = record { under = a.held; uncut = under_uncut other now w is a }
+
+pub marked_left : (other now : List ℕ) (w : World) → IsMarked now w → IsCutLeft other now w
+marked_left other now w m = under_left other now w m.is (all_as (λ f. f ≡ cut_of now) (IsUnderCut now) w (λ f e. cut_under now f m.is e) m.world)
+
+pub plain_left : (end : LogEnd) (other now : List ℕ) (w : World) → IsDatabase now → All (IsPlain now) w → IsLeft end other now w
+plain_left end other now w is a = elim a.held [
+  | inl e ↦ inl (record { is = is; world = record { held = e; leave = a.leave; keep = a.keep } })
+  | inr e ↦ inr (inl (record { under = cut_under now w.held is e; uncut = plain_uncut other now w is a }))
+]
+
+-- ---- a log
+
+pub open_left : (end : LogEnd) (other now old : List ℕ) (tail : ℕ) (cs : List Change) (w : World) → Leads old cs now → Fill (length old) cs → All (IsOpen old tail cs) w →
+    IsLogLeft end other now w
+open_left end other now old tail cs w leads fill a = record {
+  old = old;
+  tail = tail;
+  changes = cs;
+  leads = leads;
+  fill = fill;
+  world = record { held = a.held.logged; leave = λ c left. inl (a.leave c left).logged; keep = λ c kept. inl (a.keep c kept).logged };
+}
+
+pub log_left : (end : LogEnd) (other now : List ℕ) (log : Log) (w : World) → IsLogOf now log w → IsLogLeft end other now w
+log_left end other now log w h = open_left end other now h.old log.tail h.changes w h.follows.leads h.follows.fill h.world
+
+-- ---- the first change of a log
+
+ready_unlogged : (old new : List ℕ) (tail : ℕ) (cs : List Change) (f : List ℕ) → IsReady old tail cs f → IsUnlogged old new old tail cs f
+ready_unlogged old new tail cs f ready = record {
+  base = old;
+  either = inl refl;
+  below = ready.prepared.below;
+  under = ready.prepared.under;
+  reaches = ready.prepared.under.reaches;
+  kept = λ k high low. inl (ready.prepared.under.same k (omega (arith, high)) low);
+}
+
+begun_on_disk : (old new : List ℕ) (tail : ℕ) (cs : List Change) (f : List ℕ) → IsReadyOrOpen old tail cs f → IsOnDisk Whole old new old tail cs f
+begun_on_disk old new tail cs f (inl ready) = inr (inl (ready_unlogged old new tail cs f ready))
+begun_on_disk old new tail cs f (inr (is, placed)) = inl is.logged
+
+begun_loose : (old new : List ℕ) (tail : ℕ) (cs : List Change) (f : List ℕ) → Leads old cs new → Fill (length old) cs → length old ≤ tail → IsReadyOrOpen old tail cs f → IsLoose new old f
+begun_loose old new tail cs f leads fill below (inl ready) = under_loose new old f ready.prepared.under
+begun_loose old new tail cs f leads fill below (inr (is, placed)) =
+    record { reaches = omega (arith, below, is.logged.log.begun); placed = placed; stands = inl (open_stands old new tail cs f leads fill is) }
+
+-- the log mark was written, or was not
+pub begun_stopped : (old new : List ℕ) (tail : ℕ) (cs : List Change) (w : World) → IsDatabase old → length old ≤ tail → Leads old cs new → Fill (length old) cs →
+    All (IsReadyOrOpen old tail cs) w → IsStopped Whole old new w
+begun_stopped old new tail cs w is below leads fill a = elim a.held [
+  | inl ready ↦ inl (inr (inl (record {
+    under = ready.prepared.under;
+    uncut = record {
+      is = is;
+      held = inr ready.prepared.under;
+      leave = λ c left. begun_loose old new tail cs c leads fill below (a.leave c left);
+      keep = λ c kept. begun_loose old new tail cs c leads fill below (a.keep c kept);
+    };
+  })))
+  | inr (is_open, placed) ↦ inr (inr (inr (record {
+    old = old;
+    tail = tail;
+    changes = cs;
+    leads = leads;
+    fill = fill;
+    world = record { held = is_open.logged; leave = λ c left. begun_on_disk old new tail cs c (a.leave c left); keep = λ c kept. begun_on_disk old new tail cs c (a.keep c kept) };
+  })))
+]
+
+-- ---- bringing into place
+
+-- a file that had a log whose changes were in place, and has the first bytes with a cut mark now
+pub record IsCutPlaced (old now : List ℕ) (cs : List Change) (f : List ℕ) : Type 0 where
+  pub under : IsUnderCut now f
+  pub reaches : length old ≤ length f
+  pub kept : (k : ℕ) → 16 ≤ k → k < length old → (get_or f k 0 ≡ get_or old k 0) ⊎ AreSaid cs k
+
+abbrev pub IsPlacedOrCut : List ℕ → List ℕ → List Change → Log → List ℕ → Type 0
+IsPlacedOrCut old now cs log f = IsPlaced old now cs log f ⊎ IsCutPlaced old now cs f
+
+front_put : (old now : List ℕ) (cs : List Change) (log : Log) (x f : List ℕ) → Follows old now cs log → length old ≤ log.tail → IsPlaced old now cs log x → ArePut 0 (cut_front_of now) x f →
+    IsCutPlaced old now cs f
+front_put old now cs log x f follows below p put =
+    let size = length-front now follows.is.enough in
+    record {
+      under = cut_placed now x f follows.is (reach_placed old now cs log x follows p) p.placed put;
+      reaches = omega (arith, put.len, below, p.is.logged.log.begun);
+      kept = λ k high low. elim (p.is.logged.kept k high low) [
+        | inl stays ↦ inl (put_behind (cut_front_of now) x f k put (omega (arith, size, high)) ∙ stays)
+        | inr said ↦ inr said
+      ];
+    }
+
+pub placed_or_cut : (old now : List ℕ) (cs : List Change) (log : Log) (x f : List ℕ) → Follows old now cs log → length old ≤ log.tail → IsPlaced old now cs log x →
+    AreWholeOrNot 0 (cut_front_of now) x f → IsPlacedOrCut old now cs log f
+placed_or_cut old now cs log x f follows below p (inl e) = let P : List ℕ → Type 0 = λ xs. IsPlaced old now cs log xs in inl (subst P (sym e) p)
+placed_or_cut old now cs log x f follows below p (inr put) = inr (front_put old now cs log x f follows below p put)
+
+pub placed_or_torn : (old now : List ℕ) (cs : List Change) (log : Log) (x f : List ℕ) → Follows old now cs log → length old ≤ log.tail → IsPlaced old now cs log x →
+    IsTorn 0 (cut_front_of now) x f → IsPlacedOrCut old now cs log f
+placed_or_torn old now cs log x f follows below p t =
+    placed_or_cut old now cs log x f follows below p
+    (t.whole (omega (arith, length-front now follows.is.enough, p.is.logged.log.begun, follows.below, follows.is.enough)))
+
+placed_on_disk : (old now : List ℕ) (cs : List Change) (log : Log) (f : List ℕ) → Follows old now cs log → IsPlacedOrCut old now cs log f → IsOnDisk Whole now now old log.tail cs f
+placed_on_disk old now cs log f follows (inl p) = inl p.is.logged
+placed_on_disk old now cs log f follows (inr c) = inr (inl (record { base = now; either = inr refl; below = follows.below; under = c.under; reaches = c.reaches; kept = c.kept }))
+
+placed_loose : (old now : List ℕ) (cs : List Change) (log : Log) (f : List ℕ) → Follows old now cs log → IsPlacedOrCut old now cs log f → IsLoose now now f
+placed_loose old now cs log f follows (inl p) =
+    record { reaches = reach_placed old now cs log f follows p; placed = p.placed; stands = inl (open_stands old now log.tail cs f follows.leads follows.fill p.is) }
+placed_loose old now cs log f follows (inr c) = under_loose now now f c.under
+
+-- the first bytes were written, or were not
+pub front_left : (old now : List ℕ) (cs : List Change) (log : Log) (w : World) → Follows old now cs log → All (IsPlacedOrCut old now cs log) w → IsLeft Whole now now w
+front_left old now cs log w follows a = elim a.held [
+  | inl p ↦ inr (inr (record {
+    old = old;
+    tail = log.tail;
+    changes = cs;
+    leads = follows.leads;
+    fill = follows.fill;
+    world = record {
+      held = p.is.logged;
+      leave = λ c left. placed_on_disk old now cs log c follows (a.leave c left);
+      keep = λ c kept. placed_on_disk old now cs log c follows (a.keep c kept);
+    };
+  }))
+  | inr cut ↦ inr (inl (record {
+    under = cut.under;
+    uncut = record {
+      is = follows.is;
+      held = inr cut.under;
+      leave = λ c left. placed_loose old now cs log c follows (a.leave c left);
+      keep = λ c kept. placed_loose old now cs log c follows (a.keep c kept);
+    };
+  }))
+]
+
+-- ---- less that is known
+
+one_of : (o other now f : List ℕ) → (o ≡ other) ⊎ (o ≡ now) → RepresentsEither o now f → RepresentsEither other now f
+one_of o other now f which (inr h) = inr h
+one_of o other now f (inl e) (inl h) = let P : List ℕ → Type 0 = λ xs. Represents xs f in inl (subst P e h)
+one_of o other now f (inr e) (inl h) = let P : List ℕ → Type 0 = λ xs. Represents xs f in inr (subst P e h)
+
+base_of : (o other now base : List ℕ) → (o ≡ other) ⊎ (o ≡ now) → (base ≡ o) ⊎ (base ≡ now) → (base ≡ other) ⊎ (base ≡ now)
+base_of o other now base which (inr e) = inr e
+base_of o other now base (inl same) (inl e) = inl (e ∙ same)
+base_of o other now base (inr same) (inl e) = inr (e ∙ same)
+
+disk_as : (end : LogEnd) (o other now old : List ℕ) (tail : ℕ) (cs : List Change) (f : List ℕ) → (o ≡ other) ⊎ (o ≡ now) → IsOnDisk Whole o now old tail cs f →
+    IsOnDisk end other now old tail cs f
+disk_as end o other now old tail cs f which (inl h) = inl h
+disk_as end o other now old tail cs f which (inr (inl u)) =
+    inr (inl (record { base = u.base; either = base_of o other now u.base which u.either; below = u.below; under = u.under; reaches = u.reaches; kept = u.kept }))
+disk_as end o other now old tail cs f which (inr (inr (may, t))) = absurd may
+
+loose_as : (o other now f : List ℕ) → (o ≡ other) ⊎ (o ≡ now) → IsLoose o now f → IsLoose other now f
+loose_as o other now f which h = record { reaches = h.reaches; placed = h.placed; stands = one_of o other now f which h.stands }
+
+pub left_as : (end : LogEnd) (o other now : List ℕ) (w : World) → (o ≡ other) ⊎ (o ≡ now) → IsLeft Whole o now w → IsLeft end other now w
+left_as end o other now w which (inl rest) = inl rest
+left_as end o other now w which (inr (inl c)) = inr (inl (record {
+  under = c.under;
+  uncut = record {
+    is = c.uncut.is;
+    held = c.uncut.held;
+    leave = λ f left. loose_as o other now f which (c.uncut.leave f left);
+    keep = λ f kept. loose_as o other now f which (c.uncut.keep f kept);
+  };
+}))
+left_as end o other now w which (inr (inr l)) = inr (inr (record {
+  old = l.old;
+  tail = l.tail;
+  changes = l.changes;
+  leads = l.leads;
+  fill = l.fill;
+  world = record {
+    held = l.world.held;
+    leave = λ f left. disk_as end o other now l.old l.tail l.changes f which (l.world.leave f left);
+    keep = λ f kept. disk_as end o other now l.old l.tail l.changes f which (l.world.keep f kept);
+  };
+}))
+
+pub stopped_as : (end : LogEnd) (old new : List ℕ) (w : World) → IsStopped Whole old new w → IsStopped end old new w
+stopped_as end old new w (inl h) = inl (left_as end new new old w (inl refl) h)
+stopped_as end old new w (inr h) = inr (left_as end old old new w (inl refl) h)
+
+-- ---- what is left stands for one of the two databases
+
+pub left_held : (end : LogEnd) (other now : List ℕ) (w : World) → IsLeft end other now w → Represents now w.held
+left_held end other now w (inl rest) = inl rest.world.held
+left_held end other now w (inr (inl c)) = inr (inl c.under)
+left_held end other now w (inr (inr l)) = inr (inr (record { old = l.old; tail = l.tail; changes = l.changes; logged = l.world.held; leads = l.leads; fill = l.fill }))
+
+unlogged_either : (other now old : List ℕ) (tail : ℕ) (cs : List Change) (f : List ℕ) → IsUnlogged other now old tail cs f → RepresentsEither other now f
+unlogged_either other now old tail cs f u =
+    let P : List ℕ → Type 0 = λ xs. Represents xs f in
+    elim u.either [
+      | inl e ↦ inl (subst P e (inr (inl u.under)))
+      | inr e ↦ inr (subst P e (inr (inl u.under)))
+    ]
+
+-- any bytes behind a log are no changes of it that it has not
+torn_either : (other now old : List ℕ) (tail : ℕ) (cs : List Change) (h f : List ℕ) → Leads old cs now → Fill (length old) cs → IsLogged old tail cs h → IsTornLog other old tail cs f →
+    Tells h f → RepresentsEither other now f
+torn_either other now old tail cs h f leads fill held t tells =
+    let all = first_of old ∷ t.sure in
+    let log = t.logged.log in
+    let count = chain_count tail all in
+    let room = log.room in
+    let marked : StandsAt f 0 (log_mark tail) = record {
+      within = omega (arith, t.reaches, count, room);
+      each = λ i k. t.same (0 + i) (omega arith) (omega (arith, k, count, room)) ∙ log.marked.each i k;
+    } in
+    let told = tells tail (log_read tail f log.fits marked) in
+    let read : changes_in tail f ≡ take told.0 (first_of old ∷ cs) = told.1 ∙ ap (λ xs. take told.0 xs) (logged_all old tail cs h held) in
+    let P : List Change → Type 0 = λ xs. IsLogged old tail xs f in
+    elim t.last [
+      | inl e ↦
+          let d = first_of old in
+          let same : changes_in tail f ≡ take told.0 all = read ∙ ap (λ xs. take told.0 (first_of old ∷ xs)) e in
+          let more = first_of_more all d told.0 in
+          let tell : ChangesTell tail (all ++ d ∷ []) f = (more.0, same ∙ more.1) in
+          elim (torn_counts old tail t.sure d t.whole f t.logged t.same t.reaches tell) [
+            | inl is ↦ inr (inr (inr (record { old = old; tail = tail; changes = cs; logged = subst P (sym e) is; leads = leads; fill = fill })))
+            | inr one ↦ absurd (omega (arith, ap length (sym (logged_all old tail (t.sure ++ d ∷ []) f one) ∙ same), length_push t.sure d, length-take told.0 all))
+          ]
+      | inr (c, e, is_led, filled) ↦
+          let tell : ChangesTell tail (all ++ c ∷ []) f = (told.0, read ∙ ap (λ xs. take told.0 (first_of old ∷ xs)) e) in
+          elim (torn_counts old tail t.sure c t.whole f t.logged t.same t.reaches tell) [
+            | inl none ↦ inl (inr (inr (record { old = old; tail = tail; changes = t.sure; logged = none; leads = is_led; fill = filled })))
+            | inr one ↦ inr (inr (inr (record { old = old; tail = tail; changes = cs; logged = subst P (sym e) one; leads = leads; fill = fill })))
+          ]
+    ]
+
+disk_either : (other now old : List ℕ) (tail : ℕ) (cs : List Change) (f : List ℕ) → Leads old cs now → Fill (length old) cs → IsOnDisk Whole other now old tail cs f → RepresentsEither other now f
+disk_either other now old tail cs f leads fill (inl h) = inr (inr (inr (record { old = old; tail = tail; changes = cs; logged = h; leads = leads; fill = fill })))
+disk_either other now old tail cs f leads fill (inr (inl u)) = unlogged_either other now old tail cs f u
+disk_either other now old tail cs f leads fill (inr (inr (may, t))) = absurd may
+
+disk_told : (end : LogEnd) (other now old : List ℕ) (tail : ℕ) (cs : List Change) (h f : List ℕ) → Leads old cs now → Fill (length old) cs → IsLogged old tail cs h →
+    IsOnDisk end other now old tail cs f → Tells h f → RepresentsEither other now f
+disk_told end other now old tail cs h f leads fill held (inl is) tells = inr (inr (inr (record { old = old; tail = tail; changes = cs; logged = is; leads = leads; fill = fill })))
+disk_told end other now old tail cs h f leads fill held (inr (inl u)) tells = unlogged_either other now old tail cs f u
+disk_told end other now old tail cs h f leads fill held (inr (inr (may, t))) tells = torn_either other now old tail cs h f leads fill held t tells
+
+pub left_either : (other now : List ℕ) (w : World) → IsLeft Whole other now w → All (RepresentsEither other now) w
+left_either other now w (inl rest) =
+    all_as (IsPlain now) (RepresentsEither other now) w (λ f plain. inr (plain_represents now f rest.is plain)) (held_all now (IsPlain now) w (inl refl) rest.world)
+left_either other now w (inr (inl c)) = record { held = inr (inr (inl c.under)); leave = λ f left. (c.uncut.leave f left).stands; keep = λ f kept. (c.uncut.keep f kept).stands }
+left_either other now w (inr (inr l)) = record {
+  held = inr (left_held Whole other now w (inr (inr l)));
+  leave = λ f left. disk_either other now l.old l.tail l.changes f l.leads l.fill (l.world.leave f left);
+  keep = λ f kept. disk_either other now l.old l.tail l.changes f l.leads l.fill (l.world.keep f kept);
+}
+
+pub left_told : (end : LogEnd) (other now : List ℕ) (w : World) → IsLeft end other now w → IsBroken other now w
+left_told end other now w (inl rest) =
+    let all = left_either other now w (inl rest) in
+    record { held = all.held; leave = λ f left told. all.leave f left; keep = λ f kept told. all.keep f kept }
+left_told end other now w (inr (inl c)) =
+    let all = left_either other now w (inr (inl c)) in
+    record { held = all.held; leave = λ f left told. all.leave f left; keep = λ f kept told. all.keep f kept }
+left_told end other now w (inr (inr l)) = record {
+  held = inr (left_held end other now w (inr (inr l)));
+  leave = λ f left told. disk_told end other now l.old l.tail l.changes w.held f l.leads l.fill l.world.held (l.world.leave f left) told;
+  keep = λ f kept told. disk_told end other now l.old l.tail l.changes w.held f l.leads l.fill l.world.held (l.world.keep f kept) told;
+}
+
+turned : (a b f : List ℕ) → RepresentsEither a b f → RepresentsEither b a f
+turned a b f (inl h) = inr h
+turned a b f (inr h) = inl h
+
+pub stopped_either : (old new : List ℕ) (w : World) → IsStopped Whole old new w → All (RepresentsEither old new) w
+stopped_either old new w (inl h) = all_as (RepresentsEither new old) (RepresentsEither old new) w (λ f is. turned new old f is) (left_either new old w h)
+stopped_either old new w (inr h) = left_either old new w h
+
+pub stopped_broken : (end : LogEnd) (old new : List ℕ) (w : World) → IsStopped end old new w → IsBroken old new w
+stopped_broken end old new w (inl h) =
+    let b = left_told end new old w h in
+    record {
+      held = turned new old w.held b.held;
+      leave = λ f left told. turned new old f (b.leave f left told);
+      keep = λ f kept told. turned new old f (b.keep f kept told);
+    }
+stopped_broken end old new w (inr h) = left_told end old new w h
+
+represented : (now f : List ℕ) → RepresentsEither now now f → Represents now f
+represented now f (inl h) = h
+represented now f (inr h) = h
+
+pub left_one : (now : List ℕ) (w : World) → IsLeft Whole now now w → All (Represents now) w
+left_one now w h = all_as (RepresentsEither now now) (Represents now) w (λ f is. represented now f is) (left_either now now w h)
