@@ -2,5 +2,6 @@
 mod counted;
 mod decoder;
 mod disk;
+mod repairs;
 mod states;
 mod stops;

@@ -6,7 +6,7 @@ use std::alloc::Global;
 use std::process::Abort;
 use std::test::Fail;
 
-// Where databases of 2,000 bytes differ: in the first bytes, and in three places.
+// Where databases of 5,000 bytes, which are more than a page, differ: in the first bytes, and in three places.
 const SPANS: &[Span] = &[
     Span { start: 4, end: 16 },
     Span { start: 20, end: 28 },
@@ -15,8 +15,8 @@ const SPANS: &[Span] = &[
         end: 130,
     },
     Span {
-        start: 1_999,
-        end: 2_000,
+        start: 4_999,
+        end: 5_000,
     },
 ];
 
@@ -29,7 +29,7 @@ const CHANGE: usize = 48 + 4 * 16 + 12 + PLACES;
 const REPLACED: usize = 4 + 80 + CHANGE + 16 + PLACES + 16 + 4;
 
 // The first change of an open file is the log and its mark, and each further one is one write. The sixteenth brings all
-// into place: at most three places of each.
+// into place: three writes, since all changes have the same places.
 fn assert_opened(rt: &impl Abort, alloc: Global, state: &State, syncs: Syncs) -> Result<(), Fail> {
     let each = if syncs == Syncs::Ordered { 1 } else { 0 };
     let mut disk = Disk::new(alloc, &state.bytes, NO_FAULTS)?;
@@ -56,10 +56,11 @@ fn assert_opened(rt: &impl Abort, alloc: Global, state: &State, syncs: Syncs) ->
         } else if number % 16 < 15 {
             assert_eq!(rt; [writes, bytes, made], [1, CHANGE, each], "{number}");
         } else {
-            assert!(rt; log.is_none() && made == 4 * each, "{number}");
-            assert!(rt;
-                writes <= 51 && bytes <= CHANGE + 16 * PLACES + 16,
-                "{writes}, {bytes}"
+            assert!(rt; log.is_none(), "{number}");
+            assert_eq!(rt;
+                [writes, bytes, made],
+                [6, CHANGE + PLACES + 16, 4 * each],
+                "{number}"
             );
         }
     }
@@ -72,13 +73,25 @@ const CREATIONS: [(usize, usize); 4] = [(16, 2), (17, 3), (65_552, 3), (65_553, 
 #[test]
 fn counts_of_changes(rt: HostRuntime) -> Result<(), Fail> {
     let alloc = rt.alloc();
-    for state in states(alloc, &[2_000])? {
+    for state in states(alloc, &[5_000])? {
         for (syncs, made) in [(Syncs::Never, 0), (Syncs::Ordered, 6)] {
             let mut disk = Disk::new(alloc, &state.bytes, NO_FAULTS)?;
             replace(alloc, &mut disk, &state.base(), &state.bytes, SPANS, syncs)?;
             assert_eq!(&rt; disk.take_counts(), [9, REPLACED, made]);
             assert_opened(&rt, alloc, &state, syncs)?;
         }
+    }
+    for state in states(alloc, &[4_096])? {
+        let mut disk = Disk::new(alloc, &state.bytes, NO_FAULTS)?;
+        replace(
+            alloc,
+            &mut disk,
+            &state.base(),
+            &state.bytes,
+            &[],
+            Syncs::Never,
+        )?;
+        assert_eq!(&rt; disk.take_counts(), [1, 4_096, 0]);
     }
     for (length, writes) in CREATIONS {
         for state in states(alloc, &[length])? {

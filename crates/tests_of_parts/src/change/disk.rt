@@ -87,6 +87,15 @@ fn leave(alloc: Global, file: &mut Vec<u8>, call: &Waiting, part: u64) -> Result
     }
 }
 
+// A copy of a call.
+fn copied(alloc: Global, call: &Waiting) -> Result<Waiting, AllocError> {
+    match call {
+        Waiting::Write(at, bytes) => Ok(Waiting::Write(*at, Vec::from_slice(alloc, bytes)?)),
+        Waiting::Whole(at, bytes) => Ok(Waiting::Whole(*at, Vec::from_slice(alloc, bytes)?)),
+        Waiting::Length(count) => Ok(Waiting::Length(*count)),
+    }
+}
+
 fn ended<T: Drop>(fate: Fate, value: T) -> io::Result<T>
     ensures { IfOk result (λ x. x ≡ value) }
 {
@@ -103,6 +112,23 @@ impl Disk {
             held: Vec::from_slice(alloc, bytes)?,
             stored: Vec::from_slice(alloc, bytes)?,
             waiting: Vec::new(alloc),
+            faults,
+            calls: 0,
+            counts: [0; 3],
+        })
+    }
+
+    // Returns the file as another program finds it after a kill.
+    pub(super) fn after_kill(&self, faults: Faults) -> Result<Disk, AllocError> {
+        let mut waiting = Vec::new(self.alloc);
+        for call in &self.waiting {
+            waiting.push(copied(self.alloc, call)?)?;
+        }
+        Ok(Disk {
+            alloc: self.alloc,
+            held: self.held.clone()?,
+            stored: self.stored.clone()?,
+            waiting,
             faults,
             calls: 0,
             counts: [0; 3],
@@ -144,6 +170,18 @@ impl Disk {
         } else {
             Fate::Whole
         }
+    }
+
+    // Stores the calls since the last sync. A sync that fails stores some, and none of the others is stored later.
+    fn store(&mut self, fate: Fate) -> Result<(), AllocError> {
+        let mut bits = self.calls.wrapping_mul(0x9e37_79b9_7f4a_7c15);
+        for call in &self.waiting {
+            let part = if fate == Fate::Part { bits >> 62 } else { 1 };
+            leave(self.alloc, &mut self.stored, call, part)?;
+            bits = bits.wrapping_mul(0xd6e8_feb8_6659_fd93);
+        }
+        self.waiting.clear();
+        Ok(())
     }
 
     // Keeps a write of so many bytes, or a change of the length, for the next sync.
@@ -198,6 +236,15 @@ impl Bytes for Disk {
         ended(fate, ())
     }
 
+    fn write_page(&mut self, bytes: &[u8]) -> io::Result<()> {
+        let fate = self.fate();
+        if fate != Fate::Before && fate != Fate::Part {
+            let copy = Vec::from_slice(self.alloc, bytes)?;
+            self.keep(bytes.len(), Waiting::Write(0, copy))?;
+        }
+        ended(fate, ())
+    }
+
     fn set_len(&mut self, count: usize) -> io::Result<()> {
         let fate = self.fate();
         if fate != Fate::Before && fate != Fate::Part {
@@ -208,9 +255,8 @@ impl Bytes for Disk {
 
     fn sync(&mut self) -> io::Result<()> {
         let fate = self.fate();
-        if fate != Fate::Before && fate != Fate::Part {
-            self.stored = self.held.clone()?;
-            self.waiting.clear();
+        if fate != Fate::Before {
+            self.store(fate)?;
             let [writes, bytes, syncs] = self.counts;
             self.counts = [writes, bytes, syncs.saturating_add(1)];
         }

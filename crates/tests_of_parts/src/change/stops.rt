@@ -10,7 +10,7 @@ use std::test::Fail;
 
 // How a file comes to its next database: it is made, changed by itself, or stays open.
 #[derive(Clone, Copy, PartialEq, Eq, Debug)]
-enum Way {
+pub(super) enum Way {
     Make,
     Replace,
     Open,
@@ -18,11 +18,11 @@ enum Way {
 
 // Changes of a file from each database to the next one.
 #[derive(Clone, Copy)]
-struct Run<'a> {
-    alloc: Global,
-    way: Way,
-    states: &'a [State],
-    syncs: Syncs,
+pub(super) struct Run<'a> {
+    pub(super) alloc: Global,
+    pub(super) way: Way,
+    pub(super) states: &'a [State],
+    pub(super) syncs: Syncs,
 }
 
 // How many failures of the power are tried after each stop.
@@ -30,7 +30,7 @@ const POWER_FAILURES: u64 = 6;
 
 impl Run<'_> {
     // Changes the file, and counts the changes that ended well.
-    fn make(&self, disk: &mut Disk, done: &mut usize) -> io::Result<()> {
+    pub(super) fn make(&self, disk: &mut Disk, done: &mut usize) -> io::Result<()> {
         let Some(mut old) = self.states.first() else {
             return Ok(());
         };
@@ -94,7 +94,7 @@ impl Run<'_> {
                 ..NO_FAULTS
             };
             if !self.is_stopped(rt, faults)? {
-                assert!(rt; call > 2, "{call}");
+                assert!(rt; call > 1, "{call}");
                 return Ok(());
             }
         }
