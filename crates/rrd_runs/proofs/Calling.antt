@@ -1,0 +1,74 @@
+-- What the calls of the module once say, by the events that they note.
+use Rattle.std.proofs.Common.{◌≡◌, ℕ, ◌+◌, ◌-◌, ◌<◌, ◌≤◌, inl, inr, List, ◌∷◌, ◌++◌, length, take, slice_index, IsTrue, Result, Ok, Err, IfOk, sym, ◌∙◌, ap, subst, arith, length-append, length-take, get_or-take}
+use Rattle.std.specs.Io.{ReadsAtMost}
+use Rattle.std.proofs.lemmas.List.{get_or_append_left, get_or-append_right}
+use Rattle.std.proofs.lemmas.Bool.{cases_lt}
+use Rattle.rrd_runs.specs.Calls.{AreGot, IsGotAtOnce}
+use Rattle.rrd_runs.specs.Events.{Event, Got}
+use Rattle.rrd_runs.specs.Replayed.{World, bytes_after, is_honest_after, is_honest_read}
+use Rattle.rrd_runs.proofs.Replaying.{read-AreGot, read_ends, read_is, read_within}
+
+-- ---- reading
+
+-- the bytes of one honest read
+got_once : (file : List ℕ) (at wanted n : ℕ) (bytes : List ℕ) → n ≤ length bytes → wanted ≡ length bytes
+    → IsTrue (is_honest_read file at wanted (take n bytes)) → IsGotAtOnce file at n bytes
+got_once file at wanted n bytes few all honest =
+    let len : length (take n bytes) ≡ n = omega (arith, length-take n bytes) in
+    record {
+      each = elim (cases_lt 0 n) as (λ _. AreGot file at n (take n bytes)) [
+        | inl some ↦ subst (λ (k : ℕ). AreGot file at k (take n bytes)) len (read-AreGot file at wanted (take n bytes) (omega (arith, len, some)) honest)
+        | inr none ↦ record { len = len; each = λ i low. absurd (omega (arith, low, none)) }
+      ];
+      within = λ some. omega (arith, len, read_within file at wanted (take n bytes) (omega (arith, len, some)) honest);
+      ends = λ none room. read_ends file at wanted (omega (arith, all, room))
+          (subst (λ (k : ℕ). IsTrue (is_honest_read file at wanted (take k bytes))) none honest);
+    }
+
+-- one call of the system
+pub got_some : {E : Type 0} (r : Result ℕ E) (old mid new : List Event) (at : ℕ) (before bytes : List ℕ)
+    → mid ≡ old → length before ≡ length bytes → ReadsAtMost r bytes
+    → IfOk r (λ n. new ≡ Got at (length before) (take n bytes) ∷ mid)
+    → IfOk r (λ n. (s : World) → IsTrue (is_honest_after s new) → IsGotAtOnce (bytes_after s old) at n bytes)
+got_some (Err e) old mid new at before bytes stays same bound ok = tt
+got_some (Ok n) old mid new at before bytes stays same bound ok = λ s honest.
+    let now = subst (λ (events : List Event). IsTrue (is_honest_after s events)) ok honest in
+    let is = read_is s mid at (length before) (take n bytes) now in
+    got_once (bytes_after s old) at (length before) n bytes bound.0 same
+    (subst (λ (events : List Event). IsTrue (is_honest_read (bytes_after s events) at (length before) (take n bytes))) stays is)
+
+-- the first `count` bytes are the file's
+pub record IsGotSoFar (file : List ℕ) (at count : ℕ) (bytes : List ℕ) : Type 0 where
+  pub each : AreGot file at count (take count bytes)
+  pub within : 0 < count → at + count ≤ length file
+
+-- more bytes after them
+pub more_so_far : (file : List ℕ) (at count more : ℕ) (bytes rest new : List ℕ)
+    → count ≤ length bytes → more ≤ length rest → take (count + length rest) new ≡ take count bytes ++ rest
+    → IsGotSoFar file at count bytes → IsGotAtOnce file (at + count) more rest
+    → IsGotSoFar file at (count + more) new
+more_so_far file at count more bytes rest new low few joined so_far got =
+    let front : List ℕ = take count bytes in
+    let end = count + length rest in
+    let front_len : length front ≡ count = omega (arith, length-take count bytes) in
+    let long : end ≤ length new = omega (arith, ap (λ (s : List ℕ). length s) joined, length-take end new, length-append front rest, front_len) in
+    record {
+      each = record {
+        len = omega (arith, length-take (count + more) new, long, few);
+        each = λ i below.
+            let at_joined : slice_index new i ≡ slice_index (front ++ rest) i =
+            sym (get_or-take end new i 0 (omega (arith, below, few))) ∙ ap (λ (s : List ℕ). slice_index s i) joined in
+            get_or-take (count + more) new i 0 below ∙ at_joined ∙ elim (cases_lt i count) as (λ _. slice_index (front ++ rest) i ≡ slice_index file (at + i)) [
+              | inl first ↦ get_or_append_left front rest 0 i (omega (arith, front_len, first)) ∙ so_far.each.each i first
+              | inr later ↦
+                  let small : i - count < more = omega (arith, below, later) in
+                  let here : at + count + (i - count) ≡ at + i = omega (arith, later) in
+                  get_or-append_right front rest count i 0 front_len later
+                  ∙ sym (get_or-take more rest (i - count) 0 small) ∙ got.each.each (i - count) small ∙ ap (slice_index file) here
+            ];
+      };
+      within = λ some. elim (cases_lt 0 more) as (λ _. at + (count + more) ≤ length file) [
+        | inl later ↦ omega (arith, got.within later)
+        | inr none ↦ omega (arith, none, so_far.within (omega (arith, some, none)))
+      ];
+    }

@@ -1,0 +1,13 @@
+-- The faults of a load: they are about the place, and about no command and no stream.
+use Rattle.std.proofs.Common.{None, Err}
+use Rattle.rrd_store.specs.Runs.{IsOfPlace}
+use Rattle.rrd_store.specs.Single.{FindsOne}
+use Rattle.rrd_store.specs.declared.faults.TaskFault.{TaskFault}
+use Rattle.rrd_store.specs.declared.faults.TaskFault.TheVariants as task
+
+pub of_place : (fault : TaskFault) → FindsOne None (Err fault) → IsOfPlace fault
+of_place (task.File fault) f = tt
+of_place task.CannotOpen f = tt
+of_place task.CannotWrite f = absurd f
+of_place (task.Command fault) f = absurd f
+of_place (task.Stream fault) f = absurd f

@@ -1,0 +1,84 @@
+-- What is known in memory of a file, after its calls.
+use Rattle.std.proofs.Common.{◌≡◌, ℕ, ◌+◌, ◌-◌, ◌<◌, ◌≤◌, ◌++◌, max, List, Option, Some, None, IsTrue, IfOk, Result, Ok, Err, length, take, slice_index, option_map, refl, sym, ◌∙◌, ap, subst, inl, inr, arith, length-append}
+use Rattle.std.specs.Io.{ReadsAtMost}
+use Rattle.std.proofs.Math.Seq.{take-append-add}
+use Rattle.std.proofs.lemmas.Bool.{cases_lt}
+use Rattle.std.proofs.lemmas.List.{get_or_append_left, get_or-append_right, length-take-le, take-take}
+use Rattle.rrd_runs.specs.Events.{Event}
+use Rattle.rrd_runs.specs.Calls.{Falls, IsGot}
+use Rattle.rrd_runs.specs.Fronts.{Begins}
+use Rattle.rrd_runs.specs.Known.{Measures}
+use Rattle.rrd_runs.specs.Locks.{Guards, KeepsGuard}
+use Rattle.rrd_runs.specs.declared.locks.LockedFile.{LockedFile}
+use Rattle.rrd_runs.specs.Replayed.{World, bytes_after, is_honest_after}
+use Rattle.rrd_change.specs.Calls.{ArePut}
+
+-- the length, if a known one became longer
+longer_is : (known : Option ℕ) (end n old new : ℕ) → option_map (λ m. max m end) known ≡ Some n → ((m : ℕ) → known ≡ Some m → m ≡ old) → new ≡ max old end → n ≡ new
+longer_is None end n old new is was more = absurd cc
+longer_is (Some m) end n old new is was more =
+    let same : max m end ≡ n = cc in
+    let before : m ≡ old = was m refl in
+    sym same ∙ ap (λ k. max k end) before ∙ sym more
+
+pub measures_longer : (known result : Option ℕ) (at end : ℕ) (bytes : List ℕ) (old new : List Event)
+    → result ≡ option_map (λ m. max m end) known → end ≡ at + length bytes → Falls old new → Measures known old
+    → ((s : World) → IsTrue (is_honest_after s new) → ArePut at bytes (bytes_after s old) (bytes_after s new))
+    → Measures result new
+measures_longer known result at end bytes old new is ends falls was put s h n e =
+    longer_is known end n (length (bytes_after s old)) (length (bytes_after s new)) (sym is ∙ e) (was s (falls s h))
+    ((put s h).len ∙ ap (λ k. max (length (bytes_after s old)) k) (sym ends))
+
+-- ---- the bytes that were read after those in memory
+
+-- `bytes` got longer by zeros, of which `part` came to be the file's; of these n count
+more_came : (bytes part x new : List ℕ) (n : ℕ) → n ≤ length part → take (length bytes + length part) x ≡ bytes ++ part → new ≡ take (length bytes + n) x
+    → new ≡ bytes ++ take n part
+more_came bytes part x new n few joined cut =
+    let had = length bytes in
+    let front : take (had + n) (take (had + length part) x) ≡ take (had + n) x = take-take (had + n) (had + length part) x (omega (arith, few)) in
+    cut ∙ sym front ∙ ap (take (had + n)) joined ∙ take-append-add bytes part n
+
+more_shown : (file bytes part : List ℕ) (n : ℕ) → Begins file bytes → IsGot file (length bytes) n part → Begins file (bytes ++ take n part)
+more_shown file bytes part n begins got =
+    let had = length bytes in
+    let long : length (bytes ++ take n part) ≡ had + n = length-append bytes (take n part) ∙ ap (λ k. had + k) got.each.len in
+    record {
+      within = elim (cases_lt 0 n) as (λ _. length (bytes ++ take n part) ≤ length file) [
+        | inl some ↦ let inside = got.within some in omega (arith, long, inside)
+        | inr none ↦ let inside = begins.within in omega (arith, long, inside, none)
+      ];
+      each = λ i low. elim (cases_lt i had) as (λ _. slice_index (bytes ++ take n part) i ≡ slice_index file i) [
+        | inl front ↦ get_or_append_left bytes (take n part) 0 i front ∙ begins.each i front
+        | inr behind ↦
+            let back : had + (i - had) ≡ i = omega (arith, behind) in
+            let inside : i - had < n = omega (arith, low, long, behind) in
+            get_or-append_right bytes (take n part) had i 0 refl behind ∙ got.each.each (i - had) inside ∙ ap (slice_index file) back
+      ];
+    }
+
+-- the same in a list that keeps its first bytes
+pub shown_behind : (file old part x : List ℕ) (had n : ℕ) → had ≤ length old → n ≤ length part → take (had + length part) x ≡ take had old ++ part
+    → Begins file (take had old) → IsGot file had n part → Begins file (take (had + n) x)
+shown_behind file old part x had n room few joined begins got =
+    let front : List ℕ = take had old in
+    let long : length front ≡ had = length-take-le had old room in
+    let put : take (length front + length part) x ≡ front ++ part = ap (λ k. take (k + length part) x) long ∙ joined in
+    let came = more_came front part x (take (had + n) x) n few put (ap (λ k. take (k + n) x) (sym long)) in
+    let got_there = subst (λ (k : ℕ). IsGot file k n part) (sym long) got in
+    subst (λ (b : List ℕ). Begins file b) (sym came) (more_shown file front part n begins got_there)
+
+pub got_behind : {E : Type 0} (r : Result ℕ E) (old part x : List ℕ) (had : ℕ) (file : World → List ℕ) (Honest : World → Type 0)
+    → had ≤ length old → ReadsAtMost r part → take (had + length part) x ≡ take had old ++ part
+    → IfOk r (λ n. (s : World) → Honest s → IsGot (file s) had n part)
+    → IfOk r (λ n. (s : World) → Honest s → Begins (file s) (take had old) → Begins (file s) (take (had + n) x))
+got_behind (Err e) old part x had file Honest room bound joined got = tt
+got_behind (Ok n) old part x had file Honest room bound joined got = λ s h begins. shown_behind (file s) old part x had n room bound.0 joined begins (got s h)
+
+-- ---- the lock
+
+pub guards_kept : {F : Type 0} (file : Option (LockedFile F)) (old new : List Event) → KeepsGuard old new → Guards file old → Guards file new
+guards_kept file old new keeps guards locked is own = keeps ∙ guards locked is own
+
+pub some_is : (n count : ℕ) → Some count ≡ Some n → n ≡ count
+some_is n count is = cc

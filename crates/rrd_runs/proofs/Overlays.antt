@@ -1,0 +1,71 @@
+-- What a file is after bytes were laid over it, in the words of rrd_change.
+use Rattle.std.proofs.Common.{◌≡◌, ℕ, ◌+◌, ◌-◌, ◌<◌, ◌≤◌, ◌⊎◌, inl, inr, List, [], ◌∷◌, ◌++◌, length, drop, replicate, slice_index, refl, sym, ◌∙◌, ap, arith, length-append, length-drop, length-take, get_or-take, get_or-drop}
+use Rattle.std.proofs.lemmas.List.{get_or_append_left, get_or-append_right, get_or-replicate, get_or_past, length-replicate}
+use Rattle.std.proofs.lemmas.Bool.{cases_lt}
+use Rattle.rrd_change.specs.Calls.{ArePut, IsSized}
+use Rattle.rrd_runs.specs.Replayed.{padded, overlaid}
+
+-- zeros have the value that a list has past its end
+zeros : (n k : ℕ) → slice_index (replicate n 0) k ≡ 0
+zeros n k = elim (cases_lt k n) [
+  | inl inside ↦ get_or-replicate n k 0 0 inside
+  | inr past ↦ get_or_past (replicate n 0) k 0 (omega (arith, length-replicate {A = ℕ} n 0))
+]
+
+-- so zeros behind a file change no byte
+zeros_behind : (file : List ℕ) (n k : ℕ) → slice_index (file ++ replicate n 0) k ≡ slice_index file k
+zeros_behind file n k = elim (cases_lt k (length file)) [
+  | inl inside ↦ get_or_append_left file (replicate n 0) 0 k inside
+  | inr past ↦ get_or-append_right file (replicate n 0) (length file) k 0 refl past ∙ zeros n (k - length file) ∙ sym (get_or_past file k 0 past)
+]
+
+pub length-padded : (file : List ℕ) (count : ℕ) → length (padded file count) ≡ count
+unfolding padded
+length-padded file count =
+    let gap : List ℕ = replicate (count - length file) 0 in
+    omega (arith, length-take count (file ++ gap), length-append file gap, length-replicate {A = ℕ} (count - length file) 0)
+
+pub padded_below : (file : List ℕ) (count k : ℕ) → k < count → slice_index (padded file count) k ≡ slice_index file k
+unfolding padded
+padded_below file count k low =
+    let gap : List ℕ = replicate (count - length file) 0 in
+    get_or-take count (file ++ gap) k 0 low ∙ zeros_behind file (count - length file) k
+
+pub padded-IsSized : (file : List ℕ) (count : ℕ) → IsSized count file (padded file count)
+padded-IsSized file count = record { len = length-padded file count; below = padded_below file count }
+
+-- bytes between a front of the file and the rest of it
+laid : (file : List ℕ) (at : ℕ) (bytes : List ℕ) → ArePut at bytes file (padded file at ++ bytes ++ drop (at + length bytes) file)
+laid file at bytes =
+    let end = at + length bytes in
+    let front = padded file at in
+    let rest = drop end file in
+    let is_at : length front ≡ at = length-padded file at in
+    let is_end : length (front ++ bytes) ≡ end = omega (arith, length-append front bytes, is_at) in
+    record {
+      len = omega (arith, length-append (front ++ bytes) rest, length-drop end file, is_end);
+      inside = λ i low.
+          let back : at + i - at ≡ i = omega arith in
+          get_or_append_left (front ++ bytes) rest 0 (at + i) (omega (arith, is_end))
+          ∙ get_or-append_right front bytes at (at + i) 0 is_at (omega arith) ∙ ap (slice_index bytes) back;
+      outside = λ k away. elim away [
+        | inl low ↦ get_or_append_left (front ++ bytes) rest 0 k (omega (arith, is_end))
+            ∙ get_or_append_left front bytes 0 k (omega (arith, is_at)) ∙ padded_below file at k low
+        | inr high ↦
+            let back : end + (k - end) ≡ k = omega arith in
+            get_or-append_right (front ++ bytes) rest end k 0 is_end high ∙ get_or-drop end file (k - end) 0 ∙ ap (slice_index file) back
+      ];
+    }
+
+-- no bytes past the end would leave a gap that no call fills
+pub overlaid-ArePut : (file : List ℕ) (at : ℕ) (bytes : List ℕ) → (at ≤ length file) ⊎ (0 < length bytes) → ArePut at bytes file (overlaid file at bytes)
+unfolding overlaid
+overlaid-ArePut file at [] (inl within) = record { len = omega arith; inside = λ i low. absurd (omega arith); outside = λ k away. refl }
+overlaid-ArePut file at [] (inr some) = absurd (omega arith)
+overlaid-ArePut file at (byte ∷ more) some = laid file at (byte ∷ more)
+
+-- no bytes change nothing
+pub overlaid_none : (file : List ℕ) (at : ℕ) (bytes : List ℕ) → length bytes ≡ 0 → overlaid file at bytes ≡ file
+unfolding overlaid
+overlaid_none file at [] none = refl
+overlaid_none file at (byte ∷ more) none = absurd (omega (arith, none))

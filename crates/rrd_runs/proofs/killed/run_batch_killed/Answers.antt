@@ -1,0 +1,17 @@
+use Rattle.std.proofs.Common.{◌∙◌, ◌++◌, List, ap}
+use Rattle.rrd_runs.specs.Events.{Event}
+use Rattle.rrd_store.specs.Runs as runs
+use Rattle.rrd_runs.proofs.Kills.{interrupted_run}
+use Rattle.rrd_runs.proofs.killed.run_batch_killed.Goals as goal
+
+pub run_batch_at-requires : goal.run_batch_at-requires
+run_batch_at-requires g c =
+    ap (λ (l : List Event). l ++ g.D.Disk.events c.new-killed.result.system) c.new-killed.ensures.missed
+    ∙ ap g.D.Disk.events c.new-killed.ensures.system ∙ c.requires
+
+pub returns : goal.returns
+returns g c =
+    let killed = c.run_batch_at.result.disk in
+    let run = runs.batch_run c.args.now c.args.numbered (g.R.Read.remaining c.args.reader.now) (g.R.Read.remaining c.run_batch_at.new.reader)
+    (g.W.Write.contents c.args.out.now) (g.W.Write.contents c.run_batch_at.new.out) c.run_batch_at.result.end in
+    interrupted_run killed.missed.events (g.D.Disk.events killed.system) run killed.failed c.run_batch_at.ensures

@@ -1,0 +1,11 @@
+use Rattle.rrd_change.specs.Views.{Moves}
+use Rattle.rrd_runs.specs.Calls.{Did, IsPartPut}
+use Rattle.rrd_runs.specs.Locks.{KeepsGuard}
+use Rattle.rrd_runs.specs.Power.{AreTorn}
+use Rattle.rrd_runs.proofs.once.put_some.Given as goal
+
+abbrev pub invariant-loop : goal.invariant-loop
+invariant-loop g l = record {
+  did : Did (Moves (IsPartPut 0 l.at l.bytes) (AreTorn l.at l.bytes)) (g.D.Disk.events l.fn.disk) (g.D.Disk.events l.disk);
+  guard : KeepsGuard (g.D.Disk.events l.fn.disk) (g.D.Disk.events l.disk);
+}

@@ -1,0 +1,11 @@
+use Rattle.rrd_change.specs.Calls.{IsSizedOrNot}
+use Rattle.rrd_change.specs.Views.{Moves}
+use Rattle.rrd_runs.specs.Calls.{Did}
+use Rattle.rrd_runs.specs.Locks.{KeepsGuard}
+use Rattle.rrd_runs.proofs.once.set_length.Given as goal
+
+abbrev pub invariant-loop : goal.invariant-loop
+invariant-loop g l = record {
+  did : Did (Moves (IsSizedOrNot l.length) (IsSizedOrNot l.length)) (g.D.Disk.events l.fn.disk) (g.D.Disk.events l.disk);
+  guard : KeepsGuard (g.D.Disk.events l.fn.disk) (g.D.Disk.events l.disk);
+}

@@ -1,0 +1,11 @@
+use Rattle.rrd_runs.proofs.Stages.{fault_unmarked, loaded_unmarked}
+use Rattle.rrd_runs.proofs.storage.FileStorage.load_unmarked.Goals as goal
+
+pub returns-in-Ok-clause-loads : goal.returns-in-Ok-clause-loads
+returns-in-Ok-clause-loads g c = λ s honest there none.
+    loaded_unmarked c.file_laws.ensures c.as_loaded.result c.in-Ok.database (g.D.Disk.events c.args.self.now.bytes.disk) (g.D.Disk.events c.load.new.file.disk) s honest
+    (c.load.ensures.rests.held s) there none c.as_loaded.ensures (c.in-Ok.ensures.reads s honest)
+
+pub returns-in-Err-clause-loads : goal.returns-in-Err-clause-loads
+returns-in-Err-clause-loads g c = λ s honest there none.
+    fault_unmarked c.in-Err.fault (g.D.Disk.events c.args.self.now.bytes.disk) (g.D.Disk.events c.load.new.file.disk) s (c.load.ensures.rests.held s) there none (c.in-Err.ensures.reads s honest)

@@ -1,0 +1,67 @@
+use Rattle.std.proofs.Common.{◌≡◌, ◌∙◌, List, OnErr, length, sym, refl, subst, inl}
+use Rattle.rrd_change.specs.declared.span.Span.{Span}
+use Rattle.rrd_runs.specs.Replayed.{held_after}
+use Rattle.rrd_runs.specs.Storing.{AreOf}
+use Rattle.rrd_runs.specs.declared.storage.Found.{Found}
+use Rattle.rrd_runs.specs.declared.storage.Found.TheVariants.{Unopened, Missing, Open, Kept}
+use Rattle.rrd_runs.proofs.Storing.{does_falls, sound_at, written_from}
+use Rattle.rrd_runs.proofs.Writing.{unwritten}
+use Rattle.rrd_runs.specs.Surviving.{Becomes, BecomesOrNot}
+use Rattle.rrd_runs.proofs.Powering.{or_failed}
+use Rattle.rrd_runs.proofs.storage.FileStorage.put.Goals as goal
+
+pub returns-in_err-spans-clause-writes : goal.returns-in_err-spans-clause-writes
+returns-in_err-spans-clause-writes g c = λ s honest sound differs.
+    (sound, unwritten c.from_residual.result c.args.bytes.now (held_after s (g.D.Disk.events c.args.self.now.bytes.disk)) (held_after s (g.D.Disk.events c.args.self.now.bytes.disk)) c.from_residual.ensures.0 (inl refl))
+
+pub returns-in-Unopened-clause-writes : goal.returns-in-Unopened-clause-writes
+returns-in-Unopened-clause-writes g c = λ s honest sound differs.
+    c.put_anew.ensures.writes s honest (sound_at c.args.self.now.found Unopened (held_after s (g.D.Disk.events c.args.self.now.bytes.disk)) (sym c.replace.ensures.value ∙ c.in-Unopened.is) sound)
+
+pub returns-in-Missing-clause-writes : goal.returns-in-Missing-clause-writes
+returns-in-Missing-clause-writes g c = λ s honest sound differs.
+    c.put_new.ensures.writes s honest (sound_at c.args.self.now.found Missing (held_after s (g.D.Disk.events c.args.self.now.bytes.disk)) (sym c.replace.ensures.value ∙ c.in-Missing.is) sound)
+
+pub returns-in-Open-clause-falls : goal.returns-in-Open-clause-falls
+returns-in-Open-clause-falls g c = does_falls (g.L.Location.syncs c.args.self.now.place) _ _ c.put_open.result (g.D.Disk.events c.args.self.now.bytes.disk) (g.D.Disk.events c.put_open.new.self.bytes.disk) c.put_open.ensures.does
+
+pub returns-in-Open-clause-writes : goal.returns-in-Open-clause-writes
+returns-in-Open-clause-writes g c = λ s honest sound differs.
+    let old = g.D.Disk.events c.args.self.now.bytes.disk in
+    let new = g.D.Disk.events c.put_open.new.self.bytes.disk in
+    let bytes = c.args.bytes.now in
+    let are = subst (λ (xs : List Span). AreOf (length bytes) c.args.changed.now xs) (sym c.deref.ensures.value) c.in_ok-spans.ensures in
+    let is = sound_at c.args.self.now.found (Open c.in-Open.base) (held_after s old) (sym c.replace.ensures.value ∙ c.in-Open.is) sound in
+    written_from c.file_laws.ensures (Open c.in-Open.base) c.put_open.new.self.found c.args.changed.now c.deref.result.now bytes c.put_open.result (g.L.Location.syncs c.args.self.now.place) old new c.requires are
+    (subst (λ (f : Found). OnErr c.put_open.result (c.put_open.new.self.found ≡ f)) c.replace.ensures.after c.put_open.ensures.found) c.put_open.ensures.does s honest is differs
+
+pub returns-clause-falls : goal.returns-clause-falls
+returns-clause-falls g c = does_falls (g.L.Location.syncs c.args.self.now.place) _ _ c.put_kept.result (g.D.Disk.events c.args.self.now.bytes.disk) (g.D.Disk.events c.put_kept.new.self.bytes.disk) c.put_kept.ensures.does
+
+pub returns-clause-writes : goal.returns-clause-writes
+returns-clause-writes g c = λ s honest sound differs.
+    let old = g.D.Disk.events c.args.self.now.bytes.disk in
+    let new = g.D.Disk.events c.put_kept.new.self.bytes.disk in
+    let bytes = c.args.bytes.now in
+    let are = subst (λ (xs : List Span). AreOf (length bytes) c.args.changed.now xs) (sym c.deref-in-Kept.ensures.value) c.in_ok-spans.ensures in
+    let is = sound_at c.args.self.now.found (Kept c.in-Kept.base c.in-Kept.log) (held_after s old) (sym c.replace.ensures.value ∙ c.in-Kept.is) sound in
+    written_from c.file_laws.ensures (Kept c.in-Kept.base c.in-Kept.log) c.put_kept.new.self.found c.args.changed.now c.deref-in-Kept.result.now bytes c.put_kept.result (g.L.Location.syncs c.args.self.now.place) old new c.requires are
+    (subst (λ (f : Found). OnErr c.put_kept.result (c.put_kept.new.self.found ≡ f)) c.replace.ensures.after c.put_kept.ensures.found) c.put_kept.ensures.does s honest is differs
+
+pub returns-in_err-spans-clause-power : goal.returns-in_err-spans-clause-power
+returns-in_err-spans-clause-power g c = λ unopened.
+    let old = g.D.Disk.events c.args.self.now.bytes.disk in
+    let bytes = c.args.bytes.now in
+    or_failed (λ x. Becomes bytes) (BecomesOrNot bytes) c.from_residual.result (g.L.Location.syncs c.args.self.now.place) old old c.from_residual.ensures.0 (λ ordered d w honest end other now any left. inl left)
+
+pub returns-in-Unopened-clause-power : goal.returns-in-Unopened-clause-power
+returns-in-Unopened-clause-power g c = λ unopened. c.put_anew.ensures.power
+
+pub returns-in-Missing-clause-power : goal.returns-in-Missing-clause-power
+returns-in-Missing-clause-power g c = λ unopened. let other = sym unopened ∙ sym c.replace.ensures.value ∙ c.in-Missing.is in absurd cc
+
+pub returns-in-Open-clause-power : goal.returns-in-Open-clause-power
+returns-in-Open-clause-power g c = λ unopened. let other = sym unopened ∙ sym c.replace.ensures.value ∙ c.in-Open.is in absurd cc
+
+pub returns-clause-power : goal.returns-clause-power
+returns-clause-power g c = λ unopened. let other = sym unopened ∙ sym c.replace.ensures.value ∙ c.in-Kept.is in absurd cc
