@@ -8,11 +8,13 @@ from __future__ import annotations
 
 import errno
 import os
+import re
 import secrets
+import time
 from contextlib import suppress
 from io import FileIO
 from types import TracebackType
-from typing import Callable, Optional, Type, TypeVar
+from typing import Callable, List, Optional, Type, TypeVar
 
 from .locks import EXCLUSIVE, close, lock, open_file
 from .words import FilePath
@@ -23,6 +25,8 @@ Filled = TypeVar("Filled")
 NO_LINKS = frozenset({errno.EPERM, errno.EOPNOTSUPP, errno.ENOTSUP, errno.ENOSYS, errno.EMLINK})
 # What readlink(2) answers if a path is no symbolic link.
 NOT_A_LINK = frozenset({errno.EINVAL, errno.ENOENT, errno.ENOTDIR})
+UNFINISHED = re.compile(r"\.rrdi-[0-9a-f]{16}\.new")
+LEFT_OVER = 86_400  # seconds after which nobody fills such a file any more
 MOST_LINKS = 40  # that lead from one to the next, as Linux follows them
 
 
@@ -144,6 +148,20 @@ def remove_empty(file: FileIO, path: str) -> None:
         found = os.fstat(file.fileno())
         if found.st_size == 0 and os.path.samestat(found, os.lstat(path)):
             os.unlink(path)
+
+
+def remove_left_over(folder: str) -> List[str]:
+    """Removes the unfinished files of a folder that are older than a day, and returns their paths. A program that was
+    killed has left them; one that still fills such a file fails, and leaves what it copies as it is."""
+    removed: List[str] = []
+    with suppress(OSError), os.scandir(folder or ".") as listed:
+        for entry in listed:
+            if UNFINISHED.fullmatch(entry.name) is None or not entry.is_file(follow_symlinks=False):
+                continue
+            if time.time() - entry.stat(follow_symlinks=False).st_mtime > LEFT_OVER:
+                os.unlink(entry.path)
+                removed.append(os.path.join(folder, entry.name))
+    return removed
 
 
 def make(path: FilePath, fill: Callable[[str], Filled], makes_folder: bool = False) -> Optional[Filled]:

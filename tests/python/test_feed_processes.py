@@ -69,9 +69,9 @@ class Lines(FeedCase):
                    "time: g\n10: 1.000000\n20: 2.000000\n30: 3.000000\n")
         self.same("another file", self.asked("last", "b.rrdi"), "30\n")
         self.same("refused samples", self.ran(feed, given="a.rrdi 40:1\na.rrdi 30:9 25:8\na.rrdi x\na.rrdi 50:2\n"),
-                   Ran(1, "", "rrdi-feed: a.rrdi 30:9: not later than 40\nrrdi-feed: a.rrdi 25:8: not later than 40\n"
-                              "rrdi-feed: a.rrdi x: unreadable sample 1\n"
-                              "rrdi-feed: 'x' has no value; write TIME:VALUE\n"))
+                   Ran(1, "", "rrdi-feed: a.rrdi x: unreadable sample 1\n"
+                              "rrdi-feed: 'x' has no value; write TIME:VALUE\n"
+                              "rrdi-feed: a.rrdi 25:8: not later than 30\nrrdi-feed: a.rrdi 30:9: not later than 30\n"))
         self.same("the others", self.asked("last", "a.rrdi"), "50\n")
         self.same("no database", self.ran(feed, given="none.rrdi 10:1 20:2\n"),
                    Ran(1, "", "rrdi-feed: none.rrdi 10:1: no database\nrrdi-feed: none.rrdi 20:2: no database\n"))

@@ -13,7 +13,7 @@ from unittest import mock
 
 from cases import DataCase, WithLibrary, WithProgram, use_library
 from rrdi import commands, damaged, errors
-from rrdi.making import NewFile, is_there, make
+from rrdi.making import NewFile, is_there, make, remove_left_over
 from rrdi.tools import record
 
 DEFINITIONS = ("DS:g:GAUGE:60:U:U", "RRA:LAST:0.5:1:4")
@@ -34,6 +34,18 @@ class Making(DataCase):
     def test_a_new_file(self) -> None:
         self.assertTrue(self.made())
         self.assertEqual((self.files(), self.path.read_text()), (["data/f.rrdi"], "new"))
+
+    def test_what_a_kill_has_left(self) -> None:
+        """Files of such names that are older than a day go; no others, and no folder."""
+        old, other, young = (self.folder / f".rrdi-{name}.new" for name in ("0123456789abcdef", "mine", "00000000deadbeef"))
+        for path in (old, other, young):
+            path.write_text("")
+        (self.folder / ".rrdi-ffffffffffffffff.new").mkdir()
+        for path in (old, other, self.folder / ".rrdi-ffffffffffffffff.new"):
+            os.utime(path, (time.time() - 90_000,) * 2)
+        self.assertEqual(remove_left_over(str(self.folder)), [str(old)])
+        self.assertEqual(self.files(), ["data/.rrdi-00000000deadbeef.new", "data/.rrdi-mine.new"])
+        self.assertEqual(remove_left_over(str(self.folder / "none")), [])
 
     def test_a_file_stays(self) -> None:
         self.path.write_text("old")

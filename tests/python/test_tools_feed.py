@@ -39,10 +39,11 @@ class WrongOnes(ToolCase):
         self.check_usage("rrdi-feed", USAGE, [*(words.split() for words in wrong), ["--graphite", ""]])
 
     def test_arguments(self) -> None:
-        self.assertEqual(read_arguments([]), FeedArguments(FeedOptions(60, 4, 1_000_000, 30), None, None))
+        self.assertEqual(read_arguments([]), FeedArguments(FeedOptions(60, 4, 1_000_000, 30), None, None, False))
         self.assertEqual(read_arguments("--jobs 2 --seconds 5 --held 7 --patience 0".split()),
-                         FeedArguments(FeedOptions(5, 2, 7, 0), None, None))
-        self.assertEqual(read_arguments("--graphite d --rules r --jobs 3".split()), FeedArguments(FeedOptions(jobs=3), "d", "r"))
+                         FeedArguments(FeedOptions(5, 2, 7, 0), None, None, False))
+        self.assertEqual(read_arguments("--graphite d --backfill --rules r --jobs 3".split()),
+                         FeedArguments(FeedOptions(jobs=3), "d", "r", True))
         with self.assertRaises(WrongArguments):
             read_arguments(["--rules", "r"])
 

@@ -186,7 +186,7 @@ class Files(FixCase):
         depth, sources, archives, entries = struct.unpack(">IHHI", data[18:30])
         self.write("f.rrdi", data[:4] + b"\0\1" + data[6:18] + struct.pack(">HHHH", depth, sources, archives, entries) + data[30:])
         self.assertEqual(self.rrdi("last", "f.rrdi"), "55\n")
-        self.stays("f.rrdi: the layout is that of rrdi 0.1, which rrdi-fix does not change; the next update makes it new", "23")
+        self.stays("f.rrdi: the layout is that of rrdi 0.1, whose old samples stay as they are; the next update makes it new", "23")
         self.updated("f.rrdi", "update 60:1")
         self.assertEqual(self.fix("f.rrdi", "23").status, 0)
 

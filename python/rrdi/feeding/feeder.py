@@ -14,8 +14,9 @@ from queue import Empty, SimpleQueue
 from typing import Callable, Dict, Iterable, Iterator, List, Optional, Set, Tuple
 
 from ..limits import LONGEST_LINE
+from .ordering import in_order
 from .workers import FIRST, Batch, Workers
-from .writers import NO_ROOM, Outcome, Writer, text_of
+from .writers import NO_ROOM, TOO_OLD, Outcome, Writer, text_of
 
 UPDATE = b"update "
 SHORT = LONGEST_LINE - len(UPDATE)  # bytes of a line whose sample cannot be too long
@@ -88,7 +89,7 @@ class Feeder:
         self.pauses: Dict[bytes, float] = {}
         self.threads = Workers(options.jobs, self.run)
         self.count, self.is_ending, self.is_hurried, self.has_failed = 0, False, False, False
-        self.bad_lines = 0
+        self.bad_lines = self.too_old = 0
         # Returns what was wrong with a refused sample of a file; the reason is rrdi's.
         self.explain: Callable[[bytes, bytes, str], str] = lambda file, sample, reason: ""
         # What was read and is not yet in lines; the lines, and those of them that are not yet taken.
@@ -111,6 +112,13 @@ class Feeder:
         """Reports a line from which no sample was read."""
         self.bad_lines += 1
         self.say(f"{reason}, got: {line_text(line)}")
+
+    def say_refused(self, file: bytes, sample: bytes, reason: str) -> None:
+        self.too_old += reason.startswith(TOO_OLD)
+        self.say(f"{printable(text_of(file))} {printable(text_of(sample))}: {reason}")
+        detail = self.explained(file, sample, reason)
+        if detail:
+            self.say(detail)
 
     def say_lost(self, file: bytes, reason: str, samples: List[bytes]) -> None:
         """Reports samples that may be lost, in lines that the user can feed again."""
@@ -219,7 +227,7 @@ class Feeder:
 
     def run(self, file: bytes, samples: List[bytes]) -> None:
         """Runs one batch, in a thread of its own. Its end is told in any case: `finish` waits for it."""
-        outcome = self.write(file, samples)
+        samples, outcome = self.write(file, samples)
         while True:
             try:
                 self.ended.put((file, samples, outcome))
@@ -229,20 +237,22 @@ class Feeder:
 
     def run_here(self, file: bytes, samples: List[bytes]) -> None:
         """Runs one batch in the present thread, which alone can make room by what it ends."""
-        outcome = self.write(file, samples)
+        samples, outcome = self.write(file, samples)
         try:
             self.end_batch(file, samples, outcome)
         except MemoryError:
             self.running.discard(file)
             self.say_lost(file, NO_ROOM, samples)
 
-    def write(self, file: bytes, samples: List[bytes]) -> Outcome:
+    def write(self, file: bytes, samples: List[bytes]) -> Tuple[List[bytes], Outcome]:
+        """Passes samples on by their times. Returns them so, and the outcome."""
         try:
-            return self.writer.write(file, samples)
+            samples = in_order(samples)
+            return samples, self.writer.write(file, samples)
         except MemoryError:
-            return NO_MEMORY_LEFT  # there may be none for another text
+            return samples, NO_MEMORY_LEFT  # there may be none for another text
         except BaseException as error:  # the samples must survive any exception in the thread
-            return Outcome(lost=f"{type(error).__name__}: {error}")
+            return samples, Outcome(lost=f"{type(error).__name__}: {error}")
 
     def end_batches(self, seconds: float = 0) -> None:
         """Takes back the samples that ended batches could not pass to rrdi. Waits some seconds for the first ended batch."""
@@ -260,13 +270,12 @@ class Feeder:
 
     def end_batch(self, file: bytes, samples: List[bytes], outcome: Outcome) -> None:
         samples = samples[outcome.done:] if outcome.done else samples
+        if outcome.left is not None:
+            samples = list(outcome.left)
         if outcome.lost:
             self.say_lost(file, outcome.lost, samples)
         for sample, reason in outcome.refused:
-            self.say(f"{printable(text_of(file))} {printable(text_of(sample))}: {reason}")
-            detail = self.explained(file, sample, reason)
-            if detail:
-                self.say(detail)
+            self.say_refused(file, sample, reason)
         if outcome.again:
             pause = self.pauses.get(file, FIRST_PAUSE)
             self.pauses[file] = min(2 * pause, LONGEST_PAUSE)
@@ -381,6 +390,8 @@ class Feeder:
             pass
         if self.bad_lines:
             self.say(f"bad lines: {self.bad_lines}")
+        if self.too_old:
+            self.say(f"samples too old: {self.too_old}")
 
     def write_held(self) -> None:
         """Passes on all held samples, and gives up files that cannot be opened for too long."""

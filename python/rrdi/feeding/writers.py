@@ -2,7 +2,7 @@
 """Passes the samples of one file to rrdi, in one batch."""
 from __future__ import annotations
 
-from typing import List, NamedTuple, Protocol, Sequence, Tuple
+from typing import List, NamedTuple, Optional, Protocol, Sequence, Tuple
 
 from ..by_program import NoAnswer
 from ..damaged import is_being_made
@@ -20,6 +20,7 @@ class Outcome(NamedTuple):
     lost: str = ""  # why samples may be lost
     refused: Tuple[Tuple[bytes, str], ...] = ()  # each refused sample, and why
     done: int = 0  # of the first samples, those that an earlier change has stored or refused
+    left: Optional[Tuple[bytes, ...]] = None  # the samples that `again` or `lost` is about, if not those after `done`
 
 
 class Writer(Protocol):
@@ -31,6 +32,7 @@ class Writer(Protocol):
 
 
 NO_ROOM = "out of memory"
+TOO_OLD = "too old"  # begins the reason of a sample that is too late to be put in
 
 
 def text_of(data: "bytes | bytearray") -> str:

@@ -17,6 +17,8 @@ options:
                        written (default: 1000000)
   --patience SECONDS   at the end, go on trying files that cannot be opened
                        for this long (default: 30)
+  --backfill           put samples in that are earlier than the last one of
+                       FILE, as far back as its journal reaches
   --graphite DIRECTORY
                        read Graphite's lines, NAME VALUE TIME, and write the
                        file NAME.rrdi in DIRECTORY
@@ -29,6 +31,11 @@ A line of RULES is NAME FILE [ARGUMENTS OF create..], and the first one whose
 NAME matches counts. * in NAME matches within one part of a name, ** over
 several parts; a star in FILE is what the same star in NAME matched. No file
 outside DIRECTORY is written.
+
+Samples are written by their times, whatever the order of their lines. With
+--backfill, a late sample takes changes of FILE back and sends them again after
+it, as one change under one lock. One that is too old is reported, and counted
+at the end.
 
 If FILE cannot be opened, because another program has its lock, its samples are
 kept and tried again after a pause, which doubles from a tenth of a second to a
@@ -69,11 +76,15 @@ class FeedArguments(NamedTuple):
     options: FeedOptions
     directory: Optional[str]
     rules: Optional[str]
+    fills: bool  # puts late samples in
 
 
 def read_arguments(words: List[str]) -> FeedArguments:
-    options, directory, rules = FeedOptions(), None, None
+    options, directory, rules, fills = FeedOptions(), None, None, False
     while words:
+        if words[0] == "--backfill":
+            fills, words = True, words[1:]
+            continue
         if len(words) < 2 or not words[0].startswith("--"):
             raise WrongArguments
         name, value = words[0][2:], words[1]
@@ -88,7 +99,7 @@ def read_arguments(words: List[str]) -> FeedArguments:
         words = words[2:]
     if rules is not None and directory is None:
         raise WrongArguments
-    return FeedArguments(options, directory, rules)
+    return FeedArguments(options, directory, rules, fills)
 
 
 def rules_of(path: Optional[str], writer: Writer) -> List[Rule]:
@@ -161,13 +172,17 @@ def is_directory(path: str) -> bool:
     return is_there(path) and stat.S_ISDIR(os.stat(path).st_mode)
 
 
-def chosen_writer() -> BatchWriter:
+def chosen_writer(fills: bool) -> Writer:
     library = chosen_library()
-    return GroupWriter(library) if library is not None else BatchWriter(chosen())
+    writer = GroupWriter(library) if library is not None else BatchWriter(chosen())
+    if not fills:
+        return writer
+    from .fixing.backfill import BackfillWriter  # most runs take no old samples
+    return BackfillWriter(writer)
 
 
 def feeder_of(arguments: FeedArguments) -> Feeder:
-    writer, name = chosen_writer(), called_name(TOOL)
+    writer, name = chosen_writer(arguments.fills), called_name(TOOL)
     if arguments.directory is None:
         feeder = Feeder(arguments.options, writer, name)
     elif is_directory(arguments.directory):
@@ -187,6 +202,7 @@ def feed(words: List[str]) -> int:
     return feeder.feed()
 
 
-USAGE = "[--seconds SECONDS] [--jobs JOBS] [--held SAMPLES] [--patience SECONDS] [--graphite DIRECTORY [--rules RULES]]"
+USAGE = ("[--seconds SECONDS] [--jobs JOBS] [--held SAMPLES] [--patience SECONDS] [--backfill] "
+         "[--graphite DIRECTORY [--rules RULES]]")
 TOOL = Tool("rrdi-feed", USAGE, __doc__, feed)
 main = TOOL.main

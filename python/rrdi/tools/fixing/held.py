@@ -26,6 +26,16 @@ PIPE_SIZE, SET_PIPE_SIZE = 1032, 1031  # Linux's F_GETPIPE_SZ and F_SETPIPE_SZ, 
 ATOMIC = 4_096  # bytes that a pipe takes whole on every Linux
 LAST = re.compile(rb"[0-9]+\n")  # what `last` prints
 OLD_VERSION = b"RRDI\0\1"
+NO_LOCK = "the file system has no locks, and no old sample is changed without one"
+MAY_PASS = ("cannot open", "out of memory")  # begin the reasons that another try may not meet
+
+
+class NotOpened(Failure):
+    """The file could not be opened, locked or read as one file. Nothing was changed, and a later try may do."""
+
+
+class PartlyStored(CommandFailed):
+    """Memory ran out in the middle of the change, although a copy took all of it: some lines were refused."""
 
 
 class Session(Protocol):
@@ -61,7 +71,7 @@ class LibrarySession:
     def store(self, lines: List[str]) -> None:
         answer = accepted(self.opened.batch(text_of(lines), NO_TIME))
         if answer.refused:  # as memory ran out, since the copy took them all
-            raise CommandFailed(f"{reasons_in(as_text(answer.output))[0]}; the file has a part of the change only")
+            raise PartlyStored(f"{reasons_in(as_text(answer.output))[0]}; the file has a part of the change only")
 
     def end(self) -> None:
         self.opened.close()
@@ -84,7 +94,7 @@ class ProgramSession:
                 [program_path(), "batch", self.argument], bufsize=0, stdin=subprocess.PIPE, stdout=subprocess.PIPE,
                 stderr=subprocess.PIPE, env=env, start_new_session=True)
         except OSError as error:
-            raise Failure(f"cannot run {program_path()}: {error.strerror or error}") from None
+            raise NotOpened(f"cannot run {program_path()}: {error.strerror or error}") from None
 
     def ask(self, name: str) -> str:
         output = self._sent(as_bytes(name) + b"\nlast\n")
@@ -171,16 +181,19 @@ class HeldFile:
         `Failure` if they differ.
         """
         if any(self.session.ask(name) != self.tried(self.data, [name]).output for name in ("info", "lastupdate")):
-            raise Failure(f"{self.path}: another file took the name while it was opened; nothing was changed")
+            raise NotOpened(f"{self.path}: another file took the name while it was opened; nothing was changed")
 
     def store(self, lines: List[str]) -> None:
         """Stores a change.
 
         # Errors
-        `Failure` if it could not be written, or if the file has lost its name meanwhile.
+        `PartlyStored` if only a part was stored, and `Failure` if it could not be written, or if the file has lost its name
+        meanwhile.
         """
         try:
             self.session.store(lines)
+        except PartlyStored as failed:
+            raise PartlyStored(failed.of_file(self.path)) from None
         except CommandFailed as failed:
             raise Failure(failed.of_file(self.path)) from None
         if identity_at(as_bytes(self.path)) != self.identity:
@@ -200,7 +213,7 @@ def held(path: str) -> Iterator[HeldFile]:
         tried = by_library(library) if library is not None else by_program(program_path())
         data = settled(read_all(file, path))
         if data.startswith(OLD_VERSION):
-            raise Failure(f"{path}: the layout is that of rrdi 0.1, which rrdi-fix does not change; the next update "
+            raise Failure(f"{path}: the layout is that of rrdi 0.1, whose old samples stay as they are; the next update "
                           "makes it new")
         found = HeldFile(path, session, identity_of(os.fstat(file.fileno())), data, tried)
         found.check_same()
@@ -237,7 +250,7 @@ def opened(path: str) -> "tuple[Session, FileIO]":
         session.end()
     if not os.access(path, os.W_OK):  # the program takes a lock for readers then
         raise Failure(f"{path}: cannot write: this user may not")
-    raise Failure(f"{path}: another program keeps replacing the file, or the locks of its file system do not hold")
+    raise NotOpened(f"{path}: another program keeps replacing the file, or the locks of its file system do not hold")
 
 
 def identity_of_file(path: str) -> Identity:
@@ -272,8 +285,8 @@ def session_at(path: str) -> Session:
         return session
     except CommandFailed as failed:
         if str(failed) == "cannot open" and failed.system_error in NO_LOCKS:
-            raise Failure(f"{path}: the file system has no locks, and rrdi-fix changes no file without one") from None
-        raise Failure(failed.of_file(path)) from None
+            raise Failure(f"{path}: {NO_LOCK}") from None
+        raise (NotOpened if str(failed).startswith(MAY_PASS) else Failure)(failed.of_file(path)) from None
 
 
 def read_by(session: Session, path: str, before: Identity) -> Optional[FileIO]:
@@ -303,5 +316,5 @@ def is_locked(file: FileIO, path: str) -> bool:
     """
     error = flock(file, SHARED | fcntl.LOCK_NB)
     if error in NO_LOCKS:
-        raise Failure(f"{path}: the file system has no locks, and rrdi-fix changes no file without one")
+        raise Failure(f"{path}: {NO_LOCK}")
     return error in LOCKED

@@ -7,11 +7,14 @@ from typing import Iterable, List, NamedTuple, Optional, Tuple
 
 from ...amounts import shortened
 from ...limits import LATEST
-from ...printed import Settings, printed_rows, settings_of
+from ...printed import PrintedRows, Settings, printed_rows, settings_of
 from ..command_line import Failure
 from .held import HeldFile
 
 SAMPLE = re.compile(r"([0-9]{1,10})((?::(?:U|-?[0-9]{1,20}(?:\.[0-9]{1,6})?))+)")
+
+
+FIRST_LOOK = 50  # changes
 
 
 class OneSample(NamedTuple):
@@ -66,14 +69,25 @@ def seen_seconds(settings: Settings) -> int:
                 if archive.steps == 1 or archive.function == "AVERAGE"), default=0)
 
 
-def history_of(file: HeldFile) -> History:
-    """Takes back all changes on a copy, and looks at the last sample before and after each."""
+def history_of(file: HeldFile, before: int = 0) -> History:
+    """Takes back changes on a copy, and looks at the last sample before and after each: as many as are needed to come to a
+    sample that is earlier than `before`, and all if there is none."""
     settings = settings_of(file.session.ask("info"))
-    asked = ["lastupdate", "revert"] * settings.undoable + ["lastupdate"]
-    lines = file.tried(file.data, asked).output.splitlines(True)
-    looks = [printed_rows("".join(lines[at:at + 2])) for at in range(0, len(lines), 2)]
+    count = FIRST_LOOK if before else settings.undoable
+    while True:
+        looks = looked_back(file, min(count, settings.undoable))
+        if count >= settings.undoable or looks[-1].times[0] < before:
+            break
+        count *= 4
     last = [OneSample(look.times[0], tuple(map(shortened, look.words[0]))) for look in looks]
     return History(list(looks[0].names), last, seen_seconds(settings))
+
+
+def looked_back(file: HeldFile, count: int) -> List[PrintedRows]:
+    """Returns the last sample of a file, and that after one revert, two reverts and so on."""
+    asked = ["lastupdate", "revert"] * count + ["lastupdate"]
+    lines = file.tried(file.data, asked).output.splitlines(True)
+    return [printed_rows("".join(lines[at:at + 2])) for at in range(0, len(lines), 2)]
 
 
 def given_samples(lines: Iterable[str], name: str, sources: int) -> List[OneSample]:

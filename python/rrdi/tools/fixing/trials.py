@@ -4,7 +4,7 @@
 # Without `annotations` of __future__: a named tuple whose types are texts makes a tool start a tenth slower.
 import os
 import tempfile
-from typing import Callable, List, NamedTuple, Optional
+from typing import Callable, List, NamedTuple, Optional, Tuple
 
 from ...by_program import ByProgram, NoAnswer
 from ...errors import OK, reason_of, reasons_in
@@ -18,10 +18,12 @@ NO_TIME = 0  # what N stands for: no line of these tools has one
 
 
 class AfterTrial(NamedTuple):
-    """The database after some lines, as the bytes of its file, and what the lines printed."""
+    """The database after some lines, as the bytes of its file, what the lines printed, and the numbers of those that were
+    refused; the first line is 1."""
 
     data: bytes
     output: str
+    refused: Tuple[int, ...]
 
     @property
     def refusals(self) -> List[str]:
@@ -58,7 +60,7 @@ def by_library(library: Library) -> Trial:
     """Returns what runs lines in memory."""
     def tried(data: bytes, lines: List[str]) -> AfterTrial:
         answer = accepted(library.batch(data, text_of(lines), NO_TIME))
-        return AfterTrial(data if answer.data is None else answer.data, as_text(answer.output))
+        return AfterTrial(data if answer.data is None else answer.data, as_text(answer.output), answer.refused)
     return tried
 
 
@@ -69,12 +71,12 @@ def by_program(program: str, folder: Optional[str] = None) -> Trial:
             copy.write(data)
         answer = accepted(ByProgram(program).batch_file(os.fsencode(path), text, NO_TIME, 0, False))
         with open(path, "rb") as copy:
-            return AfterTrial(copy.read(), as_text(answer.output))
+            return AfterTrial(copy.read(), as_text(answer.output), answer.refused)
 
     def tried(data: bytes, lines: List[str]) -> AfterTrial:
         text = text_of(lines)
         try:
-            with tempfile.TemporaryDirectory(prefix="rrdi-fix", dir=folder) as place:
+            with tempfile.TemporaryDirectory(prefix="rrdi-trial", dir=folder) as place:
                 return tried_at(os.path.join(place, "copy.rrdi"), data, text)
         except NoAnswer as none:
             raise not_run(none) from None
