@@ -33,11 +33,10 @@ class Pages(unittest.TestCase):
         self.assertEqual(self.number("files.md", r"a greater number \| ([\d,]+) seconds"), environment.LONGEST_WAIT)
         self.assertEqual(self.number("files.md", r"pauses that grow from (\d+) to \d+ milliseconds"), 1_000 * locks.FIRST_PAUSE)
         self.assertEqual(self.number("files.md", r"pauses that grow from \d+ to (\d+) milliseconds"), 1_000 * locks.LONGEST_PAUSE)
-        self.assertEqual(self.number("rrdi.1", r"a command tries again for (\d+) seconds"), 5)
 
     def test_values(self) -> None:
         for page, pattern in (("concepts.md", r"absolute value below (10\^\d+)"), ("definitions.md", r"absolute value below (10\^\d+)"),
-                              ("rrdi.1", r"absolute value below (10\^\d+)"), ("commands.md", r"\| a number below (10\^\d+) \|"),
+                              ("commands.md", r"\| a number below (10\^\d+) \|"),
                               ("graphite.md", r"infinities, (10\^\d+) and more")):
             self.assertEqual(self.number(page, pattern), amounts.LARGEST, page)
         reading = pieces.Reader(b"")

@@ -5,17 +5,23 @@ from __future__ import annotations
 import math
 import os
 import time
+import xml.etree.ElementTree as ElementTree
 import unittest
-from typing import List
+from typing import Dict, List, Optional, Tuple
 from unittest import mock
 
 import cases  # noqa: F401  (finds the package)
 
+from rrdi.tools.command_line import WrongArguments
+from rrdi.tools.plotting.asked import Bounds, read_bounds, read_size
 from rrdi.tools.plotting.columns import Columns, Curve, group_size, grouped, series_of
+from rrdi.tools.plotting.gnuplot import Picture
 from rrdi.tools.plotting.labels import Label, labels
 from rrdi.tools.plotting.legend import legend_of
-from rrdi.tools.plotting.look import LEAST_PLOT_HEIGHT, plot_height, size_of
+from rrdi.tools.plotting.look import LEAST_PLOT_HEIGHT, LIGHT, UNTITLED, plot_height, size_of, title_room
 from rrdi.tools.plotting.numbers import axis
+from rrdi.tools.plotting.spikes import CutMark, cut, cut_curve, cut_marks, range_of
+from rrdi.tools.plotting.svg import STYLES, path_of, svg_of
 
 DAY = 86_400
 
@@ -88,7 +94,128 @@ class Marks(unittest.TestCase):
 
     def test_sizes(self) -> None:
         """A picture without a height gets the room that its parts need."""
-        size = size_of(900, 0, 3, 1, 63)
+        size = size_of(900, 0, 3, title_room(1), 63)
         self.assertEqual((size.height, size.top, size.bottom, size.legend), (66 + 250 + 121, 66, 121, 77))
-        self.assertEqual((plot_height(0, 1, 63), plot_height(300, 2, 0), plot_height(300, 2, 63)), (250, 174, 97))
-        self.assertLess(plot_height(200, 2, 42), LEAST_PLOT_HEIGHT)
+        self.assertEqual((plot_height(0, 66, 63), plot_height(300, 82, 0), plot_height(300, 82, 63)), (250, 174, 97))
+        self.assertLess(plot_height(200, 82, 42), LEAST_PLOT_HEIGHT)
+
+
+ALL = Bounds(None, None, False, False)
+
+
+def curve_of(values: List[float], lows: Optional[List[float]] = None, highs: Optional[List[float]] = None) -> Curve:
+    """A source with rows of ten seconds from 0 on."""
+    rows = Columns(["g"], 10, [10 * at for at in range(1, len(values) + 1)], [values])
+    return series_of(rows, rows._replace(columns=[lows or values]), rows._replace(columns=[highs or values]), False)[0]
+
+
+class Asked(unittest.TestCase):
+    def test_sizes(self) -> None:
+        sizes: List[Tuple[Dict[str, str], Tuple[int, int]]] = [
+            ({}, (900, 0)), ({"size": "300"}, (300, 0)), ({"size": "300x200"}, (300, 200)),
+            ({"size": "300,200", "width": "10000"}, (10_000, 200)), ({"height": "250"}, (900, 250))]
+        for given, size in sizes:
+            self.assertEqual(read_size(given), size)
+        for given in ({"size": "199"}, {"size": "300x"}, {"size": "300x10001"}, {"width": "300x200"}, {"height": "-5"}):
+            self.assertRaises(WrongArguments, read_size, given)
+
+    def test_bounds(self) -> None:
+        self.assertEqual(read_bounds({}, {"--cut-spikes"}), Bounds(None, None, False, True))
+        self.assertEqual(read_bounds({"min": "-1.5", "max": "2e3"}, {"--rigid"}), Bounds(-1.5, 2_000.0, True, False))
+        for given in ({"min": "x"}, {"min": "nan"}, {"max": "inf"}, {"max": "1e18"}, {"min": "2", "max": "2"}):
+            self.assertRaises(WrongArguments, read_bounds, given, set())
+        self.assertRaises(WrongArguments, read_bounds, {}, {"--rigid"})
+
+
+class Ranges(unittest.TestCase):
+    """The range of an axis: what is asked, and what is a spike."""
+
+    def test_limits(self) -> None:
+        curve = curve_of([20.0, 30.0, math.nan])
+        for bounds, has_zero, found in (
+                (ALL, False, (20, 30)), (ALL, True, (0, 30)), (Bounds(10.0, None, False, False), True, (10, 30)),
+                (Bounds(25.0, 28.0, False, False), False, (20, 30)), (Bounds(10.0, 40.0, False, False), False, (10, 40)),
+                (Bounds(25.0, 28.0, True, False), True, (25, 28)), (Bounds(None, 28.0, True, False), True, (0, 28)),
+                (Bounds(None, 15.0, True, False), False, (13, 15)), (Bounds(40.0, None, True, False), False, (40, 44))):
+            with self.subTest(bounds=bounds, has_zero=has_zero):
+                self.assertEqual(range_of([curve], False, has_zero, bounds), found)
+
+    def test_spikes(self) -> None:
+        """One row of fifty may be a spike, which is farther away than twice the range of the others."""
+        cuts = ALL._replace(cuts_spikes=True)
+        usual = [1.0 + at % 2 for at in range(98)]
+        for others, has_zero, found in (
+                ([90.0, 1.5], True, (0, 2)), ([6.0, 1.5], True, (0, 6)), ([6.1, 1.5], True, (0, 2)), ([-90.0, 90.0], False, (1, 2)),
+                ([90.0, 90.0], True, (0, 2)), ([-1.0, 4.0], False, (-1, 4)), ([-1.1, 4.1], False, (1, 2)),
+                ([math.nan, 90.0, 1.0, 90.0, 90.0], True, (0, 90))):
+            with self.subTest(others=others, has_zero=has_zero):
+                self.assertEqual(range_of([curve_of(usual + others)], False, has_zero, cuts), found)
+        self.assertEqual(range_of([curve_of(usual + [90.0, 1.5])], False, True, ALL), (0, 90))
+        self.assertEqual(range_of([curve_of(usual + [90.0, 1.5])], False, True, cuts._replace(greatest=8.0)), (0, 8))
+        self.assertEqual(range_of([curve_of([0.0] * 99 + [5.0])], False, True, cuts), (0, 5))  # all others are equal
+        few = curve_of([math.nan] * 97 + [70.0, 80.0, 75.0])
+        self.assertEqual(range_of([curve_of(usual + [1.0, 1.0]), few], False, True, cuts), (0, 80))
+
+    def test_spikes_of_a_band(self) -> None:
+        """Of the rows of a band, one of four may be a spike."""
+        cuts, values = ALL._replace(cuts_spikes=True), [1.0] * 100
+        for spikes, greatest in ((25, 3), (26, 90)):
+            highs = [90.0] * spikes + [3.0] * (100 - spikes)
+            self.assertEqual(range_of([curve_of(values, [0.5] * 100, highs)], True, True, cuts), (0, greatest))
+
+    def test_ends(self) -> None:
+        """A rigid axis ends where it must; its marks stay at round values."""
+        found = axis(0, 97).ending_at(3, 97)
+        self.assertEqual((found.values, found.low, found.high), ([20, 40, 60, 80], 3, 97))
+        self.assertEqual(found.texts, ["20", "40", "60", "80"])
+        self.assertEqual(axis(0, 97).ending_at(None, None), axis(0, 97))
+
+    def test_what_is_cut(self) -> None:
+        unknown = cut([math.nan, -5.0, 2.0, 9.0], 0, 4)
+        self.assertTrue(math.isnan(unknown[0]))
+        self.assertEqual(unknown[1:], [0, 2, 4])
+        rows = Columns(["g"], 10, [10, 20, 30, 40, 50], [[1.0, 9.0, 9.0, 1.0, -9.0]])
+        series = series_of(rows, None, None, False)
+        self.assertEqual(cut_marks(rows, series, False, 0, 4), [CutMark(0, 20, True), CutMark(0, 45, False)])
+        self.assertEqual(cut_marks(rows, series, False, -9, 9), [])
+        self.assertEqual(cut_curve(series[0], 0, 4).values, [1, 4, 4, 1, 0])
+
+
+class SvgPictures(unittest.TestCase):
+    def picture(self, values: List[float], style: str = "lines", name: str = "g") -> Picture:
+        rows = Columns([name], 10, [10 * at for at in range(1, len(values) + 1)], [values])
+        marks = axis(0, 4)
+        series = series_of(rows, None, None, style == "stack")
+        return Picture(rows, [cut_curve(one, 0, 4) for one in series], marks, "", [], style, False,
+                       cut_marks(rows, series, False, 0, 4), None, LIGHT, size_of(900, 0, 1, UNTITLED, 0))
+
+    def drawn(self, picture: Picture) -> Dict[str, str]:
+        """The paths by their classes."""
+        root = ElementTree.fromstring(svg_of(picture, 0, 100, "'<g>' & \""))
+        self.assertEqual(root.attrib["aria-label"], "'<g>' & \"")
+        return {path.attrib["class"]: path.attrib["d"] for path in root.iter("path")}
+
+    def test_paths(self) -> None:
+        self.assertEqual(path_of([(0, 1), (2.04, 1), (2.04, 3), (2.04, 3), (5, 6.26)]), "M0 1H2V3L5 6.3")
+
+    def test_a_line_has_gaps(self) -> None:
+        """The plot is from 29 to 872 across, and from 260 to 10 down."""
+        found = self.drawn(self.picture([1.0, 2.0, math.nan, 4.0, 9.0]))
+        self.assertEqual(found["line c0"], "M29 197.5H113.3V135H197.6M281.9 10H366.2H450.5")
+        self.assertEqual(found["cut c0"], "M408.4 10l-4 6h8z")
+        self.assertIn("M29 260H872", found["grid"])
+
+    def test_areas(self) -> None:
+        self.assertEqual(self.drawn(self.picture([1.0, 2.0], "area"))["area c0"],
+                         "M29 197.5H113.3V135H197.6V260H113.3H29z")
+
+    def test_times_beyond_the_picture(self) -> None:
+        """A row that begins before the picture is drawn from its edge on."""
+        rows = Columns(["g"], 100, [50, 150], [[1.0, 1.0]])
+        picture = self.picture([1.0, 1.0])._replace(rows=rows)
+        self.assertEqual(self.drawn(picture)["line c0"], "M29 197.5H450.5H872")
+
+    def test_light_and_dark(self) -> None:
+        light, dark = STYLES.split("@media (prefers-color-scheme:dark)")
+        self.assertIn("--ground:#ffffff", light)
+        self.assertIn("--ground:#181b1f", dark)

@@ -12,6 +12,13 @@ Column = List[float]
 DAY = 86_400  # seconds
 
 
+class NothingToDraw(Failure):
+    """A picture would have no known value, or fewer than two rows."""
+
+    def __init__(self) -> None:
+        super().__init__(NOTHING)
+
+
 class Columns(NamedTuple):
     """Rows that follow each other without gaps: the names of the sources, the seconds of a row, the times at which rows end,
     and a column for each source; nan is unknown."""
@@ -34,12 +41,12 @@ def columns_of(names: List[str], printed: Dict[int, List[str]]) -> Columns:
     """Returns the rows that `rrdi fetch` printed.
 
     # Errors
-    `Failure` if there are fewer than two rows, or no cell is known.
+    `NothingToDraw` if there are fewer than two rows, or no cell is known.
     """
     times = list(printed)
     columns = [[float(cells[at]) for cells in printed.values()] for at in range(len(names))]
     if len(times) < 2 or all(math.isnan(cell) for column in columns for cell in column):
-        raise Failure(NOTHING)
+        raise NothingToDraw
     return Columns(names, times[1] - times[0], times, columns)
 
 
@@ -81,14 +88,14 @@ def chosen(rows: Columns, names: List[str]) -> Columns:
     """Returns the rows with the named sources, in that order.
 
     # Errors
-    `Failure` if there is no such source, or none of their cells is known.
+    `Failure` if there is no such source; `NothingToDraw` if none of their cells is known.
     """
     for name in names:
         if name not in rows.names:
             raise Failure(f"there is no source {name}, only {', '.join(rows.names)}")
     columns = [rows.columns[rows.names.index(name)] for name in names]
     if all(math.isnan(cell) for column in columns for cell in column):
-        raise Failure(NOTHING)
+        raise NothingToDraw
     return rows._replace(names=names, columns=columns)
 
 

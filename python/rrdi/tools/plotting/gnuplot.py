@@ -15,6 +15,7 @@ from .legend import AFTER_SWATCH, SWATCH, Legend
 from .look import EDGE, LINE_HEIGHT, ROW_HEIGHT, Look, Size
 from .numbers import Axis
 from .columns import Columns, Curve, segments
+from .spikes import CutMark
 
 TERMINALS = {".png": "pngcairo size {size} font 'sans,10' background rgb '{background}'",
              ".svg": "svg size {size} font 'sans-serif,12' background rgb '{background}'"}
@@ -32,6 +33,7 @@ class Picture(NamedTuple):
     subtitle: List[str]  # its lines
     style: str  # lines, area or stack
     has_band: bool
+    marks: List[CutMark]  # where sources go beyond the axis
     legend: Optional[Legend]
     look: Look
     size: Size
@@ -100,6 +102,14 @@ def plots(picture: Picture, folder: str) -> Iterator[str]:
         yield f"'{folder}/points' index {number} using 1:3 with lines linewidth 1.5 linecolor rgb '{picture.color(number)}'"
 
 
+def arrows(picture: Picture) -> Iterator[str]:
+    """Yields the marks at the edges of the plot, where sources go beyond the axis."""
+    for mark in picture.marks:
+        edge, form = ("graph 1", "9") if mark.is_above else ("graph 0", "11")  # triangles that point up and down
+        yield (f"set label '' at first {mark.time:.1f}, {edge} point pointtype {form} pointsize 0.7 linecolor rgb "
+               f"'{picture.color(mark.number)}' front")
+
+
 def commands(folder: str, end: str, picture: Picture) -> str:
     """Returns the commands of gnuplot for a picture whose name has an end."""
     size, look, rows = picture.size, picture.look, picture.rows
@@ -119,8 +129,8 @@ def commands(folder: str, end: str, picture: Picture) -> str:
         f"set lmargin at screen {size.across(size.left)}", f"set rmargin at screen {size.across(size.width - size.right)}",
         f"set tmargin at screen {size.up(size.height - size.top)}", f"set bmargin at screen {size.up(size.bottom)}",
         f"set xrange ['{rows.begin}':'{rows.end}']",
-        f"set yrange [{picture.axis.values[0]!r}:{picture.axis.values[-1]!r}]",
-        *texts(titled, end), setup, "plot " + ", \\\n     ".join(plots(picture, folder)), ""])
+        f"set yrange [{picture.axis.low!r}:{picture.axis.high!r}]",
+        *texts(titled, end), *arrows(picture), setup, "plot " + ", \\\n     ".join(plots(picture, folder)), ""])
 
 
 def points(picture: Picture) -> Iterator[str]:

@@ -46,14 +46,20 @@ class Size(NamedTuple):
 
 WIDTH, PLOT_HEIGHT, LEAST_PLOT_HEIGHT, RIGHT, EDGE = 900, 250, 80, 28, 16
 TITLE_HEIGHT, LINE_HEIGHT = 50, 16  # above the plot: the title, and each line below it
+UNTITLED = 10  # the room above the plot without a title: half of a number is there
 TIMES_HEIGHT, ROW_HEIGHT, MARGIN = 44, 21, 14
 LETTER = 7.4  # the width of a letter
 
 
-def plot_height(height: int, lines: int, legend: int) -> int:
-    """Returns the height of the plot in a picture of a height, with so many lines below the title and a legend of a height.
+def title_room(lines: int) -> int:
+    """Returns the room above the plot for a title with so many lines below it."""
+    return TITLE_HEIGHT + lines * LINE_HEIGHT
+
+
+def plot_height(height: int, top: int, legend: int) -> int:
+    """Returns the height of the plot in a picture of a height, with a room above the plot and a legend of a height.
     A picture without a height gets one for a plot of the usual height."""
-    return height - TITLE_HEIGHT - lines * LINE_HEIGHT - TIMES_HEIGHT - legend_room(legend) if height else PLOT_HEIGHT
+    return height - top - TIMES_HEIGHT - legend_room(legend) if height else PLOT_HEIGHT
 
 
 def legend_room(legend: int) -> int:
@@ -65,8 +71,8 @@ def plot_left(mark: int) -> int:
     return int(mark * LETTER) + 22
 
 
-def size_of(width: int, height: int, mark: int, lines: int, legend: int) -> Size:
+def size_of(width: int, height: int, mark: int, top: int, legend: int) -> Size:
     """Returns the sizes for marks of the axis with at most `mark` letters, and what `plot_height` takes."""
-    top, room = TITLE_HEIGHT + lines * LINE_HEIGHT, legend_room(legend)
+    room = legend_room(legend)
     bottom = room + TIMES_HEIGHT
     return Size(width, height or top + PLOT_HEIGHT + bottom, top, plot_left(mark), RIGHT, bottom, room)

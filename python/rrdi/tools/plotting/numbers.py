@@ -3,7 +3,7 @@
 from __future__ import annotations
 
 import math
-from typing import List, NamedTuple
+from typing import List, NamedTuple, Optional
 
 PREFIXES = {-2: "\u00b5", -1: "m", 0: "", 1: "k", 2: "M", 3: "G", 4: "T", 5: "P", 6: "E"}
 PLAIN = 0.01  # smaller numbers get a prefix
@@ -38,10 +38,19 @@ def number_text(value: float, unit: str = "") -> str:
 
 
 class Axis(NamedTuple):
-    """The marks of an axis: their values, and their texts with one prefix for all."""
+    """The marks of an axis: their values, and their texts with one prefix for all; and its ends."""
 
     values: List[float]
     texts: List[str]
+    low: float
+    high: float
+
+    def ending_at(self, low: Optional[float], high: Optional[float]) -> Axis:
+        """Returns the axis with other ends, without the marks beyond them; None leaves an end as it is."""
+        low, high = self.low if low is None else low, self.high if high is None else high
+        room = (high - low) * 1e-9
+        inside = [at for at, value in enumerate(self.values) if low - room <= value <= high + room]
+        return Axis([self.values[at] for at in inside], [self.texts[at] for at in inside], low, high)
 
 
 def axis(low: float, high: float, unit: str = "", height: int = MARKS * MARK) -> Axis:
@@ -56,5 +65,6 @@ def axis(low: float, high: float, unit: str = "", height: int = MARKS * MARK) ->
     power = power_of(max(abs(values[0]), abs(values[-1])), unit)
     scaled = step / 1_000**power
     digits = next((digits for digits in range(7) if abs(round(scaled, digits) - scaled) < scaled / 1_000), 6)
-    return Axis(values, [with_unit(f"{value / 1_000**power:.{digits}f}", power if value else 0, unit if value else "")
-                         if value else "0" for value in values])
+    texts = [with_unit(f"{value / 1_000**power:.{digits}f}", power if value else 0, unit if value else "")
+             if value else "0" for value in values]
+    return Axis(values, texts, values[0], values[-1])
