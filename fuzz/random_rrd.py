@@ -150,3 +150,47 @@ def random_case(number: int) -> Case:
         definitions += [f"RRA:{function}:{share}:{steps}:{rows}" for function in functions]
     has_later = is_even and all(source == "GAUGE" for source in sources)
     return Case(kind, step, start, definitions, drawn[:len(times)], drawn[len(times):] if has_later else [])
+
+
+# ---- files of every kind, of which not every row can be moved
+
+ODD_TYPES = ("GAUGE", "COUNTER", "DERIVE", "ABSOLUTE", "DCOUNTER", "DDERIVE")
+
+
+def odd_samples(chance: random.Random, types: list[str], times: list[int]) -> list[str]:
+    """Returns samples of sources of all types, with U, restarts and negative rates."""
+    totals, lines, before = [0.0] * len(types), [], times[0]
+    for time in times:
+        words = []
+        for at, kind in enumerate(types):
+            sign = chance.choice([1, -1]) if kind in ("GAUGE", "DERIVE", "DDERIVE") else 1
+            rate = sign * chance.choice([0, 1, 40, 1e6]) * chance.random()
+            totals[at] = 0.0 if chance.random() < 0.02 else totals[at] + rate * (time - before)
+            value = totals[at] if kind not in ("GAUGE", "ABSOLUTE") else rate
+            is_whole = kind in ("COUNTER", "DERIVE", "ABSOLUTE")
+            words.append("U" if chance.random() < 0.03 else str(int(value)) if is_whole else f"{value:.3f}")
+        before = time
+        lines.append(":".join([str(time), *words]))
+    return lines
+
+
+def odd_case(number: int) -> Case:
+    """Returns a file of any types and functions, with gaps longer than archives and rows that don't divide each other."""
+    chance = random.Random(number)
+    step, start = chance.choice([1, 10, 60, 300]), 1_600_000_000 - chance.randint(0, 10_000)
+    types = [chance.choice(ODD_TYPES) for _ in range(chance.randint(1, 4))]
+    definitions = [f"DS:s{at}:{kind}:{step * chance.choice([1, 2, 5])}:U:U" for at, kind in enumerate(types)]
+    if chance.random() < 0.3:
+        definitions.append("DS:twice:COMPUTE:s0,2,*")
+    for _ in range(chance.randint(1, 5)):
+        function = chance.choice(["AVERAGE", "AVERAGE", "MIN", "MAX", "LAST"])
+        share, rows = chance.choice(["0", "0.5", "0.99"]), chance.randint(1, 60)
+        steps = chance.choice([1, 1, 2, 3, 5, 7, 12, 60])
+        definitions.append(f"RRA:{function}:{share}:{steps}:{rows}")
+    if chance.random() < 0.1:
+        definitions.append("RRA:HWPREDICT:30:0.1:0.1:10")
+    pace, time, times = max(1, int(step * chance.choice([0.4, 1, 1, 2.2]))), start, []
+    for _ in range(chance.randint(1, 700)):
+        time += chance.randint(pace, pace + pace // 3) + (step * chance.randint(1, 300) if chance.random() < 0.01 else 0)
+        times.append(time)
+    return Case("odd", step, start, definitions, odd_samples(chance, types, times))

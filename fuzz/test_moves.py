@@ -2,27 +2,31 @@
 """Random files of RRDtool lose no row on the way to rrdi and back.
 
 Each cell must agree to a millionth and to the eleventh digit: in the new file, in the file that `rrdtool restore`
-creates from it, and, of gauges, in both after more samples. --seeds=FIRST:COUNT tries other files."""
+creates from it, and, of gauges, in both after more samples. Of files of every kind, `rrdi-import` must name each archive
+that differs, and no other. --seeds=FIRST:COUNT tries other files."""
 from __future__ import annotations
 
 import math
+import re
 import subprocess
+import sys
 from pathlib import Path
 from typing import Any, Callable, Iterator, Sequence
 
 import pytest
 
 import rrdi
-from fuzz.random_rrd import Case, random_case
+from fuzz.random_rrd import Case, odd_case, random_case
 from rrdi.importing.batch import batch_of
 from rrdi.importing.dump import RrdFile
 from rrdi.importing.dump import read_rrd as read_dumped
 from rrdi.tools.rrdtool_xml import as_xml
 from support.check import Check
-from support.program import Program
+from support.program import TOP, Program, environment
 
-FILES, CELLS = "files", "cells"
-LEAST, LEAST_LONG = {FILES: 40, CELLS: 100_000}, {FILES: 400, CELLS: 2_000_000}
+FILES, CELLS, ODD_FILES, ODD_ARCHIVES = "files", "cells", "files of every kind", "archives that differ"
+LEAST = {FILES: 40, CELLS: 100_000, ODD_FILES: 40, ODD_ARCHIVES: 10}
+LEAST_LONG = {FILES: 400, CELLS: 2_000_000, ODD_FILES: 400, ODD_ARCHIVES: 100}
 # The files of one test.
 PART = 10
 
@@ -157,3 +161,60 @@ def move_files(numbers: range, program: Program, folder: Path, check: Check, spo
         check.count(CELLS, differing.cells)
         check(not differing.wrong, f"file {number} ({case.kind}): {len(differing.wrong)} of {differing.cells} cells "
                                    f"differ; {differing.wrong[:1]}")
+
+
+# ---- what rrdi-import says of files of every kind
+
+SAID = re.compile(r"archive (\d+), [A-Z]+ of \d+ s: \d+ of \d+ cells differ, the newest at \d+: \w")
+
+
+def differing_archives(old: RrdFile, database: dict[str, Any]) -> set[int]:
+    """Returns the numbers of the archives of which a cell differs."""
+    there = [source["name"] for source in database["sources"]]
+    columns = [source.column for source in old.sources if source.name in there]
+    kept = [archive for archive in old.archives if archive.function in ("AVERAGE", "MIN", "MAX", "LAST")]
+    assert len(kept) == len(database["archives"])
+    return {archive.number for archive, new in zip(kept, database["archives"]) for row in new["rows"] if row["time"] > 0
+            for column, cell in zip(columns, row["cells"])
+            if not agrees(archive.cell(row["time"], column), None if cell is None else int(cell) / 1e6)}
+
+
+def imported(files: Sequence[Path], into: Path, program: Program) -> dict[str, str]:
+    """Converts files by one call of rrdi-import. Returns its line for each file, by the file's name."""
+    words = [sys.executable, TOP / "tools/rrdi-import", "--into", into, *files]
+    ran = subprocess.run(words, capture_output=True, text=True, env=environment({"RRDI": str(program.path)}))
+    return {Path(path).name: text for path, _, text in (
+        line.removeprefix("rrdi-import: ").partition(": ") for line in (ran.stdout + ran.stderr).splitlines()) if text}
+
+
+def faults_of(old: RrdFile, said: str, new: Path) -> list[str]:
+    """Returns what is wrong in the line of a file."""
+    if not new.exists():
+        return [] if re.match("not converted: .+", said) else ["there is no file, and no reason"]
+    wanted, noted = differing_archives(old, rrdi.read(new.read_bytes())), set(map(int, SAID.findall(said)))
+    kinds = {"COMPUTE": "skipped data source {}: type COMPUTE is not supported; its formula is ",
+             **{kind: f"source {{}}: its type {kind} becomes DERIVE" for kind in ("DCOUNTER", "DDERIVE")}}
+    lacking = [source.name for source in old.sources if kinds.get(source.kind, "").format(source.name) not in said]
+    return [*([f"it names the archives {noted}, not {wanted}"] if noted != wanted else []),
+            *([f"it does not tell about {lacking}"] if lacking else [])]
+
+
+def test_notes(numbers: range, program: Program, needs: Callable[..., None], tmp_path: Path, check: Check) -> None:
+    needs("rrdtool")
+    note_files(numbers, program, tmp_path, check)
+
+
+def note_files(numbers: range, program: Program, folder: Path, check: Check, spoil: Spoil = leave) -> None:
+    olds = {}
+    for number in numbers:
+        move = Move(program, odd_case(number), folder)
+        olds[f"{number}.rrd"] = move.create()
+        move.old.rename(folder / f"{number}.rrd")
+    lines = imported([folder / name for name in olds], folder / "new", program)
+    for name, old in olds.items():
+        spoil(old)
+        said = lines.get(name, "")
+        found = faults_of(old, said, folder / "new" / f"{name}i")
+        check.count(ODD_FILES)
+        check.count(ODD_ARCHIVES, len(SAID.findall(said)))
+        check(not found, f"{name}: {'; '.join(found)}: {said}")

@@ -100,3 +100,16 @@ def test_a_cell_that_was_changed(number: int, program: Program, needs: Callable[
     needs("rrdtool")
     test_moves.move_files(range(number, number + 1), program, tmp_path, planted, spoil)
     assert len(planted.faults) == 1
+
+
+def spoil_all(old: RrdFile) -> None:
+    """Makes the newest cell of each archive unknown, or known."""
+    for archive in old.archives:
+        archive.cells[-1] = 1.0 if math.isnan(archive.cells[-1]) else math.nan
+
+
+def test_notes_that_are_missing(program: Program, needs: Callable[..., None], tmp_path: Path, planted: Check) -> None:
+    """Files whose differences nobody named, because they are others than rrdi-import saw."""
+    needs("rrdtool")
+    test_moves.note_files(range(1, 4), program, tmp_path, planted, spoil_all)
+    assert planted.faults

@@ -20,6 +20,7 @@ from doubles import PROGRAM, TOP
 from tool_case import NO_RRDTOOL, RRDTOOL, Ran, ToolCase
 
 from rrdi.tools.children import ChildAnswer, answers
+from rrdi.tools.export_many import swap_in_place
 
 USAGE = ("FILE.rrdi [NEW.rrd]\n       rrdi-export --whisper FILE.rrdi NEW.wsp\n"
          "       rrdi-export [--whisper] [--jobs N] --into DIRECTORY|--in-place FILE|TREE..")
@@ -172,6 +173,35 @@ class Trees(OfTree):
         self.assertEqual(self.read("new1/a.rrd"), before)
         self.assertEqual(self.tool("rrdi-export", "tree/a.rrdi", "one.rrd"), Ran(0, "", ""))
         self.same_rows("one.rrd", self.rows("wanted/a.rrd"))
+
+    def test_two_exporters(self) -> None:
+        """One is stopped between its two steps, and the other one can't put its file there meanwhile."""
+        before, link, others = self.read("tree/a.rrd"), os.link, []
+
+        def stopped(path: str, kept: str) -> None:
+            link(path, kept)
+            others.append(self.export("--in-place", "tree/a.rrd"))
+            self.assertEqual(self.read("tree/a.rrd"), before)
+        self.addCleanup(os.umask, os.umask(0o022))
+        with mock.patch("os.link", stopped), mock.patch.dict(os.environ, self.env):
+            swap_in_place(str(self.folder / "tree/a.rrd"))
+        self.assertEqual(others, [(1, ["1 file: 0 converted; 1 not converted"], [
+            "rrdi-export: tree/a.rrd: not converted: cannot open: another program holds its lock"])])
+        self.same_rows("tree/a.rrd", self.rows("wanted/a.rrd"))
+        self.assertEqual(self.read("tree/a.rrd.rrdi"), before)
+
+    def test_hard_links_and_what_a_kill_has_left(self) -> None:
+        os.link(self.folder / "tree/a.rrd", self.folder / "tree/c.rrd")
+        left = self.folder / "tree/.rrdi-0123456789abcdef.new"
+        left.write_text("")
+        os.utime(left, (1_000_000_000, 1_000_000_000))
+        status, lines, errors = self.export("--in-place", "tree", "--jobs", "1")
+        removed = "tree/.rrdi-0123456789abcdef.new: removed, a run that was killed had left it"
+        self.assertEqual((status, errors, lines[0]), (0, [], removed))
+        described = ".rrdi (2 data sources, 2 archives)"
+        self.assertTrue(lines[1].endswith(f"a.rrd{described}; 1 other name of the database still has it"), lines[1])
+        self.assertTrue(lines[2].endswith(f"c.rrd{described}; 1 other name of the database still has it"), lines[2])
+        self.assertFalse(left.exists() or (self.folder / "tree/a.rrd").samefile(self.folder / "tree/c.rrd"))
 
     def test_what_is_left(self) -> None:
         """A damaged file, one that is no database, and one whose other name is taken stay as they are, and have a reason."""

@@ -20,7 +20,7 @@ from tool_case import NO_RRDTOOL, RRDTOOL, Ran, ToolCase
 from rrdi.tools.import_many import Bar, OldFile
 
 WHOLE = DUMP.replace("COMPUTE", "GAUGE")
-SKIPPED = "skipped data source double: type COMPUTE is not supported"
+SKIPPED = "skipped data source double: type COMPUTE is not supported; its formula is g,2,*"
 FETCH = ("fetch", "AVERAGE", "-s", "1600000000", "-e", "1600000029")
 OLD_FORM = b"RRD\0"
 

@@ -7,11 +7,13 @@ import math
 import unittest
 import xml.etree.ElementTree as ElementTree
 from array import array
-from typing import Any, Dict
+from typing import Any, Dict, List, Optional, Tuple
 
 import doubles  # noqa: F401
 from rrdi.importing.rounding import Converter, as_text, millionths, raw_value
 from rrdi.importing.batch import RrdBatch, batch_of, merge, share_of
+from rrdi.amounts import Millionths
+from rrdi.importing.differing import DifferingCell, differing_archives, differing_cells, reason
 from rrdi.importing.dump import RrdArchive, RrdFile, Refusal, RrdSource, read_dump
 from rrdi.importing.plan import plan
 from rrdi.importing.steps import Rest, Wanted, lay, sum_of_rest
@@ -206,12 +208,12 @@ class Batches(unittest.TestCase):
         self.assertAlmostEqual(sum(found[:36]) / 36, 7.5, delta=1e-6)
 
     def test_what_is_left_out(self) -> None:
-        old = RrdFile(10, 1000, [source(), source("COMPUTE", 1), source("GAUGE", 2, name="a-b")],
+        old = RrdFile(10, 1000, [source(), source("COMPUTE", 1, formula="s0,8,*"), source("GAUGE", 2, name="a-b")],
                       [RrdArchive(0, "AVERAGE", 1, 0.5, [NAN] * 3, [0] * 3, array("d", [1.0, 2.0, 3.0]), 3),
                        RrdArchive(1, "HWPREDICT", 1, 0.0, [], [], array("d", [1.0, 2.0, 3.0]), 3)])
         lines, notes = self.lines(old)
         self.assertNotIn("s1", lines[0])
-        self.assertEqual(notes, ["skipped data source s1: type COMPUTE is not supported",
+        self.assertEqual(notes, ["skipped data source s1: type COMPUTE is not supported; its formula is s0,8,*",
                                  "skipped data source a-b: a name in rrdi has 1 to 19 characters of a-z A-Z 0-9 _",
                                  "skipped archive 1, HWPREDICT: this function is not supported"])
         with self.assertRaisesRegex(Refusal, "no data source can be converted"):
@@ -224,6 +226,29 @@ class Batches(unittest.TestCase):
             RrdBatch(RrdFile(1_000_001, 1000, [source()], []), None, print)
         with self.assertRaisesRegex(Refusal, "the last time is after 9999999999"):
             RrdBatch(RrdFile(10, 10_000_000_000, [source()], []), None, print)
+
+    def test_counters_of_fractions(self) -> None:
+        """They become a DERIVE. The direction of a DCOUNTER, whose restarts are unknown, becomes a bound of 0."""
+        counters: List[Tuple[str, List[float], Dict[str, Any], str, str]] = [
+            ("DDERIVE", [-1.0, 2.5], {}, "", ""), ("DCOUNTER", [0.0, 2.5], {}, " --minimum s0:0", " with the minimum 0"),
+            ("DCOUNTER", [0.0, -2.5], {}, " --maximum s0:0", " with the maximum 0"), ("DCOUNTER", [-1.0, 2.5], {}, "", ""),
+            ("DCOUNTER", [NAN, NAN], {}, "", ""), ("DCOUNTER", [1.0, 2.5], {"minimum": -4.0}, " --minimum s0:-4", ""),
+            ("DCOUNTER", [-1.0, -2.5], {"maximum": 9.0}, " --maximum s0:9", "")]
+        for kind, cells, bounds, words, said in counters:
+            notes: List[str] = []
+            with self.subTest(kind=kind, cells=cells):
+                old = RrdFile(10, 1000, [source(kind, 0, last_raw="77", **bounds)], [archive(0, "AVERAGE", 1, cells)])
+                batch = RrdBatch(old, None, notes.append)
+                self.assertEqual((batch.changed, notes),
+                                 (1, [f"source s0: its type {kind} becomes DERIVE{said}, which takes whole numbers only"]))
+                self.assertEqual(list(batch.lines())[-2:], [f"tune --heartbeat s0:99{words} --data-source-type s0:DERIVE",
+                                                            "update 1000:77"])
+        old = RrdFile(10, 1000, [source(last_raw="1"), source("DDERIVE", 1, last_raw="7.5")],
+                      [RrdArchive(0, "AVERAGE", 1, 0.5, [NAN] * 2, [0] * 2, array("d", [1.0, -2.0]), 2)])
+        lines, notes = self.lines(old)
+        self.assertEqual((lines[-1], notes[1:]), ("tune --heartbeat s1:99 --data-source-type s1:DERIVE", [
+            "source s1: cannot convert its last value 7.5; its next rate will be unknown"]))
+        self.assertEqual(RrdBatch(RrdFile(10, 1000, [source("DERIVE")], old.archives), None, print).changed, 0)
 
     def test_too_many_archives_and_cells(self) -> None:
         many = [archive(at, "MAX", 1, [1.0]) for at in range(129)]
@@ -292,3 +317,58 @@ class Batches(unittest.TestCase):
         cells = [float(at) for at in range(450)]
         lines, _ = self.lines(RrdFile(10, 10_000, [source()], [archive(0, "AVERAGE", 1, cells)]))
         self.assertEqual([len(line.split()) - 1 for line in lines if line.startswith("update")], [200, 200, 50])
+
+
+def new_rows(cells: Dict[int, Optional[float]]) -> Dict[int, List[Optional[Millionths]]]:
+    return {time: [None if cell is None else Millionths(round(cell * 1_000_000))] for time, cell in cells.items()}
+
+
+class DifferingRows(unittest.TestCase):
+    """The notes of archives whose new rows are others."""
+
+    def setUp(self) -> None:
+        self.fine, self.coarse = archive(0, "AVERAGE", 3, [2.0, 2.0, 4.0, NAN]), archive(1, "MAX", 6, [5.0, 6.0])
+        self.odd = archive(2, "AVERAGE", 4, [7.0, 8.0])
+        for one in (self.fine, self.coarse, self.odd):
+            one.place(10, 1200)
+        self.spans = plan([self.fine, self.coarse, self.odd], 1200)
+
+    def test_cells(self) -> None:
+        right: Dict[int, Optional[float]] = {1110: 2.0, 1140: 2.000001, 1170: 4.0, 1200: None}
+        self.assertEqual(differing_cells(self.fine, [0], new_rows(right)), [])
+        for time, cell in ((1110, 2.000002), (1140, None), (1200, 0.0)):
+            with self.subTest(time=time):
+                found = differing_cells(self.fine, [0], new_rows({**right, time: cell}))
+                self.assertEqual([one.time for one in found], [time])
+        self.assertEqual([one.time for one in differing_cells(self.fine, [0], {})], [1110, 1140, 1170])
+        large = archive(0, "AVERAGE", 1, [1e12])
+        large.place(10, 1200)
+        for apart, count in ((90.0, 0), (110.0, 1)):
+            self.assertEqual(len(differing_cells(large, [0], new_rows({1200: 1e12 + apart}))), count)
+
+    def test_the_column_of_each_source(self) -> None:
+        """A source that was left out has a column in the old file only."""
+        two = RrdArchive(0, "AVERAGE", 1, 0.5, [NAN] * 2, [0] * 2, array("d", [1.0, 2.0, 3.0, 4.0]), 2)
+        two.place(10, 1200)
+        rows = new_rows({1190: 2.0, 1200: 4.0})
+        self.assertEqual(differing_cells(two, [1], rows), [])
+        self.assertEqual(len(differing_cells(two, [0], rows)), 2)
+
+    def test_reasons(self) -> None:
+        for one, cell, why in (
+                (self.fine, DifferingCell(1110, 2.0, NAN), "the old row may be from before a gap that was longer than the archive"),
+                (self.fine, DifferingCell(1140, 1e9, 1e9 + 1), "large numbers that nearly cancel out lose digits"),
+                (self.fine, DifferingCell(1140, 2.0, 3.0), "which steps of a gap were unknown is a guess"),
+                (self.fine, DifferingCell(1140, NAN, 3.0), "which steps of a gap were unknown is a guess"),
+                (self.coarse, DifferingCell(1200, 6.0, 5.0), "the row comes from rows of AVERAGE of 30 s"),
+                (self.odd, DifferingCell(1200, 7.0, 5.0), "the row has parts of rows of 30 s")):
+            with self.subTest(cell=cell):
+                self.assertEqual(reason(one, self.spans, cell), why)
+        fine = archive(0, "LAST", 1, [1.0, 2.0])
+        fine.place(10, 1200)
+        self.assertEqual(reason(fine, plan([fine], 1200), DifferingCell(1200, 1.0, 2.0)), "the row is computed again, by the rules of rrdi")
+
+    def test_a_line_for_each_archive(self) -> None:
+        rows = [new_rows({1110: 2.0, 1140: 3.0, 1170: 5.0}), new_rows({1140: 5.0, 1200: 6.0})]
+        self.assertEqual(list(differing_archives([self.fine, self.coarse], self.spans, [0], rows.__getitem__)), [
+            "archive 0, AVERAGE of 30 s: 2 of 4 cells differ, the newest at 1170: which steps of a gap were unknown is a guess"])

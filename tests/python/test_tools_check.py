@@ -116,10 +116,31 @@ class Files(ToolCase):
         self.update(*["40:1"] * 2)
         self.assertEqual(self.judged("temp --above 30 --for 10m")[1],
                          "temp is 40, above 30, but not for 10 min, at 2023-11-14 22:21:00")
-        # The row up to 22:20 has 21.5, 31, unknown, 30.5, 32 and 40, which is 31 on average.
+        # The row up to 22:20 has 21.5, 31, unknown, 30.5, 32 and 40, which is 31 on average. It has ten minutes, and none is
+        # known before.
         self.assertEqual(self.judged("temp --above 30 --for 11m")[1],
-                         "temp is 31, above 30 for 11 min, at 2023-11-14 22:20:00")
+                         "temp is 31, above 30, but not for 11 min, at 2023-11-14 22:20:00")
         self.assertEqual(self.judged("temp --for 6h"), (3, "no archive has rows of the last 6 h"))
+
+    def test_after_a_gap(self) -> None:
+        """One value stands for the minutes before it only if the last one before the gap was outside too."""
+        self.update(*["U:U"] * 4, "40:1")
+        at = ", at 2023-11-14 22:24:00"
+        self.assertEqual(self.judged("temp --above 30 --for 3m"), (CRITICAL, f"temp is 40, above 30 for 3 min{at}"))
+        self.assertEqual(self.judged("temp --above 32 --for 3m"), (OK, f"temp is 40, above 32, but not for 3 min{at}"))
+        self.assertEqual(self.judged("temp --above 32 --for 1m"), (CRITICAL, f"temp is 40, above 32 for 1 min{at}"))
+        self.assertEqual(self.judged("dew --below 5 --for 3m"), (OK, f"dew is 1, below 5, but not for 3 min{at}"))
+        self.update("40:U", "41:U")
+        self.assertEqual(self.judged("temp --above 32 --for 3m")[0], CRITICAL)
+        # The archive has no rows before the last ten minutes.
+        self.assertEqual(self.judged("temp --above 30 --for 10m")[0], CRITICAL)
+
+    def test_the_first_value(self) -> None:
+        self.create("room.rrdi", "DS:temp:GAUGE:150:U:U", "RRA:AVERAGE:0.5:1:10", start=START, step=60)
+        self.update("40")
+        self.assertEqual(self.judged("temp --above 30 --for 3m")[0], OK)
+        self.update("40", "40")
+        self.assertEqual(self.judged("temp --above 30 --for 3m")[0], CRITICAL)
 
     def test_dead_sources(self) -> None:
         """By default a row may be as old as the heartbeat and a row: 210 seconds."""

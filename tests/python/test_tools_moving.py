@@ -33,7 +33,7 @@ BATCH = """create --step 10 --start 1600000000 DS:g:GAUGE:9999999999:U:U RRA:AVE
 update 1600000010:1 1600000020:U 1600000030:3.5
 tune --heartbeat g:60 --minimum g:-5
 """
-NOTE = "rrdi-import: old.rrd: skipped data source double: type COMPUTE is not supported\n"
+NOTE = "rrdi-import: old.rrd: skipped data source double: type COMPUTE is not supported; its formula is g,2,*\n"
 
 
 class Import(ToolCase):
@@ -289,6 +289,13 @@ class Compare(ToolCase):
                 ran = self.compare(steps, greatest)
                 self.assertEqual((ran.status, ran.err), (1, ""))
                 self.assertIn(said, ran.out)
+
+    def test_missing_sources(self) -> None:
+        """Those that only the old file has are named; the status is that of the cells."""
+        self.write("info", self.info + "".join(f'ds[{name}].type = "{kind}"\n' for name, kind in (
+            ("g", "GAUGE"), ("all", "COMPUTE"), ("a-b", "GAUGE"))))
+        ran = self.compare(f"{self.ONE} -nan {self.TWO}", self.TWO)
+        self.assertEqual((ran.status, ran.out.splitlines()[-1]), (0, "only in the old file: all (COMPUTE), a-b (GAUGE)"))
 
     def test_no_archive(self) -> None:
         for info in (self.info.replace("AVERAGE", "HWPREDICT").replace("MAX", "FAILURES"), ""):

@@ -2,19 +2,43 @@
 """Writes the batch that creates a database from a file of RRDtool."""
 from __future__ import annotations
 
+import math
 import re
+from dataclasses import replace
 from typing import Callable, Iterable, Iterator, Optional, Tuple
 
 from ..amounts import MILLION
 from ..limits import (FUNCTIONS, LATEST, LONGEST_STEP, MOST_ARCHIVES, MOST_CELLS, MOST_ROWS, MOST_SOURCES, MOST_STEPS,
                       NAME_OF_SOURCE, OF_A_NAME, TYPES)
+from .differing import NewRows, differing_archives
 from .dump import RrdArchive, RrdFile, Refusal, RrdSource
 from .rounding import BOUND_LIMIT, Converter, as_text, raw_value
-from .plan import note_made_up_rows, plan
+from .plan import Span, note_made_up_rows, plan
 from .rates import SourceRates, unfinished_step
 from .steps import Stretches
 
 SAMPLES_OF_A_LINE, BYTES_OF_A_LINE = 200, 65_000
+OF_FRACTIONS = ("DCOUNTER", "DDERIVE")  # types of counters that take fractions
+
+
+def of_whole_numbers(old: RrdFile, source: RrdSource, note: Callable[[str], None]) -> RrdSource:
+    """Returns a DCOUNTER or DDERIVE as the DERIVE that takes its whole numbers.
+
+    A DCOUNTER counts up or down, and what goes the other way is a restart. A bound of 0 does the same: up if no rate that
+    the file knows is below 0, down if none is above.
+    """
+    minimum, maximum = source.minimum, source.maximum
+    if source.kind == "DCOUNTER":
+        rates = [rate for archive in old.archives for rate in archive.cells[source.column::max(archive.columns, 1)]
+                 if archive.function in FUNCTIONS and not math.isnan(rate)]
+        if math.isnan(minimum) and min(rates, default=-1.0) >= 0:
+            minimum = 0.0
+        elif math.isnan(maximum) and max(rates, default=1.0) <= 0:
+            maximum = 0.0
+    bound = next((f" with the {name} 0" for name, before, after in (
+        ("minimum", source.minimum, minimum), ("maximum", source.maximum, maximum)) if math.isnan(before) and after == 0), "")
+    note(f"source {source.name}: its type {source.kind} becomes DERIVE{bound}, which takes whole numbers only")
+    return replace(source, kind="DERIVE", minimum=minimum, maximum=maximum)
 
 
 def choose_sources(old: RrdFile, note: Callable[[str], None]) -> list[RrdSource]:
@@ -25,8 +49,11 @@ def choose_sources(old: RrdFile, note: Callable[[str], None]) -> list[RrdSource]
     """
     chosen = []
     for source in old.sources:
+        if source.kind in OF_FRACTIONS:
+            source = of_whole_numbers(old, source, note)
         if source.kind not in TYPES:
-            note(f"skipped data source {source.name}: type {source.kind} is not supported")
+            formula = f"; its formula is {source.formula}" if source.formula else ""
+            note(f"skipped data source {source.name}: type {source.kind} is not supported{formula}")
         elif not re.fullmatch(NAME_OF_SOURCE, source.name):
             note(f"skipped data source {source.name}: a name in rrdi has {OF_A_NAME}")
         else:
@@ -129,6 +156,18 @@ class RrdBatch:
         self.archives = choose_archives(old, len(self.sources), note)
         self.raw = [self.raw_of(source) for source in self.sources]
         self.last_given = old.last - any(raw is not None for raw in self.raw)
+        self.spans: list[Span] = []
+
+    @property
+    def changed(self) -> int:
+        """How many sources get another type."""
+        return sum(source.kind != self.old.sources[source.column].kind for source in self.sources)
+
+    def note_differences(self, rows_of: Callable[[int], NewRows]) -> None:
+        """Notes the archives of the new database that differ from the old ones."""
+        columns = [source.column for source in self.sources]
+        for text in differing_archives(self.archives, self.spans, columns, rows_of):
+            self.note(text)
 
     def raw_of(self, source: RrdSource) -> str | None:
         """Returns the line with the last raw value of a counter.
@@ -146,7 +185,7 @@ class RrdBatch:
 
     def rates(self) -> Iterator[tuple[int, Rates]]:
         old, whole = self.old, self.old.last - self.old.last % self.old.step
-        spans = plan(self.archives, whole)
+        self.spans = spans = plan(self.archives, whole)
         note_made_up_rows(self.archives, spans, self.note)
         columns = [SourceRates(source.column, old.step, whole, self.converter).all_rates(spans)
                    + unfinished_step(source, whole, old.last, self.converter) for source in self.sources]
@@ -169,6 +208,14 @@ class RrdBatch:
             words = (raw or "U" if source.kind in ("COUNTER", "DERIVE") else as_text(rate)
                      for source, raw, rate in zip(self.sources, self.raw, rates))
             yield f"update {self.old.last}:{':'.join(words)}"
+
+    def noted_lines(self) -> Iterator[str]:
+        """Yields the lines, and then reports which numbers could not be converted."""
+        yield from self.lines()
+        if self.converter.too_large:
+            self.note("numbers that are too large for rrdi became unknown, or no bound")
+        if self.converter.too_small:
+            self.note("numbers below half a millionth became 0")
 
     def create(self) -> str:
         """Yields the lines. All sources begin as gauges without bounds and with the longest heartbeat."""
@@ -209,9 +256,4 @@ def batch_of(old: RrdFile, journal: str | None, note: Callable[[str], None]) -> 
     # Errors
     `Refusal` if rrdi cannot have such a database.
     """
-    batch = RrdBatch(old, journal, note)
-    yield from batch.lines()
-    if batch.converter.too_large:
-        note("numbers that are too large for rrdi became unknown, or no bound")
-    if batch.converter.too_small:
-        note("numbers below half a millionth became 0")
+    return RrdBatch(old, journal, note).noted_lines()

@@ -15,7 +15,7 @@ class Refusal(Exception):
 
 @dataclass
 class RrdSource:
-    """A data source of the old file; `column` is the index of its cells in the rows."""
+    """A data source of the old file; `column` is the index of its cells in the rows, and `formula` that of a COMPUTE."""
 
     column: int
     name: str
@@ -26,6 +26,7 @@ class RrdSource:
     last_raw: str
     partial_sum: float
     unknown_seconds: int
+    formula: str = ""
 
 
 @dataclass
@@ -86,7 +87,8 @@ def read_source(element: ElementTree.Element, column: int) -> RrdSource:
     return RrdSource(
         column, text_of(element, "name"), text_of(element, "type"), int(text_of(element, "minimal_heartbeat", "1")),
         float(text_of(element, "min", "nan")), float(text_of(element, "max", "nan")), text_of(element, "last_ds", "U"),
-        float(text_of(element, "value", "nan")), int(text_of(element, "unknown_sec", "0")))
+        float(text_of(element, "value", "nan")), int(text_of(element, "unknown_sec", "0")),
+        text_of(element, "cdef"))
 
 
 def read_archive(element: ElementTree.Element, number: int, cells: array[float], columns: int) -> RrdArchive:

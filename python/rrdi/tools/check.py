@@ -21,8 +21,9 @@ options, anywhere on the line:
                        5:10, 10: (or more), ~:10 (or less), 10 (from 0 on), or
                        @5:10, which alarms inside
   -w, --warning RANGE  WARNING outside RANGE
-  --for SPAN           only if all known rows of the last SPAN are outside;
-                       a SPAN is in seconds, or like 30s, 5m, 2h, 1d
+  --for SPAN           only if all known rows of the last SPAN are outside,
+                       and after a gap the one before it too; a SPAN is in
+                       seconds, or like 30s, 5m, 2h, 1d
   --stale SPAN         CRITICAL if the newest known row is older than SPAN, or
                        is that far in the future (default: the source's
                        heartbeat and one row)
@@ -215,10 +216,15 @@ class WatchedSource:
         cells = ((end, row[self.column]) for end, row in found.items())
         return [KnownRow(end, cell) for end, cell in cells if cell is not None]
 
-    def newest(self) -> Optional[KnownRow]:
-        """Looks back for the newest known row; None if no row is known."""
-        until = self.file.front.last
-        oldest = until - until % self.archive.seconds - self.archive.retention
+    @property
+    def oldest(self) -> int:
+        """The time at which the oldest row begins."""
+        last = self.file.front.last
+        return last - last % self.archive.seconds - self.archive.retention
+
+    def newest(self, until: int) -> Optional[KnownRow]:
+        """Looks back from a time for the newest known row; None if no row is known."""
+        oldest = self.oldest
         while until > oldest:
             after = max(until - ROWS_AT_ONCE * self.archive.seconds, oldest)
             found = self.rows(after, until)
@@ -226,6 +232,18 @@ class WatchedSource:
                 return found[-1]
             until = after
         return None
+
+
+def rows_for(source: WatchedSource, newest: KnownRow, seconds: int) -> List[KnownRow]:
+    """Returns the known rows of a number of seconds up to the newest one. If the first seconds are unknown, the row before
+    them is the first: after a gap, one value alone does not stand for all of them. If there is none, the newest row stands
+    for itself only: none is returned, unless the archive has no earlier rows at all."""
+    begin = newest.time - seconds
+    rows = source.rows(begin, newest.time)
+    if rows[0].time - source.archive.seconds <= begin or source.oldest >= begin:
+        return rows
+    before = source.newest(begin)
+    return [before, *rows] if before is not None else []
 
 
 def status_of(value: int, limits: Dict[int, ValueRange]) -> Tuple[int, str]:
@@ -239,7 +257,7 @@ def status_of(value: int, limits: Dict[int, ValueRange]) -> Tuple[int, str]:
 
 def judged(source: WatchedSource, options: CheckOptions, now: int) -> Verdict:
     """Judges the newest value of a source, and those before it."""
-    length, newest = source.archive.seconds, source.newest()
+    length, newest = source.archive.seconds, source.newest(source.file.front.last)
     if options.stale is not None and options.stale <= length:
         raise Failure(f"--stale must be longer than a row, which has {length_text(length)}")
     if newest is None:
@@ -251,8 +269,8 @@ def judged(source: WatchedSource, options: CheckOptions, now: int) -> Verdict:
     if -age > longest:  # rrdi takes no sample up to that time
         return Verdict(CRITICAL, f"{options.source} has a value of {time_text(newest.time)}, {length_text(-age)} from now")
     own, fault = status_of(newest.value, options.limits)
-    rows = source.rows(newest.time - options.seconds, newest.time) if options.seconds else [newest]
-    status = min(status_of(row.value, options.limits)[0] for row in rows)
+    rows = rows_for(source, newest, options.seconds) if options.seconds else [newest]
+    status = min((status_of(row.value, options.limits)[0] for row in rows), default=OK)
     lasts = f" for {length_text(options.seconds)}" if options.seconds else ""
     why = "" if not fault else f", {fault}{lasts}" if status == own else f", {fault}, but not{lasts}"
     return Verdict(status, f"{value}{why}, at {time_text(newest.time)}", newest.value)

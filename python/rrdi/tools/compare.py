@@ -13,7 +13,8 @@ options:
 For each archive you get a line with the cells that agree, those that are known
 in only one of the files, those that differ, and the time of the newest row that
 does not agree. To differ is to be more than a millionth apart, and more than
-the eleventh digit, the last that rrdtool prints. rrdtool must be installed.
+the eleventh digit, the last that rrdtool prints. A last line names the data
+sources that only the old file has. rrdtool must be installed.
 
 environment:
   RRDI                 a program to run instead of the C library, or of the
@@ -28,13 +29,12 @@ import math
 import re
 from typing import Dict, Iterator, List, NamedTuple, Optional
 
+from ..importing.differing import MOST_APART, SHARE_APART
 from ..limits import FUNCTIONS
 from ..printed import printed_rows
+from ..words import in_one_line
 from . import program, rrdtool_program
 from .command_line import Failure, Tool, WrongArguments
-
-# rrdtool prints eleven digits, and rrdi rounds to a millionth.
-MOST_APART, SHARE_APART = 0.0000010001, 1e-10
 
 OldCells = Dict[int, Dict[str, float]]
 
@@ -103,6 +103,14 @@ def spans(info: str) -> Iterator[ArchiveSpan]:
             yield ArchiveSpan(function, seconds, max(end - int(found[f"rra[{number}].rows"]) * seconds, 0), end - 1)
 
 
+def missing_sources(info: str, new: str) -> List[str]:
+    """Returns the data sources of the old file that the new one does not have, each with its type."""
+    found = dict(re.findall(r"^ds\[(.+)\]\.type = \"(.*)\"$", info, re.MULTILINE))
+    with program.naming(new):
+        there = {source.name for source in program.settings(new).sources}
+    return [f"{name} ({kind})" for name, kind in found.items() if name not in there]
+
+
 def old_cells(text: str) -> OldCells:
     """Reads the output of `rrdtool fetch`."""
     lines = text.splitlines()
@@ -152,6 +160,9 @@ def compare(words: List[str]) -> int:
         print(f"{span.function} {span.seconds} s: {counts.text()}", flush=True)
         if not counts.is_equal():
             status = 1
+    missing = missing_sources(info, new)
+    if missing:
+        print(f"only in the old file: {in_one_line(', '.join(missing))}")
     return status
 
 

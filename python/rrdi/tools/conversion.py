@@ -5,15 +5,17 @@ from __future__ import annotations
 import os
 from typing import Callable, Iterable, Iterator, List, Optional
 
-from ..importing.batch import batch_of
+from ..importing.batch import RrdBatch
 from ..importing.dump import read_rrd
 from ..importing.whisper import read_whisper, whisper_batch
 from ..kinds import WHISPER_END
 from ..locks import state_of
 from ..making import NewFile
+from ..reader.selected import OpenFile
 from ..words import in_one_line
 from . import program, rrdtool_program
 from .command_line import Failure
+from .reading import reporting
 
 LONGEST_NOTE = 1_000  # characters
 
@@ -31,12 +33,14 @@ def size_of(file: str) -> int:
 
 class Conversion:
     """The conversion of one file. `notes` has what was left out or changed, each in one line; `skipped` is the number of
-    data sources that were left out, `sources` and `archives` are the numbers of those that the new database has."""
+    data sources that were left out, `changed` that of those with another type, `sources` and `archives` are the numbers of
+    those that the new database has."""
 
     def __init__(self, old: str, journal: Optional[str], note: Callable[[str], None] = lambda text: None):
         self.old, self.journal, self._note = old, journal, note
         self.notes: List[str] = []
-        self.sources = self.archives = self.skipped = 0
+        self.sources = self.archives = self.skipped = self.changed = 0
+        self._batch: Optional[RrdBatch] = None
 
     def note(self, text: str) -> None:
         """Keeps and passes on what cannot be converted, in one line, whatever the old file's texts have in them."""
@@ -57,7 +61,8 @@ class Conversion:
         else:
             size = size_of(self.old)
             old = read_rrd(rrdtool_program.found(), self.old, lambda cells: reading(8 * cells, size))
-            lines, there = batch_of(old, self.journal, self.note), len(old.sources)
+            self._batch = RrdBatch(old, self.journal, self.note)
+            lines, there, self.changed = self._batch.noted_lines(), len(old.sources), self._batch.changed
         for line in lines:
             if line.startswith("create "):
                 words = line.split(" ")
@@ -67,8 +72,22 @@ class Conversion:
             yield line
 
 
-def make(new: str, lines: Iterable[str], makes_folder: bool = False) -> None:
+    def compare(self, new: str) -> None:
+        """Notes the archives of the new database that differ from those of the old file, if that is one of RRDtool.
+
+        # Errors
+        `Failure` if the new database cannot be read.
+        """
+        if self._batch is None:
+            return
+        with reporting(new), OpenFile(new) as opened:
+            archives, last = opened.outline().archives, opened.front.last
+            self._batch.note_differences(lambda place: opened.rows(archives[place], 1, last))
+
+
+def make(new: str, lines: Iterable[str], look: Callable[[str], None], makes_folder: bool = False) -> None:
     """Creates a database with a batch. The database gets its name when it is complete, and never that of another file.
+    Before that, `look` gets the name under which it is read.
 
     # Errors
     - `Failure` if there is a file of this name, or rrdi refuses the batch.
@@ -82,6 +101,7 @@ def make(new: str, lines: Iterable[str], makes_folder: bool = False) -> None:
             program.batch(made.unfinished, given)
         except program.CommandFailed as failed:
             raise Failure(failed.of_file(new, os.path.dirname(new) or ".")) from None
+        look(made.unfinished)
         if not made.appear():
             raise Failure(f"{new} already exists")
 
@@ -110,10 +130,10 @@ def take_owner(new: str, before: os.stat_result) -> None:
     os.chmod(new, before.st_mode & 0o7777)
 
 
-def swap_in(old: str, lines: Iterable[str], before: os.stat_result) -> None:
+def swap_in(old: str, lines: Iterable[str], look: Callable[[str], None], before: os.stat_result) -> None:
     """Puts a new database in the place of a file, which keeps its content under its `kept_name`. The database gets the
-    owner and the mode of the file. `before` is the file's status from before it was read. There is no moment without a
-    file of the name.
+    owner and the mode of the file, after `look` got the name under which it is read. `before` is the file's status from
+    before it was read. There is no moment without a file of the name.
 
     # Errors
     - `Failure` if the file has changed since `before`, or there is a file of the other name, or rrdi refuses the batch.
@@ -121,6 +141,7 @@ def swap_in(old: str, lines: Iterable[str], before: os.stat_result) -> None:
     """
     with NewFile(old) as made:
         program.batch(made.unfinished, lines)
+        look(made.unfinished)
         take_owner(made.unfinished, before)
         if state_of(os.stat(old)) != state_of(before):
             raise Failure("it changed while it was converted; first stop what records into it")

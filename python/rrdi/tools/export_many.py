@@ -8,16 +8,18 @@ from typing import Callable, List, Optional
 
 from ..importing.dump import Refusal
 from ..kinds import RRDTOOL_MARK, WHISPER_END, first_bytes
-from ..locks import state_of
+from ..locks import EXCLUSIVE, SHARED, close, lock, open_locked, state_of
 from ..making import NewFile
 from ..reader import Damaged, Reader, opened
+from ..reader.files import patience
 from ..reader.selected import OpenFile
+from ..reader.undo import Stored
 from ..words import in_one_line
 from . import rrdtool_program
 from .children import ChildAnswer, answers
 from .command_line import Failure, error_text, say
 from .conversion import size_of, take_owner
-from .import_many import NEW_END, RRDTOOL_END, Bar, OldFile, counted, files_of, links_below
+from .import_many import NEW_END, RRDTOOL_END, Bar, OldFile, counted, files_of, links_below, tidy
 from .restoring import restore_equal
 from .whisper_file import copy_of, write_equal
 
@@ -84,20 +86,33 @@ def swap_in_place(path: str) -> str:
     kept = path + KEPT_END
     if path.endswith(NEW_END):
         raise Failure(f"a file whose name ends in {NEW_END} is converted with --into")
-    with opened(path) as stored, NewFile(path) as made:
-        before, has_other_name = os.stat(path), is_left_over(path, kept)
-        database = Reader(stored).database()
-        os.umask(0o077)  # of this process: nobody else reads the new file before it has the mode of the database
-        restore_equal(database, made.unfinished)
-        take_owner(made.unfinished, before)
-        flush(made.unfinished)
-        if state_of(os.stat(path)) != state_of(before):
-            raise Failure("it changed while it was converted; first stop what records into it")
-        if not has_other_name:
-            os.link(path, kept)
-        made.replace()
+    file = open_locked(path, SHARED, patience())
+    try:
+        before = os.fstat(file.fileno())
+        others = before.st_nlink - 1 - is_left_over(path, kept)
+        database = Reader(Stored.of_file(file.fileno())).database()
+        with NewFile(path) as made:
+            os.umask(0o077)  # of this process: nobody else reads the new file before it has the mode of the database
+            restore_equal(database, made.unfinished)
+            take_owner(made.unfinished, before)
+            flush(made.unfinished)
+            # Another exporter waits now; or it has put its own file there, which RRDtool may have changed since.
+            lock(file, EXCLUSIVE, patience())
+            if state_of(os.stat(path)) != state_of(before):
+                raise Failure("it changed while it was converted; first stop what records into it")
+            if not is_left_over(path, kept):
+                os.link(path, kept)
+            made.replace()
+    finally:
+        close(file)
     flush(os.path.dirname(path))
-    return f"converted, the database is {kept}{described(len(database['sources']), len(database['archives']))}"
+    text = described(len(database["sources"]), len(database["archives"]))
+    return f"converted, the database is {kept}{text}{other_names(others)}"
+
+
+def other_names(count: int) -> str:
+    """Returns what is said of a file that had so many further names: hard links."""
+    return f"; {counted(count, 'other name')} of the database still {'has' if count == 1 else 'have'} it" if count > 0 else ""
 
 
 def into_rrd(path: str, new: str) -> str:
@@ -165,6 +180,7 @@ def export_many(words: List[str], into: Optional[str], is_whisper: bool, jobs: i
     files = files_of(words, ends)
     if not is_whisper:
         rrdtool_program.found()
+    tidy(os.path.dirname(file.path if into is None else new_path(into, file.name, is_whisper)) for file in files)
     bar, sizes, passed_over, refused = Bar(files), [size_of(file.path) for file in files], 0, 0
     for size, (file, answer) in zip(sizes, answers(files, partial(work_on, into, is_whisper), jobs)):
         bar.end_file(size)

@@ -3,10 +3,11 @@
 from __future__ import annotations
 
 import os
-from typing import Iterator, List, NamedTuple, Optional, Tuple
+from typing import Iterable, Iterator, List, NamedTuple, Optional, Tuple
 
 from ..importing.dump import Refusal
 from ..kinds import WHISPER_END, is_of_rrdi
+from ..making import remove_left_over
 from ..words import in_one_line
 from . import rrdtool_program
 from .command_line import Failure, Progress, error_text, say
@@ -65,6 +66,13 @@ def files_of(words: List[str], ends: Ends) -> List[OldFile]:
     return files
 
 
+def tidy(folders: Iterable[str]) -> None:
+    """Removes from folders what runs that were killed have left, and says so."""
+    for folder in dict.fromkeys(folders):
+        for path in remove_left_over(folder):
+            print(in_one_line(f"{path}: removed, a run that was killed had left it"), flush=True)
+
+
 def new_name(name: str) -> str:
     stem, end = os.path.splitext(name)
     return (stem if end in OLD_ENDS else name) + NEW_END
@@ -120,7 +128,7 @@ class Importer:
     def into_new(self, file: OldFile) -> str:
         assert self.into is not None
         new, conversion = os.path.join(self.into, new_name(file.name)), Conversion(file.path, self.journal)
-        make(new, conversion.lines(self.bar.reading), makes_folder=True)
+        make(new, conversion.lines(self.bar.reading), conversion.compare, makes_folder=True)
         self.incomplete += conversion.skipped > 0
         return f"{new}{described(conversion)}"
 
@@ -130,9 +138,9 @@ class Importer:
         conversion, path = Conversion(file.path, self.journal), os.path.realpath(file.path)
         before, kept = os.stat(path), kept_name(path)
         lines = list(conversion.lines(self.bar.reading))
-        if conversion.skipped:
+        if conversion.skipped or conversion.changed:
             raise Failure("; ".join(conversion.notes))
-        swap_in(path, lines, before)
+        swap_in(path, lines, conversion.compare, before)
         return f"converted, the old file is {kept}{described(conversion)}"
 
     def summary(self, links: int) -> str:
@@ -169,6 +177,7 @@ def import_many(words: List[str], into: Optional[str], journal: Optional[str], t
     files = files_of(words, OLD_ENDS)
     if any(not file.path.endswith(WHISPER_END) for file in files):
         rrdtool_program.found()
+    tidy(os.path.dirname(file.path if into is None else os.path.join(into, file.name)) for file in files)
     bar = Bar(files)
     importer = Importer(into, journal, bar, tool)
     for file in files:

@@ -16,8 +16,8 @@ archives, and updates with rates that give the same rows again.
 
 The other forms convert many files: those that are named, and all below the
 directories TREE whose names end in .rrd or .wsp. They print a line for each
-file with what was left out, and a line with the counts. First stop the
-programs that record into the old files.
+file with what was left out and which archives differ, and a line with the
+counts. First stop the programs that record into the old files.
 
 options:
   --journal DEPTH      how many changes the new database can revert
@@ -123,7 +123,7 @@ def import_one(old: str, new: Optional[str], journal: Optional[str]) -> int:
         for line in lines:
             print(line)
     else:
-        make(new, counted(lines))
+        make(new, counted(lines), conversion.compare)
     return 1 if conversion.skipped else 0
 
 

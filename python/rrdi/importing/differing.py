@@ -1,0 +1,75 @@
+# SPDX-License-Identifier: MIT OR Apache-2.0
+"""Compares a new database with the file of RRDtool from which it was made, and says for each archive that differs why."""
+from __future__ import annotations
+
+import math
+from typing import Callable, Dict, Iterator, List, NamedTuple, Optional, Sequence
+
+from ..amounts import MILLION, Millionths
+from .dump import RrdArchive
+from .plan import Span
+
+# RRDtool prints eleven digits, and rrdi rounds to a millionth.
+MOST_APART, SHARE_APART = 0.0000010001, 1e-10
+FEW_DIGITS = 1e-7  # of the largest number nearby: what is apart by less has lost digits
+
+NewRows = Dict[int, List[Optional[Millionths]]]
+
+
+class DifferingCell(NamedTuple):
+    """A cell that is not the same in both files; unknown is nan."""
+
+    time: int
+    before: float
+    after: float
+
+    @property
+    def apart(self) -> float:
+        """How far the numbers are apart, or nan if one is unknown."""
+        return abs(self.after - self.before)
+
+
+def agree(before: float, after: float) -> bool:
+    """Checks whether two cells are the same, as far as RRDtool prints and rrdi stores them."""
+    if math.isnan(before) or math.isnan(after):
+        return math.isnan(before) and math.isnan(after)
+    return abs(after - before) <= MOST_APART + abs(after) * SHARE_APART
+
+
+def differing_cells(archive: RrdArchive, columns: Sequence[int], rows: NewRows) -> List[DifferingCell]:
+    """Returns the cells that differ, the newest last. `columns` has the places of the sources in the old file."""
+    found = []
+    for time in range(archive.begin + archive.seconds, archive.end + 1, archive.seconds):
+        cells = rows.get(time) or [None] * len(columns)
+        for column, cell in zip(columns, cells):
+            before, after = archive.cell(time, column), math.nan if cell is None else cell / MILLION
+            if not agree(before, after):
+                found.append(DifferingCell(time, before, after))
+    return found
+
+
+def reason(archive: RrdArchive, spans: Sequence[Span], cell: DifferingCell) -> str:
+    """Returns why a row may not be the same: by what it was made of."""
+    source = next((span.archive for span in spans if span.begin <= cell.time - archive.seconds < span.end), None)
+    if cell.time == archive.begin + archive.seconds and math.isnan(cell.after):
+        return "the old row may be from before a gap that was longer than the archive"
+    if cell.apart <= FEW_DIGITS * max(abs(cell.before), abs(cell.after), 1.0):
+        return "large numbers that nearly cancel out lose digits"
+    if source is None or source.steps == 1:
+        return "the row is computed again, by the rules of rrdi"
+    if archive.seconds % source.seconds:
+        return f"the row has parts of rows of {source.seconds} s"
+    if archive.function != "AVERAGE" and (source.seconds != archive.seconds or source.function != archive.function):
+        return f"the row comes from rows of {source.function} of {source.seconds} s"
+    return "which steps of a gap were unknown is a guess"
+
+
+def differing_archives(archives: Sequence[RrdArchive], spans: Sequence[Span], columns: Sequence[int],
+                       rows_of: Callable[[int], NewRows]) -> Iterator[str]:
+    """Yields a line for each archive that differs. `rows_of` returns the new rows of an archive, by its place."""
+    for place, archive in enumerate(archives):
+        found = differing_cells(archive, columns, rows_of(place))
+        if found:
+            newest, count = found[-1], len(columns) * archive.row_count
+            yield (f"archive {archive.number}, {archive.function} of {archive.seconds} s: {len(found)} of {count} cells "
+                   f"differ, the newest at {newest.time}: {reason(archive, spans, newest)}")
