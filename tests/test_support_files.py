@@ -80,21 +80,6 @@ FILE is a file.
 
 rrdi 0.2.0
 """
-SOURCE = """.Sh NAME
-.Sh SYNOPSIS
-.Nm
-.Cm tune
-.Ar file
-.Op Fl s | -step Ar seconds
-.Op Fl t | -template Ar name Ns Oo : Ns Ar name ... Oc
-.Op Li RRA : Ns Ar function | Li DELRRA : Ns Ar archive
-.Ar time : Ns Ar value Ns Oo : Ns Ar value ... Oc ...
-.Nm
-.Cm last | info
-.Ar file
-.Sh DESCRIPTION
-"""
-TUNE = "tune [-s|--step SECONDS] [-t|--template NAME[:NAME..]] [RRA:FUNCTION | DELRRA:ARCHIVE] TIME:VALUE[:VALUE..].."
 PAGE = """x
 
     rrdi create FILE [-s|--step SECONDS] D..
@@ -107,8 +92,6 @@ more
 
 def test_manual() -> None:
     assert manual.statements_of(USAGE) == "Runs one command. creates it changes it FILE is a file."
-    forms = {name: manual.plain(form) for name, form in manual.in_source(SOURCE).items()}
-    assert forms == {"tune": manual.plain(TUNE), "last": "LAST", "info": "INFO"}
     found = manual.in_page(PAGE)
     assert list(found) == ["create", "tune"] and manual.in_page("nothing") == {}
     assert manual.options(found["tune"]) == [("", "a", "B"), ("c", "d", "E")]

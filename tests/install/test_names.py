@@ -20,6 +20,7 @@ Version: {version}
 Cflags: -I${{includedir}}
 Libs: -L${{libdir}} -lrrdi
 """
+MOST_EXPOSED = 39  # of the services: tenths of what systemd-analyze rates
 # What docs/install.md promises of the units: lines that each has.
 PROMISED = {
     "rrdi-feed.socket": ("ListenFIFO=/run/rrdi-feed", "SocketUser=rrdi", "SocketGroup=rrdi", "SocketMode=0620"),
@@ -61,8 +62,12 @@ def test_units(make: Callable[..., None], folder: Path, needs: Callable[..., Non
     assert units.keys() == PROMISED.keys()
     for name, path in units.items():
         text = path.read_text()
-        assert not set(PROMISED[name]) - set(text.splitlines()) and "@" not in text, name
+        assert not set(PROMISED[name]) - set(text.splitlines()) and "@PREFIX@" not in text, name
         assert all(os.access(program, os.X_OK) for program in re.findall(r"^ExecStart=(\S+)", text, re.MULTILINE)), name
     assert " RRDI_SYNC=1 " in units["rrdi-feed.service"].read_text()
     ran = subprocess.run(["systemd-analyze", "verify", "--man=no", *units.values()], capture_output=True, text=True)
     assert (ran.returncode, ran.stderr) == (0, "")
+    services = [path for name, path in units.items() if name.endswith(".service")]
+    rated = [subprocess.run(["systemd-analyze", "security", "--offline=true", "--no-pager", f"--threshold={MOST_EXPOSED}", path],
+                            capture_output=True, text=True) for path in services]
+    assert [(ran.returncode, "exposure level" in ran.stdout) for ran in rated] == [(0, True)] * 2

@@ -109,13 +109,12 @@ NAMED = re.compile(r"\[`([\w:]+)`\]\((\.\./(?:crates|library)/[^)#]+)\)")
 IMPLEMENTATION = re.compile(r"^impl\b.*\b(Bytes|Disk|Storage) for (\w+)", re.MULTILINE)
 # Words that may lead around the prover, and the lines that have one.
 WAY_AROUND = re.compile(r"\b(unsafe|axiom|postulate)\b", re.IGNORECASE)
-UNSAFE = {("crates/rrd_disk/src/record.rt", "unsafe impl Send for Record {}"),
+UNSAFE = {*((f"crates/{crate}/src/record.rt", "unsafe impl Send for Record {}") for crate in ("rrd_disk", "rrd_runs")),
           ("library/rrdi_c/src/raw_box.rt.in", "unsafe { Box::from_raw(alloc, address) }")}
 # The proofs by hand, which may say of a value what no check of the code sees.
-BY_HAND = {f"crates/{name}" for name in (
-    "rrd_disk/proofs/begun/Begun/note/Proof.antt", "rrd_disk/proofs/record/Record/new/Proof.antt",
-    "rrd_disk/proofs/record/Record/note/Proof.antt",
-    "rrd_disk/proofs/record/Record/TheSendSync/Send.antt", "rrd_ring/proofs/ring/row_mut/Proof.antt")} | {
+BY_HAND = {f"crates/{crate}/proofs/{name}" for crate in ("rrd_disk", "rrd_runs") for name in (
+    "begun/Begun/note/Proof.antt", "record/Record/new/Proof.antt", "record/Record/note/Proof.antt",
+    "record/Record/TheSendSync/Send.antt")} | {"crates/rrd_ring/proofs/ring/row_mut/Proof.antt"} | {
     f"library/rrdi_c/proofs/{name}/Proof.antt.in" for name in (
         "handle/Handle/into_raw_box", "handle/Handle/none", "handle/Handle/of", "raw_box/RawBox/from_box",
         "raw_box/RawBox/into_box")}

@@ -107,5 +107,5 @@ def test_each_plot_is_drawn() -> None:
 
 
 def test_the_pages() -> None:
-    assert {"README.md", "docs/tutorial.md", "docs/rrdi.1", *OF_C, OF_PYTHON, PLOTTING} <= set(SESSIONS)
+    assert {"README.md", "docs/tutorial.md", *OF_C, OF_PYTHON, PLOTTING} <= set(SESSIONS)
     assert sum(map(len, SESSIONS.values())) > 180

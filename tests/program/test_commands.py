@@ -244,19 +244,16 @@ BEFORE = {"fetch": ["LAST"], "resize": ["0", "GROW", "1"], "update": ["10:1"]}
 
 
 def test_the_usage_text(t: Runs) -> None:
-    page, source = (TOP / "docs/commands.md").read_text(), (TOP / "docs/rrdi.1").read_text()
+    page = (TOP / "docs/commands.md").read_text()
     _, _, text = t.told([])
     t.check.same(text.splitlines()[-1:], [f"rrdi {(TOP / 'VERSION').read_text().strip()}"],
                  "the version in the usage text")
     if not t.check("\ncommands:\n" in text, f"no commands in the usage text: {text!r}"):
         return
     forms = {name: {command: manual.plain(form) for command, form in found.items()}
-             for name, found in (("usage", manual.in_usage(text)), ("page", manual.in_page(page)),
-                                 ("source", manual.in_source(source)))}
+             for name, found in (("usage", manual.in_usage(text)), ("page", manual.in_page(page)))}
     t.check.same(len(forms["page"]), 10, "the commands of docs/commands.md")
     t.check.same(forms["usage"], forms["page"], "the forms of the usage text and of docs/commands.md")
-    t.check.same({name: form for name, form in forms["source"].items() if name != "batch"}, forms["page"],
-           "the forms of docs/rrdi.1 and of docs/commands.md")
     definitions_of = re.compile(r"(?:DS|RRA):(?:\w|[|:])+")
     told = [line for line in text.splitlines() if line.strip().startswith(("a DEFINITION is ", "or RRA:"))]
     wanted = list(dict.fromkeys(form for form in definitions_of.findall(page) if form.endswith((":max", ":rows"))))
@@ -270,7 +267,7 @@ def test_the_usage_text(t: Runs) -> None:
         for _, name, _ in manual.options(form):
             asks(t, command, f"--{name}", True)
             asks(t, command, f"--{name[:-1]}", False)
-    the_words_of_the_usage_text(t, text, page + source + (TOP / "README.md").read_text())
+    the_words_of_the_usage_text(t, text, page + (TOP / "README.md").read_text())
 
 
 def the_words_of_the_usage_text(t: Runs, text: str, pages: str) -> None:

@@ -75,6 +75,7 @@ class Completion(ToolCase):
                 ("rrdi-graph some.rrdi --st", "--start"), ("rrdi-plot so", "some.rrdi"),
                 ("rrdi-plot some.rrdi p.png M", "MIN MAX"), ("rrdi-plot some.rrdi p.png MAX --e", "--end"),
                 ("rrdi-plot some.rrdi p.png --da", "--dark"), ("rrdi-plot some.rrdi p.png --title ", ""),
+                ("rrdi-plot --ht", "--html"), ("rrdi-plot some.rrdi p.png --m", "--min --max"), ("rrdi-plot --html co", ""),
                 ("rrdi-record so", "some.rrdi"), ("rrdi-record --memory so", "some.rrdi"), ("rrdi-record --n", "--network"),
                 ("rrdi-feed --j", "--jobs"), ("rrdi-feed --jobs ", ""), ("rrdi-feed --h", "--help --held"),
                 ("rrdi-feed --graphite . --r", "--rules"), ("rrdi-feed --graphite . --rules so", "some.rrd some.rrdi"),

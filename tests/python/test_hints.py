@@ -106,7 +106,7 @@ class Tools(ToolCase):
                          "rrdi-plot: none: cannot open: No such file or directory\n")
         with mock.patch.object(program, "batch", side_effect=program.CommandFailed("cannot open")), \
                 self.assertRaisesRegex(Failure, "none/x.rrdi: cannot open: No such file or directory"):
-            make(str(self.folder / "none/x.rrdi"), [])
+            make(str(self.folder / "none/x.rrdi"), [], lambda new: None)
         failed = program.CommandFailed("cannot open", errno.EAGAIN)
         self.assertEqual(failed.of_file("f"), "f: cannot open: another program holds its lock")
 

@@ -3,6 +3,7 @@
 needed: the bytes of the file are written here, as docs/file-format.md describes them."""
 from __future__ import annotations
 
+import json
 import os
 import struct
 import subprocess
@@ -15,7 +16,7 @@ from doubles import TOP
 
 import rrdi
 from rrdi import reader
-from rrdi.reader.printing import as_openmetrics
+from rrdi.reader.printing import as_csv, as_json, as_openmetrics
 
 
 def amount(value: int) -> bytes:
@@ -99,6 +100,21 @@ class Reading(unittest.TestCase):
         text = "\n".join(as_openmetrics(reader.read(file_bytes()), 'a"b\\c\nd'))
         self.assertIn('file="a\\"b\\\\c\\nd"', text)
 
+    def test_all_rows(self) -> None:
+        """Each known cell of each archive and source is a line of OpenMetrics, each row with one a line of CSV."""
+        database = {"version": 2, "step": 10, "sources": [{"name": "a", "min": None}, {"name": "b", "min": -5}], "archives": [
+            {"function": "AVERAGE", "steps": 3, "rows": [{"time": 0, "cells": [None, None]}, {"time": 30, "cells": [None, 2]}]},
+            {"function": "LAST", "steps": 1, "rows": [{"time": 20, "cells": [1, None]}, {"time": 30, "cells": [0, 4]}]}]}
+        self.assertEqual(list(as_csv(database, "f")), ["archive,function,seconds,time,a,b", "0,AVERAGE,30,30,,2", "1,LAST,10,20,1,",
+                                                      "1,LAST,10,30,0,4"])
+        average, last = 'file="f",archive="0",function="AVERAGE",seconds="30"', 'file="f",archive="1",function="LAST",seconds="10"'
+        self.assertEqual(list(as_openmetrics(database, "f"))[2:], [
+            f'rrdi_row{{source="b",{average}}} 2 30', f'rrdi_row{{source="a",{last}}} 1 20', f'rrdi_row{{source="a",{last}}} 0 30',
+            f'rrdi_row{{source="b",{last}}} 4 30', "# EOF"])
+        self.assertEqual(json.loads(as_json(database)), database)
+        self.assertEqual(as_json({"a": [rrdi.Millionths(-1), None, 7, 'x"y'], "b": {}}),
+                         '{"a": [-0.000001, null, 7, "x\\"y"], "b": {}}')
+
     def test_amounts(self) -> None:
         for value, text in ((0, "0.000000"), (-1, "-0.000001"), (1_500_000, "1.500000"), (-2_250_000, "-2.250000")):
             self.assertEqual(str(rrdi.Millionths(value)), text)
@@ -110,10 +126,11 @@ class CommandLine(unittest.TestCase):
         (self.folder / "f.rrdi").write_bytes(file_bytes())
         (self.folder / "cut").write_bytes(file_bytes()[:30])
 
-    def ran(self, *words: str) -> Tuple[int, str, str]:
+    def ran(self, *words: str, given: str = os.devnull) -> Tuple[int, str, str]:
         env = {**os.environ, "PYTHONPATH": str(TOP / "python")}
-        ran = subprocess.run([sys.executable, "-B", *words], cwd=self.folder, env=env, stdout=subprocess.PIPE,
-                             stderr=subprocess.PIPE, universal_newlines=True)
+        with open(self.folder / given, "rb") as lines:
+            ran = subprocess.run([sys.executable, "-B", *words], cwd=self.folder, env=env, stdin=lines, stdout=subprocess.PIPE,
+                                 stderr=subprocess.PIPE, universal_newlines=True)
         return ran.returncode, ran.stdout, ran.stderr
 
     def test_both_ways(self) -> None:
@@ -122,7 +139,9 @@ class CommandLine(unittest.TestCase):
         for way, name in ways:
             csv = "archive,function,seconds,time,g\n0,LAST,10,20,2.500000\n"
             self.assertEqual(self.ran(*way, "csv", "f.rrdi"), (0, csv, ""))
+            self.assertEqual(self.ran(*way, "csv", "-", given="f.rrdi"), (0, csv, ""))
             self.assertEqual(self.ran(*way, "check", "f.rrdi"), (0, "", ""))
+            self.assertEqual(self.ran(*way, "check", "-"), (1, "", f"{name}: -: file: truncated at 0\n"))
             self.assertEqual(self.ran(*way, "check", "cut"), (1, "", f"{name}: cut: file: truncated at 30\n"))
             self.assertEqual(self.ran(*way, "json", "none"), (1, "", f"{name}: none: No such file or directory\n"))
             self.assertEqual(self.ran(*way, "xml", "f.rrdi"),

@@ -89,6 +89,9 @@ class Limits(unittest.TestCase):
         with self.assertRaises(errors.Damaged) as raised:
             reader.read(file.data)
         self.assertEqual(str(raised.exception), fault)
+        if fault.startswith("file: bad "):
+            kind = errors.BAD_ENTRY if "entry" in fault else errors.BAD_BLOCK
+            self.assertEqual((raised.exception.fault, raised.exception.at), (kind, int(fault.rpartition(" ")[2])))
 
     def check_header(self, is_right: bool, file: File) -> None:
         self.check(file, "" if is_right else file.bad(0))
@@ -147,6 +150,12 @@ class Limits(unittest.TestCase):
             names = [settings(b"g%d" % number) + known() for number in range(sources)]
             file = File(names, [archive(rows=rows, sources=sources)], version=version)
             self.check(file, f"file: truncated at {len(file.data)}" if is_right else file.bad(1 + sources))
+        self.check(File(archives=[archive(rows=1)], cells=[amount(None)]))
+        most = [archive(rows=MILLION)] * 4
+        file = File(archives=[*most, archive(rows=1)], version=1)
+        self.check(file, file.bad(6))
+        file = File(archives=most, version=1)
+        self.check(file, f"file: truncated at {len(file.data)}")
 
     def test_partial_rows(self) -> None:
         for function, count, total, is_right in (
@@ -198,7 +207,7 @@ class Limits(unittest.TestCase):
         same = [(number, settings(name)) for number, name in enumerate(names)]
         tried: List[Tuple[Sequence[Tuple[int, bytes]], bool]] = [
             (same[:5], True), (same, False), ([], False), (same[5:], True), ([(6, settings(b"x"))], False), ([same[1], same[0]], False),
-            ([same[1], same[1]], False), ([(5, settings(names[0]))], False), ([(0, settings(names[1])), (1, settings(names[0]))], True),
+            ([same[1], same[1]], False), ([same[0], same[2], same[1]], False), ([same[0], same[2], same[3]], True), ([(5, settings(names[0]))], False), ([(0, settings(names[1])), (1, settings(names[0]))], True),
             ([(0, settings(heartbeat=0))], False), ([(0, settings(kind=COUNTER, raw=-1))], False)]
         for changed, is_right in tried:
             self.check_entry(is_right, tune(changed), six)
@@ -238,3 +247,97 @@ class Limits(unittest.TestCase):
             self.check_entry(is_right, removal(0, **changed))
         for partial, is_right in ((known(2, 2 * TOP), True), (known(3), False), (known(0, 1), False), (known(2, 2 * TOP + 1), False)):
             self.check_entry(is_right, REMOVAL + struct.pack(">H", 0) + archive(partial=partial) + amount(None) * 2)
+
+
+class Contents(unittest.TestCase):
+    """What a file with two archives has: rows of 30 seconds, two of them, and four rows of one step."""
+
+    ARCHIVES = [archive(AVERAGE, partial=known(2, 7)), archive(LAST, 1, rows=4)]
+    # In the first archive the row with the number 0 ends at 0. In the second one the rows lie by their numbers, from -1 on.
+    CELLS = [amount(value) for value in (70, None, 40, 50, 60, 30)]
+
+    def read(self, *entries: bytes, source: bytes = settings() + known(5, 11)) -> reader.Parts:
+        return reader.read(File([source], self.ARCHIVES, self.CELLS, entries).data)
+
+    def test_rows(self) -> None:
+        found = self.read()
+        self.assertEqual([one["rows"] for one in found["archives"]],
+                         [[{"time": -30, "cells": [None]}, {"time": 0, "cells": [70]}],
+                          [{"time": time, "cells": [cell]} for time, cell in ((-10, 30), (0, 40), (10, 50), (20, 60))]])
+        self.assertEqual([one["preparations"] for one in found["archives"]],
+                         [[{"known_steps": 2, "value": 7}], [{"known_steps": 0, "value": 0}]])
+        self.assertEqual([(one["known_seconds"], one["sum"]) for one in found["sources"]], [(5, 11)])
+        self.assertNotIn("entries", found)
+
+    def test_raw_values(self) -> None:
+        for kind, raw, text in ((COUNTER, 7, "7"), (DERIVE, -7, "-7"), (GAUGE, 7, "0.000007"), (ABSOLUTE, -7, "-0.000007")):
+            source, = self.read(source=settings(kind=kind, raw=raw) + known())["sources"]
+            self.assertEqual((source["last_raw"], str(source["last_raw"])), (raw, text))
+
+    def test_updates(self) -> None:
+        """Two of them: the second one is older, and its rows are those that the first one's time says."""
+        first = UPDATE + struct.pack(">Q", 15) + amount(8) + known(4, 9)
+        first += known(1, 3) + struct.pack(">I", 0) + known() + struct.pack(">I", 1) + amount(77)
+        second = UPDATE + struct.pack(">Q", 3) + amount(None) + known(2, -1)
+        second += known() + struct.pack(">I", 0) + known() + struct.pack(">I", 1) + amount(None)
+        unknown = {"known_steps": 0, "value": 0}
+        self.assertEqual(self.read(first, second)["journal"], [
+            {"change": "update", "last_time": 15, "sources": [{"last_raw": 8, "known_seconds": 4, "sum": 9}],
+             "archives": [{"preparations": [{"known_steps": 1, "value": 3}], "rows": []},
+                          {"preparations": [unknown], "rows": [{"time": -20, "cells": [77]}]}]},
+            {"change": "update", "last_time": 3, "sources": [{"last_raw": None, "known_seconds": 2, "sum": -1}],
+             "archives": [{"preparations": [unknown], "rows": []},
+                          {"preparations": [unknown], "rows": [{"time": -30, "cells": [None]}]}]}])
+
+    def test_an_update_of_two_sources(self) -> None:
+        two = [settings(b"g") + known(), settings(b"h") + known()]
+        entry = UPDATE + struct.pack(">Q", 15) + amount(1) + known(1, 2) + amount(3) + known(4, 5)
+        entry += known(1, 6) + known(0, 0) + struct.pack(">I", 0)
+        change, = reader.read(File(two, [archive(sources=2)], [amount(None)] * 4, [entry]).data)["journal"]
+        self.assertEqual(change["sources"], [{"last_raw": 1, "known_seconds": 1, "sum": 2},
+                                             {"last_raw": 3, "known_seconds": 4, "sum": 5}])
+        self.assertEqual(change["archives"][0]["preparations"], [{"known_steps": 1, "value": 6}, {"known_steps": 0, "value": 0}])
+
+    def test_a_tune(self) -> None:
+        """An older entry is checked against the settings before the change: here those of a COUNTER."""
+        tune = TUNE + struct.pack(">HH", 1, 0) + settings(b"old", COUNTER, 7, 1, 2, 3)
+        older = UPDATE + struct.pack(">Q", 24) + amount(2**64 - 1) + known() + (known() + struct.pack(">I", 0)) * 2
+        found = self.read(tune, older)["journal"]
+        self.assertEqual(found[0], {"change": "tune", "sources": [{"number": 0, "name": "old", "type": "COUNTER", "heartbeat": 7,
+                                                                   "min": 1, "max": 2, "last_raw": 3}]})
+        self.assertEqual(found[1]["sources"][0]["last_raw"], 2**64 - 1)
+        with self.assertRaisesRegex(errors.Damaged, "bad entry 1"):
+            self.read(older.replace(amount(2**64 - 1), amount(10**24)))
+
+    def test_an_addition(self) -> None:
+        """Before it there was one archive less, and its rows do not count."""
+        older = UPDATE + struct.pack(">Q", 24) + amount(None) + known() + known() + struct.pack(">I", 0)
+        found = self.read(ADDITION, older)["journal"]
+        self.assertEqual((found[0], len(found[1]["archives"])), ({"change": "addition"}, 1))
+        with self.assertRaisesRegex(errors.Damaged, "bad entry 2"):
+            self.read(ADDITION, RESIZE + struct.pack(">HI", 1, 1))
+        names = [settings(b"g%d" % number) + known() for number in range(8)]
+        there = [archive(sources=8), archive(LAST, 1, rows=1, sources=8)]
+        file = File(names, there, [amount(None)] * 24, [ADDITION, RESIZE + struct.pack(">HI", 0, MILLION)])
+        with self.assertRaisesRegex(errors.Damaged, f"truncated at {len(file.data)}"):
+            reader.read(file.data)
+
+    def test_a_removal(self) -> None:
+        """Before it there was one archive more, with its rows at the time of the change."""
+        rows = b"".join(map(amount, (1, None, 3)))
+        entry = REMOVAL + struct.pack(">H", 1) + archive(GREATEST, 2, 250_000, 3, known(0, 0)) + rows
+        older = RESIZE + struct.pack(">HI", 1, 1) + amount(5)
+        found = self.read(entry, older)["journal"]
+        self.assertEqual(found, [
+            {"change": "removal", "archive": 1, "function": "MAX", "steps": 2, "xff": 250_000,
+             "preparations": [{"known_steps": 0, "value": 0}],
+             "rows": [{"time": time, "cells": [cell]} for time, cell in ((-20, 1), (0, None), (20, 3))]},
+            {"change": "resize", "archive": 1, "rows": [{"time": 20, "cells": [5]}]}])
+        with self.assertRaisesRegex(errors.Damaged, "bad entry 2"):
+            self.read(entry, RESIZE + struct.pack(">HI", 1, 3) + rows)
+        with self.assertRaisesRegex(errors.Damaged, "truncated"):
+            self.read(entry, RESIZE + struct.pack(">HI", 2, 1))
+
+
+if __name__ == "__main__":
+    unittest.main()

@@ -17,12 +17,14 @@ from support import marks
 from support.marks import PAGE, pages, record
 from rrdi import errors, locks, reader
 from rrdi.locks import SHARED, locked
-from rrdi.reader.files import opened
+from rrdi.reader.files import opened, read_bytes
 from rrdi.reader.selected import OpenFile
 
 OLD = graphite.file_bytes(130, archives=[(1, 400, {130: [2.5], 20: [1.5]})])  # over a page
 NEW = graphite.file_bytes(140, archives=[(1, 400, {140: [9.5], 130: [2.5]})])
 SMALL = graphite.file_bytes(130)
+# It ends with a page, where its record begins.
+FULL = graphite.file_bytes(130, archives=[(1, 246, {130: [2.5]})])
 # Its length ends where a short record would end, so its record is a long one.
 LONG = graphite.file_bytes(130, archives=[(1, 250, {130: [2.5]})])
 NOTES = b"RRDCached notes of a user\n" * 40
@@ -77,7 +79,8 @@ class Marked(DataCase):
         self.assertEqual([str(of_bytes.exception), str(of_file.exception)], ["file: not ours"] * 2)
 
     def test_the_new_database(self) -> None:
-        for data in (SMALL, NEW):
+        self.assertEqual(len(FULL) % PAGE, 0)
+        for data in (SMALL, NEW, FULL):
             self.check(cut(data), data)
             self.check(cut_with_record(data), data)
 
@@ -93,6 +96,9 @@ class Marked(DataCase):
         # The later slot of two counts, and slots need not be pages.
         self.check(undone(OLD, OLD, [(16, b"x" * 100), (16, OLD[16:300])]), OLD)
         self.check(undone(OLD, OLD[:20] + b"x" * 300 + OLD[320:], [(19, OLD[19:200]), (150, OLD[150:400])]), OLD)
+        for length in range(1, 18):  # the checksum takes eight bytes at a time
+            self.check(undone(OLD, OLD[:20] + b"x" * length + OLD[20 + length:], [(20, OLD[20:20 + length])]), OLD)
+        self.check(undone(FULL, FULL, pages(FULL)), FULL)
         # A slot that is broken does not count, nor one after it: the file's own bytes do. One with bytes of the mark is broken.
         other = graphite.file_bytes(140)
         for place, wanted in ((15, SMALL), (16, other)):
@@ -117,6 +123,17 @@ class Marked(DataCase):
             self.check(data, SMALL)  # no record, so what follows the database does not count
         self.check(cut_with_record(SMALL, len(SMALL) - 1), cut_with_record(SMALL, len(SMALL) - 1))
         self.check(cut_with_record(SMALL, size=marks.LONG), cut_with_record(SMALL, size=marks.LONG))
+        self.check(cut_with_record(SMALL, 16), cut_with_record(SMALL, 16))
+        for place in (40, 47, 55):  # zeros, which the checksum counts
+            head = bytearray(record(PAGE, len(SMALL), SMALL)[:56])
+            head[place] = 1
+            tail = (bytes(head) + marks.number(marks.checksum(bytes(head)))).ljust(marks.SHORT, b"\0")
+            self.check(cut(SMALL, tail), SMALL)
+            marked = (marks.UNDO + marks.number(PAGE) + SMALL[16:]).ljust(PAGE, b"\0") + tail
+            self.check(marked, marked)
+        for place in (PAGE + 8, PAGE - 8, 2 * PAGE + 1):  # no page begins there
+            forged = (marks.UNDO + marks.number(place) + SMALL[16:]).ljust(place, b"\0") + record(place, len(SMALL), SMALL)
+            self.check(forged, forged)
         for first, length in ((b"NOPE" + SMALL[4:16], len(SMALL)), (SMALL[:16], 12)):
             forged = marks.UNDO + marks.number(PAGE) + SMALL[16:]
             self.check(forged.ljust(PAGE, b"\0") + record(PAGE, length, first, marks.LONG), forged.ljust(PAGE, b"\0")
@@ -141,6 +158,18 @@ class Marked(DataCase):
         with OpenFile(str(self.path)) as file, self.assertRaises(errors.Damaged) as raised:
             list(file.times_before())
         self.assertEqual(str(raised.exception), f"file: truncated at {len(SMALL) - 20}")
+
+    def test_settings(self) -> None:
+        self.path.write_bytes(NEW)
+        with OpenFile(str(self.path)) as file:
+            found = file.settings()
+        whole = reader.read(NEW)
+        self.assertEqual([archive.pop("row_count") for archive in found["archives"]], [400])
+        self.assertEqual(found.pop("entries"), 0)
+        whole.pop("journal")
+        for archive in whole["archives"]:
+            archive.pop("rows")
+        self.assertEqual(found, whole)
 
     def test_only_parts_are_read(self) -> None:
         """Of a marked file each slot is read once to be checked, and then what is asked for."""
@@ -170,9 +199,23 @@ class Locks(DataCase):
             return SMALL
         with mock.patch("rrdi.reader.files.Stored.of_file", forking):
             reader.read_file(self.path)
+        with mock.patch("rrdi.reader.selected.Stored.of_file", forking), mock.patch.object(OpenFile, "_read_front", side_effect=OSError):
+            self.assertRaises(OSError, OpenFile, self.path)
+
+        class Forking(io.FileIO):
+            def readall(self) -> bytes:
+                forking(self.fileno())
+                return super().readall()
+
+        def opened_for_a_fork(path: str, kind: int, seconds: float) -> io.FileIO:
+            file = Forking(path)
+            locks.lock(file, kind, seconds)
+            return file
+        with mock.patch("rrdi.reader.files.open_locked", opened_for_a_fork):
+            self.assertEqual(read_bytes(self.path), SMALL)
         with open(self.path, "rb") as other:
             fcntl.flock(other, fcntl.LOCK_EX | fcntl.LOCK_NB)
-        self.assertEqual([child_status(child) for child in children], [None] * 4)
+        self.assertEqual([child_status(child) for child in children], [None] * 6)
 
     def test_a_file_that_is_replaced_meanwhile(self) -> None:
         """The lock of a file that has lost its name is worth nothing: the new file is read."""

@@ -142,6 +142,9 @@ class Rows(unittest.TestCase):
         self.assertEqual((one.least, one.mean, one.greatest, limits([one], True), limits([one], False)), (-1, 2, 9, (-1, 9), (2, 2)))
 
 
+PLOT_USAGE = "FILE PICTURE.png|PICTURE.svg [FUNCTION] [options]\n       rrdi-plot --html DIR OUT [FUNCTION] [options]"
+
+
 @needs_program
 class Plot(ToolCase):
     START = 1_700_000_400
@@ -160,7 +163,7 @@ class Plot(ToolCase):
                          str(self.START + end), env=env, size=size)
 
     def test_usage(self) -> None:
-        self.check_usage("rrdi-plot", "FILE PICTURE.png|PICTURE.svg [FUNCTION] [options]",
+        self.check_usage("rrdi-plot", PLOT_USAGE,
                          [[], ["a"], ["a", "b.gif", "AVERAGE"], ["a", "png", "AVERAGE"], ["a", "b.png", "MAX", "c"],
                           ["a", "b.png", "-x"], ["a", "b.png", "--start"], ["a", "b.png", ""]])
         for words, why in ((["max"], "the function 'max' must be AVERAGE, MIN, MAX or LAST"),
@@ -227,6 +230,22 @@ class Plot(ToolCase):
         commands = self.commands("--title", "it's 5 %", "--unit", "%")
         self.assertIn("set label 'it''s 5 %' at", commands)
         self.assertIn("'-40 %%' -40.0", commands)
+
+    def test_limits_of_the_axis(self) -> None:
+        """An axis may be longer than the values, or cut them; marks say where they are cut, and a line how far they go."""
+        self.assertIn("set yrange [-100.0:200.0]\n", self.commands("--min", "-100", "--max", "200"))
+        self.assertIn("set yrange [-60.0:60.0]\n", self.commands("--min", "-10", "--max", "10"))
+        commands = self.commands("--min=-5", "--max", "33", "--rigid", "--width", "700", "--height", "400")
+        for line in ("set yrange [-5.0:33.0]\n", "set label 'cut values go down to -60.0 and up to 60.0' at", "size 700,400 ",
+                     "graph 1 point pointtype 9 ", "graph 0 point pointtype 11 "):
+            self.assertIn(line, commands)
+        values = [float(line.split()[2]) for line in self.read("points").decode().splitlines() if line and not line.startswith("#")]
+        self.assertEqual((min(values), max(values)), (-5, 33))
+        self.rrdi("update", "f.rrdi", f"{self.START + 610}:9000:0")
+        self.assertIn("set yrange [-2000:10000]\n", self.commands().replace(".0", ""))
+        commands = self.commands("--cut-spikes")
+        self.assertIn("cut values go up to 9.00 k", commands)
+        self.assertIn("set yrange [-60:60]\n", commands.replace(".0", ""))
 
     def test_a_band(self) -> None:
         """Rows of AVERAGE over several steps have a band if there are MIN and MAX of the same length."""

@@ -1,0 +1,128 @@
+# SPDX-License-Identifier: MIT OR Apache-2.0
+"""Tests of the words of a command, and of the times, spans and amounts of Python that become words."""
+from __future__ import annotations
+
+import datetime
+import math
+import numbers
+import unittest
+from datetime import timedelta, timezone
+from typing import Any, List, Tuple, Union
+from unittest import mock
+
+import doubles  # noqa: F401 -- it puts the package on the path
+import rrdi
+from rrdi import errors, times, words
+from rrdi.amounts import LARGEST, gauge_text, shortened
+from rrdi.limits import LONGEST_LINE
+
+
+class Whole:
+    """A whole number that is no `int`, such as those of numpy."""
+
+    def __int__(self) -> int:
+        return 25
+
+
+numbers.Integral.register(Whole)
+
+
+class Times(unittest.TestCase):
+    def test_seconds(self) -> None:
+        for time, seconds in ((25, 25), (25.9, 25), (-0.5, -1), (Whole(), 25), (-3, -3),
+                              (datetime.datetime(1970, 1, 2, tzinfo=timezone.utc), 86_400),
+                              (datetime.datetime(1970, 1, 1, 0, 0, 0, 999_999, timezone.utc), 0),
+                              (datetime.datetime(1970, 1, 1, tzinfo=timezone(timedelta(hours=1))), -3_600)):
+            self.assertEqual(times.seconds_of(time), seconds)  # type: ignore[arg-type]
+            self.assertIs(type(times.seconds_of(time)), int)  # type: ignore[arg-type]
+        for wrong in (True, False, "25", None, 1j):
+            with self.assertRaisesRegex(TypeError, "a time must be a number or a datetime"):
+                times.seconds_of(wrong)  # type: ignore[arg-type]
+        for value in (float("inf"), float("nan"), datetime.datetime(2024, 1, 1)):
+            self.assertRaises(ValueError, times.seconds_of, value)
+
+    def test_words_of_times(self) -> None:
+        for time, word in ((None, None), ("", ""), ("end-1h", "end-1h"), (0, 0), (25.5, 25),
+                           (datetime.datetime(1970, 1, 2, tzinfo=timezone.utc), 86_400)):
+            self.assertEqual(times.time_word(time), word)
+
+    def test_words_of_spans(self) -> None:
+        for span, word in ((None, None), ("", ""), ("2d", "2d"), (0, 0), (60, 60), (Whole(), 25), (timedelta(minutes=2), 120),
+                           (timedelta(0), 0), (timedelta(seconds=-5), -5)):
+            self.assertEqual(times.span_word(span), word)  # type: ignore[arg-type]
+        self.assertIs(type(times.span_word(Whole())), int)  # type: ignore[arg-type]
+        for wrong in (True, False, 1.0, b"1", [1]):
+            with self.assertRaisesRegex(TypeError, "a span must be whole seconds or a timedelta"):
+                times.span_word(wrong)  # type: ignore[arg-type]
+        for micros in (1, 999_999, -1, 1_000_001):
+            with self.assertRaisesRegex(ValueError, "a span must be whole seconds"):
+                times.span_word(timedelta(microseconds=micros))
+
+    def test_now(self) -> None:
+        for now, seconds in ((-5, 0), (0, 0), (1, 1), (2, 2), (25.5, 25), (-0.5, 0)):
+            self.assertEqual(times.moment(now), seconds)
+        for clock, seconds in ((1_700_000_000.9, 1_700_000_000), (1.5, 1), (0.5, 0), (-5.0, 0)):
+            with mock.patch("rrdi.words.clock", return_value=clock):
+                self.assertEqual((times.moment(None), words.present(None)), (seconds, seconds))
+
+
+class Words(unittest.TestCase):
+    def refused(self, error: errors.Usage) -> None:
+        self.assertEqual((error.reason, error.path, error.fault, error.at), ("usage", None, errors.USAGE, None))
+
+    def test_flat(self) -> None:
+        given: Any = ["a", 5, ["b", ("c", -1, [])], ()]
+        self.assertEqual(words.flat(given), ["a", "5", "b", "c", "-1"])
+        for wrong in (True, False, 1.5, None, b"a", {"a": 1}, Whole()):
+            with self.assertRaisesRegex(TypeError, f"a word must be .*, not {type(wrong).__name__}$"):
+                words.flat(["a", [wrong]])  # type: ignore[list-item]
+
+    def test_options(self) -> None:
+        self.assertEqual(words.options(step=0, start=None, end="", pick=-1), ["--step=0", "--end=", "--pick=-1"])
+
+    def test_encoded(self) -> None:
+        self.assertEqual([words.encoded(given) for given in (["a"], ["a", ""], ["ä", "-1"])],
+                         [b"a", b"a\0", "ä".encode() + b"\0-1"])
+        for wrong in (["a\0b"], ["\0"], ["a", "b\0"], ["\udcff"]):
+            with self.assertRaises(rrdi.Usage) as raised:
+                words.encoded(wrong)
+            self.refused(raised.exception)
+
+    def test_lines(self) -> None:
+        self.assertEqual(words.line_of(["update", "5:1"]), "update 5:1")
+        longest = ["x" * (LONGEST_LINE - 2), "y"]
+        self.assertEqual(len(words.line_of(longest)), LONGEST_LINE)
+        for wrong in ([*longest, ""], ["x" * LONGEST_LINE, "y"], ["x" * (LONGEST_LINE + 1)], ["a b"], ["a", ""], ["a\n"], ["ä"],
+                      ["\x7f"], ["a\t"]):
+            with self.assertRaises(rrdi.Usage) as raised:
+                words.line_of(wrong)
+            self.refused(raised.exception)
+
+    def test_paths(self) -> None:
+        paths: List[Tuple[Union[str, bytes], bytes]] = [("ä", "ä".encode()), (b"\xff", b"\xff"), ("\udcff", b"\xff")]
+        for path, found in paths:
+            self.assertEqual(words.encoded_path(path), found)
+        for wrong in ("a\0b", "\0"):
+            self.assertRaises(ValueError, words.encoded_path, wrong)
+
+    def test_texts(self) -> None:
+        self.assertEqual((words.as_text(b"a\xff"), words.as_bytes("a\udcff")), ("a\udcff", b"a\xff"))
+        self.assertEqual(words.in_one_line("a\nb\x1b ä\u2028"), "a?b? ä?")
+
+
+class Amounts(unittest.TestCase):
+    def test_shortened(self) -> None:
+        for text, short in (("1.500000", "1.5"), ("100.000000", "100"), ("100", "100"), ("-0.000000", "0"), ("-0", "0"), ("0.000000", "0"),
+                            ("-0.500000", "-0.5"), ("0.000001", "0.000001"), ("10.010", "10.01")):
+            self.assertEqual(shortened(text), short)
+
+    def test_values_of_a_gauge(self) -> None:
+        below = LARGEST - 128  # the next smaller float
+        for value, text in ((1.5, "1.500000"), (0.0, "0.000000"), (-0.0, "0"), (-4e-7, "0"), (-6e-7, "-0.000001"), (4e-7, "0.000000"),
+                            (below, "999999999999999872.000000"), (-below, "-999999999999999872.000000"), (LARGEST, None), (-LARGEST, None),
+                            (math.inf, None), (-math.inf, None), (math.nan, None)):
+            self.assertEqual(gauge_text(value), text)
+
+
+if __name__ == "__main__":
+    unittest.main()
