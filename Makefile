@@ -117,6 +117,14 @@ LDCONFIG = ldconfig
 # $(call manual,PAGE): a manual page as it is installed, where docs and examples are in other directories.
 manual = sed 's,\(^\|[ <]\)\(docs\|examples\)/,\1$(PREFIX)/share/rrdi/\2/,g' $(1) | gzip -9n
 
+# The pages for those who have the repository: the installed pages name them without a link.
+OF_REPOSITORY = ARCHITECTURE|CONTRIBUTING|DECISIONS|proofs|results
+PAGES = CHANGELOG.md README.md $(filter-out $(patsubst %,docs/%.md,$(subst |, ,$(OF_REPOSITORY))),$(wildcard docs/*.md))
+# $(call page,PAGE): a page as it is installed.
+page = sed -zE 's,\[([^][]*)\]\((\.\./|docs/)?($(OF_REPOSITORY))\.md[^)]*\),\1,g' $(1)
+# A script that only tests use.
+OF_TESTS = examples/rrdi-safely
+
 # With PREFIX=/usr/local, below DESTDIR if that is given.
 install: install-program $(if $(HAS_LIBRARY),install-library) ## installs what was built, below PREFIX=/usr/local
 	@$(if $(HAS_LIBRARY),,echo "make: $(ARCHIVE) not found, so the C library is not installed; make library builds it" >&2)
@@ -149,14 +157,15 @@ install-program: $(PROGRAM) install-directories
 	$(call manual,docs/rrdi.1) > "$(MANUALS)/rrdi.1.gz"
 	chmod 644 "$(MANUALS)/rrdi.1.gz"
 	install -m 644 examples/rrdi.bash "$(COMPLETIONS)/rrdi"
-	install -m 644 README.md CHANGELOG.md CONTRIBUTING.md LICENSE* VERSION "$(SHARED)"
-	install -m 644 $(wildcard docs/*.md docs/*.png docs/*.svg) docs/rrdi.1 docs/rrdi.3 docs/first-session.txt "$(SHARED)/docs"
+	install -m 644 LICENSE* VERSION "$(SHARED)"
+	install -m 644 $(wildcard docs/*.png docs/*.svg) docs/rrdi.1 docs/rrdi.3 docs/first-session.txt "$(SHARED)/docs"
+	@$(foreach file,$(PAGES),$(call page,$(file)) > "$(SHARED)/$(file)" && chmod 644 "$(SHARED)/$(file)" &&) :
 	@find python/compat python/rrdi -name '*.py' | while read -r file; do \
 		install -D -m 644 "$$file" "$(SHARED)/$$file" || exit 1; \
 	done
 	install -m 644 python/rrdi/py.typed "$(PYTHON)/rrdi"
 	ln -sfnr "$(PYTHON)/rrdi" "$(MODULES)/rrdi"
-	@for file in examples/*; do \
+	@for file in $(filter-out $(OF_TESTS),$(wildcard examples/*)); do \
 		if [ -d "$$file" ]; then continue; fi; \
 		if [ -x "$$file" ]; then mode=755; else mode=644; fi; \
 		install -m $$mode "$$file" "$(SHARED)/examples" || exit 1; \

@@ -53,13 +53,20 @@ _rrdi_tool() {
             ;;
         rrdi-compare) ends='rrd rrdi' ;;
         rrdi-plot)
+            options+=' --html'
             if ((COMP_CWORD > 2)); then
-                options='--resolution --start --end --source --area --stack --fit --unit --title --size'
-                options+=' --dark --no-legend --no-band'
+                options='--resolution --start --end --source --area --stack --fit --unit --title --size --width --height'
+                options+=' --min --max --rigid --cut-spikes --keep-spikes --jobs --dark --no-legend --no-band'
             fi
             case ${COMP_WORDS[COMP_CWORD - 1]} in
                 -r | -s | -e | --resolution | --start | --end | --source | --unit | --title | --size) return 0 ;;
+                --width | --height | --min | --max | --jobs) return 0 ;;
             esac
+            if [[ ${COMP_WORDS[1]} == --html ]] && ((COMP_CWORD == 2 || COMP_CWORD == 3)); then
+                compopt -o filenames 2>/dev/null
+                mapfile -t COMPREPLY < <(compgen -d -- "$current")
+                return 0
+            fi
             case $COMP_CWORD in
                 1) ends='rrdi' ;;
                 2) ends='png svg' ;;
@@ -78,7 +85,7 @@ _rrdi_tool() {
             esac
             ;;
         rrdi-feed)
-            options='--seconds --jobs --held --patience --graphite --rules'
+            options='--seconds --jobs --held --patience --backfill --graphite --rules'
             ((COMP_CWORD > 1)) || options="--help --version $options"
             case ${COMP_WORDS[COMP_CWORD - 1]} in
                 --seconds | --jobs | --held | --patience) return 0 ;;

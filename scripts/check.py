@@ -36,7 +36,7 @@ TOP = Path(__file__).resolve().parent.parent
 NEEDED = {"cc": "gcc", "make": "make", "objcopy": "binutils", "pytest": "python3-pytest", "xdist": "python3-pytest-xdist"}
 USEFUL = {"strace": "strace", "mypy": "mypy", "rrdtool": "rrdtool", "gnuplot": "gnuplot-nox", "pkg-config": "pkg-config",
           "g++": "build-essential", "dh": "debhelper", "dh_python3": "dh-python", "lintian": "lintian",
-          "clang-format": "clang-format", "help2man": "help2man"}
+          "clang-format": "clang-format", "help2man": "help2man", "pandoc": "pandoc"}
 # The memory of a process of pytest, with the programs that it runs.
 WORKER = 2 << 30
 BUGS = "scripts/try-planted-bugs"
