@@ -1,13 +1,11 @@
--- What `rrd_undo` and `rrd_store` are asked of a file, by what the record says.
+-- What `rrd_change` and `rrd_store` are asked of a file, by what the record says.
 use Rattle.std.proofs.Common.{◌≡◌, ℕ, suc, true, false, not, List, [], ◌∷◌, ◌++◌, length, take, drop, IsTrue, inl, inr, refl, sym, ◌∙◌, ap, subst}
 use Rattle.std.proofs.Math.Seq.{drop-append_seam, take-append_seam}
 use Rattle.std.proofs.lemmas.Bool.{and_from, and_parts, cases_Bool, true≢false}
 use Rattle.rrd_store.specs.Storages.{Held, Missing, Bytes}
-use Rattle.rrd_disk.specs.Asked.{FallsAsked, code_by, code_of, content_of, file_of, held_of, is_asked, is_honest_asked, is_honest_in, is_told, kind_of, run_of, start_by, world_in, world_of}
-use Rattle.rrd_undo.specs.declared.tail.Syncs.{Syncs}
-use Rattle.rrd_undo.specs.declared.tail.Syncs.TheVariants.{Never, Ordered}
+use Rattle.rrd_disk.specs.Asked.{FallsAsked, code_by, code_of, content_of, held_of, is_asked, is_honest_in, kind_of, start_by, world_in, world_of}
 use Rattle.rrd_disk.specs.Events.{Event}
-use Rattle.rrd_disk.specs.Replayed.{World, held_after, is_honest_after, is_there, left, part_after}
+use Rattle.rrd_disk.specs.Replayed.{World, bytes_of, held_after, is_honest_after, is_there, left, part_after}
 
 -- whatever is asked, the record is honest
 pub honest_in : (s : List ℕ) (events : List Event) → IsTrue (is_honest_in s events) → IsTrue (is_honest_after (world_of s) events)
@@ -107,17 +105,8 @@ was_there old new falls s h is = elim (cases_Bool (is_there s.start)) as (λ _. 
   | inr missing ↦ asked_before old new 2 s falls (missing_start s.start missing) h is
 ]
 
--- ---- what is asked of the run
+-- ---- whether there is a file
 
--- whatever is asked, the record is honest
-pub honest_asked : (s : List ℕ) (syncs : Syncs) (events : List Event) → IsTrue (is_honest_asked s syncs events) → IsTrue (is_honest_after (world_of (file_of s)) events)
-honest_asked s syncs events h = honest_in (file_of s) events (and_parts (is_told (run_of s) syncs) (is_honest_in (file_of s) events) h).1
-
--- calls of which each answer is honest do not change whether the run syncs
-pub syncs_stay : (before after : Syncs) (old new : List Event)
-    → ((s : List ℕ) → IsTrue (is_honest_asked s after new) → IsTrue (is_honest_asked s before old))
-    → (w : World) → IsTrue (is_honest_after w new) → after ≡ before
-syncs_stay Never Never old new falls w h = refl
-syncs_stay Ordered Ordered old new falls w h = refl
-syncs_stay Never Ordered old new falls w h = absurd (true≢false (sym (falls (1 ∷ code_of w) (code_honest w new h))))
-syncs_stay Ordered Never old new falls w h = absurd (true≢false (sym (falls (2 ∷ code_of w) (code_honest w new h))))
+pub bytes_there : (h : Held) → IsTrue (is_there h) → h ≡ Bytes (bytes_of h)
+bytes_there Missing is = absurd (true≢false (sym is))
+bytes_there (Bytes file) is = refl

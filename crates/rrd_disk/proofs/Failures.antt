@@ -1,68 +1,188 @@
 -- A failure of the power after any call of a change, or in the next one.
-use Rattle.std.proofs.Common.{◌≡◌, ◌∙◌, ℕ, ◌≤◌, Bool, IsTrue, List, [], ◌∷◌, ◌++◌, take, inl, inr, refl, sym, ap, subst, arith}
+use Rattle.std.proofs.Common.{◌≡◌, ◌⊎◌, ◌∙◌, ℕ, ◌<◌, ◌≤◌, Bool, IsTrue, List, [], ◌∷◌, ◌++◌, length, Result, Ok, Err, OnOk, inl, inr, refl, sym, ap, subst, arith}
 use Rattle.std.proofs.lemmas.Bool.{and_parts, true≢false}
 use Rattle.std.proofs.lemmas.List.{append_assoc}
-use Rattle.rrd_tail.specs.Settled.{settled}
-use Rattle.rrd_undo.specs.Calls.{ArePut}
-use Rattle.rrd_undo.specs.declared.tail.Syncs.{Syncs}
-use Rattle.rrd_undo.specs.declared.tail.Syncs.TheVariants.{Ordered}
-use Rattle.rrd_undo.proofs.Powered.{again_same, stand_less}
+use Rattle.rrd_change.specs.Laws.{IsLogged, IsUnderCut}
+use Rattle.rrd_change.specs.Outcomes.{AllStandAsTold, IsEither}
+use Rattle.rrd_change.specs.Repairs.{IsLeft, IsLoose, IsOnDisk, IsStopped, LogEnd, Whole}
+use Rattle.rrd_change.specs.Settled.{settled}
+use Rattle.rrd_change.specs.States.{IsAtRest, IsDatabase, Represents, Tells}
+use Rattle.rrd_change.specs.Views.{Stays}
+use Rattle.rrd_change.specs.Views as views
+use Rattle.rrd_change.specs.declared.calls.Syncs.{Syncs}
+use Rattle.rrd_change.specs.declared.calls.Syncs.TheVariants.{Ordered}
+use Rattle.rrd_change.proofs.Outcomes.{broken_stand}
+use Rattle.rrd_change.proofs.Stopping.{left_told}
+use Rattle.rrd_file.specs.End.{file_end}
+use Rattle.rrd_store.specs.Storages.{Held, Missing, Bytes, IsAnyFile}
 use Rattle.rrd_disk.specs.Events.{Event, Put, PutFailed, Sized, SizeFailed, Synced, SyncFailed}
 use Rattle.rrd_disk.specs.Kills.{are_failed, interrupted, is_failed}
-use Rattle.rrd_disk.specs.Power.{BecameIf, ChangesIf, HasDatabase, IsChange, IsChanged, MayLeave, Survives, SurvivesFailure}
-use Rattle.rrd_disk.specs.Replayed.{World, bytes_after, bytes_of, failures, held_after, is_there}
-use Rattle.rrd_disk.proofs.Asked.{stays_there}
-use Rattle.rrd_disk.proofs.Asking.{bytes_there, there_bytes}
+use Rattle.rrd_disk.specs.Power.{moved, world_after, world_before}
+use Rattle.rrd_disk.specs.Replayed.{World, bytes_after, bytes_left, bytes_of, failures, held_after, is_there, part_after}
 use Rattle.rrd_disk.specs.Storing.{Laws}
-use Rattle.rrd_disk.proofs.Kills.{cut, cut_held, cut_honest, missed_held, missed_honest, split}
-use Rattle.rrd_disk.proofs.Powering.{torn_none}
-use Rattle.rrd_disk.proofs.Storing.{there_standing}
+use Rattle.rrd_disk.specs.Surviving.{Becomes, BecomesOrNot, DoesOr, IsChange, IsChanged, Survives, SurvivesFailure, SurvivesPower, found_after}
+use Rattle.rrd_disk.proofs.Asked.{bytes_there, stays_there}
+use Rattle.rrd_disk.proofs.Kills.{counted_same, cut, cut_held, cut_honest, is_counted, missed_held, missed_honest, no_part_after, nothing_laid, split}
+use Rattle.rrd_disk.proofs.Parts.{torn_none}
+use Rattle.rrd_disk.proofs.Resting.{held_is}
+use Rattle.rrd_disk.proofs.Storing.{any_database, left_represents, whole_end}
+
+-- ---- what survives in a world survives in one of which the disk may have less
+
+module _ (u v : views.World) (same : Stays u v) where
+  pub stays_rest : (now : List ℕ) → IsAtRest now u → IsAtRest now v
+  stays_rest now rest = record {
+    is = rest.is;
+    world = record { held = same.held ∙ rest.world.held; leave = λ c may. rest.world.leave c (same.leave c may); keep = λ c may. rest.world.keep c (same.keep c may) };
+  }
+
+  pub stays_left : (end : LogEnd) (other now : List ℕ) → IsLeft end other now u → IsLeft end other now v
+  stays_left end other now (inl rest) = inl (stays_rest now rest)
+  stays_left end other now (inr (inl left)) =
+      let P : List ℕ → Type 0 = λ b. (b ≡ now) ⊎ IsUnderCut now b in
+      inr (inl (record {
+        under = subst (IsUnderCut now) (sym same.held) left.under;
+        uncut = record {
+          is = left.uncut.is;
+          held = subst P (sym same.held) left.uncut.held;
+          leave = λ c may. left.uncut.leave c (same.leave c may);
+          keep = λ c may. left.uncut.keep c (same.keep c may);
+        };
+      }))
+  stays_left end other now (inr (inr log)) =
+      let P : List ℕ → Type 0 = λ b. IsLogged log.old log.tail log.changes b in
+      inr (inr (record {
+        old = log.old;
+        tail = log.tail;
+        changes = log.changes;
+        leads = log.leads;
+        fill = log.fill;
+        world = record {
+          held = subst P (sym same.held) log.world.held;
+          leave = λ c may. log.world.leave c (same.leave c may);
+          keep = λ c may. log.world.keep c (same.keep c may);
+        };
+      }))
+
+  module _ (P : List ℕ → Type 0) where
+    stays_told : AllStandAsTold file_end P u → AllStandAsTold file_end P v
+    stays_told all =
+        let Q : List ℕ → Type 0 = λ b. P (settled file_end b) in
+        record {
+          held = subst Q (sym same.held) all.held;
+          left = λ c may told. all.left c (same.leave c may) (subst (λ (b : List ℕ). Tells b c) same.held told);
+          later = λ c may told. all.later c (same.keep c may) (subst (λ (b : List ℕ). Tells b c) same.held told);
+        }
+
+    stays_surviving : SurvivesPower P u → SurvivesPower P v
+    stays_surviving power =
+        let s = power.survives in
+        record {
+          survives = record { now = s.now; other = s.other; is = s.is; was = s.was; holds = s.holds; held = s.held; end = s.end; left = stays_left s.end s.other s.now s.left };
+          stand = stays_told power.stand;
+        }
 
 -- ---- the calls after a failure of the power
 
--- what those calls leave that failed first is the same
-module _ (d : List ℕ) (w : World) (m : ℕ) where
-  cut_leaves : (events : List Event) → failures events ≤ m → (c : List ℕ) → MayLeave d w events c → MayLeave d (cut w m) events c
-  cut_leaves [] few c left = left
-  cut_leaves (Put at bytes taken ∷ earlier) few c left = (left.0, cut_leaves earlier few left.0 left.1, left.2)
-  cut_leaves (PutFailed at bytes ∷ earlier) few c left = (left.0, cut_leaves earlier (omega (arith, few)) left.0 left.1, left.2)
-  cut_leaves (Sized count ∷ earlier) few c left = (left.0, cut_leaves earlier few left.0 left.1, left.2)
-  cut_leaves (SizeFailed count ∷ earlier) few c left = (left.0, cut_leaves earlier (omega (arith, few)) left.0 left.1, left.2)
-  cut_leaves (Synced ∷ earlier) few c left = left ∙ sym (ap bytes_of (cut_held w m earlier few))
-  cut_leaves (SyncFailed ∷ earlier) few c left = elim left as (λ _. MayLeave d (cut w m) (SyncFailed ∷ earlier) c) [
-    | inl before ↦ inl (cut_leaves earlier few c before)
-    | inr file ↦ inr (file ∙ sym (ap bytes_of (cut_held w m earlier few)))
-  ]
-  cut_leaves (_ ∷ earlier) few c left = cut_leaves earlier few c left
+-- the disk may have as much, or more
+record Wider (u v : views.World) : Type 0 where
+  leave : (c : List ℕ) → u.may_leave c → v.may_leave c
+  keep : (c : List ℕ) → u.may_keep c → v.may_keep c
+
+-- one more call, in which the same is left
+module _ (x y : List ℕ) (p q : ℕ) (u v : views.World) (wide : Wider u v) where
+  wider_then : (e : Event) → (IsTrue (is_counted e) → p ≡ q) → Wider (moved x p e u) (moved y q e v)
+  wider_then (Put at bytes taken) part = record {
+    leave = λ c may. (may.0, wide.leave may.0 may.1, may.2);
+    keep = λ c may. (may.0, wide.keep may.0 may.1, may.2);
+  }
+  wider_then (PutFailed at bytes) part = record {
+    leave = λ c may. (may.0, wide.leave may.0 may.1, may.2);
+    keep = λ c may. (may.0, wide.keep may.0 may.1, may.2 ∙ ap (λ (k : ℕ). bytes_left may.0 k (PutFailed at bytes)) (part refl));
+  }
+  wider_then (Sized count) part = record {
+    leave = λ c may. (may.0, wide.leave may.0 may.1, may.2);
+    keep = λ c may. (may.0, wide.keep may.0 may.1, may.2);
+  }
+  wider_then (SizeFailed count) part = record {
+    leave = λ c may. (may.0, wide.leave may.0 may.1, may.2);
+    keep = λ c may. (may.0, wide.keep may.0 may.1, may.2 ∙ ap (λ (k : ℕ). bytes_left may.0 k (SizeFailed count)) (part refl));
+  }
+  wider_then Synced part = record { leave = wide.keep; keep = wide.keep }
+  wider_then SyncFailed part = record {
+    leave = wide.leave;
+    keep = λ c may. elim may [
+      | inl kept ↦ inl (wide.keep c kept)
+      | inr left ↦ inr (wide.leave c left)
+    ];
+  }
+  wider_then _ part = record { leave = wide.leave; keep = wide.keep }
 
 -- a call that failed may have left nothing
-failed_leaves : (d : List ℕ) (w : World) (e : Event) (earlier : List Event) → IsTrue (is_failed e) → (c : List ℕ) → MayLeave d w earlier c → MayLeave d w (e ∷ earlier) c
-failed_leaves d w (PutFailed at bytes) earlier is c left = (c, left, torn_none at bytes c)
-failed_leaves d w (SizeFailed count) earlier is c left = (c, left, inl refl)
-failed_leaves d w SyncFailed earlier is c left = inl left
-failed_leaves d w _ earlier is c left = absurd (true≢false (sym is))
+module _ (x : List ℕ) (u : views.World) where
+  wider_failed : (e : Event) (k : ℕ) → k ≡ 0 → IsTrue (is_failed e) → Wider u (moved x k e u)
+  wider_failed (PutFailed at bytes) k none is = record {
+    leave = λ c may. (c, may, torn_none at bytes c);
+    keep = λ c may. (c, may, sym (ap (λ (n : ℕ). bytes_left c n (PutFailed at bytes)) none ∙ nothing_laid c at bytes));
+  }
+  wider_failed (SizeFailed count) k none is = record {
+    leave = λ c may. (c, may, inl refl);
+    keep = λ c may. (c, may, sym (ap (λ (n : ℕ). bytes_left c n (SizeFailed count)) none));
+  }
+  wider_failed SyncFailed k none is = record { leave = λ c may. may; keep = λ c may. inl may }
+  wider_failed _ k none is = absurd (true≢false (sym is))
 
-missed_leaves : (d : List ℕ) (w : World) (events missed : List Event) → IsTrue (are_failed missed) → (c : List ℕ) → MayLeave d w events c → MayLeave d w (missed ++ events) c
-missed_leaves d w events [] are c left = left
-missed_leaves d w events (e ∷ more) are c left =
-    let both = and_parts (is_failed e) (are_failed more) are in
-    failed_leaves d w e (more ++ events) both.0 c (missed_leaves d w events more both.1 c left)
+wider_twice : (u v w : views.World) → Wider u v → Wider v w → Wider u w
+wider_twice u v w first second = record { leave = λ c may. second.leave c (first.leave c may); keep = λ c may. second.keep c (first.keep c may) }
+
+module _ (d : List ℕ) (w : World) (m : ℕ) where
+  wider_cut : (events : List Event) → failures events ≤ m → Wider (world_after d w events) (world_after d (cut w m) events)
+  wider_cut [] few = record { leave = λ c may. may; keep = λ c may. may }
+  wider_cut (e ∷ earlier) few =
+      let grow = counted_same w m e earlier few in
+      wider_then (bytes_after w (e ∷ earlier)) (bytes_after (cut w m) (e ∷ earlier)) (part_after w earlier) (part_after (cut w m) earlier)
+      (world_after d w earlier) (world_after d (cut w m) earlier) (wider_cut earlier grow.0) e grow.1
+
+  module _ (events : List Event) (all : failures events ≡ m) where
+    wider_missed : (missed : List Event) → IsTrue (are_failed missed) → Wider (world_after d (cut w m) events) (world_after d (cut w m) (missed ++ events))
+    wider_missed [] are = record { leave = λ c may. may; keep = λ c may. may }
+    wider_missed (e ∷ more) are =
+        let both = and_parts (is_failed e) (are_failed more) are in
+        let world = world_after d (cut w m) (more ++ events) in
+        wider_twice (world_after d (cut w m) events) world (world_after d (cut w m) (e ∷ (more ++ events))) (wider_missed more both.1)
+        (wider_failed (bytes_after (cut w m) (e ∷ (more ++ events))) world e (part_after (cut w m) (more ++ events)) (no_part_after w m events all more) both.0)
 
 -- ---- a change that was cut off
 
+long_under : (now bytes : List ℕ) → Represents now bytes → IsDatabase now → 0 < length bytes
+long_under now bytes (inl same) is = let long = is.enough in omega (arith, long, ap (λ (b : List ℕ). length b) same)
+long_under now bytes (inr (inl under)) is = let inside = under.marked.within in omega (arith, inside)
+long_under now bytes (inr (inr log)) is = let inside = log.logged.log.marked.within in omega (arith, inside)
+
+there_start : (h : Held) → 0 < length (bytes_of h) → IsTrue (is_there h)
+there_start Missing some = absurd (omega (arith, some))
+there_start (Bytes bytes) some = refl
+
 module _ (laws : Laws) (bytes : List ℕ) where
+  there_before : (P : List ℕ → Type 0) (d : List ℕ) (w : World) → Survives P (world_after d w []) → IsTrue (is_there w.start)
+  there_before P d w s = there_start w.start
+      (long_under s.now (bytes_of w.start) (left_represents s.end s.other s.now (world_after d w []) s.left) (any_database laws s.now s.is))
+
   cut_change : (missed events : List Event) → IsTrue (are_failed missed) → IsChange bytes (missed ++ events) → IsChange bytes events
-  cut_change missed events are change d w honest some P holds all =
+  cut_change missed events are change d w honest P holds all =
       let m = failures events in
       let world = cut w m in
       let same : held_after world events ≡ held_after w events = cut_held w m events (omega arith) in
       let after : held_after world (missed ++ events) ≡ held_after w events = missed_held w m events refl missed are ∙ same in
-      let was : IsTrue (is_there w.start) = there_bytes w.start (there_standing laws w.start some) in
+      let was : IsTrue (is_there w.start) = there_before (λ b. IsTrue (P b)) d w all in
       let there = bytes_there (held_after world events) (stays_there world events was) in
       let before = subst (λ (b : Bool). IsTrue b) (sym (cut_honest w m events (omega arith))) honest in
-      stand_less (λ b. IsTrue (P b)) (bytes_after world (missed ++ events)) (bytes_after w events) (MayLeave d world (missed ++ events)) (MayLeave d w events)
-      (sym (ap bytes_of after)) (λ c left. missed_leaves d world events missed are c (cut_leaves d w m events (omega arith) c left))
-      (change d world (missed_honest w m events refl missed are there before) some P holds all)
+      let wide = wider_twice (world_after d w events) (world_after d world events) (world_after d world (missed ++ events)) (wider_cut d w m events (omega arith)) (wider_missed d w m events refl missed are) in
+      stays_surviving (world_after d world (missed ++ events)) (world_after d w events) (record {
+        held = held_is d w events ∙ ap bytes_of (sym after) ∙ sym (held_is d world (missed ++ events));
+        leave = wide.leave;
+        keep = wide.keep;
+      }) (λ b. IsTrue (P b)) (change d world (missed_honest w m events refl missed are there before) P holds all)
 
   -- the same in the middle of a call
   pub interrupted_change : (missed events : List Event) → IsTrue (are_failed missed) → IsChange bytes (missed ++ events) → IsChange bytes (interrupted missed ++ events)
@@ -72,25 +192,115 @@ module _ (laws : Laws) (bytes : List ℕ) where
       ap (λ (l : List Event). l ++ events) parts.all ∙ append_assoc parts.later (interrupted missed) events in
       cut_change parts.later (interrupted missed ++ events) parts.failed (subst (λ (l : List Event). IsChange bytes l) same change)
 
--- a record that begins with the change
-pub change_begun : (bytes : List ℕ) (syncs : Syncs) (old new : List Event) → old ≡ [] → syncs ≡ Ordered → ChangesIf HasDatabase bytes syncs old new → IsChange bytes new
-change_begun bytes syncs old new begun ordered change d w honest some P holds all =
-    change ordered d w honest (subst (λ (l : List Event). HasDatabase (held_after w l)) (sym begun) some) P holds (subst (λ (l : List Event). Survives (λ b. IsTrue (P b)) d w l) (sym begun) all)
+-- ---- a record that begins with the change
 
-pub changed_begun : (bytes : List ℕ) (syncs : Syncs) (old new : List Event) → old ≡ [] → syncs ≡ Ordered → BecameIf HasDatabase bytes syncs old new → IsChanged bytes new
-changed_begun bytes syncs old new begun ordered became d w honest some P all =
-    became ordered d w honest (subst (λ (l : List Event). HasDatabase (held_after w l)) (sym begun) some) P (subst (λ (l : List Event). Survives (λ b. IsTrue (P b)) d w l) (sym begun) all)
+module _ (laws : Laws) (P : List ℕ → Type 0) where
+  either_holds : (other now b : List ℕ) → P other → P now → IsEither other now b → P b
+  either_holds other now b was is (inl same) = subst P (sym same) was
+  either_holds other now b was is (inr same) = subst P (sym same) is
+
+  -- what is left of two databases, of which P holds
+  left_survives : (end : LogEnd) (other now : List ℕ) (v : views.World) → IsAnyFile other → IsAnyFile now → P other → P now → IsLeft end other now v → SurvivesPower P v
+  left_survives end other now v was is held holds left =
+      let told = broken_stand file_end other now v (whole_end laws other was) (whole_end laws now is) (left_told end other now v left) in
+      record {
+        survives = record { now = now; other = other; is = is; was = was; holds = holds; held = held; end = end; left = left };
+        stand = record {
+          held = either_holds other now (settled file_end v.held) held holds told.held;
+          left = λ c may tells. either_holds other now (settled file_end c) held holds (told.left c may tells);
+          later = λ c may tells. either_holds other now (settled file_end c) held holds (told.later c may tells);
+        };
+      }
+
+  became : (bytes : List ℕ) (u v : views.World) → IsAnyFile bytes → P bytes → (s : Survives P u) → Becomes bytes u v → SurvivesPower P v
+  became bytes u v any holds s becomes = left_survives Whole bytes bytes v any any holds holds (inl (becomes s.end s.other s.now s.is s.left))
+
+  stopped : (last : LogEnd) (now bytes : List ℕ) (v : views.World) → IsAnyFile now → IsAnyFile bytes → P now → P bytes → IsStopped last now bytes v → SurvivesPower P v
+  stopped last now bytes v is any held holds (inl left) = left_survives last bytes now v any is holds held left
+  stopped last now bytes v is any held holds (inr left) = left_survives last now bytes v is any held holds left
+
+  became_or_not : (bytes : List ℕ) (u v : views.World) → IsAnyFile bytes → P bytes → (s : Survives P u) → BecomesOrNot bytes u v → SurvivesPower P v
+  became_or_not bytes u v any holds s becomes = elim (becomes s.end s.other s.now s.is s.left) as (λ _. SurvivesPower P v) [
+    | inl left ↦ left_survives s.end s.other s.now v s.was s.is s.held s.holds left
+    | inr (last, left) ↦ stopped last s.now bytes v s.is any s.holds holds left
+  ]
+
+abbrev Changes : {E : Type 0} → List ℕ → Result (Unit {0}) E → List Event → List Event → Type 0
+Changes bytes r old new = DoesOr (λ x. Becomes bytes) (BecomesOrNot bytes) r Ordered old new
+
+pub change_begun : {E : Type 0} → Laws → (bytes : List ℕ) (r : Result (Unit {0}) E) (old new : List Event) → IsAnyFile bytes → old ≡ [] → Changes bytes r old new → IsChange bytes new
+change_begun laws bytes (Ok x) old new any begun does d w honest P holds s =
+    let step = subst (λ (l : List Event). Becomes bytes (world_after d w l) (world_after d w new)) begun (does refl d w honest) in
+    became laws (λ b. IsTrue (P b)) bytes (world_after d w []) (world_after d w new) any holds s step
+change_begun laws bytes (Err e) old new any begun does d w honest P holds s =
+    let step = subst (λ (l : List Event). BecomesOrNot bytes (world_after d w l) (world_after d w new)) begun (does refl d w honest) in
+    became_or_not laws (λ b. IsTrue (P b)) bytes (world_after d w []) (world_after d w new) any holds s step
+
+-- what survived is of no account any more
+pub changed_begun : {E : Type 0} → Laws → (bytes : List ℕ) (r : Result (Unit {0}) E) (old new : List Event) → IsAnyFile bytes → old ≡ [] → Changes bytes r old new → OnOk r (IsChanged bytes new)
+changed_begun laws bytes (Err e) old new any begun does = tt
+changed_begun laws bytes (Ok x) old new any begun does = λ d w honest P s.
+    let step = subst (λ (l : List Event). Becomes bytes (world_after d w l) (world_after d w new)) begun (does refl d w honest) in
+    let rest : IsAtRest bytes (world_after d w new) = step s.end s.other s.now s.is s.left in
+    left_survives laws (λ b. b ≡ bytes) Whole bytes bytes (world_after d w new) any any refl refl (inl rest)
+
+pub changes_ordered : {E : Type 0} (bytes : List ℕ) (syncs : Syncs) (r : Result (Unit {0}) E) (old new : List Event) → syncs ≡ Ordered
+    → DoesOr (λ x. Becomes bytes) (BecomesOrNot bytes) r syncs old new → Changes bytes r old new
+changes_ordered bytes syncs r old new ordered does = subst (λ (y : Syncs). DoesOr (λ x. Becomes bytes) (BecomesOrNot bytes) r y old new) ordered does
 
 -- ---- after the failure
 
+either_same : (c x : List ℕ) → (x ≡ c) ⊎ (x ≡ c) → x ≡ c
+either_same c x (inl same) = same
+either_same c x (inr same) = same
+
 -- the file and the disk have the same
-pub failure_survived : (P : List ℕ → Bool) (d : List ℕ) (w : World) (events : List Event) → SurvivesFailure P d w events
-failure_survived P d w events all c left tells =
-    let stands : IsTrue (P (settled c)) = all.left c left tells in
-    record {
-      held = stands;
-      left = λ x same told. subst (λ (b : List ℕ). IsTrue (P (settled b))) (sym same) stands;
-      again = λ x y same put told. subst (λ (b : List ℕ). IsTrue (P (settled b)))
-          (sym (again_same c c y refl (subst (λ (b : List ℕ). ArePut 0 (take 16 c) b y) same put))) stands;
-      rests = λ none x same. inl same;
-    }
+module _ (now c : List ℕ) (is : IsDatabase now) where
+  loose : IsUnderCut now c → IsLoose now now c
+  loose under = record {
+    reaches = under.reaches;
+    placed = λ k from below. under.same k (omega (arith, from)) below;
+    stands = inl (inr (inl under));
+  }
+
+  found_left : Represents now c → IsLeft Whole now now (world_before c c)
+  found_left (inl same) = inl (record {
+    is = is;
+    world = record { held = same; leave = λ x may. inl (either_same c x may ∙ same); keep = λ x may. inl (either_same c x may ∙ same) };
+  })
+  found_left (inr (inl under)) = inr (inl (record {
+    under = under;
+    uncut = record {
+      is = is;
+      held = inr under;
+      leave = λ x may. subst (IsLoose now now) (sym (either_same c x may)) (loose under);
+      keep = λ x may. subst (IsLoose now now) (sym (either_same c x may)) (loose under);
+    };
+  }))
+  found_left (inr (inr log)) =
+      let P : List ℕ → Type 0 = λ b. IsOnDisk Whole now now log.old log.tail log.changes b in
+      inr (inr (record {
+        old = log.old;
+        tail = log.tail;
+        changes = log.changes;
+        leads = log.leads;
+        fill = log.fill;
+        world = record {
+          held = log.logged;
+          leave = λ x may. subst P (sym (either_same c x may)) (inl log.logged);
+          keep = λ x may. subst P (sym (either_same c x may)) (inl log.logged);
+        };
+      }))
+
+found_survives : Laws → (P : List ℕ → Type 0) (now c : List ℕ) → IsAnyFile now → P now → Represents now c → Survives P (world_after c (found_after c) [])
+found_survives laws P now c any holds represents =
+    record { now = now; other = now; is = any; was = any; holds = holds; held = holds; end = Whole; left = found_left now c (any_database laws now any) represents }
+
+pub failure_survived : Laws → (P : List ℕ → Bool) (d : List ℕ) (w : World) (events : List Event) → SurvivesFailure P d w events
+failure_survived laws P d w events s c may tells =
+    let broken = left_told s.end s.other s.now (world_after d w events) s.left in
+    let told : Tells (world_after d w events).held c = subst (λ (b : List ℕ). Tells b c) (sym (held_is d w events)) tells in
+    elim (broken.leave c may told) as (λ _. Survives (λ b. IsTrue (P b)) (world_after c (found_after c) [])) [
+      | inl was ↦ found_survives laws (λ b. IsTrue (P b)) s.other c s.was s.held was
+      | inr is ↦ found_survives laws (λ b. IsTrue (P b)) s.now c s.is s.holds is
+    ]

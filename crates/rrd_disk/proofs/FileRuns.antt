@@ -4,28 +4,31 @@ use Rattle.rrd_spec.specs.Journal.Survivors.{Stored}
 use Rattle.rrd_store.specs.Runs as runs
 use Rattle.rrd_store.specs.Storages.{Held}
 use Rattle.rrd_disk.specs.Asked.{held_of, world_in}
-use Rattle.rrd_disk.specs.Contents.{IsSound, contents_after, is_honest_by, is_sound_after, represented}
+use Rattle.rrd_disk.specs.Contents.{IsSound, contents_after, is_honest_by, represented}
 use Rattle.rrd_disk.specs.Events.{Event}
 use Rattle.rrd_disk.specs.Replayed.{World, held_after, is_honest_after}
 use Rattle.rrd_disk.specs.Runs.{AreHonest, AreRuns, FilesFollowSpecification, IsRecordOf, IsRun, Recorded, last_of, left_by}
 use Rattle.rrd_disk.proofs.Asked.{world_in_held}
-use Rattle.rrd_disk.specs.Storing.{Laws}
-use Rattle.rrd_disk.proofs.Contents.{file_unmarked, itself, sound_unmarked}
+use Rattle.rrd_disk.specs.Storing.{Laws, is_sound_by}
+use Rattle.rrd_disk.specs.declared.storage.Found.{Found}
+use Rattle.rrd_disk.specs.declared.storage.Found.TheVariants.{Unopened}
+use Rattle.rrd_disk.proofs.Storing.{database_unmarked, file_database, itself, sound_as, sound_unmarked}
 
 -- ---- one run
 
 -- what a storage says of a run, at the record of its calls
-pub run_from : (before after : List Event) (run : runs.Run) → before ≡ []
-    → ((s : Option Held) → is_honest_by s after → is_sound_after s before → is_sound_after s after)
-    → ((s : Option Held) → is_honest_by s after → is_sound_after s before → runs.DidIn (contents_after s before) run (contents_after s after))
+pub run_from : (f0 f1 : Found) (before after : List Event) (run : runs.Run) → before ≡ [] → f0 ≡ Unopened
+    → ((s : Option Held) → is_honest_by s after → is_sound_by s f0 before → is_sound_by s f1 after)
+    → ((s : Option Held) → is_honest_by s after → is_sound_by s f0 before → runs.DidIn (contents_after s before) run (contents_after s after))
     → IsRun after run
-run_from before after run none sound did = λ w honest is.
+run_from f0 f1 before after run none closed sound did = λ w honest is.
     let code = held_of w in
     let same = world_in_held w in
     let now : IsTrue (is_honest_after (world_in code) after) = subst (λ (v : World). IsTrue (is_honest_after v after)) (sym same) honest in
     let first : IsSound (world_in code).start = subst (λ (v : World). IsSound v.start) (sym same) is in
-    let begun : is_sound_after (Some code) before = subst (λ (events : List Event). is_sound_after (Some code) events) (sym none) first in
-    let last : IsSound (held_after (world_in code) after) = sound (Some code) now begun in
+    let unopened : is_sound_by (Some code) Unopened before = subst (λ (events : List Event). is_sound_by (Some code) Unopened events) (sym none) first in
+    let begun : is_sound_by (Some code) f0 before = subst (λ (f : Found). is_sound_by (Some code) f before) (sym closed) unopened in
+    let last : IsSound (held_after (world_in code) after) = sound_as f1 (held_after (world_in code) after) (sound (Some code) now begun) in
     let ran : runs.Did (represented (world_in code).start) run (represented (held_after (world_in code) after)) =
     subst (λ (events : List Event). runs.DidIn (contents_after (Some code) events) run (contents_after (Some code) after)) none (did (Some code) now begun) in (
       subst (λ (v : World). IsSound (held_after v after)) same last,
@@ -54,11 +57,11 @@ module _ (laws : Laws) where
   -- the first file has no mark
   pub first_sound : (start : Held) (first : Option Stored) → runs.IsFirst start first → IsSound start
   first_sound start None is = subst IsSound (sym is) tt
-  first_sound start (Some d) is = sound_unmarked laws start is.0 is.1 (file_unmarked laws is.0 d is.2)
+  first_sound start (Some d) is = sound_unmarked start is.0 is.1 (database_unmarked is.0 (file_database laws is.0 d is.2))
 
   pub first_itself : (start : Held) (first : Option Stored) → runs.IsFirst start first → represented start ≡ start
   first_itself start None is = subst (λ (h : Held). represented h ≡ h) (sym is) refl
-  first_itself start (Some d) is = itself laws start is.0 is.1 (file_unmarked laws is.0 d is.2) ∙ sym is.1
+  first_itself start (Some d) is = itself start is.0 is.1 (database_unmarked is.0 (file_database laws is.0 d is.2)) ∙ sym is.1
 
   pub files_follow : ((old : Held) (first : Option Stored) (events : List runs.Event) (new : Held) → runs.RunsFollowSpecification old first events new)
       → (start : Held) (first : Option Stored) (recorded : List Recorded) → FilesFollowSpecification start first recorded

@@ -1,5 +1,5 @@
 -- The calls that a killed run did not make: with them, or without them, the file is the same.
-use Rattle.std.proofs.Common.{◌≡◌, ◌∙◌, ℕ, suc, ◌+◌, ◌%◌, ◌≤◌, ◌&&◌, nat_le, not, Bool, true, false, IsTrue, List, [], ◌∷◌, ◌++◌, length, take, inl, inr, refl, sym, ap, subst, arith, get_or-take, length-take}
+use Rattle.std.proofs.Common.{◌≡◌, ◌∙◌, ℕ, suc, ◌≤◌, ◌&&◌, not, Bool, true, false, IsTrue, List, [], ◌∷◌, ◌++◌, length, take, inl, inr, refl, sym, ap, subst, arith, get_or-take, length-take}
 use Rattle.std.proofs.Math.Bool.{or-true}
 use Rattle.std.proofs.lemmas.Bool.{and_from, and_parts, true≢false}
 use Rattle.std.proofs.lemmas.List.{append_assoc, get_or_past}
@@ -9,18 +9,18 @@ use Rattle.rrd_disk.specs.Contents.{IsSound, represented}
 use Rattle.rrd_disk.specs.Events.{Event, Made, PutFailed, SizeFailed, SyncFailed}
 use Rattle.rrd_disk.specs.Events.{Missing as NotFound}
 use Rattle.rrd_disk.specs.Kills.{are_failed, interrupted, is_failed}
-use Rattle.rrd_disk.specs.Replayed.{World, bytes_of, failures, held_after, is_honest_after, is_honest_failure, is_honest_of, left, overlaid, padded_or_not, part_after}
+use Rattle.rrd_disk.specs.Replayed.{World, bytes_of, failures, held_after, is_honest_after, is_honest_part, is_honest_of, is_small, left, overlaid, padded_or_not, part_after}
 use Rattle.rrd_disk.specs.Runs.{IsKilledRun, IsRun}
 
 -- ---- one call that failed, and left nothing
 
-nothing_laid : (file : List ℕ) (at : ℕ) (bytes : List ℕ) → overlaid file at (take 0 bytes) ≡ file
+pub nothing_laid : (file : List ℕ) (at : ℕ) (bytes : List ℕ) → overlaid file at (take 0 bytes) ≡ file
 unfolding overlaid
 nothing_laid file at bytes = refl
 
-nothing_honest : (at : ℕ) (bytes : List ℕ) → IsTrue (is_honest_failure at bytes 0)
-unfolding is_honest_failure
-nothing_honest at bytes = or-true (not (nat_le (at % 4096 + length bytes) 4096))
+nothing_honest : (at : ℕ) (bytes : List ℕ) → IsTrue (is_honest_part at bytes 0)
+unfolding is_honest_part
+nothing_honest at bytes = or-true (not (is_small at (length bytes)))
 
 failed_left : (h : Held) (e : Event) → IsTrue (is_failed e) → left h 0 e ≡ h
 failed_left Missing (PutFailed at bytes) is = refl
@@ -41,7 +41,7 @@ failed_honest file _ is = absurd (true≢false (sym is))
 
 -- ---- which calls have a number
 
-abbrev is_counted : Event → Bool
+abbrev pub is_counted : Event → Bool
 is_counted (PutFailed at bytes) = true
 is_counted (SizeFailed count) = true
 is_counted _ = false
@@ -68,7 +68,7 @@ same_honest : (h : Held) (p q : ℕ) (e : Event) → (IsTrue (is_counted e) → 
 same_honest Missing p q NotFound is = refl
 same_honest Missing p q Made is = refl
 same_honest Missing p q _ is = refl
-same_honest (Bytes file) p q (PutFailed at bytes) is = ap (λ (k : ℕ). is_honest_failure at bytes k) (is refl)
+same_honest (Bytes file) p q (PutFailed at bytes) is = ap (λ (k : ℕ). is_honest_part at bytes k) (is refl)
 same_honest (Bytes file) p q _ is = refl
 
 -- ---- a world in which the first `m` calls that fail leave what they leave, and the others nothing
@@ -79,6 +79,10 @@ module _ (w : World) (m : ℕ) where
 
   same_part : (e : Event) (earlier : List Event) → failures (e ∷ earlier) ≤ m → IsTrue (is_counted e) → part_after cut earlier ≡ part_after w earlier
   same_part e earlier few is = let more = counted_more e earlier is in get_or-take m w.parts (failures earlier) 0 (omega (arith, more))
+
+  -- one call less, and what it leaves is the same
+  pub counted_same : (e : Event) (earlier : List Event) → failures (e ∷ earlier) ≤ m → (failures earlier ≤ m) × (IsTrue (is_counted e) → part_after w earlier ≡ part_after cut earlier)
+  counted_same e earlier few = let grow = failures_grow e earlier in (omega (arith, grow, few), λ is. sym (same_part e earlier few is))
 
   pub cut_held : (events : List Event) → failures events ≤ m → held_after cut events ≡ held_after w events
   cut_held [] few = refl
@@ -104,6 +108,9 @@ module _ (w : World) (m : ℕ) where
     many : (missed : List Event) → m ≤ failures (missed ++ events)
     many [] = omega (arith, all)
     many (e ∷ more) = let grow = failures_grow e (more ++ events) in let before = many more in omega (arith, grow, before)
+
+    pub no_part_after : (more : List Event) → part_after cut (more ++ events) ≡ 0
+    no_part_after more = no_part (more ++ events) (many more)
 
     pub missed_held : (missed : List Event) → IsTrue (are_failed missed) → held_after cut (missed ++ events) ≡ held_after cut events
     missed_held [] are = refl

@@ -8,8 +8,10 @@ use Rattle.rrd_disk.specs.Events.{Event}
 use Rattle.rrd_disk.specs.Calls.{Falls, IsGot}
 use Rattle.rrd_disk.specs.Fronts.{Begins}
 use Rattle.rrd_disk.specs.Known.{Measures}
+use Rattle.rrd_disk.specs.Locks.{Guards, KeepsGuard}
+use Rattle.rrd_disk.specs.declared.locks.LockedFile.{LockedFile}
 use Rattle.rrd_disk.specs.Replayed.{World, bytes_after, is_honest_after}
-use Rattle.rrd_undo.specs.Calls.{ArePut}
+use Rattle.rrd_change.specs.Calls.{ArePut}
 
 -- the length, if a known one became longer
 longer_is : (known : Option ℕ) (end n old new : ℕ) → option_map (λ m. max m end) known ≡ Some n → ((m : ℕ) → known ≡ Some m → m ≡ old) → new ≡ max old end → n ≡ new
@@ -72,3 +74,11 @@ pub got_behind : {E : Type 0} (r : Result ℕ E) (old part x : List ℕ) (had : 
     → IfOk r (λ n. (s : World) → Honest s → Begins (file s) (take had old) → Begins (file s) (take (had + n) x))
 got_behind (Err e) old part x had file Honest room bound joined got = tt
 got_behind (Ok n) old part x had file Honest room bound joined got = λ s h begins. shown_behind (file s) old part x had n room bound.0 joined begins (got s h)
+
+-- ---- the lock
+
+pub guards_kept : {F : Type 0} (file : Option (LockedFile F)) (old new : List Event) → KeepsGuard old new → Guards file old → Guards file new
+guards_kept file old new keeps guards locked is own = keeps ∙ guards locked is own
+
+pub some_is : (n count : ℕ) → Some count ≡ Some n → n ≡ count
+some_is n count is = cc

@@ -6,11 +6,12 @@ use Rattle.rrd_store.specs.Runs as runs
 use Rattle.rrd_store.specs.Sessions.{IsInMemory}
 use Rattle.rrd_store.specs.Storages.{Held}
 use Rattle.rrd_disk.specs.Asked.{held_of, world_in}
-use Rattle.rrd_disk.specs.Contents.{IsSound, contents_after, is_honest_by, is_sound_after, represented}
+use Rattle.rrd_disk.specs.Contents.{IsSound, contents_after, is_honest_by, represented}
 use Rattle.rrd_disk.specs.Events.{Event}
 use Rattle.rrd_disk.specs.OpenRuns.{AreOpenRuns, IsKept, IsKeptOf, IsOpenRun, OpenFilesFollowSpecification, RecordedOpen, record_of}
 use Rattle.rrd_disk.specs.Replayed.{World, held_after, is_honest_after}
-use Rattle.rrd_disk.specs.Storing.{Laws}
+use Rattle.rrd_disk.specs.Storing.{Laws, is_sound_by}
+use Rattle.rrd_disk.specs.declared.storage.Found.{Found}
 use Rattle.rrd_disk.proofs.Asked.{world_in_held}
 use Rattle.rrd_disk.proofs.FileRuns.{first_itself, first_sound}
 
@@ -21,21 +22,21 @@ held_or or (Some held) = held
 -- ---- one run
 
 -- what a session says of a run, at the records before it and after it
-module _ (old new : List Event) (d0 d1 : Option Stored) (e0 e1 : Option Encoded) (falls : (s : Option Held) → is_honest_by s new → is_honest_by s old) where
-  pub kept_from : ((s : Option Held) → is_honest_by s new → is_sound_after s old → IsInMemory (contents_after s old) d0 e0 → is_sound_after s new)
-      → ((s : Option Held) → is_honest_by s new → is_sound_after s old → IsInMemory (contents_after s old) d0 e0 → IsInMemory (contents_after s new) d1 e1)
-      → IsKept old d0 e0 → IsKept new d1 e1
+module _ (f0 f1 : Found) (old new : List Event) (d0 d1 : Option Stored) (e0 e1 : Option Encoded) (falls : (s : Option Held) → is_honest_by s new → is_honest_by s old) where
+  pub kept_from : ((s : Option Held) → is_honest_by s new → is_sound_by s f0 old → IsInMemory (contents_after s old) d0 e0 → is_sound_by s f1 new)
+      → ((s : Option Held) → is_honest_by s new → is_sound_by s f0 old → IsInMemory (contents_after s old) d0 e0 → IsInMemory (contents_after s new) d1 e1)
+      → IsKept f0 old d0 e0 → IsKept f1 new d1 e1
   kept_from sound memory kept w honest is =
       let code = held_of w in
       let same = world_in_held w in
       let now : IsTrue (is_honest_after (world_in code) new) = subst (λ (v : World). IsTrue (is_honest_after v new)) (sym same) honest in
       let was = kept (world_in code) (falls (Some code) now) (subst (λ (v : World). IsSound v.start) (sym same) is) in
-      subst (λ (v : World). IsKeptOf (held_after v new) d1 e1) same
+      subst (λ (v : World). IsKeptOf f1 (held_after v new) d1 e1) same
       (record { sound = sound (Some code) now was.sound was.memory; memory = memory (Some code) now was.sound was.memory })
 
   pub open_from : (run : runs.Run)
-      → ((s : Option Held) → is_honest_by s new → is_sound_after s old → IsInMemory (contents_after s old) d0 e0 → runs.DidIn (contents_after s old) run (contents_after s new))
-      → IsKept old d0 e0 → IsOpenRun old new run
+      → ((s : Option Held) → is_honest_by s new → is_sound_by s f0 old → IsInMemory (contents_after s old) d0 e0 → runs.DidIn (contents_after s old) run (contents_after s new))
+      → IsKept f0 old d0 e0 → IsOpenRun old new run
   open_from run did kept w honest is =
       let code = held_of w in
       let same = world_in_held w in

@@ -1,8 +1,8 @@
--- What a file is after bytes were laid over it, in the words of rrd_undo.
+-- What a file is after bytes were laid over it, in the words of rrd_change.
 use Rattle.std.proofs.Common.{◌≡◌, ℕ, ◌+◌, ◌-◌, ◌<◌, ◌≤◌, ◌⊎◌, inl, inr, List, [], ◌∷◌, ◌++◌, length, drop, replicate, slice_index, refl, sym, ◌∙◌, ap, arith, length-append, length-drop, length-take, get_or-take, get_or-drop}
 use Rattle.std.proofs.lemmas.List.{get_or_append_left, get_or-append_right, get_or-replicate, get_or_past, length-replicate}
 use Rattle.std.proofs.lemmas.Bool.{cases_lt}
-use Rattle.rrd_undo.specs.Calls.{ArePut, IsSized}
+use Rattle.rrd_change.specs.Calls.{ArePut, IsSized}
 use Rattle.rrd_disk.specs.Replayed.{padded, overlaid}
 
 -- zeros have the value that a list has past its end
@@ -63,3 +63,9 @@ unfolding overlaid
 overlaid-ArePut file at [] (inl within) = record { len = omega arith; inside = λ i low. absurd (omega arith); outside = λ k away. refl }
 overlaid-ArePut file at [] (inr some) = absurd (omega arith)
 overlaid-ArePut file at (byte ∷ more) some = laid file at (byte ∷ more)
+
+-- no bytes change nothing
+pub overlaid_none : (file : List ℕ) (at : ℕ) (bytes : List ℕ) → length bytes ≡ 0 → overlaid file at bytes ≡ file
+unfolding overlaid
+overlaid_none file at [] none = refl
+overlaid_none file at (byte ∷ more) none = absurd (omega (arith, none))

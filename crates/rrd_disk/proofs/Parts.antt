@@ -1,12 +1,13 @@
--- A write that failed and may have been done in part, and calls that are made again after it.
-use Rattle.std.proofs.Common.{◌≡◌, ℕ, zero, suc, ◌+◌, ◌%◌, ◌<◌, ◌≤◌, inl, inr, ◌==◌, ◌||◌, nat_le, min, not, List, [], ◌∷◌, length, take, slice_index, IsTrue, refl, sym, ◌∙◌, ap, subst, arith, length-take, get_or-take}
+-- A write that may have been done in part, and calls that are made again after it.
+use Rattle.std.proofs.Common.{◌≡◌, ℕ, zero, suc, ◌+◌, ◌%◌, ◌<◌, ◌≤◌, ◌⊎◌, inl, inr, ◌==◌, ◌&&◌, ◌||◌, nat_le, min, not, Bool, List, length, take, slice_index, IsTrue, refl, sym, ◌∙◌, ap, subst, arith, length-take, get_or-take}
+use Rattle.std.proofs.Math.Bool.{or-true}
 use Rattle.std.proofs.lemmas.Bool.{cases_lt, eqb-true, le-leb, leb-true, not-true, or_cases, true≢false}
-use Rattle.std.proofs.lemmas.List.{take_min}
-use Rattle.rrd_undo.specs.Calls.{ArePut, IsFrontPut, IsSized}
-use Rattle.rrd_undo.specs.Power.{IsSizedOrNot}
+use Rattle.std.proofs.lemmas.List.{take_all, take_min}
+use Rattle.rrd_change.specs.Calls.{AreAny, ArePut, AreWholeOrNot, IsCut, IsFrontPut, IsSized, IsSizedOrNot, IsTorn}
 use Rattle.rrd_disk.specs.Calls.{IsPartPut}
-use Rattle.rrd_disk.specs.Replayed.{is_honest_failure, overlaid, padded_or_not}
-use Rattle.rrd_disk.proofs.Overlays.{overlaid-ArePut, padded-IsSized}
+use Rattle.rrd_disk.specs.Power.{AreTorn}
+use Rattle.rrd_disk.specs.Replayed.{is_honest_part, is_small, overlaid, padded_or_not}
+use Rattle.rrd_disk.proofs.Overlays.{overlaid-ArePut, overlaid_none, padded-IsSized}
 
 -- ---- writes at one offset
 
@@ -43,53 +44,178 @@ module _ (at : ℕ) where
     length_front : (n : ℕ) → n ≤ length bytes → length (take n bytes) ≡ n
     length_front n few = omega (arith, length-take n bytes)
 
+    all_front : (n : ℕ) → length bytes ≤ n → take n bytes ≡ bytes
+    all_front n enough = take_all n bytes enough
+
+    -- fewer bytes of the same write after more of them, or as many or more
+    fewer_after : (n m : ℕ) (f g h : List ℕ) → m < n → n ≤ length bytes → IsFrontPut at n bytes f g → IsFrontPut at m bytes g h → IsFrontPut at n bytes f h
+    fewer_after n m f g h fewer few first second = record {
+      none = λ empty. absurd (omega (arith, empty, fewer));
+      some = λ some. elim (cases_lt 0 m) as (λ _. ArePut at (take n bytes) f h) [
+        | inl any ↦ put_under bytes f g h n m fewer few (first.some some) (second.some any)
+        | inr empty ↦ subst (λ (b : List ℕ). ArePut at (take n bytes) f b) (sym (second.none (omega (arith, empty)))) (first.some some)
+      ];
+    }
+
+    more_after : (n m : ℕ) (f g h : List ℕ) → n ≤ m → m ≤ length bytes → IsFrontPut at n bytes f g → IsFrontPut at m bytes g h → IsFrontPut at m bytes f h
+    more_after n m f g h more few first second = record {
+      none = λ empty. second.none empty ∙ first.none (omega (arith, empty, more));
+      some = λ some. elim (cases_lt 0 n) as (λ _. ArePut at (take m bytes) f h) [
+        | inl any ↦
+            let long : length (take n bytes) ≤ length (take m bytes) = omega (arith, length_front n (omega (arith, more, few)), length_front m few) in
+            put_over (take n bytes) (take m bytes) f g h long (first.some any) (second.some some)
+        | inr empty ↦ subst (λ (b : List ℕ). ArePut at (take m bytes) b h) (first.none (omega (arith, empty))) (second.some some)
+      ];
+    }
+
     -- the same write again
-    pub part_twice : (f g h : List ℕ) → IsPartPut at bytes f g → IsPartPut at bytes g h → IsPartPut at bytes f h
-    part_twice f g h (inl first) second = subst (λ (b : List ℕ). IsPartPut at bytes b h) first second
-    part_twice f g h (inr first) (inl second) = subst (λ (b : List ℕ). IsPartPut at bytes f b) (sym second) (inr first)
-    part_twice f g h (inr (n, some, all, put)) (inr (m, more, each, again)) = elim (cases_lt m n) as (λ _. IsPartPut at bytes f h) [
-      | inl fewer ↦ inr (n, some, all, put_under bytes f g h n m fewer some put again)
-      | inr enough ↦
-          let few : length (take n bytes) ≤ length (take m bytes) = omega (arith, length_front n some, length_front m more) in
-          inr (m, more, each, put_over (take n bytes) (take m bytes) f g h few put again)
+    pub part_twice : (k l : ℕ) (f g h : List ℕ) → IsPartPut k at bytes f g → IsPartPut l at bytes g h → IsPartPut l at bytes f h
+    part_twice k l f g h first second = elim (cases_lt second.count first.count) as (λ _. IsPartPut l at bytes f h) [
+      | inl fewer ↦ record {
+        count = first.count;
+        few = first.few;
+        enough = omega (arith, fewer, second.enough);
+        whole = first.whole;
+        put = fewer_after first.count second.count f g h fewer first.few first.put second.put;
+      }
+      | inr more ↦ record {
+        count = second.count;
+        few = second.few;
+        enough = second.enough;
+        whole = second.whole;
+        put = more_after first.count second.count f g h more second.few first.put second.put;
+      }
     ]
 
-    pub part_put : (f g h : List ℕ) → IsPartPut at bytes f g → ArePut at bytes g h → ArePut at bytes f h
-    part_put f g h (inl first) second = subst (λ (b : List ℕ). ArePut at bytes b h) first second
-    part_put f g h (inr (n, some, all, put)) second = put_over (take n bytes) bytes f g h (omega (arith, length_front n some)) put second
+    -- all bytes were written
+    pub part_all : (k : ℕ) (f g : List ℕ) → 0 < length bytes → length bytes ≤ k → IsPartPut k at bytes f g → ArePut at bytes f g
+    part_all k f g some all part =
+        let whole : take part.count bytes ≡ bytes = all_front part.count (omega (arith, all, part.enough)) in
+        subst (λ (b : List ℕ). ArePut at b f g) whole (part.put.some (omega (arith, all, some, part.enough)))
 
-    -- ---- what rrd_undo allows after a failed write
+    pub part_none : (f : List ℕ) → IsPartPut 0 at bytes f f
+    part_none f = record {
+      count = 0;
+      few = omega arith;
+      enough = omega arith;
+      whole = λ within. inl refl;
+      put = record { none = λ empty. refl; some = λ some. absurd (omega (arith, some)) };
+    }
 
-    pub part_front : (f g : List ℕ) → IsPartPut at bytes f g → IsFrontPut at bytes f g
-    part_front f g (inl same) = inl same
-    part_front f g (inr (n, some, all, put)) = inr (n, some, put)
+    pub part_less : (k l : ℕ) (f g : List ℕ) → l ≤ k → IsPartPut k at bytes f g → IsPartPut l at bytes f g
+    part_less k l f g less part = record { count = part.count; few = part.few; enough = omega (arith, less, part.enough); whole = part.whole; put = part.put }
 
-    -- ---- a call that failed
+    -- ---- what rrd_change allows after a failed write
 
-    -- within one page, all bytes were written
-    whole_within : (part : ℕ) → IsTrue (is_honest_failure at bytes part) → 0 < part → at % 4096 + length bytes ≤ 4096 → length bytes ≤ part
-    unfolding is_honest_failure
-    whole_within part honest some within = elim (or_cases (not (nat_le (at % 4096 + length bytes) 4096)) ((part == 0) || nat_le (length bytes) part) honest) [
-      | inl outside ↦ absurd (true≢false (sym (le-leb (at % 4096 + length bytes) 4096 within) ∙ not-true (nat_le (at % 4096 + length bytes) 4096) outside))
+    any_same : (f : List ℕ) → AreAny at (length bytes) f f
+    any_same f = record { longer = omega arith; bound = omega arith; outside = λ k away. refl }
+
+    any_put : (n : ℕ) (f g : List ℕ) → n ≤ length bytes → ArePut at (take n bytes) f g → AreAny at (length bytes) f g
+    any_put n f g few put =
+        let long = length_front n few in
+        record {
+          longer = omega (arith, put.len);
+          bound = omega (arith, put.len, long, few);
+          outside = λ k away. elim away [
+            | inl low ↦ put.outside k (inl low)
+            | inr high ↦ put.outside k (inr (omega (arith, long, few, high)))
+          ];
+        }
+
+    pub part_cut : (k : ℕ) (f g : List ℕ) → IsPartPut k at bytes f g → IsCut at bytes f g
+    part_cut k f g part = record {
+      any = elim (cases_lt 0 part.count) as (λ _. AreAny at (length bytes) f g) [
+        | inl some ↦ any_put part.count f g part.few (part.put.some some)
+        | inr empty ↦ subst (λ (b : List ℕ). AreAny at (length bytes) f b) (sym (part.put.none (omega (arith, empty)))) (any_same f)
+      ];
+      front = λ long. (part.count, part.few, part.put);
+    }
+
+    pub part_whole : (k : ℕ) (f g : List ℕ) → IsTrue (is_small at (length bytes)) → IsPartPut k at bytes f g → AreWholeOrNot at bytes f g
+    part_whole k f g within part = elim (cases_lt 0 part.count) as (λ _. AreWholeOrNot at bytes f g) [
+      | inl some ↦ elim (part.whole within) as (λ _. AreWholeOrNot at bytes f g) [
+        | inl empty ↦ absurd (omega (arith, empty, some))
+        | inr all ↦ inr (subst (λ (b : List ℕ). ArePut at b f g) (all_front part.count (omega (arith, all))) (part.put.some some))
+      ]
+      | inr empty ↦ inl (part.put.none (omega (arith, empty)))
+    ]
+
+    pub torn_within : (f g : List ℕ) → at % 512 + length bytes ≤ 512 → AreTorn at bytes f g → IsTorn at bytes f g
+    torn_within f g within torn = record { any = torn.any; whole = torn.whole within }
+
+    pub put_front : (f g : List ℕ) → 0 < length bytes → ArePut at bytes f g → IsFrontPut at (length bytes) bytes f g
+    put_front f g some put = record {
+      none = λ empty. absurd (omega (arith, empty, some));
+      some = λ any. subst (λ (b : List ℕ). ArePut at b f g) (sym (all_front (length bytes) (omega arith))) put;
+    }
+
+    -- ---- a torn write
+
+    pub torn_none : (f : List ℕ) → AreTorn at bytes f f
+    torn_none f = record { any = any_same f; whole = λ within inside. inl refl }
+
+    any_twice : (f g h : List ℕ) → AreAny at (length bytes) f g → AreAny at (length bytes) g h → AreAny at (length bytes) f h
+    any_twice f g h first second = record {
+      longer = omega (arith, first.longer, second.longer);
+      bound = omega (arith, first.bound, second.bound);
+      outside = λ k away. second.outside k away ∙ first.outside k away;
+    }
+
+    whole_twice : (f g h : List ℕ) → AreWholeOrNot at bytes f g → AreWholeOrNot at bytes g h → AreWholeOrNot at bytes f h
+    whole_twice f g h (inl first) second = subst (λ (b : List ℕ). AreWholeOrNot at bytes b h) first second
+    whole_twice f g h (inr first) (inl second) = subst (λ (b : List ℕ). AreWholeOrNot at bytes f b) (sym second) (inr first)
+    whole_twice f g h (inr first) (inr second) = inr (put_over bytes bytes f g h (omega arith) first second)
+
+    -- torn after torn of the same write is torn
+    pub torn_twice : (f g h : List ℕ) → AreTorn at bytes f g → AreTorn at bytes g h → AreTorn at bytes f h
+    torn_twice f g h first second = record {
+      any = any_twice f g h first.any second.any;
+      whole = λ within inside. whole_twice f g h (first.whole within inside) (second.whole within (omega (arith, inside, first.any.longer)));
+    }
+
+    -- ---- a call that wrote a part
+
+    -- of a small write, all bytes were written, or none
+    whole_within : (part : ℕ) → IsTrue (is_honest_part at bytes part) → IsTrue (is_small at (length bytes)) → (min part (length bytes) ≡ 0) ⊎ (min part (length bytes) ≡ length bytes)
+    unfolding is_honest_part
+    whole_within part honest small = elim (or_cases (not (is_small at (length bytes))) ((part == 0) || nat_le (length bytes) part) honest) [
+      | inl large ↦ absurd (true≢false (sym small ∙ not-true (is_small at (length bytes)) large))
       | inr either ↦ elim (or_cases (part == 0) (nat_le (length bytes) part) either) [
-        | inl none ↦ let zero_part : part ≡ 0 = eqb-true part 0 none in absurd (omega (arith, zero_part))
-        | inr all ↦ leb-true (length bytes) part all
+        | inl none ↦ let empty : part ≡ 0 = eqb-true part 0 none in inl (omega (arith, empty))
+        | inr all ↦ let long : length bytes ≤ part = leb-true (length bytes) part all in inr (omega (arith, long))
       ]
     ]
 
-    some_front : (front file : List ℕ) (n : ℕ) → take n bytes ≡ front → n ≤ length bytes → (0 < n → at % 4096 + length bytes ≤ 4096 → n ≡ length bytes)
-        → IsPartPut at bytes file (overlaid file at front)
-    unfolding overlaid
-    some_front [] file n is few all = inl refl
-    some_front (byte ∷ more) file n is few all =
-        let long : length (take n bytes) ≡ n = length_front n few in
-        let some : 0 < n = omega (arith, ap (λ (b : List ℕ). length b) is, long) in
-        inr (n, few, all some, subst (λ (b : List ℕ). ArePut at b file (overlaid file at (byte ∷ more))) (sym is) (overlaid-ArePut file at (byte ∷ more) (inr (omega arith))))
+    pub cut_short : (part : ℕ) → IsTrue (is_honest_part at bytes part) → IsTrue (is_small at (length bytes)) → 0 < part → part < length bytes → ⊥
+    cut_short part honest small some few = elim (whole_within part honest small) as (λ _. ⊥) [
+      | inl none ↦ omega (arith, none, some, few)
+      | inr all ↦ omega (arith, all, few)
+    ]
 
-    pub failed_part : (file : List ℕ) (part : ℕ) → IsTrue (is_honest_failure at bytes part) → IsPartPut at bytes file (overlaid file at (take part bytes))
-    failed_part file part honest =
-        some_front (take part bytes) file (min part (length bytes)) (take_min part bytes) (omega arith)
-        (λ some within. let all = whole_within part honest (omega (arith, some)) within in omega (arith, all))
+    front_of : (file front : List ℕ) (n : ℕ) → take n bytes ≡ front → n ≤ length bytes → IsFrontPut at n bytes file (overlaid file at front)
+    front_of file front n is few =
+        let long : length front ≡ n = sym (ap (λ (b : List ℕ). length b) is) ∙ length_front n few in
+        record {
+          none = λ empty. overlaid_none file at front (omega (arith, long, empty));
+          some = λ some. subst (λ (b : List ℕ). ArePut at b file (overlaid file at front)) (sym is) (overlaid-ArePut file at front (inr (omega (arith, long, some))));
+        }
+
+    pub put_part : (file : List ℕ) (part least : ℕ) → IsTrue (is_honest_part at bytes part) → least ≤ min part (length bytes) → IsPartPut least at bytes file (overlaid file at (take part bytes))
+    put_part file part least honest enough = record {
+      count = min part (length bytes);
+      few = omega arith;
+      enough = enough;
+      whole = whole_within part honest;
+      put = front_of file (take part bytes) (min part (length bytes)) (take_min part bytes) (omega arith);
+    }
+
+-- a write of the first page is small
+pub within_page : (count : ℕ) → count ≤ 4096 → IsTrue (is_small 0 count)
+within_page count few = ap (λ (b : Bool). nat_le (0 % 512 + count) 512 || b) (le-leb count 4096 few) ∙ or-true (nat_le (0 % 512 + count) 512)
+
+-- a write within one sector is small
+pub within_sector : (at count : ℕ) → at % 512 + count ≤ 512 → IsTrue (is_small at count)
+within_sector at count within = ap (λ (b : Bool). b || ((at == 0) && nat_le count 4096)) (le-leb (at % 512 + count) 512 within)
 
 -- ---- changes of the length
 

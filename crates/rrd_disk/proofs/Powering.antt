@@ -1,129 +1,215 @@
--- What calls leave on the disk, by the events that they note.
-use Rattle.std.proofs.Common.{◌≡◌, ◌⊎◌, ℕ, inl, inr, List, ◌∷◌, length, IsTrue, Result, Ok, Err, IfOk, OnErr, OnOk, refl, sym, ◌∙◌, ap, subst, arith}
-use Rattle.rrd_undo.specs.Calls.{AreAny, AreWholeOrNot}
-use Rattle.rrd_undo.specs.Power.{AreTorn, IsSizedOrNot}
-use Rattle.rrd_disk.specs.Events.{Event, Put, PutFailed, Sized, SizeFailed, Synced, SyncFailed}
-use Rattle.rrd_disk.specs.Calls.{Falls}
-use Rattle.rrd_disk.specs.Replayed.{bytes_after, bytes_of, is_honest_after}
-use Rattle.rrd_disk.specs.Power.{IsOnDisk, KeepsDisk, LeavesOnDisk, MayLeave, StoresOrNot}
-use Rattle.rrd_disk.proofs.Parts.{put_over, sized_twice}
-use Rattle.rrd_disk.proofs.Replaying.{honest_before, sync_failed_keeps, synced_keeps}
+-- What the steps of replacing a database leave for a failure of the power.
+use Rattle.std.proofs.Common.{◌≡◌, ℕ, List, [], ◌∷◌, Option, Some, None, Result, Ok, Err, IfNone, IfOk, IfSome, IsErr, IsTrue, length, take, slice_index, arith, lit<, sym, ◌∙◌, ap, subst, inl, inr}
+use Rattle.std.proofs.lemmas.Bool.{false≢true}
+use Rattle.rrd_change.specs.Found.{database_of}
+use Rattle.rrd_change.specs.Marks.{IsMarkOf}
+use Rattle.rrd_change.specs.Repairs.{IsFound, IsLeft, LogEnd, Whole}
+use Rattle.rrd_change.specs.Bytes.{StandsAt}
+use Rattle.rrd_change.specs.Settled.{cut_mark, log_mark, mark_of}
+use Rattle.rrd_change.specs.Spans.{AgreesOutside}
+use Rattle.rrd_change.specs.States.{IsAtRest, IsDatabase, Represents}
+use Rattle.rrd_change.specs.Views.{Does, Effect, Stays, Steps, seen}
+use Rattle.rrd_change.specs.Views as views
+use Rattle.rrd_change.specs.declared.calls.Syncs.{Syncs}
+use Rattle.rrd_change.specs.declared.calls.Syncs.TheVariants.{Ordered}
+use Rattle.rrd_change.specs.declared.log.Base.{Base}
+use Rattle.rrd_file.specs.Faults.{IsFile}
+use Rattle.rrd_file.specs.Laws.{HasOneAnswer}
+use Rattle.rrd_store.specs.Storages.{IsAnyFile}
+use Rattle.rrd_store.specs.declared.faults.TaskFault.{TaskFault}
+use Rattle.rrd_disk.specs.Asked.{view_of}
+use Rattle.rrd_disk.specs.Calls.{Falls, KeepsHeldFor, Rests, RestsFor}
+use Rattle.rrd_disk.specs.Contents.{StandFor}
+use Rattle.rrd_disk.specs.Events.{Event}
+use Rattle.rrd_disk.specs.Loading.{IsFaultIn, IsStandingIn, is_of_bytes}
+use Rattle.rrd_disk.specs.Power.{world_after}
+use Rattle.rrd_disk.specs.Replayed.{World, bytes_after, bytes_of, is_honest_after}
+use Rattle.rrd_disk.specs.Storing.{HasNoDatabase, IsBased, Laws}
+use Rattle.rrd_disk.specs.Surviving.{Becomes, BecomesOrNot, DoesOr, Readies, Replaces, ReplacesOrNot, StaysLeft}
+use Rattle.rrd_disk.specs.declared.disk.Opening.{Opening}
+use Rattle.rrd_disk.specs.declared.disk.Opening.TheVariants.{Read, Write, Make}
+use Rattle.rrd_disk.specs.declared.loading.Standing.{Standing}
+use Rattle.rrd_disk.proofs.Doing.{steps_each}
+use Rattle.rrd_disk.proofs.Failures.{stays_left, stays_rest}
+use Rattle.rrd_disk.proofs.Loaded.{no_file}
+use Rattle.rrd_disk.proofs.Repairing.{FailsToRepair, Repairs}
+use Rattle.rrd_disk.proofs.Resting.{held_is}
+use Rattle.rrd_disk.proofs.Storing.{any_database, left_represents, unmarked_is}
+use Rattle.rrd_disk.proofs.Writing.{FailsToReplace as FailsToOverwrite, Replaces as Overwrites}
 
--- ---- writes
+-- ---- the results
 
-module _ (at : ℕ) (bytes : List ℕ) where
-  pub torn_none : (f : List ℕ) → AreTorn at bytes f f
-  torn_none f = record {
-    any = record { longer = omega arith; bound = omega arith; outside = λ k away. refl };
-    whole = λ small. inl refl;
-  }
+pub stored : {A E : Type 0} (well : A → Effect) (badly : Effect) (r : Result A E) (syncs : Syncs) (old new : List Event)
+    → Does well badly r (seen syncs (view_of old)) (seen syncs (view_of new)) → DoesOr well badly r syncs old new
+stored well badly (Ok x) syncs old new does = λ ordered d w honest.
+    steps_each (well x) old new (subst (λ (y : Syncs). Steps (well x) (seen y (view_of old)) (seen y (view_of new))) ordered does) d w honest
+stored well badly (Err e) syncs old new does = λ ordered d w honest.
+    steps_each badly old new (subst (λ (y : Syncs). Steps badly (seen y (view_of old)) (seen y (view_of new))) ordered does) d w honest
 
-  any_twice : (f g h : List ℕ) → AreAny at (length bytes) f g → AreAny at (length bytes) g h → AreAny at (length bytes) f h
-  any_twice f g h first second = record {
-    longer = omega (arith, first.longer, second.longer);
-    bound = omega (arith, first.bound, second.bound);
-    outside = λ k away. second.outside k away ∙ first.outside k away;
-  }
+pub or_failed : {A E : Type 0} (well : A → Effect) (badly : Effect) (r : Result A E) (syncs : Syncs) (old new : List Event) → IsErr r
+    → (syncs ≡ Ordered → (d : List ℕ) (w : World) → IsTrue (is_honest_after w new) → badly (world_after d w old) (world_after d w new)) → DoesOr well badly r syncs old new
+or_failed well badly (Ok x) syncs old new failed does = absurd (false≢true failed)
+or_failed well badly (Err e) syncs old new failed does = does
 
-  whole_twice : (f g h : List ℕ) → AreWholeOrNot at bytes f g → AreWholeOrNot at bytes g h → AreWholeOrNot at bytes f h
-  whole_twice f g h (inl first) second = subst (λ (b : List ℕ). AreWholeOrNot at bytes b h) first second
-  whole_twice f g h (inr first) (inl second) = subst (λ (b : List ℕ). AreWholeOrNot at bytes f b) (sym second) (inr first)
-  whole_twice f g h (inr first) (inr second) = inr (put_over at bytes bytes f g h (omega arith) first second)
+-- ---- calls that rest
 
-  -- torn after torn of the same write is torn
-  pub torn_twice : (f g h : List ℕ) → AreTorn at bytes f g → AreTorn at bytes g h → AreTorn at bytes f h
-  torn_twice f g h first second = record {
-    any = any_twice f g h first.any second.any;
-    whole = λ small. whole_twice f g h (first.whole small) (second.whole small);
-  }
+opened_bytes : (opening : Opening) (old new : List Event) → KeepsHeldFor opening old new → (w : World) → bytes_after w new ≡ bytes_after w old
+opened_bytes Read old new keeps w = ap bytes_of (keeps w)
+opened_bytes Write old new keeps w = ap bytes_of (keeps w)
+opened_bytes Make old new keeps w = elim (keeps w) as (λ _. bytes_after w new ≡ bytes_after w old) [
+  | inl same ↦ ap bytes_of same
+  | inr (missing, made) ↦ ap bytes_of made ∙ sym (ap bytes_of missing)
+]
 
--- ---- several calls
+pub rests_stay : (opening : Opening) (old new : List Event) → RestsFor opening old new → (d : List ℕ) (w : World) → Stays (world_after d w old) (world_after d w new)
+rests_stay opening old new rests d w = record {
+  held = held_is d w new ∙ opened_bytes opening old new rests.held w ∙ sym (held_is d w old);
+  leave = rests.leave d w;
+  keep = rests.keep d w;
+}
 
-module _ (Does : List ℕ → List ℕ → Type 0) where
-  -- no call leaves what there was, if the call may end so
-  pub leaves_none : (old new : List Event) → ((f : List ℕ) → Does f f) → KeepsDisk old new → LeavesOnDisk Does old new
-  leaves_none old new none keeps d w honest c left = (c, keeps d w honest c left, none c)
+pub rests_left : (opening : Opening) (old new : List Event) → RestsFor opening old new → (d : List ℕ) (w : World) → StaysLeft (world_after d w old) (world_after d w new)
+rests_left opening old new rests d w end other now any left = stays_left (world_after d w old) (world_after d w new) (rests_stay opening old new rests d w) end other now left
 
-  -- the same call again
-  pub leaves_twice : (old mid new : List Event) → ((f g h : List ℕ) → Does f g → Does g h → Does f h)
-      → Falls mid new → LeavesOnDisk Does old mid → LeavesOnDisk Does mid new → LeavesOnDisk Does old new
-  leaves_twice old mid new twice falls first second d w honest c left =
-      let l = second d w honest c left in
-      let k = first d w (falls w honest) l.0 l.1 in
-      (k.0, k.1, twice k.0 l.0 c k.2 l.2)
+-- ---- a file with a mark
 
--- ---- one call
+stands_after : (end : LogEnd) (other now : List ℕ) (d : List ℕ) (w : World) (events : List Event) → IsAnyFile now → IsLeft end other now (world_after d w events) → StandFor now (bytes_after w events)
+stands_after end other now d w events any left = record { is = any; represents = subst (Represents now) (held_is d w events) (left_represents end other now (world_after d w events) left) }
 
-module _ (mid new : List Event) where
-  falls_once : (e : Event) → new ≡ e ∷ mid → Falls mid new
-  falls_once e is w honest = honest_before w mid e (subst (λ (events : List Event). IsTrue (is_honest_after w events)) is honest)
+module _ (laws : Laws) (standing : Standing) (old mid new : List Event) (rests : Rests old mid) (stands : IsStandingIn standing mid) where
+  found_in : (d : List ℕ) (w : World) → IsTrue (is_honest_after w mid) → (end : LogEnd) (other now : List ℕ) → IsAnyFile now → IsLeft end other now (world_after d w old)
+      → (database_of standing.found ≡ now) × IsFound end other now standing.found.mark (world_after d w mid)
+  found_in d w honest end other now any left =
+      let there = rests_left Read old mid rests d w end other now any left in
+      let is = stands_after end other now d w mid any there in (
+        stands.database w honest now is,
+        record { is = any_database laws now any; mark_is = subst (IsMarkOf standing.found.mark) (sym (held_is d w mid)) (stands.mark w honest); left = there },
+      )
 
-  module _ (at : ℕ) (bytes : List ℕ) where
-    put_leaves : (taken : ℕ) → new ≡ Put at bytes taken ∷ mid → LeavesOnDisk (AreTorn at bytes) mid new
-    put_leaves taken is d w honest c left = subst (λ (events : List Event). MayLeave d w events c) is left
+  pub repaired_power : (base : Base) (syncs : Syncs) → base.length ≡ length (database_of standing.found) → base.first ≡ take 16 (database_of standing.found) → Falls mid new
+      → Steps (Repairs standing.found) (seen syncs (view_of mid)) (seen syncs (view_of new))
+      → syncs ≡ Ordered → (d : List ℕ) (w : World) → IsTrue (is_honest_after w new) → Readies (Some base) (world_after d w old) (world_after d w new)
+  repaired_power base syncs len first falls steps ordered d w honest end other now any left =
+      let found = found_in d w (falls w honest) end other now any left in
+      let does = steps_each (Repairs standing.found) mid new (subst (λ (y : Syncs). Steps (Repairs standing.found) (seen y (view_of mid)) (seen y (view_of new))) ordered steps) d w honest in (
+        record { is = any_database laws now any; length = len ∙ ap (λ (b : List ℕ). length b) found.0; first = first ∙ ap (take 16) found.0 },
+        does end other now found.0 found.1,
+      )
 
-    put_failed_leaves : new ≡ PutFailed at bytes ∷ mid → LeavesOnDisk (AreTorn at bytes) mid new
-    put_failed_leaves is d w honest c left = subst (λ (events : List Event). MayLeave d w events c) is left
+  pub unrepaired_power : (syncs : Syncs) → Falls mid new → Steps (FailsToRepair standing.found) (seen syncs (view_of mid)) (seen syncs (view_of new))
+      → syncs ≡ Ordered → (d : List ℕ) (w : World) → IsTrue (is_honest_after w new) → StaysLeft (world_after d w old) (world_after d w new)
+  unrepaired_power syncs falls steps ordered d w honest end other now any left =
+      let found = found_in d w (falls w honest) end other now any left in
+      let does = steps_each (FailsToRepair standing.found) mid new (subst (λ (y : Syncs). Steps (FailsToRepair standing.found) (seen y (view_of mid)) (seen y (view_of new))) ordered steps) d w honest in
+      does end other now found.0 found.1
 
-  module _ (count : ℕ) where
-    sized_leaves : new ≡ Sized count ∷ mid → LeavesOnDisk (IsSizedOrNot count) mid new
-    sized_leaves is d w honest c left = subst (λ (events : List Event). MayLeave d w events c) is left
+-- such a file has a database
+pub fault_power : ((bytes : List ℕ) → HasOneAnswer bytes) → (fault : TaskFault) (old mid : List Event) → Rests old mid → IsFaultIn fault mid → IsTrue (is_of_bytes fault)
+    → (d : List ℕ) (w : World) → IsTrue (is_honest_after w mid) → Readies None (world_after d w old) (world_after d w mid)
+fault_power one fault old mid rests is of d w honest end other now any left =
+    let stand = stands_after end other now d w mid any (rests_left Read old mid rests d w end other now any left) in
+    no_file one now fault (is.known w honest now stand) of any.0 any.1
 
-    size_failed_leaves : new ≡ SizeFailed count ∷ mid → LeavesOnDisk (IsSizedOrNot count) mid new
-    size_failed_leaves is d w honest c left = subst (λ (events : List Event). MayLeave d w events c) is left
+-- ---- a file without a mark
 
--- ---- a call after several that failed
+-- no database begins with a mark
+cut_not : (file : List ℕ) → StandsAt file 0 cut_mark → IsDatabase file → ⊥
+cut_not file marked is =
+    let one : slice_index file 3 ≡ 67 = marked.each 3 (lit< tt) in
+    let other : slice_index file 3 ≡ 73 = is.begins.each 3 (lit< tt) in
+    omega (arith, one, other)
 
-pub put_failed_again : (old mid new : List Event) (at : ℕ) (bytes : List ℕ)
-    → LeavesOnDisk (AreTorn at bytes) old mid → new ≡ PutFailed at bytes ∷ mid → LeavesOnDisk (AreTorn at bytes) old new
-put_failed_again old mid new at bytes leaves is =
-    leaves_twice (AreTorn at bytes) old mid new (torn_twice at bytes) (falls_once mid new (PutFailed at bytes) is) leaves (put_failed_leaves mid new at bytes is)
+log_not : (file : List ℕ) (tail : ℕ) → StandsAt file 0 (log_mark tail) → IsDatabase file → ⊥
+log_not file tail marked is =
+    let one : slice_index file 3 ≡ 76 = marked.each 3 (lit< tt) in
+    let other : slice_index file 3 ≡ 73 = is.begins.each 3 (lit< tt) in
+    omega (arith, one, other)
 
-pub put_ended : {E : Type 0} (r : Result ℕ E) (old mid new : List Event) (at : ℕ) (bytes : List ℕ)
-    → LeavesOnDisk (AreTorn at bytes) old mid → IfOk r (λ n. new ≡ Put at bytes n ∷ mid) → OnErr r (new ≡ PutFailed at bytes ∷ mid)
-    → LeavesOnDisk (AreTorn at bytes) old new
-put_ended (Err e) old mid new at bytes leaves ok err = put_failed_again old mid new at bytes leaves err
-put_ended (Ok n) old mid new at bytes leaves ok err =
-    leaves_twice (AreTorn at bytes) old mid new (torn_twice at bytes) (falls_once mid new (Put at bytes n) ok) leaves (put_leaves mid new at bytes n ok)
+module _ (laws : Laws) (end : LogEnd) (other now : List ℕ) (v : views.World) (any : IsAnyFile now) (none : mark_of v.held ≡ None) where
+  held_now : IsLeft end other now v → v.held ≡ now
+  held_now left = unmarked_is laws now v.held any (left_represents end other now v left) none
 
-pub size_failed_again : (old mid new : List Event) (count : ℕ)
-    → LeavesOnDisk (IsSizedOrNot count) old mid → new ≡ SizeFailed count ∷ mid → LeavesOnDisk (IsSizedOrNot count) old new
-size_failed_again old mid new count leaves is =
-    leaves_twice (IsSizedOrNot count) old mid new (sized_twice count) (falls_once mid new (SizeFailed count) is) leaves (size_failed_leaves mid new count is)
+  rest_by : (left : IsLeft end other now v) → v.held ≡ now → IsAtRest now v
+  rest_by (inl rest) is = rest
+  rest_by (inr (inl cut)) is = absurd (cut_not v.held cut.under.marked (subst IsDatabase (sym is) (any_database laws now any)))
+  rest_by (inr (inr log)) is = absurd (log_not v.held log.tail log.world.held.log.marked (subst IsDatabase (sym is) (any_database laws now any)))
 
-pub size_ended : {T E : Type 0} (r : Result T E) (old mid new : List Event) (count : ℕ)
-    → LeavesOnDisk (IsSizedOrNot count) old mid → OnOk r (new ≡ Sized count ∷ mid) → OnErr r (new ≡ SizeFailed count ∷ mid)
-    → LeavesOnDisk (IsSizedOrNot count) old new
-size_ended (Err e) old mid new count leaves ok err = size_failed_again old mid new count leaves err
-size_ended (Ok x) old mid new count leaves ok err =
-    leaves_twice (IsSizedOrNot count) old mid new (sized_twice count) (falls_once mid new (Sized count) ok) leaves (sized_leaves mid new count ok)
+module _ (laws : Laws) (old mid new : List Event) (first : Rests old mid) (second : Rests mid new) (unmarked : (w : World) → IsTrue (is_honest_after w mid) → mark_of (bytes_after w mid) ≡ None) where
+  unmarked_left : (d : List ℕ) (w : World) → IsTrue (is_honest_after w mid) → (end : LogEnd) (other now : List ℕ) → IsAnyFile now → IsLeft end other now (world_after d w old)
+      → IsAtRest now (world_after d w mid)
+  unmarked_left d w honest end other now any left =
+      let there = rests_left Read old mid first d w end other now any left in
+      let none : mark_of (world_after d w mid).held ≡ None = ap mark_of (held_is d w mid) ∙ unmarked w honest in
+      rest_by laws end other now (world_after d w mid) any none there (held_now laws end other now (world_after d w mid) any none there)
 
--- ---- syncs
+  unmarked_rest : (d : List ℕ) (w : World) → IsTrue (is_honest_after w new) → (end : LogEnd) (other now : List ℕ) → IsAnyFile now → IsLeft end other now (world_after d w old)
+      → IsAtRest now (world_after d w new)
+  unmarked_rest d w honest end other now any left =
+      stays_rest (world_after d w mid) (world_after d w new) (rests_stay Read mid new second d w) now (unmarked_left d w (second.falls w honest) end other now any left)
 
--- after a sync that failed the disk has what it may have had before, or the file's bytes
-pub sync_failed_again : (old mid new : List Event) → StoresOrNot old mid → new ≡ SyncFailed ∷ mid → StoresOrNot old new
-sync_failed_again old mid new stores is d w honest c left =
-    let kept : bytes_after w new ≡ bytes_after w mid = ap (λ (events : List Event). bytes_after w events) is ∙ ap bytes_of (sync_failed_keeps w mid) in
-    let now : MayLeave d w (SyncFailed ∷ mid) c = subst (λ (events : List Event). MayLeave d w events c) is left in
-    elim now as (λ _. MayLeave d w old c ⊎ (c ≡ bytes_after w new)) [
-      | inl before ↦ elim (stores d w (falls_once mid new SyncFailed is w honest) c before) as (λ _. MayLeave d w old c ⊎ (c ≡ bytes_after w new)) [
-        | inl first ↦ inl first
-        | inr file ↦ inr (file ∙ sym kept)
-      ]
-      | inr file ↦ inr (file ∙ sym kept)
-    ]
+  now_after : (d : List ℕ) (w : World) → IsTrue (is_honest_after w new) → (end : LogEnd) (other now : List ℕ) → IsAnyFile now → IsLeft end other now (world_after d w old) → bytes_after w new ≡ now
+  now_after d w honest end other now any left = sym (held_is d w new) ∙ (unmarked_rest d w honest end other now any left).world.held
 
-synced_stores : (mid new : List Event) → new ≡ Synced ∷ mid → IsOnDisk new
-synced_stores mid new is d w honest c left =
-    let kept : bytes_after w new ≡ bytes_after w mid = ap (λ (events : List Event). bytes_after w events) is ∙ ap bytes_of (synced_keeps w mid) in
-    let now : MayLeave d w (Synced ∷ mid) c = subst (λ (events : List Event). MayLeave d w events c) is left in
-    now ∙ sym kept
+  based_power : (base : Base) → IsBased base new → (d : List ℕ) (w : World) → IsTrue (is_honest_after w new) → Readies (Some base) (world_after d w old) (world_after d w new)
+  based_power base based d w honest end other now any left =
+      let is = now_after d w honest end other now any left in
+      let facts = based w honest in (
+        record { is = any_database laws now any; length = facts.1 ∙ ap (λ (b : List ℕ). length b) is; first = facts.2 ∙ ap (take 16) is },
+        unmarked_rest d w honest end other now any left,
+      )
 
-pub sync_ended : {T E : Type 0} (r : Result T E) (old mid new : List Event)
-    → StoresOrNot old mid → OnOk r (new ≡ Synced ∷ mid) → OnErr r (new ≡ SyncFailed ∷ mid) → StoresOrNot old new
-sync_ended (Err e) old mid new stores ok err = sync_failed_again old mid new stores err
-sync_ended (Ok x) old mid new stores ok err = λ d w honest c left. inr (synced_stores mid new ok d w honest c left)
+  none_power : HasNoDatabase new → (d : List ℕ) (w : World) → IsTrue (is_honest_after w new) → Readies None (world_after d w old) (world_after d w new)
+  none_power lacks d w honest end other now any left =
+      lacks w honest any.0 (subst (λ (b : List ℕ). IsFile b any.0) (sym (now_after d w honest end other now any left)) any.1)
 
-pub sync_stored : {T E : Type 0} (r : Result T E) (mid new : List Event) → OnOk r (new ≡ Synced ∷ mid) → OnOk r (IsOnDisk new)
-sync_stored (Err e) mid new ok = tt
-sync_stored (Ok x) mid new ok = synced_stores mid new ok
+  pub unmarked_power : {E : Type 0} (r : Result (Option Base) E) (syncs : Syncs) → IfOk r (λ found. IfSome found (λ base. IsBased base new)) → IfOk r (λ found. IfNone found (HasNoDatabase new))
+      → DoesOr Readies StaysLeft r syncs old new
+  unmarked_power (Ok None) syncs some lacks = λ ordered d w honest. none_power lacks d w honest
+  unmarked_power (Ok (Some base)) syncs some lacks = λ ordered d w honest. based_power base some d w honest
+  unmarked_power (Err e) syncs some lacks = λ ordered d w honest end other now any left.
+      rests_left Read mid new second d w end other now any (rests_left Read old mid first d w end other now any left)
+
+-- calls that rest, before others
+pub rested_power : {E : Type 0} (r : Result (Option Base) E) (syncs : Syncs) (old mid new : List Event) → Rests old mid → DoesOr Readies StaysLeft r syncs mid new → DoesOr Readies StaysLeft r syncs old new
+rested_power (Ok None) syncs old mid new rests does = λ ordered d w honest end other now any left. does ordered d w honest end other now any (rests_left Read old mid rests d w end other now any left)
+rested_power (Ok (Some base)) syncs old mid new rests does = λ ordered d w honest end other now any left. does ordered d w honest end other now any (rests_left Read old mid rests d w end other now any left)
+rested_power (Err e) syncs old mid new rests does = λ ordered d w honest end other now any left. does ordered d w honest end other now any (rests_left Read old mid rests d w end other now any left)
+
+-- ---- the change
+
+pub made_power : (old mid : List Event) → RestsFor Make old mid → (bytes : List ℕ) (d : List ℕ) (w : World) → BecomesOrNot bytes (world_after d w old) (world_after d w mid)
+made_power old mid rests bytes d w end other now any left = inl (rests_left Make old mid rests d w end other now any left)
+
+all_agree : (old new : List ℕ) → AgreesOutside (record { start = 0; end = length new } ∷ []) old new
+all_agree old new = record { each = λ k low. inl (inl (omega arith, low)) }
+
+pub replaced_power : (syncs : Syncs) (base : Base) (bytes : List ℕ) (old new : List Event) → Steps (Overwrites base bytes) (seen syncs (view_of old)) (seen syncs (view_of new))
+    → syncs ≡ Ordered → (d : List ℕ) (w : World) → IsTrue (is_honest_after w new) → Replaces base bytes (world_after d w old) (world_after d w new)
+replaced_power syncs base bytes old new steps ordered d w honest now any began rest =
+    steps_each (Overwrites base bytes) old new (subst (λ (y : Syncs). Steps (Overwrites base bytes) (seen y (view_of old)) (seen y (view_of new))) ordered steps) d w honest now began (all_agree now bytes) rest
+
+pub unreplaced_power : (syncs : Syncs) (base : Base) (bytes : List ℕ) (old new : List Event) → Steps (FailsToOverwrite base bytes) (seen syncs (view_of old)) (seen syncs (view_of new))
+    → syncs ≡ Ordered → (d : List ℕ) (w : World) → IsTrue (is_honest_after w new) → ReplacesOrNot base bytes (world_after d w old) (world_after d w new)
+unreplaced_power syncs base bytes old new steps ordered d w honest now any began rest =
+    steps_each (FailsToOverwrite base bytes) old new (subst (λ (y : Syncs). Steps (FailsToOverwrite base bytes) (seen y (view_of old)) (seen y (view_of new))) ordered steps) d w honest now began (all_agree now bytes) rest
+
+module _ (old mid ready new : List Event) (made : RestsFor Make old mid) (bytes : List ℕ) (syncs one two : Syncs) (is_one : one ≡ syncs) (is_two : two ≡ syncs) where
+  pub over_power : {E : Type 0} (r : Result (Unit {0}) E) (base : Base) → Falls ready new
+      → (one ≡ Ordered → (d : List ℕ) (w : World) → IsTrue (is_honest_after w ready) → Readies (Some base) (world_after d w mid) (world_after d w ready))
+      → DoesOr (λ x. Replaces base bytes) (ReplacesOrNot base bytes) r two ready new → DoesOr (λ x. Becomes bytes) (BecomesOrNot bytes) r syncs old new
+  over_power (Ok x) base falls readies does = λ is d w honest end other now any left.
+      let ready_now = readies (is_one ∙ is) d w (falls w honest) end other now any (rests_left Make old mid made d w end other now any left) in
+      does (is_two ∙ is) d w honest now any ready_now.0 ready_now.1
+  over_power (Err e) base falls readies does = λ is d w honest end other now any left.
+      let ready_now = readies (is_one ∙ is) d w (falls w honest) end other now any (rests_left Make old mid made d w end other now any left) in
+      inr (Whole, does (is_two ∙ is) d w honest now any ready_now.0 ready_now.1)
+
+  pub first_power : {E : Type 0} (r : Result (Unit {0}) E) → Falls ready new
+      → (one ≡ Ordered → (d : List ℕ) (w : World) → IsTrue (is_honest_after w ready) → Readies None (world_after d w mid) (world_after d w ready))
+      → DoesOr (λ x. Becomes bytes) (BecomesOrNot bytes) r syncs old new
+  first_power (Ok x) falls readies = λ is d w honest end other now any left. absurd (readies (is_one ∙ is) d w (falls w honest) end other now any (rests_left Make old mid made d w end other now any left))
+  first_power (Err e) falls readies = λ is d w honest end other now any left. absurd (readies (is_one ∙ is) d w (falls w honest) end other now any (rests_left Make old mid made d w end other now any left))
+
+  pub unready_power : (one ≡ Ordered → (d : List ℕ) (w : World) → IsTrue (is_honest_after w ready) → StaysLeft (world_after d w mid) (world_after d w ready))
+      → syncs ≡ Ordered → (d : List ℕ) (w : World) → IsTrue (is_honest_after w ready) → BecomesOrNot bytes (world_after d w old) (world_after d w ready)
+  unready_power stays is d w honest end other now any left = inl (stays (is_one ∙ is) d w honest end other now any (rests_left Make old mid made d w end other now any left))

@@ -1,26 +1,59 @@
--- The spans of a change, as the crate takes them that writes the pages.
-use Rattle.std.proofs.Common.{◌≡◌, ℕ, List, [], ◌∷◌, Some, map, subst}
+-- Spans, as the crate names them that encodes databases, and as the crate does that changes files.
+use Rattle.std.proofs.Common.{◌≡◌, ◌⊎◌, [], ◌∷◌, ◌++◌, ℕ, ◌+◌, ◌<◌, ◌≤◌, List, get_or, length, min, take, inl, inr, arith}
 use Rattle.std.specs.List.{All}
-use Rattle.std.proofs.lemmas.List.Elements.{All-cons, All-head, All-nil, All-tail}
-use Rattle.rrd_file.specs.Spans as file
-use Rattle.rrd_file.specs.declared.span.Span.{Span}
-use Rattle.rrd_store.specs.Storages.{Bytes, DiffersWithin, Held, IsAnyFile}
-use Rattle.rrd_undo.specs.Spans as pages
-use Rattle.rrd_undo.specs.declared.span.Span.{Span as PageSpan}
-use Rattle.rrd_disk.specs.Storing.{AreOf, page_span}
+use Rattle.std.proofs.lemmas.Bool.{cases_lt}
+use Rattle.std.proofs.lemmas.List.Elements.{All-more}
+use Rattle.rrd_change.proofs.Placing.{in_left, in_right}
+use Rattle.rrd_change.specs.Spans.{IsIn}
+use Rattle.rrd_change.specs.declared.span.Span.{Span}
+use Rattle.rrd_file.specs.Spans.{AgreesOutside, IsBeside}
+use Rattle.rrd_file.specs.declared.span.Span.{Span as FileSpan}
+use Rattle.rrd_disk.specs.Storing.{AreMore, AreOf}
 
-beside_each : (changed : List Span) (k : ℕ) → All (pages.IsBeside k) (map page_span changed) → All (file.IsBeside k) changed
-beside_each [] k beside = All-nil (file.IsBeside k)
-beside_each (span ∷ changed) k beside =
-    All-cons (file.IsBeside k) span changed (All-head (pages.IsBeside k) (page_span span) (map page_span changed) beside)
-    (beside_each changed k (All-tail (pages.IsBeside k) (page_span span) (map page_span changed) beside))
+pub are_none : (count : ℕ) (changed : List FileSpan) → AreOf count (take 0 changed) []
+are_none count changed = λ k low. inl (λ i d none. absurd (omega (arith, none)))
 
--- the bytes that may differ are the same
-pub agrees_there : (changed : List Span) (spans : List PageSpan) (old new : List ℕ) → AreOf changed spans → file.AgreesOutside changed old new → pages.AgreesOutside spans old new
-agrees_there changed spans old new are agrees = record {
-  each = λ k inside beside. agrees.each k inside (beside_each changed k (subst (All (pages.IsBeside k)) are beside));
-}
+-- byte k is beside a span, or in it
+beside_or : (k start end : ℕ) → ((k < start) ⊎ (end ≤ k)) ⊎ ((start ≤ k) × (k < end))
+beside_or k start end = elim (cases_lt k start) [
+  | inl below ↦ inl (inl below)
+  | inr above ↦ elim (cases_lt k end) [
+    | inl inside ↦ inr (above, inside)
+    | inr behind ↦ inl (inr behind)
+  ]
+]
 
--- a file that differs from the new bytes within these spans alone
-pub differs_there : (changed : List Span) (held : Held) (file_bytes bytes : List ℕ) → held ≡ Bytes file_bytes → DiffersWithin changed (Some held) bytes → IsAnyFile file_bytes × file.AgreesOutside changed file_bytes bytes
-differs_there changed held file_bytes bytes is differs = subst (λ (r : Held). DiffersWithin changed (Some r) bytes) is differs
+pub more_none : (count : ℕ) (span : FileSpan) (spans : List Span) → min span.end count ≤ span.start → AreMore count span spans spans
+more_none count span spans empty = λ k low. (
+  λ is. is,
+  elim (beside_or k span.start span.end) as (λ _. IsBeside k span ⊎ IsIn k spans) [
+    | inl here ↦ inl here
+    | inr (above, inside) ↦ absurd (omega (arith, low, above, inside, empty))
+  ],
+)
+
+pub more_pushed : (count start end : ℕ) (span : FileSpan) (spans : List Span) → start ≡ span.start → end ≡ min span.end count → AreMore count span spans (spans ++ record { start = start; end = end } ∷ [])
+more_pushed count start end span spans start_is end_is = λ k low. (
+  λ is. in_left k spans (record { start = start; end = end } ∷ []) is,
+  elim (beside_or k span.start span.end) as (λ _. IsBeside k span ⊎ IsIn k (spans ++ record { start = start; end = end } ∷ [])) [
+    | inl here ↦ inl here
+    | inr (above, inside) ↦ inr (in_right k spans (record { start = start; end = end } ∷ []) (inl (omega (arith, above, start_is), omega (arith, inside, low, end_is))))
+  ],
+)
+
+pub are_more : (count n : ℕ) (changed : List FileSpan) (none : FileSpan) (old new : List Span) → n < length changed → AreOf count (take n changed) old → AreMore count (get_or changed n none) old new → AreOf count (take (n + 1) changed) new
+are_more count n changed none old new less are more = λ k low. elim (are k low) as (λ _. All (IsBeside k) (take (n + 1) changed) ⊎ IsIn k new) [
+  | inl beside ↦ elim (more k low).1 as (λ _. All (IsBeside k) (take (n + 1) changed) ⊎ IsIn k new) [
+    | inl here ↦ inl (All-more (IsBeside k) changed n none less beside here)
+    | inr is ↦ inr is
+  ]
+  | inr is ↦ inr ((more k low).0 is)
+]
+
+-- one span of all bytes
+beside_all : (k count : ℕ) → k < count → IsBeside k (record { start = 0; end = count }) → ⊥
+beside_all k count low (inl below) = absurd (omega (arith, below))
+beside_all k count low (inr behind) = absurd (omega (arith, behind, low))
+
+pub all_agree : (old new : List ℕ) → AgreesOutside (record { start = 0; end = length new } ∷ []) old new
+all_agree old new = record { each = λ k low beside. absurd (beside_all k (length new) low (beside 0 (record { start = 0; end = 0 }) (omega arith))) }

@@ -1,126 +1,230 @@
 -- What the steps of loading and replacing the database of a file do to one file.
-use Rattle.std.proofs.Common.{◌≡◌, ◌⊎◌, ◌↔◌, [], ℕ, ◌<◌, Bool, true, false, List, Option, Some, None, Result, Ok, Err, IfOk, IsErr, IsSome, IsTrue, OnErr, OnOk, zero, suc, ◌+◌, nat_eq, lit<, length, slice_index, refl, sym, ◌∙◌, ap, subst, inl, inr, arith}
-use Rattle.std.specs.List.{starts_with}
-use Rattle.std.proofs.lemmas.Bool.{false≢true, cases_eq, cases_lt}
-use Rattle.std.proofs.lemmas.Slice.Eq.{text_from_reads}
-use Rattle.rrd_file.specs.Faults.{IsOfFile}
+use Rattle.std.proofs.Common.{◌≡◌, ◌⊎◌, ◌↔◌, ◌∷◌, [], ℕ, ◌+◌, ◌<◌, ◌≤◌, Bool, false, List, Option, Some, None, Result, Ok, Err, IfOk, IsSome, IsTrue, OnErr, length, drop, take, slice_index, refl, sym, ◌∙◌, ap, subst, inl, inr, arith, get_or-take}
+use Rattle.std.proofs.lemmas.Bool.{false≢true}
+use Rattle.rrd_change.specs.Bytes.{begins_with}
+use Rattle.rrd_change.specs.Marks.{IsMarkOf}
+use Rattle.rrd_change.specs.Outcomes.{IsWhole}
+use Rattle.rrd_change.specs.Repairs.{IsFound, IsLeft, IsStopped, LogEnd, Whole}
+use Rattle.rrd_change.specs.Settled.{cut_mark, database_mark, log_mark, mark_of, settled, settled_by, spelled_tail}
+use Rattle.rrd_change.specs.Settled as marks
+use Rattle.rrd_change.specs.Spans.{AgreesOutside, IsIn}
+use Rattle.rrd_change.specs.States.{Began, IsAtRest, IsDatabase, IsKept, Represents, RepresentsEither}
+use Rattle.rrd_change.specs.Views.{Does, Effect, Steps, seen}
+use Rattle.rrd_change.specs.Views as views
+use Rattle.rrd_change.specs.declared.calls.Syncs.{Syncs}
+use Rattle.rrd_change.specs.declared.calls.Syncs.TheVariants.{Never, Ordered}
+use Rattle.rrd_change.specs.declared.finding.Mark.{Mark}
+use Rattle.rrd_change.specs.declared.log.Base.{Base}
+use Rattle.rrd_change.specs.declared.log.Log.{Log}
+use Rattle.rrd_change.specs.declared.span.Span.{Span}
+use Rattle.rrd_change.proofs.Logs.{by_mark, is_plain, plain_read}
+use Rattle.rrd_change.proofs.Marking.{cut_under}
+use Rattle.rrd_change.proofs.Settling.{log_stands_all}
+use Rattle.rrd_file.specs.End.{file_end}
+use Rattle.rrd_file.specs.Faults.{IsFile, IsOfFile}
 use Rattle.rrd_file.specs.Laws.{HasOneAnswer}
+use Rattle.rrd_file.specs.Spans.{IsBeside}
+use Rattle.rrd_file.specs.Spans as file
 use Rattle.rrd_file.specs.declared.fault.FileFault.{FileFault}
+use Rattle.rrd_file.specs.declared.span.Span.{Span as FileSpan}
 use Rattle.rrd_spec.specs.Journal.Survivors.{Stored}
-use Rattle.rrd_store.specs.Storages.{Bytes, Decodes, Finds, HasNone, Held, IsAfterFailure, IsAnyFile, IsNoFile, Missing}
+use Rattle.rrd_store.specs.Storages.{Bytes, Decodes, Finds, Held, IsAfterFailure, IsAnyFile, IsNoFile, Missing}
 use Rattle.rrd_store.specs.declared.faults.TaskFault.{TaskFault}
 use Rattle.rrd_store.specs.declared.faults.TaskFault.TheVariants.{CannotOpen, File}
-use Rattle.rrd_tail.specs.Marks.{database_mark, mark_of}
-use Rattle.rrd_tail.specs.Settled.{settled}
-use Rattle.rrd_tail.specs.declared.mark.Mark.{Mark}
-use Rattle.rrd_undo.specs.Calls.{AreAt, ArePut, AreWholeOrNot}
-use Rattle.rrd_undo.specs.Databases.{IsDatabase, IsNoDatabase}
+use Rattle.rrd_disk.specs.Asked.{FallsAsked, code_of, is_honest_in, view_of, world_of}
 use Rattle.rrd_disk.specs.Calls.{Falls}
-use Rattle.rrd_disk.specs.Contents.{IsSound, represented}
+use Rattle.rrd_disk.specs.Contents.{IsSound, StandFor, represented}
 use Rattle.rrd_disk.specs.Entries.{SaysEntry}
 use Rattle.rrd_disk.specs.Events.{Event}
-use Rattle.rrd_disk.specs.declared.file_bytes.Entry.{Entry}
-use Rattle.rrd_disk.specs.Loading.{IsDatabaseStanding, StandsSo}
+use Rattle.rrd_disk.specs.Power.{world_after}
 use Rattle.rrd_disk.specs.Replayed.{World, bytes_after, bytes_of, held_after, is_honest_after, is_there}
-use Rattle.rrd_disk.specs.Storing.{IsLoaded, IsNearly, IsPrepared, IsReadable, IsReady, IsStanding, IsWritten, Laws}
-use Rattle.rrd_disk.specs.declared.loading.Standing.{Standing}
-use Rattle.rrd_disk.specs.declared.loading.Standing.TheVariants.{Database, Unrecorded, Nothing}
+use Rattle.rrd_disk.specs.Storing.{AreOf, Breaks, Changes, IsFoundAs, IsLoaded, IsOpen, IsSoundAs, IsWritten, Laws, MayDiffer, StaysAs, alone}
+use Rattle.rrd_disk.specs.declared.file_bytes.Entry.{Entry}
 use Rattle.rrd_disk.specs.declared.storage.Found.{Found}
-use Rattle.rrd_disk.proofs.Asking.{bytes_there}
-use Rattle.rrd_disk.proofs.Contents.{file_database, itself, none_by_start, none_empty, not_begun, some_unmarked, sound_unmarked, unmarked_empty, unmarked_zero}
+use Rattle.rrd_disk.specs.declared.storage.Found.TheVariants.{Unopened, Missing as NotFound, Unwritable, Open, Kept}
+use Rattle.rrd_disk.proofs.Asked.{code_honest, falls_asked, still_there, world_of_code}
+use Rattle.rrd_disk.proofs.Resting.{held_is}
+use Rattle.rrd_disk.proofs.Spans.{all_agree}
 
--- ---- the state of the storage
+-- ---- calls of `rrd_change`, for each file
 
--- a file that the run may change still has a database
-pub readable_kept : (found : Found) (old new : List Event) → Falls old new
-    → ((s : World) → IsTrue (is_honest_after s new) → bytes_after s new ≡ bytes_after s old) → IsReadable found old → IsReadable found new
-readable_kept found old new falls same readable opened s honest denied =
-    readable opened s (falls s honest) (subst IsNoFile (same s honest) denied)
+-- whatever is asked of the disk: nothing is
+alone_by : (syncs : Syncs) (e : Effect) (old new : List Event) → Steps e (seen syncs (view_of old)) (seen syncs (view_of new))
+    → (code : List ℕ) → IsTrue (is_honest_in code new)
+    → e (alone (world_after [] (world_of code) old).held) (alone (world_after [] (world_of code) new).held)
+alone_by Never e old new steps code h = steps.does [] (0 ∷ code) h
+alone_by Ordered e old new steps code h = steps.does [] (0 ∷ code) h
 
--- a file that is there still is
-pub standing_kept : (found : Found) (old new : List Event) → Falls old new
-    → ((s : World) → IsTrue (is_honest_after s new) → held_after s old ≡ Bytes (bytes_after s old) → held_after s new ≡ held_after s old) → IsStanding found old → IsStanding found new
-standing_kept found old new falls same standing stayed s honest =
-    let there = standing stayed s (falls s honest) in
-    let is = same s honest there in
-    is ∙ there ∙ ap (λ (h : Held). Bytes (bytes_of h)) (sym is)
+pub each_alone : (syncs : Syncs) (e : Effect) (old new : List Event) → Steps e (seen syncs (view_of old)) (seen syncs (view_of new))
+    → (w : World) → IsTrue (is_honest_after w new) → e (alone (bytes_after w old)) (alone (bytes_after w new))
+each_alone syncs e old new steps w honest =
+    let code = code_of w in
+    let did = alone_by syncs e old new steps code (code_honest w new honest) in
+    let first = subst (λ (b : List ℕ). e (alone b) (alone (world_after [] (world_of code) new).held)) (held_is [] (world_of code) old) did in
+    let both = subst (λ (b : List ℕ). e (alone (bytes_after (world_of code) old)) (alone b)) (held_is [] (world_of code) new) first in
+    subst (λ (v : World). e (alone (bytes_after v old)) (alone (bytes_after v new))) (world_of_code w) both
+
+pub steps_falls : (syncs : Syncs) (e : Effect) (old new : List Event) → Steps e (seen syncs (view_of old)) (seen syncs (view_of new)) → FallsAsked old new
+steps_falls Never e old new steps s h = steps.falls (0 ∷ s) h
+steps_falls Ordered e old new steps s h = steps.falls (0 ∷ s) h
+
+pub does_asked : {X E : Type 0} (syncs : Syncs) (well : X → Effect) (badly : Effect) (r : Result X E) (old new : List Event)
+    → Does well badly r (seen syncs (view_of old)) (seen syncs (view_of new)) → FallsAsked old new
+does_asked syncs well badly (Ok x) old new steps = steps_falls syncs (well x) old new steps
+does_asked syncs well badly (Err e) old new steps = steps_falls syncs badly old new steps
+
+pub does_falls : {X E : Type 0} (syncs : Syncs) (well : X → Effect) (badly : Effect) (r : Result X E) (old new : List Event)
+    → Does well badly r (seen syncs (view_of old)) (seen syncs (view_of new)) → Falls old new
+does_falls syncs well badly r old new steps = falls_asked old new (does_asked syncs well badly r old new steps)
+
+bytes_there : (h : Held) → IsTrue (is_there h) → h ≡ Bytes (bytes_of h)
+bytes_there Missing there = absurd (false≢true there)
+bytes_there (Bytes file) there = refl
+
+there_bytes : (h : Held) → h ≡ Bytes (bytes_of h) → IsTrue (is_there h)
+there_bytes h is = ap is_there is
+
+-- a file that there is stays there
+pub stays_open : (old new : List Event) → FallsAsked old new → (w : World) → IsTrue (is_honest_after w new)
+    → held_after w old ≡ Bytes (bytes_after w old) → held_after w new ≡ Bytes (bytes_after w new)
+stays_open old new falls w h is = bytes_there (held_after w new) (still_there old new falls w h (there_bytes (held_after w old) is))
 
 -- ---- marks
 
--- a file for which the look for a mark said no
-no_mark : (o : Option Mark) → (IsSome o → ⊥) → o ≡ None
-no_mark None denied = refl
-no_mark (Some mark) denied = absurd (denied refl)
+-- a file without a mark stands for itself
+pub unmarked_itself : (bytes : List ℕ) → mark_of bytes ≡ None → settled file_end bytes ≡ bytes
+unmarked_itself bytes none = by_mark file_end bytes ∙ ap (λ (m : Option marks.Mark). settled_by file_end m bytes) none
 
-pub told_unmarked : (is : Bool) (o : Option Mark) → IsTrue is ↔ IsSome o → is ≡ false → o ≡ None
-told_unmarked is o told denied = no_mark o (λ some. false≢true (sym denied ∙ told.1 some))
+pub database_unmarked : (bytes : List ℕ) → IsDatabase bytes → mark_of bytes ≡ None
+database_unmarked bytes is = plain_read bytes is.begins
 
-pub told_marked : (is : Bool) (o : Option Mark) → IsTrue is ↔ IsSome o → is ≡ true → IsSome o
-told_marked is o told agrees = told.0 agrees
+pub sound_unmarked : (h : Held) (bytes : List ℕ) → h ≡ Bytes bytes → mark_of bytes ≡ None → IsSound h
+sound_unmarked h bytes is none = subst IsSound (sym is) (λ marked. let some : IsSome {T = marks.Mark} None = subst (λ (m : Option marks.Mark). IsSome m) none marked in absurd cc)
 
--- what a sound file with a mark stands for
-pub database_stands : (standing : Standing) (file : List ℕ) → StandsSo standing file → ¬ IsNoFile (settled file) → IsDatabaseStanding standing
-database_stands (Database database) file so some = tt
-database_stands (Unrecorded database end) file so some = absurd (some so)
-database_stands Nothing file so some = absurd (some so)
+pub itself : (h : Held) (bytes : List ℕ) → h ≡ Bytes bytes → mark_of bytes ≡ None → represented h ≡ Bytes bytes
+itself h bytes is none = ap represented is ∙ ap (λ (b : List ℕ). Bytes b) (unmarked_itself bytes none)
 
-pub something_stands : (standing : Standing) (file : List ℕ) → StandsSo standing file → ¬ IsNoFile (settled file) → standing ≡ Nothing → ⊥
-something_stands (Database database) file so some nothing = cc
-something_stands (Unrecorded database end) file so some nothing = cc
-something_stands Nothing file so some nothing = some so
+-- a file that begins with a zero, or has no bytes
+zero_begins : (file rest : List ℕ) → slice_index file 0 ≡ 0 → begins_with file (82 ∷ rest) ≡ false
+zero_begins [] rest zeroed = refl
+zero_begins (x ∷ file) rest zeroed = subst (λ (y : ℕ). begins_with (y ∷ file) (82 ∷ rest) ≡ false) (sym zeroed) refl
 
--- what a sound file with a mark represents
-pub some_settled : (h : Held) → IsSound h → h ≡ Bytes (bytes_of h) → IsSome (mark_of (bytes_of h)) → ¬ IsNoFile (settled (bytes_of h))
-some_settled Missing sound is marked = absurd cc
-some_settled (Bytes file) sound is marked = sound marked
+pub zero_unmarked : (bytes : List ℕ) → slice_index bytes 0 ≡ 0 → mark_of bytes ≡ None
+zero_unmarked bytes zeroed =
+    let cut : begins_with bytes cut_mark ≡ false = zero_begins bytes (drop 1 cut_mark) zeroed in
+    let log : begins_with bytes (log_mark (spelled_tail bytes)) ≡ false = zero_begins bytes (drop 1 (log_mark (spelled_tail bytes))) zeroed in
+    is_plain bytes cut log
 
--- ---- the first bytes
+-- ---- databases
 
--- the first numbers of two lists are the same, or one is not
-same_below : (a b : List ℕ) (n : ℕ) → ((i : ℕ) → i < n → slice_index a i ≡ slice_index b i) ⊎ ((i : ℕ) × (i < n) × (slice_index a i ≡ slice_index b i → ⊥))
-same_below a b zero = inl (λ i low. absurd (omega arith))
-same_below a b (suc n) = elim (same_below a b n) [
-  | inl same ↦ elim (cases_eq (slice_index a n) (slice_index b n)) [
-    | inl next ↦ inl (λ i low. elim (cases_lt i n) as (λ _. slice_index a i ≡ slice_index b i) [
-      | inl below ↦ same i below
-      | inr above ↦ let here : n ≡ i = omega arith in subst (λ (k : ℕ). slice_index a k ≡ slice_index b k) here next
-    ])
-    | inr differs ↦ inr (n, omega arith, differs)
-  ]
-  | inr (i, low, differs) ↦ inr (i, omega arith, differs)
-]
+-- the first four bytes
+four : (bytes : List ℕ) (i : ℕ) → i < 4 → take 4 bytes ≡ 82 ∷ 82 ∷ 68 ∷ 73 ∷ [] → slice_index bytes i ≡ slice_index database_mark i
+four bytes i low same = sym (get_or-take 4 bytes i 0 low) ∙ ap (λ (b : List ℕ). slice_index b i) same
 
-pub database_or_not : (bytes : List ℕ) → IsDatabase bytes ⊎ (IsDatabase bytes → ⊥)
-database_or_not bytes = elim (cases_lt (length bytes) 16) [
-  | inl short ↦ inr (λ database. absurd (omega (arith, database.enough)))
-  | inr long ↦ elim (same_below bytes database_mark 4) [
-    | inl same ↦ inl (record { enough = long; begins = same })
-    | inr (i, low, differs) ↦ inr (λ database. differs (database.begins i low))
-  ]
-]
+pub file_database : Laws → (bytes : List ℕ) (d : Stored) → IsFile bytes d → IsDatabase bytes
+file_database laws bytes d file =
+    let begins = laws.begins bytes d file in
+    record {
+      enough = begins.0;
+      begins = record {
+        within = omega (arith, begins.0);
+        each = λ i low. let here : 0 + i ≡ i = omega arith in ap (slice_index bytes) here ∙ four bytes i low begins.1;
+      };
+    }
 
--- too few bytes
-pub short_file : (file : List ℕ) (n : ℕ) → n ≡ length file → n < 4 → IsDatabase file → ⊥
-short_file file n is few database = absurd (omega (arith, database.enough))
+pub any_database : Laws → (bytes : List ℕ) → IsAnyFile bytes → IsDatabase bytes
+any_database laws bytes (d, file) = file_database laws bytes d file
 
--- a file whose first bytes differ from the mark of a database
-pub not_database : (file start : List ℕ) → AreAt file 0 4 start → starts_with nat_eq start database_mark ≡ false → IsDatabase file → ⊥
-not_database file start at differs database =
-    let each : (i : ℕ) → i < 4 → slice_index start i ≡ slice_index database_mark i = λ i low.
-    let here : 0 + i ≡ i = omega arith in at.each i low ∙ ap (slice_index file) here ∙ database.begins i low in
-    let same : start ≡ database_mark = text_from_reads start database_mark at.len (each 0 (lit< tt), (each 1 (lit< tt), (each 2 (lit< tt), (each 3 (lit< tt), tt)))) in
-    let agrees : starts_with nat_eq start database_mark ≡ true = ap (λ (s : List ℕ). starts_with nat_eq s database_mark) same in
-    false≢true (sym differs ∙ agrees)
+pub any_enough : Laws → (bytes : List ℕ) → IsAnyFile bytes → 16 ≤ length bytes
+any_enough laws bytes any = (any_database laws bytes any).enough
 
--- a fault of the bytes
-pub no_file_by_fault : (file : List ℕ) (fault : FileFault) → HasOneAnswer file → IsOfFile (Err fault) → Decodes (Some (Bytes file)) (Err (File fault)) → IsNoFile file
-no_file_by_fault file fault one of_bytes answer = λ d is. let same : Err fault ≡ Ok d = one (Err fault) (Ok d) answer is of_bytes tt in absurd cc
+pub whole_end : Laws → (bytes : List ℕ) → IsAnyFile bytes → IsWhole file_end bytes
+whole_end laws bytes (d, file) = record { is = file_database laws bytes d file; ends = laws.ends bytes d file }
+
+pub stands_for : Laws → (now bytes : List ℕ) → IsAnyFile now → Represents now bytes → settled file_end bytes ≡ now
+stands_for laws now bytes any represents = laws.stands now bytes (whole_end laws now any) represents
+
+-- a database that a file without a mark stands for is the file
+pub unmarked_is : Laws → (now bytes : List ℕ) → IsAnyFile now → Represents now bytes → mark_of bytes ≡ None → bytes ≡ now
+unmarked_is laws now bytes any represents none = sym (unmarked_itself bytes none) ∙ stands_for laws now bytes any represents
+
+pub sound_standing : (h : Held) (now : List ℕ) → IsAnyFile now → h ≡ Bytes (bytes_of h) → Represents now (bytes_of h) → IsSound h
+sound_standing h now any there represents = subst IsSound (sym there) (λ marked. (now, record { is = any; represents = represents }))
+
+pub represented_standing : Laws → (h : Held) (now : List ℕ) → IsAnyFile now → h ≡ Bytes (bytes_of h) → Represents now (bytes_of h) → represented h ≡ Bytes now
+represented_standing laws h now any there represents = ap represented there ∙ ap (λ (b : List ℕ). Bytes b) (stands_for laws now (bytes_of h) any represents)
+
+-- ---- what is known of the file
+
+kept_represents : (now bytes : List ℕ) (log : Option Log) → IsKept now log (alone bytes) → Represents now bytes
+kept_represents now bytes None is = inr (inl (cut_under now bytes is.is is.world.held))
+kept_represents now bytes (Some log) is = (log_stands_all now log (alone bytes) is).held
+
+-- whatever kills and failed calls leave, programs read that it stands for the database
+pub left_represents : (end : LogEnd) (other now : List ℕ) (w : views.World) → IsLeft end other now w → Represents now w.held
+left_represents end other now w (inl rest) = inl rest.world.held
+left_represents end other now w (inr (inl cut)) = inr (inl cut.under)
+left_represents end other now w (inr (inr log)) = inr (inr (record { old = log.old; tail = log.tail; changes = log.changes; logged = log.world.held; leads = log.leads; fill = log.fill }))
+
+pub stopped_represents : (end : LogEnd) (old new : List ℕ) (w : views.World) → IsStopped end old new w → RepresentsEither old new w.held
+stopped_represents end old new w (inl left) = inl (left_represents end new old w left)
+stopped_represents end old new w (inr left) = inr (left_represents end old new w left)
+
+pub represents_left : (now bytes : List ℕ) → IsDatabase now → Represents now bytes → IsLeft Whole now now (alone bytes)
+represents_left now bytes is (inl same) = inl (record { is = is; world = record { held = same; leave = λ c may. absurd may; keep = λ c may. absurd may } })
+represents_left now bytes is (inr (inl under)) =
+    inr (inl (record { under = under; uncut = record { is = is; held = inr under; leave = λ c may. absurd may; keep = λ c may. absurd may } }))
+represents_left now bytes is (inr (inr log)) = inr (inr (record {
+  old = log.old;
+  tail = log.tail;
+  changes = log.changes;
+  leads = log.leads;
+  fill = log.fill;
+  world = record { held = log.logged; leave = λ c may. absurd may; keep = λ c may. absurd may };
+}))
+
+pub found_represents : (found : Found) (now bytes : List ℕ) → IsFoundAs found now (alone bytes) → Represents now bytes
+found_represents Unopened now bytes is = left_represents is.end is.other now (alone bytes) is.left
+found_represents NotFound now bytes is = absurd is
+found_represents (Unwritable error) now bytes is = left_represents is.end is.other now (alone bytes) is.left
+found_represents (Open base) now bytes is = inl is.1.world.held
+found_represents (Kept base log) now bytes is = kept_represents now bytes log is.1
+
+stays_sound : (found : Found) (h : Held) → StaysAs found h → IsSound h
+stays_sound found h is = sound_standing h is.now is.file is.there (found_represents found is.now (bytes_of h) is.state)
+
+pub sound_as : (found : Found) (h : Held) → IsSoundAs found h → IsSound h
+sound_as Unopened h is = is
+sound_as NotFound h is = subst IsSound (sym is) tt
+sound_as (Unwritable error) h is = is
+sound_as (Open base) h is = stays_sound (Open base) h is
+sound_as (Kept base log) h is = stays_sound (Kept base log) h is
+
+-- a file of which all is known that is asked
+pub sound_found : (found : Found) (now : List ℕ) (h : Held) → IsAnyFile now → h ≡ Bytes (bytes_of h) → IsFoundAs found now (alone (bytes_of h)) → IsSoundAs found h
+sound_found Unopened now h any there is = sound_standing h now any there (found_represents Unopened now (bytes_of h) is)
+sound_found NotFound now h any there is = absurd is
+sound_found (Unwritable error) now h any there is = sound_standing h now any there (found_represents (Unwritable error) now (bytes_of h) is)
+sound_found (Open base) now h any there is = record { now = now; file = any; there = there; state = is }
+sound_found (Kept base log) now h any there is = record { now = now; file = any; there = there; state = is }
+
+-- a database in a file of which the disk is not asked for
+pub rests_alone : (bytes : List ℕ) → IsDatabase bytes → IsAtRest bytes (alone bytes)
+rests_alone bytes is = record { is = is; world = record { held = refl; leave = λ c may. absurd may; keep = λ c may. absurd may } }
+
+pub began_at : Laws → (base : Base) (bytes : List ℕ) → IsAnyFile bytes → base.length ≡ length bytes → base.first ≡ take 16 bytes → Began base bytes
+began_at laws base bytes any len first = record { is = any_database laws bytes any; length = len; first = first }
+
+-- a file that is a database, and begins so
+pub found_open : Laws → (base : Base) (h : Held) → h ≡ Bytes (bytes_of h) → IsAnyFile (bytes_of h) → base.length ≡ length (bytes_of h) → base.first ≡ take 16 (bytes_of h) → StaysAs (Open base) h
+found_open laws base h there any len first = record {
+  now = bytes_of h;
+  file = any;
+  there = there;
+  state = (began_at laws base (bytes_of h) any len first, rests_alone (bytes_of h) (any_database laws (bytes_of h) any));
+}
 
 -- ---- results
-
-pub on_ok : {T E : Type 0} (r : Result T E) (P Q : Type 0) → (P → Q) → OnOk r P → OnOk r Q
-on_ok (Ok x) P Q f p = f p
-on_ok (Err e) P Q f p = tt
 
 pub if_ok_at : {T E : Type 0} (P : T → Type 0) (r : Result T E) (x : T) → r ≡ Ok x → IfOk r P → P x
 if_ok_at {T} {E} P r x is each = subst (λ (q : Result T E). IfOk q P) is each
@@ -129,271 +233,112 @@ if_ok_at {T} {E} P r x is each = subst (λ (q : Result T E). IfOk q P) is each
 pub says_at : {F E : Type 0} (r : Result (Entry F) E) (entry : Entry F) (events : List Event) → r ≡ Ok entry → IfOk r (λ e. SaysEntry e events) → SaysEntry entry events
 says_at {F} {E} r entry events is says = subst (λ (q : Result (Entry F) E). IfOk q (λ e. SaysEntry e events)) is says
 
-pub on_err : {T E : Type 0} (r : Result T E) (P Q : Type 0) → (P → Q) → OnErr r P → OnErr r Q
-on_err (Ok x) P Q f p = tt
-on_err (Err e) P Q f p = f p
+-- a fault of the bytes
+pub no_file_by_fault : (file : List ℕ) (fault : FileFault) → HasOneAnswer file → IsOfFile (Err fault) → Decodes (Some (Bytes file)) (Err (File fault)) → IsNoFile file
+no_file_by_fault file fault one of_bytes answer = λ d is. let same : Err fault ≡ Ok d = one (Err fault) (Ok d) answer is of_bytes tt in absurd cc
 
 -- ---- loading
 
--- a file that was made, if there was none
-abbrev pub IsMade : Held → Held → Type 0
-IsMade old new = (new ≡ old) ⊎ ((old ≡ Missing) × (new ≡ Bytes []))
+pub told_unmarked : (is : Bool) (o : Option marks.Mark) → IsTrue is ↔ IsSome o → is ≡ false → o ≡ None
+told_unmarked is None told denied = refl
+told_unmarked is (Some mark) told denied = absurd (false≢true (sym denied ∙ told.1 refl))
 
 -- the file stays, and its database is found
-pub loaded_same : (result : Result (Option Stored) TaskFault) (old new : Held) → new ≡ old → IsSound old
-    → Finds (Some (represented old)) result → IsLoaded result old new
-loaded_same result old new same sound finds = (subst IsSound (sym same) sound, ap represented same, finds)
+pub loaded_same : (found : Found) (result : Result (Option Stored) TaskFault) (old new : Held) → new ≡ old → IsSoundAs found new
+    → Finds (Some (represented old)) result → IsLoaded found result old new
+loaded_same found result old new same sound finds = record { sound = sound; same = ap represented same; finds = finds }
 
 -- a result that is so of any bytes
 pub finds_there : (result : Result (Option Stored) TaskFault) (h : Held) → h ≡ Bytes (bytes_of h)
     → ((bytes : List ℕ) → Finds (Some (Bytes bytes)) result) → Finds (Some (represented h)) result
-finds_there result h is each = subst (λ (k : Held). Finds (Some (represented k)) result) (sym is) (each (settled (bytes_of h)))
+finds_there result h is each = subst (λ (k : Held). Finds (Some (represented k)) result) (sym is) (each (settled file_end (bytes_of h)))
 
 -- the file could not be opened
 pub finds_closed : (fault : TaskFault) (held : Option Held) → fault ≡ CannotOpen → Finds held (Err fault)
 finds_closed fault held is = subst (λ (f : TaskFault). Finds held (Err f)) (sym is) tt
 
--- what is so of the file before is so of the same file
-pub loaded_from : (result : Result (Option Stored) TaskFault) (old mid new : Held) → mid ≡ old → IsLoaded result mid new → IsLoaded result old new
-loaded_from result old mid new same is = subst (λ (h : Held). IsLoaded result h new) same is
+-- what is so of the file before is so of a file that represents the same
+pub loaded_from : (found : Found) (result : Result (Option Stored) TaskFault) (old mid new : Held) → represented mid ≡ represented old → IsLoaded found result mid new → IsLoaded found result old new
+loaded_from found result old mid new same is = record {
+  sound = is.sound;
+  same = is.same ∙ same;
+  finds = subst (λ (h : Held). Finds (Some h) result) same is.finds;
+}
 
--- ---- replacing, without the laws
+-- ---- repairing
 
-pub near_same : (old new : Held) → new ≡ old → IsNearly old new
-near_same old new same = inl (ap represented same)
+-- a file that a change has left, and its mark
+pub marked_for : Laws → (now : List ℕ) (mark : Mark) (bytes : List ℕ) → StandFor now bytes → IsMarkOf mark bytes → IsFound Whole now now mark (alone bytes)
+marked_for laws now mark bytes stand is = record {
+  is = any_database laws now stand.is;
+  mark_is = is;
+  left = represents_left now bytes (any_database laws now stand.is) stand.represents;
+}
 
--- what is nearly so twice is nearly so
-pub near_twice : (old mid new : Held) → IsNearly old mid → IsNearly mid new → IsNearly old new
-near_twice old mid new (inl first) (inl second) = inl (second ∙ first)
-near_twice old mid new (inl first) (inr (none, bytes, is, denied)) = inr (subst HasNone first none, bytes, is, denied)
-near_twice old mid new (inr (none, bytes, is, denied)) (inl second) = inr (none, bytes, second ∙ is, denied)
-near_twice old mid new (inr (none, first_bytes, first_is, first_no)) (inr (mid_none, bytes, is, denied)) = inr (none, bytes, is, denied)
+pub stand_sound : (h : Held) → IsSound h → h ≡ Bytes (bytes_of h) → IsSome (mark_of (bytes_of h)) → (now : List ℕ) × StandFor now (bytes_of h)
+stand_sound Missing sound is marked = absurd cc
+stand_sound (Bytes bytes) sound is marked = sound marked
 
-pub prepared_twice : {E : Type 0} (result : Result (Unit {0}) E) (old mid new : Held) → IsNearly old mid → IsPrepared result mid new → IsPrepared result old new
-prepared_twice (Ok x) old mid new near (sound, later, ready) = (sound, near_twice old mid new near later, ready)
-prepared_twice (Err e) old mid new near (sound, later) = (sound, near_twice old mid new near later)
+-- ---- replacing
 
-pub prepared_from : {E : Type 0} (result : Result (Unit {0}) E) (old mid new : Held) → mid ≡ old → IsPrepared result mid new → IsPrepared result old new
-prepared_from result old mid new same is = subst (λ (h : Held). IsPrepared result h new) same is
+-- a database that differs within spans differs within the same spans
+pub agrees_in : (changed : List FileSpan) (spans : List Span) (old new : List ℕ) → AreOf (length new) changed spans → file.AgreesOutside changed old new → AgreesOutside spans old new
+agrees_in changed spans old new are agrees = record {
+  each = λ k low. elim (are k low) as (λ _. IsIn k spans ⊎ ((k < length old) × (slice_index new k ≡ slice_index old k))) [
+    | inl beside ↦ let same = agrees.each k low beside in inr (same.0, sym same.1)
+    | inr is ↦ inl is
+  ];
+}
 
-pub unprepared : {E : Type 0} (result : Result (Unit {0}) E) (old new : Held) → IsErr result → IsSound new → IsNearly old new → IsPrepared result old new
-unprepared (Ok x) old new failed sound near = absurd (false≢true failed)
-unprepared (Err e) old new failed sound near = (sound, near)
+-- a change that failed: the file stands for the one database or for the other
+pub left_broken : Laws → (left : Found) (now bytes : List ℕ) (old new : Held) → IsAnyFile now → IsAnyFile bytes → left ≡ Unopened
+    → represented old ≡ Bytes now → new ≡ Bytes (bytes_of new) → RepresentsEither now bytes (bytes_of new)
+    → IsSoundAs left new × IsAfterFailure (Some (represented old)) (Some (represented new)) bytes
+left_broken laws left now bytes old new was any closed is there (inl stands) = (
+  subst (λ (f : Found). IsSoundAs f new) (sym closed) (sound_standing new now was there stands),
+  inl (represented_standing laws new now was there stands ∙ sym is),
+)
+left_broken laws left now bytes old new was any closed is there (inr stands) = (
+  subst (λ (f : Found). IsSoundAs f new) (sym closed) (sound_standing new bytes any there stands),
+  inr (inl (ap (λ (h : Held). Some h) (represented_standing laws new bytes any there stands))),
+)
 
--- ---- the same file
-
-pub open_kept : (old mid : Held) → mid ≡ old → old ≡ Bytes (bytes_of old) → mid ≡ Bytes (bytes_of mid)
-open_kept old mid same is = subst (λ (h : Held). h ≡ Bytes (bytes_of h)) (sym same) is
-
-pub sound_kept : (old mid : Held) → mid ≡ old → IsSound old → IsSound mid
-sound_kept old mid same sound = subst IsSound (sym same) sound
-
-pub some_kept : (old mid : Held) → mid ≡ old → IsSound old → old ≡ Bytes (bytes_of old) → IsSome (mark_of (bytes_of old)) → ¬ IsNoFile (settled (bytes_of mid))
-some_kept old mid same sound is marked = subst (λ (h : Held). ¬ IsNoFile (settled (bytes_of h))) (sym same) (some_settled old sound is marked)
-
--- a file that is only read
-pub loaded_standing : (result : Result (Option Stored) TaskFault) (old new : Held) → old ≡ Bytes (bytes_of old) → IsSound old
-    → new ≡ old → Finds (Some (Bytes (settled (bytes_of old)))) result → IsLoaded result old new
-loaded_standing result old new is sound same finds =
-    loaded_same result old new same sound (subst (λ (h : Held). Finds (Some (represented h)) result) (sym is) finds)
-
-module _ (laws : Laws) where
-  -- a file without a mark
-  loaded_bytes : (result : Result (Option Stored) TaskFault) (file : List ℕ) (new : Held) → new ≡ Bytes file → mark_of file ≡ None
-      → Finds (Some (Bytes (bytes_of new))) result → IsLoaded result (Bytes file) new
-  loaded_bytes result file new same none finds = (
-    sound_unmarked laws new file same none,
-    ap represented same,
-    subst (λ (b : List ℕ). Finds (Some (Bytes b)) result) (ap bytes_of same ∙ sym (laws.unmarked file none)) finds,
-  )
-
-  pub loaded_unmarked : (result : Result (Option Stored) TaskFault) (old new : Held) → old ≡ Bytes (bytes_of old) → mark_of (bytes_of old) ≡ None
-      → new ≡ old → Finds (Some (Bytes (bytes_of new))) result → IsLoaded result old new
-  loaded_unmarked result old new is none same finds =
-      subst (λ (h : Held). IsLoaded result h new) (sym is) (loaded_bytes result (bytes_of old) new (same ∙ is) none finds)
-
-  -- a file that was repaired, and then read
-  pub loaded_repaired : (result : Result (Option Stored) TaskFault) (old fixed new : Held) → old ≡ Bytes (bytes_of old) → ¬ IsNoFile (settled (bytes_of old))
-      → IsTrue (is_there fixed) → bytes_of fixed ≡ settled (bytes_of old)
-      → new ≡ fixed → Finds (Some (Bytes (bytes_of new))) result → IsLoaded result old new
-  loaded_repaired result old fixed new is some there repaired same finds =
-      let file = bytes_of old in
-      let after : new ≡ Bytes (settled file) = same ∙ bytes_there fixed there ∙ ap (λ (b : List ℕ). Bytes b) repaired in
-      let none = some_unmarked laws (settled file) some in (
-        sound_unmarked laws new (settled file) after none,
-        itself laws new (settled file) after none ∙ sym (ap represented is),
-        subst (λ (h : Held). Finds (Some (represented h)) result) (sym is) (subst (λ (b : List ℕ). Finds (Some (Bytes b)) result) (ap bytes_of after) finds),
-      )
-
-  -- a file that could not be repaired
-  pub loaded_broken : (result : Result (Option Stored) TaskFault) (old new : Held) → old ≡ Bytes (bytes_of old) → ¬ IsNoFile (settled (bytes_of old))
-      → IsTrue (is_there new) → settled (bytes_of new) ≡ settled (bytes_of old)
-      → Finds (Some (Bytes (settled (bytes_of old)))) result → IsLoaded result old new
-  loaded_broken result old new is some there same finds =
-      let after : new ≡ Bytes (bytes_of new) = bytes_there new there in (
-        subst IsSound (sym after) (λ marked. λ denied. some (subst IsNoFile same denied)),
-        ap represented after ∙ ap (λ (b : List ℕ). Bytes b) same ∙ sym (ap represented is),
-        subst (λ (h : Held). Finds (Some (represented h)) result) (sym is) finds,
-      )
-
-  -- ---- replacing
-
-  -- a file that has a database, as the run found
-  pub there_readable : (h : Held) → ¬ IsNoFile (bytes_of h) → h ≡ Bytes (bytes_of h)
-  there_readable Missing some = absurd (some (none_empty laws))
-  there_readable (Bytes file) some = refl
-
-  pub there_standing : (h : Held) → ¬ IsNoFile (settled (bytes_of h)) → h ≡ Bytes (bytes_of h)
-  there_standing Missing some = absurd (some (subst IsNoFile (sym (laws.unmarked [] unmarked_empty)) (none_empty laws)))
-  there_standing (Bytes file) some = refl
-
-  pub ready_readable : (h : Held) → ¬ IsNoFile (bytes_of h) → IsReady h
-  ready_readable h some = record { there = there_readable h some; unmarked = some_unmarked laws (bytes_of h) some; is = λ begins. some }
-
-  ready_empty : IsReady (Bytes [])
-  ready_empty = record { there = refl; unmarked = unmarked_empty; is = λ begins. absurd (omega (arith, begins.enough)) }
-
-  pub prepared_readable : (old : Held) → IsSound old → ¬ IsNoFile (bytes_of old) → IsSound old × IsNearly old old × IsReady old
-  prepared_readable old sound some = (sound, inl refl, ready_readable old some)
-
-  -- an interrupted change that was repaired
-  pub prepared_repaired : {E : Type 0} (result : Result (Unit {0}) E) (old new : Held) → old ≡ Bytes (bytes_of old) → ¬ IsNoFile (settled (bytes_of old))
-      → IsTrue (is_there new) → settled (bytes_of new) ≡ settled (bytes_of old) → OnOk result (bytes_of new ≡ settled (bytes_of old)) → IsPrepared result old new
-  prepared_repaired (Ok x) old new is some there same repaired =
-      let after : new ≡ Bytes (bytes_of new) = bytes_there new there in
-      let now : ¬ IsNoFile (bytes_of new) = λ denied. some (subst IsNoFile repaired denied) in (
-        sound_unmarked laws new (bytes_of new) after (some_unmarked laws (bytes_of new) now),
-        inl (ap represented after ∙ ap (λ (b : List ℕ). Bytes b) same ∙ sym (ap represented is)),
-        ready_readable new now,
-      )
-  prepared_repaired (Err e) old new is some there same repaired =
-      let after : new ≡ Bytes (bytes_of new) = bytes_there new there in (
-        subst IsSound (sym after) (λ marked. λ denied. some (subst IsNoFile same denied)),
-        inl (ap represented after ∙ ap (λ (b : List ℕ). Bytes b) same ∙ sym (ap represented is)),
-      )
-
-  unprepared_unmarked : (old new : Held) → old ≡ Bytes (bytes_of old) → mark_of (bytes_of old) ≡ None → new ≡ old → IsSound new × IsNearly old new
-  unprepared_unmarked old new is none same = (sound_unmarked laws new (bytes_of old) (same ∙ is) none, near_same old new same)
-
-  -- a file that begins with a zero
-  prepared_zero : (old new : Held) → old ≡ Bytes (bytes_of old) → mark_of (bytes_of old) ≡ None → IsNoFile (bytes_of old)
-      → IsTrue (is_there new) → slice_index (bytes_of new) 0 ≡ 0 → IsSound new × IsNearly old new × IsReady new
-  prepared_zero old new is none denied there zeroed =
-      let after : new ≡ Bytes (bytes_of new) = bytes_there new there in
-      let unmarked = unmarked_zero (bytes_of new) zeroed in
-      let begins = not_begun (bytes_of new) zeroed in (
-        sound_unmarked laws new (bytes_of new) after unmarked,
-        inr (
-          subst HasNone (sym (itself laws old (bytes_of old) is none)) denied,
-          bytes_of new,
-          itself laws new (bytes_of new) after unmarked,
-          none_by_start laws (bytes_of new) begins,
-        ),
-        record { there = after; unmarked = unmarked; is = λ database. absurd (begins database) },
-      )
-
-  zero_put : (zeros old new : List ℕ) → 0 < length zeros → slice_index zeros 0 ≡ 0 → ArePut 0 zeros old new → slice_index new 0 ≡ 0
-  zero_put zeros old new some zeroed put = put.inside 0 some ∙ zeroed
-
-  pub prepared_spoilt : {E : Type 0} (result : Result (Unit {0}) E) (zeros : List ℕ) (old new : Held)
-      → 0 < length zeros → slice_index zeros 0 ≡ 0
-      → old ≡ Bytes (bytes_of old) → mark_of (bytes_of old) ≡ None → IsNoFile (bytes_of old) → IsTrue (is_there new)
-      → OnOk result (ArePut 0 zeros (bytes_of old) (bytes_of new)) → OnErr result (AreWholeOrNot 0 zeros (bytes_of old) (bytes_of new))
-      → IsPrepared result old new
-  prepared_spoilt (Ok x) zeros old new some zeroed is none denied there ok err =
-      prepared_zero old new is none denied there (zero_put zeros (bytes_of old) (bytes_of new) some zeroed ok)
-  prepared_spoilt (Err e) zeros old new some zeroed is none denied there ok (inl same) =
-      unprepared_unmarked old new is none (bytes_there new there ∙ ap (λ (b : List ℕ). Bytes b) same ∙ sym is)
-  prepared_spoilt (Err e) zeros old new some zeroed is none denied there ok (inr put) =
-      let all = prepared_zero old new is none denied there (zero_put zeros (bytes_of old) (bytes_of new) some zeroed put) in
-      (all.0, all.1)
-
-  pub made_near : (old new : Held) → IsMade old new → IsNearly old new
-  made_near old new (inl same) = near_same old new same
-  made_near old new (inr (missing, empty)) = inr (
-    subst HasNone (sym (ap represented missing)) tt,
-    [],
-    ap represented empty ∙ ap (λ (b : List ℕ). Bytes b) (laws.unmarked [] unmarked_empty),
-    none_empty laws,
-  )
-
-  sound_empty : (h : Held) → h ≡ Bytes [] → IsSound h
-  sound_empty h is = sound_unmarked laws h [] is unmarked_empty
-
-  pub made_sound : (old new : Held) → IsMade old new → IsSound old → IsSound new
-  made_sound old new (inl same) sound = subst IsSound (sym same) sound
-  made_sound old new (inr (missing, empty)) sound = sound_empty new empty
-
-  pub prepared_made : {E : Type 0} (result : Result (Unit {0}) E) (old new : Held) → IsMade old new → IsSound old → OnOk result (new ≡ Bytes []) → IsPrepared result old new
-  prepared_made (Ok x) old new made sound empty = (
-    made_sound old new made sound,
-    made_near old new made,
-    subst IsReady (sym empty) ready_empty,
-  )
-  prepared_made (Err e) old new made sound empty = (made_sound old new made sound, made_near old new made)
-
-  -- ---- the new bytes
-
-  pub after_near : (bytes : List ℕ) (old mid new : Held) → IsNearly old mid → represented new ≡ represented mid → IsAfterFailure (Some (represented old)) (Some (represented new)) bytes
-  after_near bytes old mid new (inl near) same = inl (same ∙ near)
-  after_near bytes old mid new (inr (none, left, is, denied)) same = inr (inr (none, left, ap (λ (h : Held). Some h) (same ∙ is), denied))
-
-  -- the file stands for these bytes
-  stands_for : (bytes : List ℕ) (new : Held) → IsTrue (is_there new) → settled (bytes_of new) ≡ bytes → represented new ≡ Bytes bytes
-  stands_for bytes new there is = ap represented (bytes_there new there) ∙ ap (λ (b : List ℕ). Bytes b) is
-
-  sound_standing : (bytes : List ℕ) (new : Held) → IsTrue (is_there new) → settled (bytes_of new) ≡ bytes → ¬ IsNoFile bytes → IsSound new
-  sound_standing bytes new there is some = subst IsSound (sym (bytes_there new there)) (λ marked. λ denied. some (subst IsNoFile is denied))
-
-  written : (bytes : List ℕ) (new : Held) → IsAnyFile bytes → IsTrue (is_there new) → settled (bytes_of new) ≡ bytes → IsSound new × (represented new ≡ Bytes bytes)
-  written bytes new (d, file) there is = (sound_standing bytes new there is (λ denied. denied d file), stands_for bytes new there is)
-
-  module _ (bytes : List ℕ) (old mid new : Held) (any : IsAnyFile bytes) (near : IsNearly old mid)
-      (ready : IsReady mid) (there : IsTrue (is_there new)) where
-    abbrev Left : Type 0
-    Left = IsSound new × IsAfterFailure (Some (represented old)) (Some (represented new)) bytes
-
-    became : settled (bytes_of new) ≡ bytes → Left
-    became is = let done = written bytes new any there is in (done.0, inr (inl (ap (λ (h : Held). Some h) done.1)))
-
-    -- there was a database
-    failed_database : IsDatabase (bytes_of mid) → (settled (bytes_of new) ≡ bytes_of mid) ⊎ (settled (bytes_of new) ≡ bytes) → Left
-    failed_database database (inl same) = (
-      sound_standing (bytes_of mid) new there same (ready.is database),
-      after_near bytes old mid new near (stands_for (bytes_of mid) new there same ∙ sym (itself laws mid (bytes_of mid) ready.there ready.unmarked)),
+-- a change that ended well, or failed
+pub written_from : {E : Type 0} → Laws → (found left : Found) (changed : List FileSpan) (spans : List Span) (bytes : List ℕ) (result : Result (Unit {0}) E) (syncs : Syncs) (old new : List Event)
+    → IsAnyFile bytes → AreOf (length bytes) changed spans → OnErr result (left ≡ Unopened)
+    → Does (λ x. Changes found left spans bytes) (Breaks found spans bytes) result (seen syncs (view_of old)) (seen syncs (view_of new))
+    → (s : World) → IsTrue (is_honest_after s new) → StaysAs found (held_after s old) → MayDiffer changed (represented (held_after s old)) bytes
+    → IsSoundAs left (held_after s new) × IsWritten result bytes (held_after s old) (held_after s new)
+written_from laws found left changed spans bytes (Ok x) syncs old new any are failed does s honest is differs =
+    let was = represented_standing laws (held_after s old) is.now is.file is.there (found_represents found is.now (bytes_after s old) is.state) in
+    let there = stays_open old new (steps_falls syncs (Changes found left spans bytes) old new does) s honest is.there in
+    let state = each_alone syncs (Changes found left spans bytes) old new does s honest is.now is.file (agrees_in changed spans is.now bytes are (differs is.now was is.file)) is.state in (
+      sound_found left bytes (held_after s new) any there state,
+      represented_standing laws (held_after s new) bytes any there (found_represents left bytes (bytes_after s new) state),
     )
-    failed_database database (inr is) = became is
+written_from laws found left changed spans bytes (Err e) syncs old new any are failed does s honest is differs =
+    let was = represented_standing laws (held_after s old) is.now is.file is.there (found_represents found is.now (bytes_after s old) is.state) in
+    let there = stays_open old new (steps_falls syncs (Breaks found spans bytes) old new does) s honest is.there in
+    let broken = each_alone syncs (Breaks found spans bytes) old new does s honest is.now is.file (agrees_in changed spans is.now bytes are (differs is.now was is.file)) is.state in
+    left_broken laws left is.now bytes (held_after s old) (held_after s new) is.file any failed was there (stopped_represents broken.0 is.now bytes (alone (bytes_after s new)) broken.1)
 
-    -- there was none
-    none_before : IsNoFile (bytes_of mid) → IsNearly old mid → HasNone (represented old)
-    none_before denied (inl same) = subst HasNone (sym (itself laws mid (bytes_of mid) ready.there ready.unmarked) ∙ same) denied
-    none_before denied (inr (none, left, is, left_no)) = none
+-- a file that has a database is there
+pub there_file : Laws → (h : Held) (d : Stored) → IsFile (bytes_of h) d → h ≡ Bytes (bytes_of h)
+there_file laws Missing d file = absurd (omega (arith, (laws.begins [] d file).0))
+there_file laws (Bytes bytes) d file = refl
 
-    failed_none : (IsDatabase (bytes_of mid) → ⊥)
-        → (bytes_of new ≡ bytes_of mid) ⊎ (bytes_of new ≡ bytes) ⊎ IsNoDatabase (bytes_of new) → Left
-    failed_none begins (inl same) =
-        let now : new ≡ mid = bytes_there new there ∙ ap (λ (b : List ℕ). Bytes b) same ∙ sym ready.there in
-        (sound_unmarked laws new (bytes_of mid) (now ∙ ready.there) ready.unmarked, after_near bytes old mid new near (ap represented now))
-    failed_none begins (inr (inl is)) =
-        became (ap settled is ∙ laws.unmarked bytes (laws.database bytes (file_database laws bytes any.0 any.1)))
-    failed_none begins (inr (inr (left, unmarked))) =
-        let now : new ≡ Bytes (bytes_of new) = bytes_there new there in (
-          sound_unmarked laws new (bytes_of new) now unmarked,
-          inr (inr (
-            none_before (none_by_start laws (bytes_of mid) begins) near,
-            bytes_of new,
-            ap (λ (h : Held). Some h) (itself laws new (bytes_of new) now unmarked),
-            none_by_start laws (bytes_of new) left,
-          )),
-        )
+-- ---- by the state in which the file was found
 
-    pub after_replacing : {E : Type 0} (result : Result (Unit {0}) E) → OnOk result (settled (bytes_of new) ≡ bytes)
-        → (IsDatabase (bytes_of mid) → (settled (bytes_of new) ≡ bytes_of mid) ⊎ (settled (bytes_of new) ≡ bytes))
-        → OnErr result ((IsDatabase (bytes_of mid) → ⊥) → mark_of (bytes_of mid) ≡ None
-        → (bytes_of new ≡ bytes_of mid) ⊎ (bytes_of new ≡ bytes) ⊎ IsNoDatabase (bytes_of new))
-        → IsSound new × IsWritten result bytes old new
-    after_replacing (Ok x) ok stands spoilt = written bytes new any there ok
-    after_replacing (Err e) ok stands spoilt = elim (database_or_not (bytes_of mid)) [
-      | inl database ↦ failed_database database (stands database)
-      | inr begins ↦ failed_none begins (spoilt begins ready.unmarked)
-    ]
+pub sound_at : (found is : Found) (h : Held) → found ≡ is → IsSoundAs found h → IsSoundAs is h
+sound_at found is h same sound = subst (λ (f : Found). IsSoundAs f h) same sound
+
+pub whole_may_differ : (bytes : List ℕ) (h : Held) → MayDiffer (record { start = 0; end = length bytes } ∷ []) h bytes
+whole_may_differ bytes h = λ now is any. all_agree now bytes
+
+-- a file that was found open is there
+pub found_there : (found : Found) (h : Held) → IsOpen found → IsSoundAs found h → h ≡ Bytes (bytes_of h)
+found_there Unopened h is sound = absurd is
+found_there NotFound h is sound = absurd is
+found_there (Unwritable error) h is sound = absurd is
+found_there (Open base) h is sound = sound.there
+found_there (Kept base log) h is sound = sound.there

@@ -1,12 +1,12 @@
 -- The answers of a file that does what it is told are honest.
-use Rattle.std.proofs.Common.{◌≡◌, ◌∙◌, ℕ, zero, suc, ◌==◌, ◌||◌, Bool, IsTrue, List, [], ◌∷◌, length, take, drop, refl, sym, ap, subst, arith, length-take, length-drop}
+use Rattle.std.proofs.Common.{◌≡◌, ◌∙◌, ℕ, zero, suc, ◌==◌, ◌||◌, nat_le, not, Bool, IsTrue, List, [], ◌∷◌, length, take, drop, refl, sym, ap, subst, arith, length-take, length-drop}
 use Rattle.std.proofs.Math.Bool.{or-true}
 use Rattle.std.proofs.lemmas.Bool.{and_from, eq-eqb, le-leb}
 use Rattle.std.proofs.lemmas.List.{take_min}
 use Rattle.std.proofs.lemmas.Slice.Eq.{bytes_eq-Decides}
 use Rattle.rrd_store.specs.Storages.{Held, Missing, Bytes}
 use Rattle.rrd_disk.specs.Events.{Event}
-use Rattle.rrd_disk.specs.Replayed.{World, held_after, is_honest_after, is_honest_call, is_honest_of, is_honest_read, part_after}
+use Rattle.rrd_disk.specs.Replayed.{World, held_after, is_honest_after, is_honest_call, is_honest_of, is_honest_part, is_honest_read, is_small, part_after}
 use Rattle.rrd_disk.specs.Told.{Call, HonestRecordsExist, Locks, Measures, Opens, Reads, Sizes, Syncs, Writes, answer, opened_none, told, told_to, world_from}
 use Rattle.rrd_disk.specs.declared.disk.Opening.{Opening}
 use Rattle.rrd_disk.specs.declared.disk.Opening.TheVariants.{Read, Write, Make}
@@ -22,6 +22,12 @@ read_honest file at wanted (byte ∷ more) is =
     (subst (λ (b : List ℕ). take (length b) (drop at file) ≡ b) (sym is)
     (ap (λ (n : ℕ). take n (drop at file)) (length-take wanted (drop at file)) ∙ take_min wanted (drop at file)))
 
+whole_honest : (at : ℕ) (bytes : List ℕ) → IsTrue (is_honest_part at bytes (length bytes))
+unfolding is_honest_part
+whole_honest at bytes =
+    ap (λ (b : Bool). not (is_small at (length bytes)) || ((length bytes == 0) || b)) (le-leb (length bytes) (length bytes) (omega arith))
+    ∙ ap (λ (b : Bool). not (is_small at (length bytes)) || b) (or-true (length bytes == 0)) ∙ or-true (not (is_small at (length bytes)))
+
 answer_honest : (file : List ℕ) (part : ℕ) (call : Call) → IsTrue (is_honest_call file part (answer file call))
 answer_honest file part (Opens Read) = refl
 answer_honest file part (Opens Write) = refl
@@ -29,7 +35,7 @@ answer_honest file part (Opens Make) = refl
 answer_honest file part (Locks lock) = refl
 answer_honest file part Measures = eq-eqb (length file) (length file) refl
 answer_honest file part (Reads at wanted) = read_honest file at wanted (take wanted (drop at file)) refl
-answer_honest file part (Writes at bytes) = eq-eqb (length bytes) (length bytes) refl
+answer_honest file part (Writes at bytes) = and_from (nat_le (length bytes) (length bytes)) (is_honest_part at bytes (length bytes)) (le-leb (length bytes) (length bytes) (omega arith)) (whole_honest at bytes)
 answer_honest file part (Sizes count) = refl
 answer_honest file part Syncs = refl
 

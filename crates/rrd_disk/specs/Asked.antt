@@ -1,11 +1,11 @@
--- Glue: what `rrd_undo` and `rrd_store` are asked of a file. Their clauses are for each list of numbers, or for each
+-- Glue: what `rrd_change` and `rrd_store` are asked of a file. Their clauses are for each list of numbers, or for each
 -- `Held`, and do not look into it.
-use Rattle.std.specs.Prelude.{ℕ, zero, suc, Bool, true, false, not, ◌&&◌, List, [], ◌∷◌, ◌++◌, length, take, drop, IsTrue}
+use Rattle.std.specs.Prelude.{ℕ, zero, suc, Bool, true, not, ◌&&◌, List, [], ◌∷◌, ◌++◌, length, take, drop, IsTrue}
 use Rattle.rrd_disk.specs.Events.{Event}
 use Rattle.rrd_disk.specs.Replayed.{World, bytes_after, held_after, is_honest_after, is_there}
 use Rattle.rrd_store.specs.Storages.{Held, Missing, Bytes}
-use Rattle.rrd_undo.specs.declared.tail.Syncs.{Syncs}
-use Rattle.rrd_undo.specs.declared.tail.Syncs.TheVariants.{Never, Ordered}
+use Rattle.rrd_change.specs.Views as views
+use Rattle.rrd_disk.specs.Power.{world_after}
 
 -- ---- what is assumed of the file, as a list: what is asked, the number of parts, the parts, and the bytes of the file
 
@@ -51,29 +51,27 @@ bytes_in s events = bytes_after (world_of s) events
 abbrev pub is_honest_in : List ℕ → List Event → Bool
 is_honest_in s events = is_honest_after (world_of s) events && is_asked s (is_there (held_after (world_of s) events))
 
--- ---- the same with what `rrd_undo` is asked of the run: its first number asks whether the run syncs (1), whether it never
--- does (2), or nothing (0). What is so after some calls was so before them, so the calls change neither
-
-abbrev pub run_of : List ℕ → ℕ
-run_of [] = 0
-run_of (asked ∷ rest) = asked
+-- ---- the same with what `rrd_change` is asked of the file: the first number says whether its disk is asked for
 
 abbrev pub file_of : List ℕ → List ℕ
 file_of [] = []
 file_of (asked ∷ rest) = rest
 
-abbrev pub is_told : ℕ → Syncs → Bool
-is_told zero syncs = true
-is_told (suc zero) Ordered = true
-is_told (suc zero) Never = false
-is_told (suc (suc more)) Ordered = false
-is_told (suc (suc more)) Never = true
+-- without its disk nothing is said of what the disk may have
+abbrev pub world_for : ℕ → views.World → views.World
+world_for zero w = record { held = w.held; may_leave = λ c. ⊥; may_keep = λ c. ⊥ }
+world_for (suc more) w = w
 
-abbrev pub bytes_asked : List ℕ → List Event → List ℕ
-bytes_asked s events = bytes_in (file_of s) events
+abbrev pub world_asked : List ℕ → views.World → views.World
+world_asked [] w = world_for 0 w
+world_asked (asked ∷ rest) w = world_for asked w
 
-abbrev pub is_honest_asked : List ℕ → Syncs → List Event → Bool
-is_honest_asked s syncs events = is_told (run_of s) syncs && is_honest_in (file_of s) events
+-- what is known of a file after these calls
+abbrev pub view_of : List Event → views.View
+view_of events = record {
+  is_honest = λ s. is_honest_in (file_of s) events;
+  world = λ d s. world_asked s (world_after d (world_of (file_of s)) events);
+}
 
 -- whatever is asked, a record that is honest after some calls was honest before them
 abbrev pub FallsAsked : List Event → List Event → Type 0

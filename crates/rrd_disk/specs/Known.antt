@@ -1,5 +1,7 @@
 -- Glue: what is known in memory of a file.
-use Rattle.std.specs.Prelude.{◌≡◌, ℕ, IsTrue, List, length, Option, Some}
+use Rattle.std.specs.Prelude.{◌≡◌, ◌↔◌, ℕ, ◌≤◌, Bool, IsSome, IsTrue, List, length, take, Option, Some}
+use Rattle.rrd_change.specs.Settled.{mark_of}
+use Rattle.rrd_change.specs.declared.log.Base.{Base}
 use Rattle.rrd_disk.specs.Events.{Event}
 use Rattle.rrd_disk.specs.Fronts.{Begins}
 use Rattle.rrd_disk.specs.Replayed.{World, bytes_after, is_honest_after}
@@ -16,6 +18,15 @@ AreAll bytes events = (s : World) → IsTrue (is_honest_after s events) → byte
 abbrev pub Measures : Option ℕ → List Event → Type 0
 Measures count events = (s : World) → IsTrue (is_honest_after s events) → (n : ℕ) → count ≡ Some n → n ≡ length (bytes_after s events)
 
--- a write was cut short, which no honest file does
-abbrev pub Owes : {O : Type 0} → Option O → List Event → Type 0
-Owes owed events = (owes : _) → owed ≡ Some owes → (s : World) → IsTrue (is_honest_after s events) → ⊥
+-- whether the file begins with a mark
+abbrev pub TellsMark : Bool → List Event → Type 0
+TellsMark is events = (s : World) → IsTrue (is_honest_after s events) → IsTrue is ↔ IsSome (mark_of (bytes_after s events))
+
+-- the length of the file, and its first sixteen bytes
+abbrev pub TellsBase : Base → List Event → Type 0
+TellsBase base events = (s : World) → IsTrue (is_honest_after s events) → (base.length ≡ length (bytes_after s events)) × (base.first ≡ take 16 (bytes_after s events))
+
+-- the first sixteen bytes
+pub record AreFirst (first bytes : List ℕ) : Type 0 where
+  pub enough : 16 ≤ length bytes
+  pub is : first ≡ take 16 bytes

@@ -17,3 +17,4 @@ pub mod Replayed
 pub mod Runs
 pub mod Storing
 pub mod Told
+pub mod Surviving

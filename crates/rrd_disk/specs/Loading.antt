@@ -1,26 +1,20 @@
 -- Glue: what reading a file gives.
-use Rattle.std.specs.Prelude.{◌≡◌, Bool, false, IsTrue, List, ℕ, Some, None, Result, Ok, Err, true, ⊤}
+use Rattle.std.specs.Prelude.{◌≡◌, ◌≤◌, length, Bool, false, IsTrue, List, ℕ, Some, None, Result, Ok, Err, true, ⊤}
+use Rattle.rrd_change.specs.Found.{database_of}
+use Rattle.rrd_change.specs.Marks.{IsMarkOf}
+use Rattle.rrd_change.specs.Settled.{unmarked}
+use Rattle.rrd_file.specs.End.{file_end}
+use Rattle.rrd_disk.specs.Contents.{StandFor}
 use Rattle.rrd_disk.specs.Events.{Event}
-use Rattle.rrd_disk.specs.Replayed.{World, bytes_after, held_after, is_honest_after, is_there}
+use Rattle.rrd_disk.specs.Replayed.{World, bytes_after, is_honest_after}
 use Rattle.rrd_disk.specs.declared.loading.Standing.{Standing}
-use Rattle.rrd_disk.specs.declared.loading.Standing.TheVariants.{Database, Unrecorded, Nothing}
+use Rattle.rrd_file.specs.Faults.{IsFile}
 use Rattle.rrd_file.specs.declared.fault.FileFault.{FileFault}
 use Rattle.rrd_file.specs.declared.fault.FileFault.TheVariants.{Truncated, Read, OutOfMemory}
-use Rattle.rrd_file.specs.Faults.{IsFile}
-use Rattle.rrd_file.specs.Laws.{IsValidStored}
 use Rattle.rrd_spec.specs.Journal.Survivors.{Stored}
-use Rattle.rrd_store.specs.Storages.{Bytes, Decodes, IsNoFile}
+use Rattle.rrd_store.specs.Storages.{Bytes, Decodes}
 use Rattle.rrd_store.specs.declared.faults.TaskFault.{TaskFault}
 use Rattle.rrd_store.specs.declared.faults.TaskFault.TheVariants.{Command, Stream, File, CannotOpen, CannotWrite}
-use Rattle.rrd_tail.specs.Settled.{settled}
-
--- an honest file is as it was
-abbrev pub KeepsHonest : List Event → List Event → Type 0
-KeepsHonest old new = (s : World) → IsTrue (is_honest_after s new) → held_after s new ≡ held_after s old
-
--- an honest file that there was is still there
-abbrev pub IsStillThere : List Event → List Event → Type 0
-IsStillThere old new = (s : World) → IsTrue (is_honest_after s new) → IsTrue (is_there (held_after s old)) → IsTrue (is_there (held_after s new))
 
 -- the database of the file, or its fault
 abbrev pub ReadsFile : List Event → Result Stored TaskFault → Type 0
@@ -57,23 +51,27 @@ pub record IsOfAny (fault : TaskFault) : Type 0 where
   pub known : (bytes : List ℕ) → Decodes (Some (Bytes bytes)) (Err fault)
   pub unknown : Decodes None (Err fault)
 
--- a file with these bytes, which begin with a mark, stands so
-abbrev pub StandsSo : Standing → List ℕ → Type 0
-StandsSo (Database database) file = IsFile (settled file) database
-StandsSo (Unrecorded database end) file = IsNoFile (settled file)
-StandsSo Nothing file = IsNoFile (settled file)
+-- these bytes were found in a file with a mark, and a database was read from them. If a change of a database has left the file,
+-- they are that database
+pub record IsStandingIn (standing : Standing) (events : List Event) : Type 0 where
+  pub file : IsFile (database_of standing.found) standing.database
+  pub valid : Decodes None (Ok standing.database)
+  pub mark : (s : World) → IsTrue (is_honest_after s events) → IsMarkOf standing.found.mark (bytes_after s events)
+  pub database : (s : World) → IsTrue (is_honest_after s events) → (now : List ℕ) → StandFor now (bytes_after s events) → database_of standing.found ≡ now
 
-abbrev pub HasNoDatabase : Standing → Type 0
-HasNoDatabase (Database database) = ⊥
-HasNoDatabase (Unrecorded database end) = ⊤
-HasNoDatabase Nothing = ⊤
+-- why none was found in a file with a mark. That is not so of a file that a change of a database has left, unless a read failed
+pub record IsFaultIn (fault : TaskFault) (events : List Event) : Type 0 where
+  pub valid : Decodes None (Err fault)
+  pub known : (s : World) → IsTrue (is_honest_after s events) → (now : List ℕ) → StandFor now (bytes_after s events) → Decodes (Some (Bytes now)) (Err fault)
 
-abbrev pub IsDatabaseStanding : Standing → Type 0
-IsDatabaseStanding (Database database) = ⊤
-IsDatabaseStanding (Unrecorded database end) = ⊥
-IsDatabaseStanding Nothing = ⊥
+-- the first bytes of a file with a cut mark have a fault with the mark of a database, and no database ends among them
+pub record IsForged (front : List ℕ) : Type 0 where
+  pub ends : length (unmarked front) ≤ file_end (unmarked front)
+  pub fault : TaskFault
+  pub of_bytes : is_of_bytes fault ≡ true
+  pub judged : IsJudged (Err fault)
+  pub known : Decodes (Some (Bytes (unmarked front))) (Err fault)
 
-abbrev pub IsValidStanding : Standing → Type 0
-IsValidStanding (Database database) = IsValidStored database
-IsValidStanding (Unrecorded database end) = IsValidStored database
-IsValidStanding Nothing = ⊤
+-- no change of a database has left the file
+abbrev pub HasNoChange : List Event → Type 0
+HasNoChange events = (s : World) → IsTrue (is_honest_after s events) → (now : List ℕ) → StandFor now (bytes_after s events) → ⊥

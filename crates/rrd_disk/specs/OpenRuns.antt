@@ -1,24 +1,27 @@
 -- Definition: runs on a file that stays open, with the record of all calls on the file. Law: after any list of such runs on
 -- one honest file, its bytes and all printed text are what the definitions compute.
-use Rattle.std.specs.Prelude.{◌≡◌, IsTrue, List, [], ◌∷◌, map, Option, Some, None, ⊤}
+use Rattle.std.specs.Prelude.{◌≡◌, IsTrue, List, [], ◌∷◌, map, Option, Some, ⊤}
 use Rattle.rrd_disk.specs.Contents.{IsSound, represented}
 use Rattle.rrd_disk.specs.Events.{Event}
 use Rattle.rrd_disk.specs.Replayed.{World, held_after, is_honest_after}
+use Rattle.rrd_disk.specs.Storing.{IsSoundAs}
+use Rattle.rrd_disk.specs.declared.storage.Found.{Found}
 use Rattle.rrd_file.specs.declared.encoded.Encoded.{Encoded}
 use Rattle.rrd_spec.specs.Journal.Survivors.{Stored}
 use Rattle.rrd_store.specs.Runs as runs
 use Rattle.rrd_store.specs.Sessions.{IsInMemory}
 use Rattle.rrd_store.specs.Storages.{Held}
 
--- from each file for which all answers so far are honest, the file is one that the next run can read; and what is in memory, a
--- database and its bytes, is what the file represents
-pub record IsKeptOf (held : Held) (database : Option Stored) (encoded : Option Encoded) : Type 0 where
-  pub sound : IsSound held
+-- the file is in the state in which it was found, so that the next run can read it; and what is in memory, a database and its
+-- bytes, is what the file represents
+pub record IsKeptOf (found : Found) (held : Held) (database : Option Stored) (encoded : Option Encoded) : Type 0 where
+  pub sound : IsSoundAs found held
   pub memory : IsInMemory (Some (represented held)) database encoded
 
-abbrev pub IsKept : List Event → Option Stored → Option Encoded → Type 0
-IsKept events database encoded =
-    (w : World) → IsTrue (is_honest_after w events) → IsSound w.start → IsKeptOf (held_after w events) database encoded
+-- so it is from each file for which all answers so far are honest
+abbrev pub IsKept : Found → List Event → Option Stored → Option Encoded → Type 0
+IsKept found events database encoded =
+    (w : World) → IsTrue (is_honest_after w events) → IsSound w.start → IsKeptOf found (held_after w events) database encoded
 
 -- the calls that opened the file changed nothing that the file represents
 abbrev pub IsOpened : List Event → Type 0
@@ -32,6 +35,12 @@ IsReload before after =
     (w : World) → IsTrue (is_honest_after w after) → IsSound w.start
     → IsTrue (is_honest_after w before)
     × (represented (held_after w after) ≡ represented (held_after w before))
+
+-- the calls between the two records changed nothing that the file represents, if it was in the state in which it was found
+abbrev pub Finishes : Found → List Event → List Event → Type 0
+Finishes found before after =
+    (w : World) → IsTrue (is_honest_after w after) → IsSoundAs found (held_after w before)
+    → represented (held_after w after) ≡ represented (held_after w before)
 
 -- the record has these calls before the run, and those after it. From each file for which all answers are honest, the run did
 -- what the definitions say to the file that the calls before it left

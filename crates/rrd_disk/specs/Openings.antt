@@ -3,7 +3,7 @@ use Rattle.std.specs.Prelude.{◌≡◌, ℕ, IsTrue, List, length, Option, Some
 use Rattle.rrd_disk.specs.Events.{Event}
 use Rattle.rrd_disk.specs.Replayed.{World, bytes_after, held_after, is_honest_after}
 use Rattle.rrd_store.specs.Storages.{Bytes, Missing as NoFile}
-use Rattle.rrd_tail.specs.Marks.{mark_of}
+use Rattle.rrd_change.specs.Settled.{mark_of}
 use Rattle.rrd_disk.specs.declared.opening.Opened.{Opened}
 use Rattle.rrd_disk.specs.declared.opening.Opened.TheVariants.{Regular, Pipe, Missing, Refused}
 

@@ -42,7 +42,7 @@ overlaid file at (byte ∷ more) = padded file at ++ (byte ∷ more) ++ drop (at
 
 -- the bytes after a call of a file that had these before, by the number of the call
 abbrev pub bytes_left : List ℕ → ℕ → Event → List ℕ
-bytes_left file part (Put at bytes taken) = overlaid file at bytes
+bytes_left file part (Put at bytes taken) = overlaid file at (take taken bytes)
 bytes_left file part (PutFailed at bytes) = overlaid file at (take part bytes)
 bytes_left file part (Sized count) = padded file count
 bytes_left file part (SizeFailed count) = padded_or_not file count part
@@ -79,19 +79,22 @@ unfoldable pub is_honest_read : List ℕ → ℕ → ℕ → List ℕ → Bool
 is_honest_read file at wanted [] = (wanted == 0) || nat_le (length file) at
 is_honest_read file at wanted (byte ∷ more) = bytes_eq (take (length (byte ∷ more)) (drop at file)) (byte ∷ more)
 
--- a write that failed, and of which so many bytes were written: within one page all of them, or none. That is a premise
--- about the system
-unfoldable pub is_honest_failure : ℕ → List ℕ → ℕ → Bool
-is_honest_failure at bytes part = not (nat_le (at % 4096 + length bytes) 4096) || ((part == 0) || nat_le (length bytes) part)
+-- bytes within one sector, or within the first page and from the first byte on
+abbrev pub is_small : ℕ → ℕ → Bool
+is_small at count = nat_le (at % 512 + count) 512 || ((at == 0) && nat_le count 4096)
 
--- an honest file with these bytes may have answered so. A write that reports only some of its bytes is not honest: a
--- premise about the system. A pipe is no file
+-- a write of which so many bytes were written: of such a small one all of them, or none. That is a premise about the system
+unfoldable pub is_honest_part : ℕ → List ℕ → ℕ → Bool
+is_honest_part at bytes part = not (is_small at (length bytes)) || ((part == 0) || nat_le (length bytes) part)
+
+-- an honest file with these bytes may have answered so. A write may be cut short: it then reports how many of its bytes were
+-- written. A pipe is no file
 abbrev pub is_honest_call : List ℕ → ℕ → Event → Bool
 is_honest_call file part NotFound = false
 is_honest_call file part (Measured count) = count == length file
 is_honest_call file part (Got at wanted bytes) = is_honest_read file at wanted bytes
-is_honest_call file part (Put at bytes taken) = taken == length bytes
-is_honest_call file part (PutFailed at bytes) = is_honest_failure at bytes part
+is_honest_call file part (Put at bytes taken) = nat_le taken (length bytes) && is_honest_part at bytes taken
+is_honest_call file part (PutFailed at bytes) = is_honest_part at bytes part
 is_honest_call file part Streamed = false
 is_honest_call file part _ = true
 

@@ -1,20 +1,24 @@
 //! The file of a run: its bytes, which are read and changed by the calls of the system.
-ghost use Rattle.std.specs.Prelude.{◌≡◌, ◌≤◌, ℕ, IfOk, IsTrue, List, None, OnOk, false, length, max, option_map};
-ghost use Rattle.rrd_disk.specs.Calls.{Falls, KeepsHeld, KeepsHeldFor, LeavesPart, PlaceStays};
+ghost use Rattle.std.specs.Prelude.{◌≡◌, ◌<◌, ◌≤◌, ℕ, IfOk, IfSome, IsTrue, List, None, OnOk, false, length, max, option_map};
+ghost use Rattle.rrd_change.specs.Calls.{AreAt, ArePut, IsSized, IsSizedOrNot};
+ghost use Rattle.rrd_change.specs.Views.{Does, Fails, Moves, Stores, seen};
+ghost use Rattle.rrd_disk.specs.Asked.{view_of};
+ghost use Rattle.rrd_disk.specs.Calls.{DidOr, Falls, IsCutShort, IsPartPut, PlaceStays, Rests, RestsFor};
 ghost use Rattle.rrd_disk.specs.Fronts.{Shows};
-ghost use Rattle.rrd_disk.specs.Known.{AreAll, Measures, Owes, ShowsBytes};
+ghost use Rattle.rrd_disk.specs.Known.{AreAll, AreFirst, Measures, ShowsBytes, TellsBase, TellsMark};
 ghost use Rattle.rrd_disk.specs.Locks.{Guards, IsToRead};
 ghost use Rattle.rrd_disk.specs.Openings.{HasLength};
-ghost use Rattle.rrd_disk.specs.Power.{KeepsDisk, LeavesOnDisk};
-ghost use Rattle.rrd_disk.specs.Replayed.{World, bytes_after, held_after, is_honest_after};
+ghost use Rattle.rrd_disk.specs.Power.{AreTorn};
+ghost use Rattle.rrd_disk.specs.Replayed.{World, bytes_after, is_honest_after};
 
 use crate::front::Front;
 use crate::locks::LockedFile;
-use crate::once::{get, get_behind, get_next, measure, open, put, set_length, sync};
+use crate::once::{
+    get, get_behind, get_next, measure, no_space, open, put, put_some, set_length, sync,
+};
 use crate::opening::{Opened, open_locked};
-use crate::{Disk, Opening};
-use rrd_tail::PAGE;
-use rrd_undo::{Bytes, Syncs};
+use crate::{Disk, Opening, Syncs};
+use rrd_change::{Base, Bytes, PAGE, has_mark};
 use std::io::{self, Error, ErrorKind};
 
 /// The maximum number of bytes that are read when a file is opened: all bytes of a short file. Larger buffers cost more:
@@ -27,30 +31,21 @@ const WHOLE: u64 = 8 * FIRST_PART;
 /// How many times as long each later part is as all parts before it.
 const GROWTH: u64 = 7;
 
-/// A write within one page of which a call wrote only some of the bytes. The next call first takes the write back.
-#[derive(Clone, Copy)]
-struct Owed {
-    // The offset of the write and its number of bytes, and the length of the file before the write.
-    at: usize,
-    count: usize,
-    length: u64,
-}
+/// The bytes that say how a file begins.
+const FIRST_BYTES: u64 = 16;
 
 /// The file that a run opens, with the system whose calls read and change it.
 #[derive(Drop)]
 pub(crate) struct FileBytes<D: Disk> {
     disk: D,
-    syncs: Syncs,
     // The open file; `None` if no file is open.
     file: Option<LockedFile<D::File>>,
     // The length of the file in bytes, if known.
     length: Option<u64>,
     // The first bytes of the file.
     front: Front,
-    owed: Option<Owed>,
     ghost shown: { ShowsBytes front.bytes.items (D.Disk.events disk) },
     ghost measured: { Measures length (D.Disk.events disk) },
-    ghost owing: { Owes owed (D.Disk.events disk) },
     ghost guarded: { Guards file (D.Disk.events disk) },
 }
 
@@ -87,30 +82,33 @@ fn first_part(length: u64) -> u64 {
     if length <= WHOLE { length } else { FIRST_PART }
 }
 
-/// Returns how many of the first bytes of a file are read after the first `had` bytes.
-pub(crate) fn longer_front(had: u64) -> u64 {
+// Returns how many of the first bytes of a file are read after the first `had` bytes.
+fn longer_front(had: u64) -> u64 {
     had.saturating_add(had.saturating_mul(GROWTH).max(FIRST_PART))
 }
 
+// Returns the first sixteen of these bytes, if there are so many.
+fn first_bytes(bytes: &[u8]) -> Option<[u8; 16]>
+    ensures { IfSome result (λ first. AreFirst first bytes.now) }
+{
+    let mut first = [0; 16];
+    first.copy_from_slice(bytes.get(..16)?);
+    Some(first)
+}
+
 impl<D: Disk> FileBytes<D> {
-    ghost use Rattle.std.specs.Prelude.{OnErr};
     ghost use Rattle.rrd_disk.specs.Entries.{SaysEntry};
-    ghost use Rattle.rrd_undo.specs.Calls.{ArePut};
-    ghost use Rattle.rrd_undo.specs.Power.{AreTorn};
 
     /// Creates the file of a run, which has opened nothing so far.
-    pub(crate) fn new(disk: D, syncs: Syncs) -> FileBytes<D>
-        ensures disk { result.disk ≡ disk }
-        ensures syncs { result.syncs ≡ syncs }
+    pub(crate) fn new(disk: D) -> FileBytes<D>
+        ensures { result.disk ≡ disk }
     {
         let front = Front::new(disk.alloc());
         FileBytes {
             disk,
-            syncs,
             file: None,
             length: None,
             front,
-            owed: None,
         }
     }
 
@@ -128,26 +126,16 @@ impl<D: Disk> FileBytes<D> {
         &self.disk
     }
 
-    /// Returns when the run syncs the file.
-    pub(crate) fn syncs(&self) -> Syncs
-        ensures { result ≡ self.now.syncs }
-    {
-        self.syncs
-    }
-
     /// Closes the file, and releases its lock.
     pub(crate) fn close(&mut self)
         ensures disk { self.new.disk ≡ self.old.disk }
-        ensures syncs { self.new.syncs ≡ self.old.syncs }
         ensures file { self.new.file ≡ None }
         ensures front { (bytes : List ℕ) → Shows self.new.front bytes }
         ensures length { self.new.length ≡ None }
-        ensures owed { self.new.owed ≡ None }
     {
         self.file = None;
         self.length = None;
         self.front.clear();
-        self.owed = None;
     }
 
     /// Opens the file, locks the file, and reads its first part.
@@ -156,10 +144,7 @@ impl<D: Disk> FileBytes<D> {
     ///
     /// The file is no regular file, cannot be locked or read, or memory ran out.
     pub(crate) fn open(&mut self, opening: Opening, wait: u64) -> io::Result<Entry<D::Pipe>>
-        ensures falls { Falls (D.events self.old.disk) (D.events self.new.disk) }
-        ensures power { KeepsDisk (D.events self.old.disk) (D.events self.new.disk) }
-        ensures syncs { self.new.syncs ≡ self.old.syncs }
-        ensures same { KeepsHeldFor opening (D.events self.old.disk) (D.events self.new.disk) }
+        ensures rests { RestsFor opening (D.events self.old.disk) (D.events self.new.disk) }
         ensures says { IfOk result (λ entry. SaysEntry entry (D.events self.new.disk)) }
     {
         self.close();
@@ -188,10 +173,7 @@ impl<D: Disk> FileBytes<D> {
 
     /// Checks whether this run may open the file for writing.
     pub(crate) fn may_write(&mut self) -> bool
-        ensures falls { Falls (D.events self.old.disk) (D.events self.new.disk) }
-        ensures power { KeepsDisk (D.events self.old.disk) (D.events self.new.disk) }
-        ensures syncs { self.new.syncs ≡ self.old.syncs }
-        ensures same { KeepsHeld (D.events self.old.disk) (D.events self.new.disk) }
+        ensures { Rests (D.events self.old.disk) (D.events self.new.disk) }
     {
         if self.is_to_change() {
             return true;
@@ -201,14 +183,9 @@ impl<D: Disk> FileBytes<D> {
 
     // Returns the length of the file in bytes.
     fn file_length(&mut self) -> io::Result<u64>
-        ensures falls { Falls (D.events self.old.disk) (D.events self.new.disk) }
-        ensures power { KeepsDisk (D.events self.old.disk) (D.events self.new.disk) }
-        ensures syncs { self.new.syncs ≡ self.old.syncs }
-        ensures same { (s : World) → IsTrue (is_honest_after s (D.events self.new.disk)) → held_after s (D.events self.new.disk) ≡ held_after s (D.events self.old.disk) }
-        ensures place { PlaceStays (D.events self.old.disk) (D.events self.new.disk) }
-        ensures ok { IfOk result (λ n. (s : World) → IsTrue (is_honest_after s (D.events self.new.disk)) → n ≡ length (bytes_after s (D.events self.new.disk))) }
+        ensures rests { Rests (D.events self.old.disk) (D.events self.new.disk) }
+        ensures ok { IfOk result (λ n. HasLength n (D.events self.new.disk)) }
     {
-        self.mend()?;
         if let Some(length) = self.length {
             return Ok(length);
         }
@@ -253,11 +230,21 @@ impl<D: Disk> FileBytes<D> {
         self.front.bytes()
     }
 
+    /// Returns how the file begins. Returns `None` if that is not in memory.
+    pub(crate) fn base(&self) -> Option<Base>
+        ensures { IfSome result (λ base. TellsBase base (D.events self.now.disk)) }
+    {
+        let length = self.length?;
+        let first = first_bytes(self.front())?;
+        Some(Base {
+            length: length as usize,
+            first,
+        })
+    }
+
     // Takes the bytes in memory.
     fn take_front(&mut self) -> Vec<u8>
         ensures disk { self.new.disk ≡ self.old.disk }
-        ensures syncs { self.new.syncs ≡ self.old.syncs }
-        ensures length { self.new.length ≡ self.old.length }
         ensures bytes { result.items ≡ self.old.front.bytes.items }
         ensures shown { ShowsBytes result.items (D.events self.old.disk) }
     {
@@ -265,11 +252,10 @@ impl<D: Disk> FileBytes<D> {
         std::mem::replace(&mut self.front, empty).into_bytes()
     }
 
-    /// Gives the bytes of the file that are in memory away. Of a file of one page they are a copy: a change reads the old
-    /// bytes from memory, and a call for them would take longer than the copy.
+    /// Gives the bytes of the file that are in memory away. Of a file of one page they are a copy: if a write of the page is
+    /// cut short, it is taken back from memory.
     pub(crate) fn give_front(&mut self) -> Vec<u8>
         ensures disk { self.new.disk ≡ self.old.disk }
-        ensures syncs { self.new.syncs ≡ self.old.syncs }
         ensures bytes { result.items ≡ self.old.front.bytes.items }
     {
         if self.front.len() <= PAGE
@@ -285,10 +271,8 @@ impl<D: Disk> FileBytes<D> {
     fn extend(&mut self, bytes: &mut Vec<u8>, count: usize) -> io::Result<()>
         requires more { length bytes.old.items ≤ count }
         requires shown { ShowsBytes bytes.old.items (D.events self.old.disk) }
-        ensures falls { Falls (D.events self.old.disk) (D.events self.new.disk) }
-        ensures power { KeepsDisk (D.events self.old.disk) (D.events self.new.disk) }
-        ensures syncs { self.new.syncs ≡ self.old.syncs }
-        ensures same { KeepsHeld (D.events self.old.disk) (D.events self.new.disk) }
+        ensures rests { Rests (D.events self.old.disk) (D.events self.new.disk) }
+        ensures length { OnOk result (length bytes.new.items ≡ count) }
         ensures shown { OnOk result (ShowsBytes bytes.new.items (D.events self.new.disk)) }
     {
         let Some(file) = &self.file else {
@@ -299,7 +283,6 @@ impl<D: Disk> FileBytes<D> {
         bytes.reserve_exact((count - had).saturating_add(PAGE))?;
         bytes.resize(count, 0)?;
         let read = get_behind(&mut self.disk, file.file(), &mut bytes[..], had)?;
-        bytes.truncate(had + read);
         if had + read < count {
             return Err(Error::from(ErrorKind::UnexpectedEof));
         }
@@ -308,10 +291,8 @@ impl<D: Disk> FileBytes<D> {
 
     // Reads the first `count` bytes of the file into memory.
     fn read_to(&mut self, count: u64) -> io::Result<()>
-        ensures falls { Falls (D.events self.old.disk) (D.events self.new.disk) }
-        ensures power { KeepsDisk (D.events self.old.disk) (D.events self.new.disk) }
-        ensures syncs { self.new.syncs ≡ self.old.syncs }
-        ensures same { KeepsHeld (D.events self.old.disk) (D.events self.new.disk) }
+        ensures rests { Rests (D.events self.old.disk) (D.events self.new.disk) }
+        ensures enough { OnOk result (count ≤ length self.new.front.bytes.items) }
     {
         let mut bytes = self.take_front();
         if (bytes.len() as u64) < count {
@@ -327,14 +308,64 @@ impl<D: Disk> FileBytes<D> {
     ///
     /// A call failed, or memory ran out.
     pub(crate) fn read_more(&mut self) -> io::Result<()>
-        ensures falls { Falls (D.events self.old.disk) (D.events self.new.disk) }
-        ensures power { KeepsDisk (D.events self.old.disk) (D.events self.new.disk) }
-        ensures syncs { self.new.syncs ≡ self.old.syncs }
-        ensures same { (s : World) → IsTrue (is_honest_after s (D.events self.new.disk)) → held_after s (D.events self.new.disk) ≡ held_after s (D.events self.old.disk) }
+        ensures { Rests (D.events self.old.disk) (D.events self.new.disk) }
     {
         let length = self.file_length()?;
         let had = self.front.len() as u64;
         self.read_to(longer_front(had).min(length))
+    }
+
+    /// Reads all bytes of the file, and takes those that are in memory.
+    ///
+    /// # Errors
+    ///
+    /// A call failed, memory ran out, or the file ended early.
+    pub(crate) fn read_all(&mut self) -> io::Result<Vec<u8>>
+        ensures rests { Rests (D.events self.old.disk) (D.events self.new.disk) }
+        ensures all { IfOk result (λ bytes. AreAll bytes.items (D.events self.new.disk)) }
+    {
+        let length = self.file_length()? as usize;
+        let mut bytes = self.take_front();
+        if bytes.len() < length {
+            self.extend(&mut bytes, length)?;
+        }
+        Ok(bytes)
+    }
+
+    /// Reads `count` bytes, of which the first is byte `at`, in place of what `into` has.
+    ///
+    /// # Errors
+    ///
+    /// A call failed, memory ran out, the file has fewer bytes, or `count` is 0.
+    pub(crate) fn read_at(&mut self, at: usize, count: usize, into: &mut Vec<u8>) -> io::Result<()>
+        ensures rests { Rests (D.events self.old.disk) (D.events self.new.disk) }
+        ensures got { OnOk result ((s : World) → IsTrue (is_honest_after s (D.events self.new.disk)) → AreAt (bytes_after s (D.events self.new.disk)) at count into.new.items) }
+    {
+        if count == 0 {
+            return Err(Error::from(ErrorKind::InvalidInput));
+        }
+        let Some(file) = &self.file else {
+            return Err(not_open());
+        };
+        into.resize(count, 0)?;
+        if get(&mut self.disk, file.file(), &mut into[..], at as u64)? < count {
+            return Err(Error::from(ErrorKind::UnexpectedEof));
+        }
+        Ok(())
+    }
+
+    /// Checks whether the file begins with a mark. Makes no call if the first sixteen bytes are in memory, or all bytes.
+    ///
+    /// # Errors
+    ///
+    /// A call failed, or memory ran out.
+    pub(crate) fn is_marked(&mut self) -> io::Result<bool>
+        ensures rests { Rests (D.events self.old.disk) (D.events self.new.disk) }
+        ensures tells { IfOk result (λ is. TellsMark is (D.events self.new.disk)) }
+    {
+        let length = self.file_length()?;
+        self.read_to(FIRST_BYTES.min(length))?;
+        Ok(has_mark(self.front()))
     }
 
     /// Reads the next bytes of a pipe after those in `bytes`: half as many as all bytes before them, because each part has
@@ -344,10 +375,7 @@ impl<D: Disk> FileBytes<D> {
     ///
     /// A read failed, or memory ran out.
     pub(crate) fn read_pipe(&mut self, pipe: &mut D::Pipe, bytes: &mut Vec<u8>) -> io::Result<bool>
-        ensures falls { Falls (D.events self.old.disk) (D.events self.new.disk) }
-        ensures power { KeepsDisk (D.events self.old.disk) (D.events self.new.disk) }
-        ensures syncs { self.new.syncs ≡ self.old.syncs }
-        ensures same { KeepsHeld (D.events self.old.disk) (D.events self.new.disk) }
+        ensures rests { Rests (D.events self.old.disk) (D.events self.new.disk) }
         ensures none { OnOk result ((s : World) → IsTrue (is_honest_after s (D.events self.new.disk)) → ⊥) }
     {
         let had = bytes.len();
@@ -359,201 +387,151 @@ impl<D: Disk> FileBytes<D> {
         Ok(read < wanted)
     }
 
-    // Writes the old bytes back over a write that was cut short.
-    fn put_back(&mut self, owed: Owed) -> io::Result<()>
-        requires { (s : World) → IsTrue (is_honest_after s (D.events self.old.disk)) → ⊥ }
-        ensures falls { Falls (D.events self.old.disk) (D.events self.new.disk) }
-        ensures syncs { self.new.syncs ≡ self.old.syncs }
-        ensures place { PlaceStays (D.events self.old.disk) (D.events self.new.disk) }
+    // Forgets what is in memory of the file, before a call that changes the file. Returns the length, if it was known.
+    fn forget(&mut self) -> Option<u64>
+        ensures disk { self.new.disk ≡ self.old.disk }
+        ensures file { self.new.file ≡ self.old.file }
+        ensures front { (bytes : List ℕ) → Shows self.new.front bytes }
+        ensures length { self.new.length ≡ None }
+        ensures known { result ≡ self.old.length }
     {
-        let Some(file) = &self.file else {
-            return Err(not_open());
-        };
-        let kept = self.front.up_to(owed.at, owed.count);
-        if kept.is_empty() {
-            return Ok(());
-        }
-        let Err(failed) = put(&mut self.disk, file.file_to_change()?, kept, owed.at as u64) else {
-            return Ok(());
-        };
-        // At a limit on the size of files this write is cut short as that one was: the old bytes may be there all the same.
-        let mut found = Vec::new(self.disk.alloc());
-        found.resize(kept.len(), 0)?;
-        let count = get(&mut self.disk, file.file(), &mut found[..], owed.at as u64)?;
-        if count == kept.len() && found[..] == kept[..] {
-            return Ok(());
-        }
-        Err(failed.error)
+        self.front.clear();
+        self.length.take()
     }
 
-    /// Takes back a write that was cut short, if there is one: restores the old bytes and the old length.
-    ///
-    /// # Errors
-    ///
-    /// A call failed. The write is then still to be taken back.
-    pub(crate) fn mend(&mut self) -> io::Result<()>
-        ensures falls { Falls (D.events self.old.disk) (D.events self.new.disk) }
-        ensures power { KeepsDisk (D.events self.old.disk) (D.events self.new.disk) }
-        ensures syncs { self.new.syncs ≡ self.old.syncs }
-        ensures same { (s : World) → IsTrue (is_honest_after s (D.events self.new.disk)) → held_after s (D.events self.new.disk) ≡ held_after s (D.events self.old.disk) }
-        ensures place { PlaceStays (D.events self.old.disk) (D.events self.new.disk) }
+    // Writes all of these bytes from byte `at` on.
+    fn put_all(&mut self, at: usize, bytes: &[u8]) -> io::Result<()>
+        requires { 0 < length bytes.now }
+        ensures { DidOr (λ _. Moves (ArePut at bytes.now) (AreTorn at bytes.now)) (Moves (IsPartPut 0 at bytes.now) (AreTorn at bytes.now)) result (D.events self.old.disk) (D.events self.new.disk) }
     {
-        let Some(owed) = self.owed else {
-            return Ok(());
-        };
-        self.put_back(owed)?;
-        let Some(file) = &self.file else {
-            return Err(not_open());
-        };
-        set_length(&mut self.disk, file.file_to_change()?, owed.length)?;
-        self.length = Some(owed.length);
-        self.owed = None;
-        Ok(())
-    }
-
-    // Reads the old bytes of a write of `count` bytes from byte `at` on into memory, with all bytes before them, so that
-    // the write can be taken back if it is cut short. A write behind the end has no old bytes.
-    fn keep(&mut self, at: usize, count: usize, length: u64) -> io::Result<()>
-        ensures falls { Falls (D.events self.old.disk) (D.events self.new.disk) }
-        ensures power { KeepsDisk (D.events self.old.disk) (D.events self.new.disk) }
-        ensures syncs { self.new.syncs ≡ self.old.syncs }
-        ensures same { KeepsHeld (D.events self.old.disk) (D.events self.new.disk) }
-    {
-        if length <= at as u64 {
-            return Ok(());
-        }
-        self.read_to(length.min(at.saturating_add(count).max(PAGE) as u64))
-    }
-
-    // Writes bytes from byte `at` on. If the write is cut short, `owed` says how to take it back, if it is to be.
-    fn write(&mut self, at: usize, bytes: &[u8], owed: Option<Owed>) -> io::Result<()>
-        ensures falls { Falls (D.events self.old.disk) (D.events self.new.disk) }
-        ensures power { LeavesOnDisk (AreTorn at bytes.now) (D.events self.old.disk) (D.events self.new.disk) }
-        ensures syncs { self.new.syncs ≡ self.old.syncs }
-        ensures place { PlaceStays (D.events self.old.disk) (D.events self.new.disk) }
-        ensures ok { OnOk result ((s : World) → IsTrue (is_honest_after s (D.events self.new.disk))
-            → ArePut at bytes.now (bytes_after s (D.events self.old.disk)) (bytes_after s (D.events self.new.disk))) }
-        ensures err { OnErr result (LeavesPart at bytes.now (D.events self.old.disk) (D.events self.new.disk)) }
-    {
-        if bytes.is_empty() {
-            // A call that writes no bytes changes nothing, not even the length of the file.
-            return if at == 0 {
-                Ok(())
-            } else {
-                Err(Error::from(ErrorKind::InvalidInput))
-            };
-        }
         let Some(end) = (at as u64).checked_add(bytes.len() as u64) else {
             return Err(Error::from(ErrorKind::FileTooLarge));
         };
+        let known = self.forget();
         let Some(file) = &self.file else {
             return Err(not_open());
         };
-        match put(&mut self.disk, file.file_to_change()?, bytes, at as u64) {
-            Ok(()) => {
-                self.front.put(at, bytes);
-                self.length = longer(self.length, end);
-                Ok(())
-            }
-            Err(failed) => {
-                if failed.is_cut_short && owed.is_some() {
-                    self.owed = owed;
-                } else {
-                    // The write may have changed the file all the same.
-                    self.front.clear();
-                    self.length = None;
-                }
-                Err(failed.error)
-            }
+        put(&mut self.disk, file.file_to_change()?, bytes, at as u64)?;
+        self.length = longer(known, end);
+        Ok(())
+    }
+
+    // Writes the first bytes of the file by one call, and returns the number of bytes that were written.
+    fn put_first(&mut self, bytes: &[u8]) -> io::Result<usize>
+        ensures did { DidOr (λ n. Moves (IsPartPut n 0 bytes.now) (AreTorn 0 bytes.now)) (Moves (IsPartPut 0 0 bytes.now) (AreTorn 0 bytes.now)) result (D.events self.old.disk) (D.events self.new.disk) }
+        ensures short { IfOk result (λ n. IsCutShort n 0 bytes.now (D.events self.new.disk)) }
+    {
+        self.forget();
+        let Some(file) = &self.file else {
+            return Err(not_open());
+        };
+        put_some(&mut self.disk, file.file_to_change()?, bytes, 0)
+    }
+
+    // Puts the first bytes of the file back, and its length, after a write that was cut short.
+    fn put_back(&mut self, kept: &[u8], length: u64) -> io::Result<()>
+        ensures falls { Falls (D.events self.old.disk) (D.events self.new.disk) }
+        ensures place { PlaceStays (D.events self.old.disk) (D.events self.new.disk) }
+    {
+        self.forget();
+        let Some(file) = &self.file else {
+            return Err(not_open());
+        };
+        if !kept.is_empty() {
+            put(&mut self.disk, file.file_to_change()?, kept, 0)?;
+        }
+        set_length(&mut self.disk, file.file_to_change()?, length)
+    }
+
+    // Takes a write back that was cut short. A call that failed may succeed when it is made again.
+    fn take_back(&mut self, kept: &[u8], length: u64)
+        ensures falls { Falls (D.events self.old.disk) (D.events self.new.disk) }
+        ensures place { PlaceStays (D.events self.old.disk) (D.events self.new.disk) }
+    {
+        if self.put_back(kept, length).is_err() {
+            let _taken_back = self.put_back(kept, length);
+        }
+    }
+
+    /// Truncates the file to no bytes, and then syncs the file, if that is wanted.
+    ///
+    /// # Errors
+    ///
+    /// A call failed.
+    pub(crate) fn truncate(&mut self, syncs: Syncs) -> io::Result<()>
+        ensures { Does (λ _. Stores (IsSized 0)) (Fails (IsSizedOrNot 0) (IsSizedOrNot 0)) result (seen syncs (view_of (D.events self.old.disk))) (seen syncs (view_of (D.events self.new.disk))) }
+    {
+        self.set_len(0)?;
+        match syncs {
+            Syncs::Ordered => self.sync(),
+            Syncs::Never => Ok(()),
         }
     }
 }
 
 impl<D: Disk> Bytes for FileBytes<D> {
-    ghost use Rattle.rrd_disk.specs.Asked.{bytes_asked, is_honest_asked};
-    ghost use Rattle.rrd_disk.specs.Power.{MayLeaveIn};
-
-    ghost held = { λ s f. bytes_asked s (D.Disk.events f.disk) };
-
-    ghost is_honest = { λ s f. is_honest_asked s f.syncs (D.Disk.events f.disk) };
-
-    ghost may_leave = { λ d s f c. MayLeaveIn f.syncs d s (D.Disk.events f.disk) c };
+    ghost view = { λ f. view_of (D.Disk.events f.disk) };
 
     fn len(&mut self) -> io::Result<usize> {
         Ok(self.file_length()? as usize)
     }
 
     fn read(&mut self, at: usize, count: usize, into: &mut Vec<u8>) -> io::Result<()> {
-        if count == 0 {
-            into.clear();
-            return Ok(());
-        }
-        self.mend()?;
-        if let Some(bytes) = self.front.get(at, count) {
-            into.clear();
-            into.extend_from_slice(bytes)?;
-            return Ok(());
-        }
-        let Some(file) = &self.file else {
-            return Err(not_open());
-        };
-        // Bytes of an earlier read are not cleared: the read takes their place.
-        into.resize(count, 0)?;
-        if get(&mut self.disk, file.file(), &mut into[..], at as u64)? < count {
-            return Err(Error::from(ErrorKind::UnexpectedEof));
-        }
-        Ok(())
+        self.read_at(at, count, into)
     }
 
-    fn put(&mut self, at: usize, bytes: &[u8]) -> io::Result<()> {
-        self.mend()?;
-        self.write(at, bytes, None)
+    fn write(&mut self, at: usize, bytes: &[u8]) -> io::Result<usize> {
+        if bytes.is_empty() {
+            return Ok(0);
+        }
+        self.put_all(at, bytes)?;
+        Ok(bytes.len())
     }
 
-    fn put_whole(&mut self, at: usize, bytes: &[u8]) -> io::Result<()> {
+    fn write_whole(&mut self, at: usize, bytes: &[u8]) -> io::Result<()> {
+        if !bytes.is_empty() {
+            return self.put_all(at, bytes);
+        }
+        // A call that writes no bytes changes nothing, not even the length of the file.
+        if at == 0 {
+            Ok(())
+        } else {
+            Err(Error::from(ErrorKind::InvalidInput))
+        }
+    }
+
+    // A write that was cut short wrote as many bytes as there is room for: so many of the old bytes can be put back.
+    fn write_page(&mut self, bytes: &[u8]) -> io::Result<()> {
+        if bytes.is_empty() {
+            return Ok(());
+        }
         let length = self.file_length()?;
-        let count = bytes.len();
-        self.keep(at, count, length)?;
-        let ended = self.write(at, bytes, Some(Owed { at, count, length }));
-        if ended.is_err() && self.mend().is_err() {
-            // A call that failed may succeed when it is made again.
-            let _mended = self.mend();
+        self.read_to(length.min(PAGE as u64))?;
+        let kept = self.take_front();
+        let count = self.put_first(bytes)?;
+        if bytes.len() <= count {
+            return Ok(());
         }
-        ended
-    }
-
-    fn append(&mut self, at: usize, bytes: &[u8]) -> io::Result<()> {
-        self.mend()?;
-        self.write(at, bytes, None)
+        if 0 < count {
+            self.take_back(&kept[..count.min(kept.len())], length);
+        }
+        Err(no_space())
     }
 
     fn set_len(&mut self, count: usize) -> io::Result<()> {
-        self.mend()?;
+        self.forget();
         let Some(file) = &self.file else {
             return Err(not_open());
         };
-        let ended = set_length(&mut self.disk, file.file_to_change()?, count as u64);
-        match &ended {
-            Ok(()) => {
-                self.front.cut(count);
-                self.length = Some(count as u64);
-            }
-            Err(_) => {
-                // The file may have the new length all the same.
-                self.front.clear();
-                self.length = None;
-            }
-        }
-        ended
+        set_length(&mut self.disk, file.file_to_change()?, count as u64)?;
+        self.length = Some(count as u64);
+        Ok(())
     }
 
     fn sync(&mut self) -> io::Result<()> {
         let Some(file) = &self.file else {
             return Err(not_open());
         };
-        match self.syncs {
-            Syncs::Never => Ok(()),
-            Syncs::Ordered => sync(&mut self.disk, file.file()),
-        }
+        sync(&mut self.disk, file.file())
     }
 }

@@ -1,25 +1,16 @@
 //! The first bytes of a file, in memory.
-ghost use Rattle.std.specs.Prelude.{◌≡◌, [], ℕ, ◌+◌, ◌<◌, ◌≤◌, List, length, IfOk, IfSome};
+ghost use Rattle.std.specs.Prelude.{◌≡◌, ℕ, List, length, IfOk};
 ghost use Rattle.rrd_disk.specs.Fronts.{Begins, Shows};
-ghost use Rattle.rrd_undo.specs.Calls.{AreAt, ArePut, IsSized};
 
-use rrd_tail::PAGE;
+use rrd_change::PAGE;
 use std::alloc::{AllocError, Global};
 
 /// The first bytes of a file, perhaps all of them.
 ///
-/// The front follows each write of the file, so that no call reads the bytes again.
+/// A change of the file drops them.
 #[derive(Drop)]
 pub(crate) struct Front {
     bytes: Vec<u8>,
-}
-
-// Writes bytes over the bytes of `under`, from byte `at` on.
-fn overlay(under: &mut Vec<u8>, at: usize, bytes: &[u8])
-    requires { at + length bytes.now ≤ length under.old.items }
-    ensures { ArePut at bytes.now under.old.items under.new.items }
-{
-    under[at..at + bytes.len()].copy_from_slice(bytes);
 }
 
 impl Front {
@@ -34,7 +25,8 @@ impl Front {
 
     /// Creates a front of these bytes.
     pub(crate) fn of(bytes: Vec<u8>) -> Front
-        ensures { (file : List ℕ) → Begins file bytes.items → Shows result file }
+        ensures bytes { result.bytes ≡ bytes }
+        ensures shown { (file : List ℕ) → Begins file bytes.items → Shows result file }
     {
         Front { bytes }
     }
@@ -68,44 +60,6 @@ impl Front {
         ensures { result ≡ length self.now.bytes.items }
     {
         self.bytes.len()
-    }
-
-    /// Returns `count` bytes from byte `at` on, if the front has them all.
-    pub(crate) fn get(&self, at: usize, count: usize) -> Option<&[u8]>
-        ensures { IfSome result (λ bytes. (file : List ℕ) → Shows self.now file → AreAt file at count bytes.now) }
-    {
-        let rest = self.bytes.len().checked_sub(at)?;
-        if count > rest {
-            return None;
-        }
-        Some(&self.bytes[at..at + count])
-    }
-
-    /// Returns the bytes from byte `at` on, at most `count`.
-    pub(crate) fn up_to(&self, at: usize, count: usize) -> &[u8]
-        ensures few { length result.now ≤ count }
-        ensures shown { (file : List ℕ) → Shows self.now file → 0 < length result.now → AreAt file at (length result.now) result.now × (at + length result.now ≤ length file) }
-    {
-        let from = at.min(self.bytes.len());
-        let end = from + count.min(self.bytes.len() - from);
-        &self.bytes[from..end]
-    }
-
-    /// Takes the bytes of a write from byte `at` on. If the write goes beyond the front, the front ends at that byte.
-    pub(crate) fn put(&mut self, at: usize, bytes: &[u8])
-        ensures { (old new : List ℕ) → Shows self.old old → ArePut at bytes.now old new → Shows self.new new }
-    {
-        match self.bytes.len().checked_sub(at) {
-            Some(rest) if bytes.len() <= rest => overlay(&mut self.bytes, at, bytes),
-            _ => self.bytes.truncate(at),
-        }
-    }
-
-    /// Drops the bytes from byte `length` on, after the file was truncated to `length` bytes.
-    pub(crate) fn cut(&mut self, length: usize)
-        ensures { (old new : List ℕ) → Shows self.old old → IsSized length old new → Shows self.new new }
-    {
-        self.bytes.truncate(length);
     }
 
     /// Drops all bytes.

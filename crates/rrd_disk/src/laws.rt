@@ -7,27 +7,29 @@ ghost use Rattle.std.specs.Prelude.{◌≡◌, ◌++◌, ℕ, Bool, List, [], On
 ghost use Rattle.rrd_disk.specs.Events.{Event};
 ghost use Rattle.rrd_disk.specs.Kills.{interrupted};
 ghost use Rattle.rrd_disk.specs.OpenRuns.{OpenFilesFollowSpecification, RecordedOpen};
-ghost use Rattle.rrd_disk.specs.Power.{IsChange, IsChanged, SurvivesFailure};
 ghost use Rattle.rrd_disk.specs.Replayed.{World};
 ghost use Rattle.rrd_disk.specs.Runs.{FilesFollowSpecification, Recorded};
 ghost use Rattle.rrd_disk.specs.Storing.{Laws};
+ghost use Rattle.rrd_disk.specs.Surviving.{IsChange, IsChanged, SurvivesFailure};
 ghost use Rattle.rrd_disk.specs.Told.{Call, HonestRecordsExist};
 ghost use Rattle.rrd_spec.specs.Journal.Survivors.{Stored};
 ghost use Rattle.rrd_store.specs.Storages.{Held, IsAnyFile};
-ghost use Rattle.rrd_undo.specs.declared.tail.Syncs.TheVariants.{Ordered};
+ghost use Rattle.rrd_change.specs.declared.calls.Syncs.TheVariants.{Ordered};
 
 use crate::{Disk, FileRun, FileStorage, Killed, Location};
-use rrd_file::laws::file_begins;
+use rrd_change::laws::represented_stand;
+use rrd_file::Span;
+use rrd_file::laws::{ends_are_found, file_begins};
 use rrd_store::laws::runs_follow_specification;
-use rrd_undo::laws::files_without_marks_stand_for_themselves;
 use std::io;
 
-// Theorem: what is so of the files of databases, and of files without marks.
+// Theorem: what is so of the files of databases, and of files that stand for them.
 pub(crate) fn file_laws()
     ensures { Laws }
 {
     file_begins();
-    files_without_marks_stand_for_themselves();
+    ends_are_found();
+    represented_stand();
 }
 
 /// Theorem: after any list of runs on one file, the bytes that the file represents and all printed text are what the
@@ -69,10 +71,10 @@ pub fn honest_records_exist()
 /// the disk then has represents the old bytes or the new ones; and a change that ended without an error is stored.
 ///
 /// The power fails after `calls` calls on the file, in the next one, which may have done nothing. The record is that of an
-/// honest file that nobody else wrote. Before the run the file represents a database, and the disk may have other bytes
-/// than the file, as after a kill: what holds of all that they represent, and of the new bytes, holds of all that the
-/// power may leave. The premises about the disk are those of `AreTorn`, `IsSizedOrNot` and `SlotsTell`, and that a sync
-/// that ends well stores the file's bytes.
+/// honest file that nobody else wrote. Before the run the file stands for a database, and the disk may have other bytes
+/// than the file, as kills and failed calls of a change leave them: what holds of the databases that they stand for, and of
+/// the new bytes, holds of all that the power may leave. The premises about the disk are those of `AreTorn`,
+/// `IsSizedOrNot` and `Tells`, and that a sync that ends well stores what was written since the last one that failed.
 pub fn changes_survive_power_failures<D: Disk, L: Location>(
     disk: D,
     calls: u64,
@@ -88,7 +90,11 @@ pub fn changes_survive_power_failures<D: Disk, L: Location>(
     file_laws();
     let killed = Killed::new(disk, calls);
     let mut storage = FileStorage::new(killed, place);
-    let end = storage.write(bytes);
+    let all = [Span {
+        start: 0,
+        end: bytes.len(),
+    }];
+    let end = storage.write(bytes, &all);
     FileRun {
         end,
         disk: storage.into_disk(),
@@ -100,4 +106,6 @@ pub fn changes_survive_power_failures<D: Disk, L: Location>(
 /// After a failure the file has what the disk has, and nothing else is left to store.
 pub fn power_failures_are_survived()
     ensures { (P : List ℕ → Bool) (d : List ℕ) (w : World) (events : List Event) → SurvivesFailure P d w events }
-{}
+{
+    file_laws();
+}

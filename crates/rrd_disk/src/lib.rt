@@ -1,5 +1,5 @@
-//! Files as the storage of databases: a file is opened, locked, read, recovered and changed page by page.
-//! The caller provides the calls of the system, so that the program and a library for C write files by the same code.
+//! Files as the storage of databases: a file is opened, locked, read, repaired and changed by redo, as `rrd_change` orders the
+//! calls. The caller provides the calls of the system, so that the program and a library for C write files by the same code.
 #![tactic(auto)]
 
 mod begun;
@@ -15,6 +15,7 @@ mod once;
 mod open_file;
 mod opening;
 mod place;
+mod preparing;
 mod record;
 mod runs;
 mod settings;
@@ -28,7 +29,7 @@ pub use locks::note_lock;
 pub use open_file::{OpenFault, OpenFile};
 pub use place::{Location, OwnPlace, Place, directory_of};
 pub use record::{Noted, Record};
-pub use rrd_undo::Syncs;
+pub use rrd_change::Syncs;
 pub use runs::{FileRun, run_batch_at, run_command_at};
 pub use settings::Settings;
 pub(crate) use storage::FileStorage;

@@ -1,33 +1,40 @@
 //! Reads the database of a file, and finds the database that a file with a mark stands for.
-ghost use Rattle.std.specs.Prelude.{◌≡◌, Err, IfErr, IfOk, IfSome, IsTrue, List, None, Ok, OnOk, Some, false, ℕ};
-ghost use Rattle.rrd_disk.specs.Asked.{FallsAsked};
-ghost use Rattle.rrd_disk.specs.Calls.{Falls, KeepsHeld};
+ghost use Rattle.std.specs.Prelude.{◌≡◌, Err, IfErr, IfNone, IfOk, IfSome, IsTrue, List, None, Some, ℕ, false, true};
+ghost use Rattle.rrd_change.specs.Bytes.{begins_with};
+ghost use Rattle.rrd_change.specs.Found.{database_of};
+ghost use Rattle.rrd_change.specs.Marks.{IsMarkOf};
+ghost use Rattle.rrd_change.specs.Settled.{cut_mark, settled};
+ghost use Rattle.rrd_disk.specs.Calls.{Rests};
 ghost use Rattle.rrd_disk.specs.Fronts.{Begins};
-ghost use Rattle.rrd_disk.specs.Loading.{HasNoDatabase, IsDatabaseStanding, IsJudged, IsOfAny, IsStillThere, IsValidStanding, KeepsHonest, ReadsFile, StandsSo, is_of_bytes};
-ghost use Rattle.rrd_disk.specs.Power.{KeepsSurviving, KeepsSyncs};
+ghost use Rattle.rrd_disk.specs.Known.{ShowsBytes};
+ghost use Rattle.rrd_disk.specs.Loading.{HasNoChange, IsFaultIn, IsForged, IsJudged, IsOfAny, IsStandingIn, ReadsFile, is_of_bytes};
 ghost use Rattle.rrd_disk.specs.Replayed.{World, bytes_after, is_honest_after};
-ghost use Rattle.rrd_tail.specs.Settled.{settled};
-ghost use Rattle.rrd_disk.specs.declared.loading.Standing.TheVariants.{Nothing};
+ghost use Rattle.rrd_file.specs.End.{file_end};
 ghost use Rattle.rrd_file.specs.Faults.{IsFile};
-ghost use Rattle.rrd_store.specs.Storages.{Bytes, Decodes, Finds, IsNoFile};
-ghost use Rattle.rrd_undo.specs.Fronts.{IsSettledFront};
+ghost use Rattle.rrd_store.specs.Storages.{Bytes, Decodes, Finds};
 
-use crate::file_bytes::{FileBytes, longer_front};
+use crate::file_bytes::FileBytes;
+use crate::laws::file_laws;
 use crate::{Cause, Disk};
 use rrd_base::Database;
-use rrd_file::FileFault;
+use rrd_change::{FoundDatabase, Layout};
 use rrd_file::laws::{front_has_the_fault, one_answer};
+use rrd_file::{FileFault, file_end};
 use rrd_store::{TaskFault, decoded};
-use rrd_tail::Shape;
-use rrd_undo::{Bytes, SettledFront, settle, settled_front};
 use std::alloc::Global;
 use std::io::{self, Error, ErrorKind};
+
+/// The first eight bytes of a file with a log.
+const LOG_WORD: [u8; 8] = [b'R', b'R', b'D', b'L', b'o', b'g', 0, 0];
+
+/// The first four bytes of a file that is to be cut.
+const CUT_MARK: [u8; 4] = [b'R', b'R', b'D', b'C'];
 
 /// The maximum number of parts in which a file is read: each is longer than all parts before it.
 const PARTS: u32 = 64;
 
-// Returns the fault of a read that failed, and notes the reason.
-fn read_fault(error: Error, cause: &Cause) -> TaskFault
+/// Returns the fault of a read that failed, and notes the reason.
+pub(crate) fn read_fault(error: Error, cause: &Cause) -> TaskFault
     ensures { IsOfAny result }
 {
     cause.set(error);
@@ -71,15 +78,13 @@ fn judged(alloc: Global, front: &[u8], is_whole: bool) -> Option<Result<Database
 /// # Errors
 ///
 /// `File`: the file has no database, a read failed, or memory ran out.
+#[tactic(auto, using(crate::proofs::Resting::rests_refl, crate::proofs::Resting::rests_trans))]
 pub(crate) fn load<D: Disk>(
     alloc: Global,
     file: &mut FileBytes<D>,
     cause: &Cause,
 ) -> Result<Database, TaskFault>
-    ensures falls { Falls (D.events file.old.disk) (D.events file.new.disk) }
-    ensures power { KeepsSurviving file.old.syncs (D.events file.old.disk) (D.events file.new.disk) }
-    ensures syncs { KeepsSyncs file.old.syncs file.new.syncs (D.events file.new.disk) }
-    ensures same { KeepsHonest (D.events file.old.disk) (D.events file.new.disk) }
+    ensures rests { Rests (D.events file.old.disk) (D.events file.new.disk) }
     ensures reads { ReadsFile (D.events file.new.disk) result }
     ensures front { IfOk result (IsFile file.new.front.bytes.items) }
     ensures valid { Decodes None result }
@@ -100,15 +105,14 @@ pub(crate) fn load<D: Disk>(
 /// # Errors
 ///
 /// `File`: the pipe has no database, a read failed, or memory ran out.
+#[tactic(auto, using(crate::proofs::Resting::rests_refl, crate::proofs::Resting::rests_trans))]
 pub(crate) fn load_pipe<D: Disk>(
     alloc: Global,
     file: &mut FileBytes<D>,
     pipe: &mut D::Pipe,
     cause: &Cause,
 ) -> Result<Option<Database>, TaskFault>
-    ensures falls { Falls (D.events file.old.disk) (D.events file.new.disk) }
-    ensures syncs { file.new.syncs ≡ file.old.syncs }
-    ensures same { KeepsHeld (D.events file.old.disk) (D.events file.new.disk) }
+    ensures rests { Rests (D.events file.old.disk) (D.events file.new.disk) }
     ensures finds { (s : World) → IsTrue (is_honest_after s (D.events file.new.disk)) → (bytes : List ℕ) → Finds (Some (Bytes bytes)) result }
     ensures valid { Finds None result }
 {
@@ -126,45 +130,28 @@ pub(crate) fn load_pipe<D: Disk>(
     Err(read_fault(Error::from(ErrorKind::FileTooLarge), cause))
 }
 
+/// The layout of the files of databases: it says where a database ends, whatever follows it.
+struct FileLayout;
+
+impl Layout for FileLayout {
+    ghost end_of = { file_end };
+
+    fn end(&self, _alloc: Global, bytes: &[u8]) -> io::Result<usize> {
+        Ok(file_end(bytes))
+    }
+}
+
 /// What a file with a mark stands for.
 #[derive(Drop)]
-pub(crate) enum Standing {
-    /// A database: a change was interrupted.
-    Database(Database),
-    /// A database that ends before the file does, at this byte. A file system may store a file's new length before the
-    /// new bytes. So a file with a cut mark and without a record may be longer than its database, whose layout says
-    /// where it ends.
-    Unrecorded(Database, usize),
-    /// No database: the file is no interrupted change, and is not to be written.
-    Nothing,
+pub(crate) struct Standing {
+    /// The bytes of the database, as they were found.
+    pub found: FoundDatabase,
+    /// The database.
+    pub database: Database,
 }
 
-impl Standing {
-    /// Checks whether the file stands for a database.
-    pub(crate) fn has_database(&self) -> bool
-        ensures { result ≡ false → self.now ≡ Nothing }
-    {
-        !matches!(self, Standing::Nothing)
-    }
-
-    /// Returns the database.
-    ///
-    /// # Errors
-    ///
-    /// `NotOurs` if there is none: the file has the mark of another program, or a forged one.
-    pub(crate) fn into_database(self) -> Result<Option<Database>, TaskFault>
-        ensures stands { (file : List ℕ) → StandsSo self file → (IsNoFile (settled file) → ⊥) → Finds (Some (Bytes (settled file))) result }
-        ensures valid { IsValidStanding self → Finds None result }
-    {
-        match self {
-            Standing::Database(database) | Standing::Unrecorded(database, _) => Ok(Some(database)),
-            Standing::Nothing => Err(TaskFault::File(FileFault::NotOurs)),
-        }
-    }
-}
-
-// Checks whether a fault is one of the bytes that were read, and not of reading them.
-fn is_of_bytes(fault: &TaskFault) -> bool
+/// Checks whether a fault is one of the bytes that were read, and not of reading them.
+pub(crate) fn is_of_bytes(fault: &TaskFault) -> bool
     ensures { result ≡ is_of_bytes fault.now }
 {
     match fault {
@@ -174,189 +161,155 @@ fn is_of_bytes(fault: &TaskFault) -> bool
     }
 }
 
-// Returns the database of these bytes, or `None` if they have a fault.
-fn database_of(alloc: Global, bytes: &[u8]) -> Result<Option<Database>, TaskFault>
-    ensures valid { IfOk result (λ found. IfSome found (λ database. Decodes None (Ok database))) }
-    ensures err { IfErr result IsOfAny }
+// Checks whether the first bytes of a file with a cut mark show that no change of a database has left it: with the mark of a
+// database they have a fault, and none of a database ends among them.
+fn is_forged(alloc: Global, front: &[u8]) -> io::Result<bool>
+    requires { begins_with front.now cut_mark ≡ true }
+    ensures { IfOk result (λ is. IsTrue is → IsForged front.now) }
 {
-    match decoded(alloc, bytes) {
-        Ok(database) => Ok(Some(database)),
-        Err(fault) if is_of_bytes(&fault) => Ok(None),
-        Err(fault) => Err(fault),
+    let mut bytes = Vec::new(alloc);
+    bytes.extend_from_slice(front)?;
+    bytes[3] = b'I';
+    let read = decoded(alloc, &bytes);
+    let is_judged = is_judged(&read);
+    match read {
+        Ok(_) => Ok(false),
+        Err(fault) => Ok(is_judged && is_of_bytes(&fault) && bytes.len() <= file_end(&bytes)),
     }
 }
 
-// Returns the database of the first `end` bytes that a file represents, if a cut mark without a record is that of their
-// number.
-fn unrecorded(
-    alloc: Global,
-    front: &SettledFront,
-    end: usize,
-) -> Result<Option<Database>, TaskFault>
-    ensures valid { IfOk result (λ found. IfSome found (λ database. Decodes None (Ok database))) }
-    ensures err { IfErr result IsOfAny }
-{
-    let bytes = front.bytes.get(..end);
-    match (front.unrecorded, bytes) {
-        (Some(shape), Some(bytes)) if Shape::for_length(end) == shape => database_of(alloc, bytes),
-        _ => Ok(None),
-    }
-}
-
-// Returns what a file stands for, if the bytes that it represents, of which `front` are the first, have this fault.
-fn without_database(
-    alloc: Global,
-    front: &SettledFront,
-    fault: &TaskFault,
-) -> Result<Standing, TaskFault>
-    ensures none { IfOk result HasNoDatabase }
-    ensures valid { IfOk result IsValidStanding }
-    ensures err { IfErr result IsOfAny }
-{
-    let TaskFault::File(FileFault::Trailing { at }) = fault else {
-        return Ok(Standing::Nothing);
-    };
-    let end = *at as usize;
-    match unrecorded(alloc, front, end)? {
-        Some(database) => Ok(Standing::Unrecorded(database, end)),
-        None => Ok(Standing::Nothing),
-    }
-}
-
-// Returns what a file stands for, by the result of reading the bytes that it represents. `front` are the first of them.
-fn standing_of(
-    alloc: Global,
-    front: &SettledFront,
-    read: Result<Database, TaskFault>,
-) -> Result<Standing, TaskFault>
-    requires { Decodes None read }
-    ensures stands { IfOk result (λ standing. (file : List ℕ) → Decodes (Some (Bytes (settled file))) read → StandsSo standing file) }
-    ensures valid { IfOk result IsValidStanding }
-    ensures err { IfErr result IsOfAny }
+// Reads the first bytes of a file with a cut mark until they have the database under it. Returns `None` if there is none.
+#[tactic(auto, using(crate::proofs::Resting::rests_refl, crate::proofs::Resting::rests_trans))]
+fn read_cut<D: Disk>(alloc: Global, file: &mut FileBytes<D>) -> io::Result<Option<Vec<u8>>>
+    ensures rests { Rests (D.events file.old.disk) (D.events file.new.disk) }
+    ensures some { IfOk result (λ read. IfSome read (λ bytes. ShowsBytes bytes.items (D.events file.new.disk))) }
+    ensures none { IfOk result (λ read. IfNone read (HasNoChange (D.events file.new.disk))) }
 {
     one_answer();
-    match read {
-        Ok(database) => Ok(Standing::Database(database)),
-        Err(fault) if is_of_bytes(&fault) => without_database(alloc, front, &fault),
-        Err(fault) => Err(fault),
+    front_has_the_fault();
+    file_laws();
+    for _ in 0..PARTS {
+        let front = file.front();
+        if !front.starts_with(&CUT_MARK) || file.is_whole() || file_end(front) < front.len() {
+            return Ok(Some(file.give_front()));
+        }
+        if is_forged(alloc, front)? {
+            return Ok(None);
+        }
+        file.read_more()?;
     }
+    Err(Error::from(ErrorKind::FileTooLarge))
 }
 
-// Returns what a file stands for, if the first of the bytes that it represents determine it.
-fn standing_by(alloc: Global, front: &SettledFront) -> Result<Option<Standing>, TaskFault>
-    ensures stands { IfOk result (λ found. IfSome found (λ standing. (file : List ℕ) (count : ℕ) → IsSettledFront file count front.now → StandsSo standing file)) }
-    ensures valid { IfOk result (λ found. IfSome found IsValidStanding) }
-    ensures err { IfErr result IsOfAny }
+// Checks whether a file with a log mark may have a log where the mark says: each change there begins with its own offset. A file
+// without such a mark may.
+#[tactic(auto, using(crate::proofs::Resting::rests_refl, crate::proofs::Resting::rests_trans))]
+fn may_have_log<D: Disk>(alloc: Global, file: &mut FileBytes<D>) -> io::Result<bool>
+    ensures rests { Rests (D.events file.old.disk) (D.events file.new.disk) }
+    ensures no { IfOk result (λ may. may ≡ false → HasNoChange (D.events file.new.disk)) }
 {
-    let is_whole = front.bytes.len() == front.length;
-    match judged(alloc, &front.bytes, is_whole) {
-        Some(read) => Ok(Some(standing_of(alloc, front, read)?)),
-        None => Ok(None),
+    file_laws();
+    let Some(base) = file.base() else {
+        return Ok(true);
+    };
+    if !base.first.starts_with(&LOG_WORD) {
+        return Ok(true);
     }
+    let mut word = [0; 8];
+    word.copy_from_slice(&base.first[8..]);
+    let tail = usize::from_be_bytes(word);
+    if base.length.saturating_sub(tail) < 8 {
+        return Ok(false);
+    }
+    let mut head = Vec::new(alloc);
+    file.read_at(tail, 8, &mut head)?;
+    if head.len() != 8 {
+        return Err(Error::from(ErrorKind::UnexpectedEof));
+    }
+    word.copy_from_slice(&head);
+    Ok(usize::from_be_bytes(word) == tail)
 }
 
-// Returns what a file stands for, if the first `count` of the bytes that it represents determine it.
-fn standing_within<D: Disk>(
+// Finds the bytes that an open file with a mark stands for.
+#[tactic(auto, using(crate::proofs::Resting::rests_refl, crate::proofs::Resting::rests_trans))]
+fn find<D: Disk>(alloc: Global, file: &mut FileBytes<D>) -> io::Result<FoundDatabase>
+    ensures rests { Rests (D.events file.old.disk) (D.events file.new.disk) }
+    ensures mark { IfOk result (λ found. (s : World) → IsTrue (is_honest_after s (D.events file.new.disk)) → IsMarkOf found.mark (bytes_after s (D.events file.new.disk))) }
+    ensures database { IfOk result (λ found. (s : World) → IsTrue (is_honest_after s (D.events file.new.disk)) → database_of found ≡ settled file_end (bytes_after s (D.events file.new.disk))) }
+{
+    let bytes = file.read_all()?;
+    FoundDatabase::read(alloc, &FileLayout, bytes)
+}
+
+// Finds the database under a cut mark by the first bytes of the file that have it. Returns `None` if they do not tell, or if the
+// file has no cut mark.
+#[tactic(auto, using(crate::proofs::Resting::rests_refl, crate::proofs::Resting::rests_trans))]
+fn find_cut<D: Disk>(
     alloc: Global,
     file: &mut FileBytes<D>,
-    count: u64,
     cause: &Cause,
 ) -> Result<Option<Standing>, TaskFault>
-    ensures falls { Falls (D.events file.old.disk) (D.events file.new.disk) }
-    ensures power { KeepsSurviving file.old.syncs (D.events file.old.disk) (D.events file.new.disk) }
-    ensures syncs { KeepsSyncs file.old.syncs file.new.syncs (D.events file.new.disk) }
-    ensures same { KeepsHonest (D.events file.old.disk) (D.events file.new.disk) }
-    ensures stands { IfOk result (λ found. IfSome found (λ standing. (s : World) → IsTrue (is_honest_after s (D.events file.new.disk)) → StandsSo standing (bytes_after s (D.events file.new.disk)))) }
-    ensures valid { IfOk result (λ found. IfSome found IsValidStanding) }
-    ensures err { IfErr result IsOfAny }
+    ensures rests { Rests (D.events file.old.disk) (D.events file.new.disk) }
+    ensures stands { IfOk result (λ found. IfSome found (λ standing. IsStandingIn standing (D.events file.new.disk))) }
+    ensures fault { IfErr result (λ fault. IsFaultIn fault (D.events file.new.disk)) }
 {
-    match settled_front(alloc, file, count as usize) {
-        Ok(front) => standing_by(alloc, &front),
-        Err(error) => Err(read_fault(error, cause)),
+    file_laws();
+    if !file.front().starts_with(&CUT_MARK) {
+        return Ok(None);
+    }
+    let bytes = match read_cut(alloc, file) {
+        Ok(Some(bytes)) => bytes,
+        Ok(None) => return Err(TaskFault::File(FileFault::NotOurs)),
+        Err(error) => return Err(read_fault(error, cause)),
+    };
+    if !bytes.starts_with(&CUT_MARK) {
+        return Ok(None);
+    }
+    let found = match FoundDatabase::read(alloc, &FileLayout, bytes) {
+        Ok(found) => found,
+        Err(error) => return Err(read_fault(error, cause)),
+    };
+    match decoded(alloc, found.database()) {
+        Ok(database) => Ok(Some(Standing { found, database })),
+        Err(_) => Ok(None),
     }
 }
 
-/// Finds what an open file with a mark stands for. Does not change the file.
-///
-/// Reads a first part of the bytes that the file represents, and more only if that part can be the first part of a
-/// database.
+/// Finds the database that an open file with a mark stands for. Does not change the file.
 ///
 /// # Errors
 ///
-/// `File`: a read failed, or memory ran out.
+/// `File`: a read failed, memory ran out, or there is no database (`NotOurs`): the file has the mark of another program, or a
+/// forged one.
+#[tactic(auto, using(crate::proofs::Resting::rests_refl, crate::proofs::Resting::rests_trans))]
 pub(crate) fn find_standing<D: Disk>(
     alloc: Global,
     file: &mut FileBytes<D>,
     cause: &Cause,
 ) -> Result<Standing, TaskFault>
-    ensures falls { Falls (D.events file.old.disk) (D.events file.new.disk) }
-    ensures power { KeepsSurviving file.old.syncs (D.events file.old.disk) (D.events file.new.disk) }
-    ensures syncs { KeepsSyncs file.old.syncs file.new.syncs (D.events file.new.disk) }
-    ensures same { KeepsHonest (D.events file.old.disk) (D.events file.new.disk) }
-    ensures stands { IfOk result (λ standing. (s : World) → IsTrue (is_honest_after s (D.events file.new.disk)) → StandsSo standing (bytes_after s (D.events file.new.disk))) }
-    ensures valid { IfOk result IsValidStanding }
-    ensures err { IfErr result IsOfAny }
+    ensures rests { Rests (D.events file.old.disk) (D.events file.new.disk) }
+    ensures stands { IfOk result (λ standing. IsStandingIn standing (D.events file.new.disk)) }
+    ensures fault { IfErr result (λ fault. IsFaultIn fault (D.events file.new.disk)) }
 {
-    let mut count = 0;
-    for _ in 0..PARTS {
-        count = longer_front(count);
-        if let Some(standing) = standing_within(alloc, file, count, cause)? {
-            return Ok(standing);
-        }
+    one_answer();
+    file_laws();
+    match may_have_log(alloc, file) {
+        Ok(true) => {}
+        Ok(false) => return Err(TaskFault::File(FileFault::NotOurs)),
+        Err(error) => return Err(read_fault(error, cause)),
     }
-    Err(read_fault(Error::from(ErrorKind::FileTooLarge), cause))
-}
-
-// Truncates a file to its first `end` bytes.
-fn truncate<D: Disk>(file: &mut FileBytes<D>, end: usize) -> io::Result<()>
-    ensures falls { FallsAsked (D.events file.old.disk) (D.events file.new.disk) }
-    ensures syncs { KeepsSyncs file.old.syncs file.new.syncs (D.events file.new.disk) }
-{
-    file.set_len(end)?;
-    file.sync()
-}
-
-// Settles a file.
-fn settle_file<D: Disk>(alloc: Global, file: &mut FileBytes<D>) -> io::Result<()>
-    ensures falls { FallsAsked (D.events file.old.disk) (D.events file.new.disk) }
-    ensures power { KeepsSurviving file.old.syncs (D.events file.old.disk) (D.events file.new.disk) }
-    ensures syncs { KeepsSyncs file.old.syncs file.new.syncs (D.events file.new.disk) }
-    ensures stands { (s : World) → IsTrue (is_honest_after s (D.events file.new.disk))
-        → settled (bytes_after s (D.events file.new.disk)) ≡ settled (bytes_after s (D.events file.old.disk)) }
-    ensures ok { OnOk result ((s : World) → IsTrue (is_honest_after s (D.events file.new.disk))
-        → bytes_after s (D.events file.new.disk) ≡ settled (bytes_after s (D.events file.old.disk))) }
-{
-    let mut buffer = Vec::new(alloc);
-    settle(file, &mut buffer)?;
-    Ok(())
-}
-
-/// Makes a file with a mark have the bytes of the database that it stands for.
-///
-/// # Errors
-///
-/// A call failed, or memory ran out. The file then stands for the same database.
-pub(crate) fn repair<D: Disk>(
-    alloc: Global,
-    file: &mut FileBytes<D>,
-    standing: &Standing,
-) -> io::Result<()>
-    ensures falls { Falls (D.events file.old.disk) (D.events file.new.disk) }
-    ensures power { IsDatabaseStanding standing.now → KeepsSurviving file.old.syncs (D.events file.old.disk) (D.events file.new.disk) }
-    ensures syncs { KeepsSyncs file.old.syncs file.new.syncs (D.events file.new.disk) }
-    ensures place { IsStillThere (D.events file.old.disk) (D.events file.new.disk) }
-    ensures stands { (s : World) → IsTrue (is_honest_after s (D.events file.new.disk)) → IsDatabaseStanding standing.now
-        → settled (bytes_after s (D.events file.new.disk)) ≡ settled (bytes_after s (D.events file.old.disk)) }
-    ensures ok { OnOk result ((s : World) → IsTrue (is_honest_after s (D.events file.new.disk)) → IsDatabaseStanding standing.now
-        → bytes_after s (D.events file.new.disk) ≡ settled (bytes_after s (D.events file.old.disk))) }
-{
-    match standing {
-        Standing::Database(_) => settle_file(alloc, file),
-        Standing::Unrecorded(_, end) => {
-            // The file keeps its cut mark, and `settle` then finds the database alone.
-            truncate(file, *end)?;
-            settle_file(alloc, file)
-        }
-        Standing::Nothing => Ok(()),
+    match find_cut(alloc, file, cause) {
+        Ok(Some(standing)) => return Ok(standing),
+        Ok(None) => {}
+        Err(fault) => return Err(fault),
+    }
+    let found = match find(alloc, file) {
+        Ok(found) => found,
+        Err(error) => return Err(read_fault(error, cause)),
+    };
+    match decoded(alloc, found.database()) {
+        Ok(database) => Ok(Standing { found, database }),
+        Err(fault) if is_of_bytes(&fault) => Err(TaskFault::File(FileFault::NotOurs)),
+        Err(fault) => Err(fault),
     }
 }

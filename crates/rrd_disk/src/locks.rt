@@ -1,8 +1,7 @@
 //! The advisory lock on an open file.
 ghost use Rattle.std.specs.Prelude.{◌≡◌, ◌+◌, ◌∷◌, IfOk, IfSome, OnErr, OnOk, false};
-ghost use Rattle.rrd_disk.specs.Calls.{Falls, KeepsHeld};
+ghost use Rattle.rrd_disk.specs.Calls.{Rests};
 ghost use Rattle.rrd_disk.specs.Locks.{GuardsFor, locked};
-ghost use Rattle.rrd_disk.specs.Power.{KeepsDisk};
 ghost use Rattle.rrd_disk.specs.declared.disk.Lock.TheVariants.{Own};
 
 use crate::{Disk, DiskFile, Lock, LockResult, Noted, Record, Settings};
@@ -145,9 +144,7 @@ fn try_until_locked<D: Disk>(
     lock: Lock,
     pauses: &mut Pauses,
 ) -> io::Result<LockResult>
-    ensures falls { Falls (D.events disk.old) (D.events disk.new) }
-    ensures power { KeepsDisk (D.events disk.old) (D.events disk.new) }
-    ensures same { KeepsHeld (D.events disk.old) (D.events disk.new) }
+    ensures rests { Rests (D.events disk.old) (D.events disk.new) }
     ensures guard { OnOk result (GuardsFor lock (D.events disk.new)) }
 {
     for _ in 0..=Settings::MAX_WAIT {
@@ -176,9 +173,7 @@ pub(crate) fn lock<D: Disk>(
     lock: Lock,
     pauses: &mut Pauses,
 ) -> io::Result<LockedFile<D::File>>
-    ensures falls { Falls (D.events disk.old) (D.events disk.new) }
-    ensures power { KeepsDisk (D.events disk.old) (D.events disk.new) }
-    ensures same { KeepsHeld (D.events disk.old) (D.events disk.new) }
+    ensures rests { Rests (D.events disk.old) (D.events disk.new) }
     ensures guard { IfOk result (λ file. GuardsFor file.lock (D.events disk.new)) }
 {
     let lock_result = try_until_locked(disk, &file, lock, pauses)?;

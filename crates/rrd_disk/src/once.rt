@@ -1,14 +1,14 @@
 //! Calls of the system that a signal may interrupt, and bytes written by one call.
-ghost use Rattle.std.specs.Prelude.{◌≡◌, ◌+◌, ◌<◌, ◌≤◌, ◌∷◌, IsTrue, length, IfErr, IfOk, OnErr, OnOk, take};
-ghost use Rattle.rrd_disk.specs.Fronts.{Begins};
+ghost use Rattle.std.specs.Prelude.{◌≡◌, ◌+◌, ◌<◌, ◌≤◌, ◌∷◌, IsTrue, length, IfOk, OnErr, OnOk, take};
 ghost use Rattle.std.specs.Io.{ReadsAtMost};
-ghost use Rattle.rrd_disk.specs.Calls.{Falls, IsGot, IsGotAtOnce, KeepsHeld, LeavesPart, LeavesSized, PlaceStays, opened};
-ghost use Rattle.rrd_disk.specs.declared.disk.Opening.TheVariants.{Read};
+ghost use Rattle.rrd_change.specs.Calls.{ArePut, IsSized, IsSizedOrNot};
+ghost use Rattle.rrd_change.specs.Views.{IsSynced, IsUnsynced, Moves};
+ghost use Rattle.rrd_disk.specs.Calls.{DidOr, IsCutShort, IsGot, IsGotAtOnce, IsPartPut, Rests, opened};
+ghost use Rattle.rrd_disk.specs.Fronts.{Begins};
 ghost use Rattle.rrd_disk.specs.Locks.{KeepsGuard, is_guarded};
-ghost use Rattle.rrd_disk.specs.Power.{IsOnDisk, KeepsDisk, LeavesOnDisk, StoresOrNot};
-ghost use Rattle.rrd_disk.specs.Replayed.{World, bytes_after, held_after, is_honest_after};
-ghost use Rattle.rrd_undo.specs.Calls.{ArePut, IsSized};
-ghost use Rattle.rrd_undo.specs.Power.{AreTorn, IsSizedOrNot};
+ghost use Rattle.rrd_disk.specs.Power.{AreTorn};
+ghost use Rattle.rrd_disk.specs.Replayed.{World, bytes_after, is_honest_after};
+ghost use Rattle.rrd_disk.specs.declared.disk.Opening.TheVariants.{Read};
 
 use crate::{Disk, Opening};
 use rrd_fixed::TRIES;
@@ -42,16 +42,25 @@ pub(crate) fn open_pipe<D: Disk>(disk: &mut D) -> io::Result<Option<D::Pipe>>
     Err(Error::from(ErrorKind::Interrupted))
 }
 
-// Writes bytes from byte `at` on by one call, and returns the number of bytes that were written.
-fn put_some<D: Disk>(disk: &mut D, file: &D::File, bytes: &[u8], at: u64) -> io::Result<usize>
+/// Returns the error of a write that was cut short.
+pub(crate) fn no_space() -> Error {
+    Error::new(
+        ErrorKind::WriteZero,
+        "no space left, or a limit on the size of files",
+    )
+}
+
+/// Writes bytes from byte `at` on by one call, and returns the number of bytes that were written. No honest file takes some of
+/// a small write.
+pub(crate) fn put_some<D: Disk>(
+    disk: &mut D,
+    file: &D::File,
+    bytes: &[u8],
+    at: u64,
+) -> io::Result<usize>
     requires { IsTrue (is_guarded (D.events disk.old)) }
-    ensures falls { Falls (D.events disk.old) (D.events disk.new) }
-    ensures power { LeavesOnDisk (AreTorn at bytes.now) (D.events disk.old) (D.events disk.new) }
-    ensures whole { IfOk result (λ n. (s : World) → IsTrue (is_honest_after s (D.events disk.new)) → n ≡ length bytes.now) }
-    ensures ok { OnOk result ((s : World) → IsTrue (is_honest_after s (D.events disk.new)) → 0 < length bytes.now
-        → ArePut at bytes.now (bytes_after s (D.events disk.old)) (bytes_after s (D.events disk.new))) }
-    ensures err { OnErr result (LeavesPart at bytes.now (D.events disk.old) (D.events disk.new)) }
-    ensures place { PlaceStays (D.events disk.old) (D.events disk.new) }
+    ensures did { DidOr (λ n. Moves (IsPartPut n at bytes.now) (AreTorn at bytes.now)) (Moves (IsPartPut 0 at bytes.now) (AreTorn at bytes.now)) result (D.events disk.old) (D.events disk.new) }
+    ensures short { IfOk result (λ n. IsCutShort n at bytes.now (D.events disk.new)) }
     ensures guard { KeepsGuard (D.events disk.old) (D.events disk.new) }
 {
     for _ in 0..TRIES {
@@ -63,25 +72,6 @@ fn put_some<D: Disk>(disk: &mut D, file: &D::File, bytes: &[u8], at: u64) -> io:
     Err(Error::from(ErrorKind::Interrupted))
 }
 
-/// The end of a write that failed.
-#[derive(Clone, Copy, Debug)]
-pub(crate) struct PutError {
-    /// The reason.
-    pub(crate) error: Error,
-    /// Whether a call wrote some of the bytes.
-    pub(crate) is_cut_short: bool,
-}
-
-// Returns the error of a write, of which a call wrote some of the bytes.
-fn cut_short(error: Error) -> PutError
-    ensures { IsTrue result.is_cut_short }
-{
-    PutError {
-        error,
-        is_cut_short: true,
-    }
-}
-
 /// Writes all bytes from byte `at` on by one call.
 ///
 /// If a call writes only some of the bytes, the next call writes all bytes again from the first byte: a call that began
@@ -89,50 +79,27 @@ fn cut_short(error: Error) -> PutError
 ///
 /// # Errors
 ///
-/// A call failed, or wrote only some of the bytes.
-pub(crate) fn put<D: Disk>(
-    disk: &mut D,
-    file: &D::File,
-    bytes: &[u8],
-    at: u64,
-) -> Result<(), PutError>
+/// A call failed, or the second one wrote only some of the bytes too: there is no space left, or a limit on the size of
+/// files.
+pub(crate) fn put<D: Disk>(disk: &mut D, file: &D::File, bytes: &[u8], at: u64) -> io::Result<()>
     requires some { 0 < length bytes.now }
     requires guarded { IsTrue (is_guarded (D.events disk.old)) }
-    ensures falls { Falls (D.events disk.old) (D.events disk.new) }
-    ensures power { LeavesOnDisk (AreTorn at bytes.now) (D.events disk.old) (D.events disk.new) }
-    ensures ok { OnOk result ((s : World) → IsTrue (is_honest_after s (D.events disk.new))
-        → ArePut at bytes.now (bytes_after s (D.events disk.old)) (bytes_after s (D.events disk.new))) }
-    ensures err { OnErr result (LeavesPart at bytes.now (D.events disk.old) (D.events disk.new)) }
-    ensures short { IfErr result (λ failed. IsTrue failed.is_cut_short → (s : World) → IsTrue (is_honest_after s (D.events disk.new)) → ⊥) }
-    ensures place { PlaceStays (D.events disk.old) (D.events disk.new) }
+    ensures did { DidOr (λ _. Moves (ArePut at bytes.now) (AreTorn at bytes.now)) (Moves (IsPartPut 0 at bytes.now) (AreTorn at bytes.now)) result (D.events disk.old) (D.events disk.new) }
     ensures guard { KeepsGuard (D.events disk.old) (D.events disk.new) }
 {
-    match put_some(disk, file, bytes, at) {
-        Ok(count) if count >= bytes.len() => return Ok(()),
-        Ok(_) => {}
-        Err(error) => {
-            return Err(PutError {
-                error,
-                is_cut_short: false,
-            });
-        }
+    if put_some(disk, file, bytes, at)? >= bytes.len() {
+        return Ok(());
     }
-    match put_some(disk, file, bytes, at) {
-        Ok(count) if count >= bytes.len() => Ok(()),
-        Ok(_) => Err(cut_short(Error::new(
-            ErrorKind::WriteZero,
-            "no space left, or a limit on the size of files",
-        ))),
-        Err(error) => Err(cut_short(error)),
+    if put_some(disk, file, bytes, at)? >= bytes.len() {
+        return Ok(());
     }
+    Err(no_space())
 }
 
 // Reads bytes from byte `at` on by one call, and returns the number of bytes that were read.
 fn get_some<D: Disk>(disk: &mut D, file: &D::File, bytes: &mut [u8], at: u64) -> io::Result<usize>
     ensures bound { ReadsAtMost result bytes.new }
-    ensures falls { Falls (D.events disk.old) (D.events disk.new) }
-    ensures power { KeepsDisk (D.events disk.old) (D.events disk.new) }
-    ensures same { KeepsHeld (D.events disk.old) (D.events disk.new) }
+    ensures rests { Rests (D.events disk.old) (D.events disk.new) }
     ensures ok { IfOk result (λ n. (s : World) → IsTrue (is_honest_after s (D.events disk.new))
         → IsGotAtOnce (bytes_after s (D.events disk.old)) at n bytes.new) }
     ensures guard { KeepsGuard (D.events disk.old) (D.events disk.new) }
@@ -156,9 +123,7 @@ pub(crate) fn get<D: Disk>(
     at: u64,
 ) -> io::Result<usize>
     ensures bound { ReadsAtMost result bytes.new }
-    ensures falls { Falls (D.events disk.old) (D.events disk.new) }
-    ensures power { KeepsDisk (D.events disk.old) (D.events disk.new) }
-    ensures same { KeepsHeld (D.events disk.old) (D.events disk.new) }
+    ensures rests { Rests (D.events disk.old) (D.events disk.new) }
     ensures ok { IfOk result (λ n. (s : World) → IsTrue (is_honest_after s (D.events disk.new))
         → IsGot (bytes_after s (D.events disk.old)) at n bytes.new) }
     ensures guard { KeepsGuard (D.events disk.old) (D.events disk.new) }
@@ -190,9 +155,7 @@ pub(crate) fn get_behind<D: Disk>(
     requires { had ≤ length bytes.old }
     ensures bound { IfOk result (λ n. had + n ≤ length bytes.new) }
     ensures length { length bytes.new ≡ length bytes.old }
-    ensures falls { Falls (D.events disk.old) (D.events disk.new) }
-    ensures power { KeepsDisk (D.events disk.old) (D.events disk.new) }
-    ensures same { KeepsHeld (D.events disk.old) (D.events disk.new) }
+    ensures rests { Rests (D.events disk.old) (D.events disk.new) }
     ensures shown { IfOk result (λ n. (s : World) → IsTrue (is_honest_after s (D.events disk.new))
         → Begins (bytes_after s (D.events disk.old)) (take had bytes.old) → Begins (bytes_after s (D.events disk.old)) (take (had + n) bytes.new)) }
     ensures ends { IfOk result (λ n. (s : World) → IsTrue (is_honest_after s (D.events disk.new))
@@ -205,9 +168,7 @@ pub(crate) fn get_behind<D: Disk>(
 // Reads the next bytes of a pipe by one call, and returns the number of bytes that were read: 0 at the end.
 fn get_some_next<D: Disk>(disk: &mut D, pipe: &mut D::Pipe, bytes: &mut [u8]) -> io::Result<usize>
     ensures bound { ReadsAtMost result bytes.new }
-    ensures falls { Falls (D.events disk.old) (D.events disk.new) }
-    ensures power { KeepsDisk (D.events disk.old) (D.events disk.new) }
-    ensures same { KeepsHeld (D.events disk.old) (D.events disk.new) }
+    ensures rests { Rests (D.events disk.old) (D.events disk.new) }
     ensures none { OnOk result ((s : World) → IsTrue (is_honest_after s (D.events disk.new)) → ⊥) }
     ensures guard { KeepsGuard (D.events disk.old) (D.events disk.new) }
 {
@@ -229,9 +190,7 @@ pub(crate) fn get_next<D: Disk>(
     bytes: &mut [u8],
 ) -> io::Result<usize>
     ensures bound { ReadsAtMost result bytes.new }
-    ensures falls { Falls (D.events disk.old) (D.events disk.new) }
-    ensures power { KeepsDisk (D.events disk.old) (D.events disk.new) }
-    ensures same { KeepsHeld (D.events disk.old) (D.events disk.new) }
+    ensures rests { Rests (D.events disk.old) (D.events disk.new) }
     ensures none { OnOk result (0 < length bytes.old → (s : World) → IsTrue (is_honest_after s (D.events disk.new)) → ⊥) }
     ensures guard { KeepsGuard (D.events disk.old) (D.events disk.new) }
 {
@@ -249,9 +208,7 @@ pub(crate) fn get_next<D: Disk>(
 
 /// Returns the length of the file in bytes.
 pub(crate) fn measure<D: Disk>(disk: &mut D, file: &D::File) -> io::Result<u64>
-    ensures falls { Falls (D.events disk.old) (D.events disk.new) }
-    ensures power { KeepsDisk (D.events disk.old) (D.events disk.new) }
-    ensures same { KeepsHeld (D.events disk.old) (D.events disk.new) }
+    ensures rests { Rests (D.events disk.old) (D.events disk.new) }
     ensures ok { IfOk result (λ n. (s : World) → IsTrue (is_honest_after s (D.events disk.new)) → n ≡ length (bytes_after s (D.events disk.old))) }
     ensures guard { KeepsGuard (D.events disk.old) (D.events disk.new) }
 {
@@ -261,12 +218,7 @@ pub(crate) fn measure<D: Disk>(disk: &mut D, file: &D::File) -> io::Result<u64>
 /// Sets the length of the file.
 pub(crate) fn set_length<D: Disk>(disk: &mut D, file: &D::File, length: u64) -> io::Result<()>
     requires { IsTrue (is_guarded (D.events disk.old)) }
-    ensures falls { Falls (D.events disk.old) (D.events disk.new) }
-    ensures power { LeavesOnDisk (IsSizedOrNot length) (D.events disk.old) (D.events disk.new) }
-    ensures ok { OnOk result ((s : World) → IsTrue (is_honest_after s (D.events disk.new))
-        → IsSized length (bytes_after s (D.events disk.old)) (bytes_after s (D.events disk.new))) }
-    ensures err { OnErr result (LeavesSized length (D.events disk.old) (D.events disk.new)) }
-    ensures place { PlaceStays (D.events disk.old) (D.events disk.new) }
+    ensures did { DidOr (λ _. Moves (IsSized length) (IsSizedOrNot length)) (Moves (IsSizedOrNot length) (IsSizedOrNot length)) result (D.events disk.old) (D.events disk.new) }
     ensures guard { KeepsGuard (D.events disk.old) (D.events disk.new) }
 {
     for _ in 0..TRIES {
@@ -278,19 +230,11 @@ pub(crate) fn set_length<D: Disk>(disk: &mut D, file: &D::File, length: u64) -> 
     Err(Error::from(ErrorKind::Interrupted))
 }
 
-/// Returns after the disk has stored all bytes that were written.
+/// Returns after the disk has stored all bytes that were written. A sync that a signal interrupted has failed: of what is
+/// stored after a sync that failed, a second one says nothing.
 pub(crate) fn sync<D: Disk>(disk: &mut D, file: &D::File) -> io::Result<()>
-    ensures falls { Falls (D.events disk.old) (D.events disk.new) }
-    ensures power { StoresOrNot (D.events disk.old) (D.events disk.new) }
-    ensures same { KeepsHeld (D.events disk.old) (D.events disk.new) }
-    ensures stored { OnOk result (IsOnDisk (D.events disk.new)) }
+    ensures did { DidOr (λ _. IsSynced) IsUnsynced result (D.events disk.old) (D.events disk.new) }
     ensures guard { KeepsGuard (D.events disk.old) (D.events disk.new) }
 {
-    for _ in 0..TRIES {
-        match disk.sync(file) {
-            Err(error) if error.kind() == ErrorKind::Interrupted => {}
-            ended => return ended,
-        }
-    }
-    Err(Error::from(ErrorKind::Interrupted))
+    disk.sync(file)
 }

@@ -40,7 +40,7 @@ impl<D: Disk + Drop> OpenFile<D> {
     /// contract says only that the fault is one of the two.
     pub fn open(alloc: Global, disk: D, place: OwnPlace) -> Result<OpenFile<D>, OpenFault>
         requires { D.events disk ≡ [] }
-        ensures kept { IfOk result (λ file. IsKept (D.events file.session.storage.bytes.disk) file.session.database file.session.encoded) }
+        ensures kept { IfOk result (λ file. IsKept file.session.storage.found (D.events file.session.storage.bytes.disk) file.session.database file.session.encoded) }
         ensures opened { IfOk result (λ file. IsOpened (D.events file.session.storage.bytes.disk)) }
         ensures some { IfOk result (λ file. IsSome file.session.database) }
         ensures fault { IfErr result (λ refused. IsOfPlace refused.fault) }
@@ -71,9 +71,9 @@ impl<D: Disk + Drop> OpenFile<D> {
     ///
     /// As for [`OpenFile::open`].
     pub fn load(&mut self, alloc: Global) -> Result<(), TaskFault>
-        ensures kept { IsKept (D.events self.old.session.storage.bytes.disk) self.old.session.database self.old.session.encoded
-            → IsKept (D.events self.new.session.storage.bytes.disk) self.new.session.database self.new.session.encoded }
-        ensures stays { IsKept (D.events self.old.session.storage.bytes.disk) self.old.session.database self.old.session.encoded
+        ensures kept { IsKept self.old.session.storage.found (D.events self.old.session.storage.bytes.disk) self.old.session.database self.old.session.encoded
+            → IsKept self.new.session.storage.found (D.events self.new.session.storage.bytes.disk) self.new.session.database self.new.session.encoded }
+        ensures stays { IsKept self.old.session.storage.found (D.events self.old.session.storage.bytes.disk) self.old.session.database self.old.session.encoded
             → IsReload (D.events self.old.session.storage.bytes.disk) (D.events self.new.session.storage.bytes.disk) }
         ensures some { OnOk result (IsSome self.new.session.database) }
         ensures fault { IfErr result IsOfPlace }
@@ -103,9 +103,9 @@ impl<D: Disk + Drop> OpenFile<D> {
         now: u64,
         out: &mut W,
     ) -> Result<(), TaskFault>
-        ensures kept { IsKept (D.events self.old.session.storage.bytes.disk) self.old.session.database self.old.session.encoded
-            → IsKept (D.events self.new.session.storage.bytes.disk) self.new.session.database self.new.session.encoded }
-        ensures file { IsKept (D.events self.old.session.storage.bytes.disk) self.old.session.database self.old.session.encoded
+        ensures kept { IsKept self.old.session.storage.found (D.events self.old.session.storage.bytes.disk) self.old.session.database self.old.session.encoded
+            → IsKept self.new.session.storage.found (D.events self.new.session.storage.bytes.disk) self.new.session.database self.new.session.encoded }
+        ensures file { IsKept self.old.session.storage.found (D.events self.old.session.storage.bytes.disk) self.old.session.database self.old.session.encoded
             → IsOpenRun (D.events self.old.session.storage.bytes.disk) (D.events self.new.session.storage.bytes.disk)
             (command_run words.now now (W.contents out.old) (W.contents out.new) result) }
         ensures on { (d : Stored) → self.old.session.database ≡ Some d
@@ -125,9 +125,9 @@ impl<D: Disk + Drop> OpenFile<D> {
         command: Command,
         out: &mut W,
     ) -> Result<(), TaskFault>
-        ensures kept { IsKept (D.events self.old.session.storage.bytes.disk) self.old.session.database self.old.session.encoded
-            → IsKept (D.events self.new.session.storage.bytes.disk) self.new.session.database self.new.session.encoded }
-        ensures file { IsKept (D.events self.old.session.storage.bytes.disk) self.old.session.database self.old.session.encoded
+        ensures kept { IsKept self.old.session.storage.found (D.events self.old.session.storage.bytes.disk) self.old.session.database self.old.session.encoded
+            → IsKept self.new.session.storage.found (D.events self.new.session.storage.bytes.disk) self.new.session.database self.new.session.encoded }
+        ensures file { IsKept self.old.session.storage.found (D.events self.old.session.storage.bytes.disk) self.old.session.database self.old.session.encoded
             → IsOpenRun (D.events self.old.session.storage.bytes.disk) (D.events self.new.session.storage.bytes.disk)
             (request_run command (W.contents out.old) (W.contents out.new) result) }
         ensures on { (d : Stored) → self.old.session.database ≡ Some d
@@ -151,9 +151,9 @@ impl<D: Disk + Drop> OpenFile<D> {
         out: &mut W,
         gate: &G,
     ) -> Result<FileBatchEnd, TaskFault>
-        ensures kept { IsKept (D.events self.old.session.storage.bytes.disk) self.old.session.database self.old.session.encoded
-            → IsKept (D.events self.new.session.storage.bytes.disk) self.new.session.database self.new.session.encoded }
-        ensures file { IsKept (D.events self.old.session.storage.bytes.disk) self.old.session.database self.old.session.encoded
+        ensures kept { IsKept self.old.session.storage.found (D.events self.old.session.storage.bytes.disk) self.old.session.database self.old.session.encoded
+            → IsKept self.new.session.storage.found (D.events self.new.session.storage.bytes.disk) self.new.session.database self.new.session.encoded }
+        ensures file { IsKept self.old.session.storage.found (D.events self.old.session.storage.bytes.disk) self.old.session.database self.old.session.encoded
             → IsOpenRun (D.events self.old.session.storage.bytes.disk) (D.events self.new.session.storage.bytes.disk)
             (batch_run now numbered (R.remaining reader.old) (R.remaining reader.new)
             (W.contents out.old) (W.contents out.new) result) }
@@ -164,5 +164,16 @@ impl<D: Disk + Drop> OpenFile<D> {
         self.session.storage().forget_error();
         self.session
             .run_batch(alloc, now, numbered, reader, out, gate)
+    }
+
+    /// Closes the file, and returns the system with the record of its calls. What waits in the log is brought into place
+    /// first. If a call fails, the changes stay in the log, and the next run on the file brings them into place.
+    pub fn close(self) -> D
+        ensures { IsKept self.session.storage.found (D.events self.session.storage.bytes.disk) self.session.database self.session.encoded
+            → IsReload (D.events self.session.storage.bytes.disk) (D.events result) }
+    {
+        let mut storage = self.session.into_storage();
+        storage.finish();
+        storage.into_disk()
     }
 }

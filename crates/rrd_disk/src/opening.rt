@@ -1,9 +1,8 @@
 //! Opens a file and locks it, so that the path still names the file when the lock is held.
 ghost use Rattle.std.specs.Prelude.{◌≡◌, IfOk, None};
-ghost use Rattle.rrd_disk.specs.Calls.{Falls, KeepsHeld, KeepsHeldFor};
+ghost use Rattle.rrd_disk.specs.Calls.{Rests, RestsFor};
 ghost use Rattle.rrd_disk.specs.Locks.{GuardsOpened, GuardsOpenedIf, KeepsGuard};
 ghost use Rattle.rrd_disk.specs.Openings.{IsNone, IsThere, Says, SaysIf};
-ghost use Rattle.rrd_disk.specs.Power.{KeepsDisk};
 
 use crate::locks::{LockedFile, Pauses, lock};
 use crate::once::{open, open_pipe};
@@ -55,9 +54,7 @@ fn openable_kind(facts: &Facts, opening: Opening) -> io::Result<Kind> {
 // Returns the kind of the file, if a file of this kind may be opened; `None` if there is no file. The system is asked
 // before the file is opened: to open a pipe with a name would wait for a program at the pipe's other end.
 fn kind_at<D: Disk>(disk: &mut D, opening: Opening) -> io::Result<Option<Kind>>
-    ensures falls { Falls (D.events disk.old) (D.events disk.new) }
-    ensures power { KeepsDisk (D.events disk.old) (D.events disk.new) }
-    ensures same { KeepsHeld (D.events disk.old) (D.events disk.new) }
+    ensures rests { Rests (D.events disk.old) (D.events disk.new) }
     ensures none { IfOk result (λ kind. kind ≡ None → IsNone (D.events disk.new)) }
 {
     match disk.facts_at()? {
@@ -70,9 +67,7 @@ fn kind_at<D: Disk>(disk: &mut D, opening: Opening) -> io::Result<Option<Kind>>
 
 // Checks whether the path names the regular file with these facts.
 fn names<D: Disk>(disk: &mut D, facts: &Facts) -> io::Result<bool>
-    ensures falls { Falls (D.events disk.old) (D.events disk.new) }
-    ensures power { KeepsDisk (D.events disk.old) (D.events disk.new) }
-    ensures same { KeepsHeld (D.events disk.old) (D.events disk.new) }
+    ensures rests { Rests (D.events disk.old) (D.events disk.new) }
     ensures guard { KeepsGuard (D.events disk.old) (D.events disk.new) }
 {
     match disk.facts_at()? {
@@ -92,9 +87,7 @@ fn lock_named<D: Disk>(
     opening: Opening,
     pauses: &mut Pauses,
 ) -> io::Result<Option<Opened<D::File, D::Pipe>>>
-    ensures falls { Falls (D.events disk.old) (D.events disk.new) }
-    ensures power { KeepsDisk (D.events disk.old) (D.events disk.new) }
-    ensures same { KeepsHeld (D.events disk.old) (D.events disk.new) }
+    ensures rests { Rests (D.events disk.old) (D.events disk.new) }
     ensures says { IfOk result (λ opened. IsThere (D.events disk.old) → SaysIf opened (D.events disk.new)) }
     ensures guard { IfOk result (λ opened. GuardsOpenedIf opened (D.events disk.new)) }
 {
@@ -108,9 +101,7 @@ fn lock_named<D: Disk>(
 
 // Opens the file, which is a pipe.
 fn pipe_opened<D: Disk>(disk: &mut D) -> Opened<D::File, D::Pipe>
-    ensures falls { Falls (D.events disk.old) (D.events disk.new) }
-    ensures power { KeepsDisk (D.events disk.old) (D.events disk.new) }
-    ensures same { KeepsHeld (D.events disk.old) (D.events disk.new) }
+    ensures rests { Rests (D.events disk.old) (D.events disk.new) }
     ensures says { Says result (D.events disk.new) }
     ensures guard { GuardsOpened result (D.events disk.new) }
 {
@@ -127,9 +118,7 @@ fn open_once<D: Disk>(
     opening: Opening,
     pauses: &mut Pauses,
 ) -> io::Result<Option<Opened<D::File, D::Pipe>>>
-    ensures falls { Falls (D.events disk.old) (D.events disk.new) }
-    ensures power { KeepsDisk (D.events disk.old) (D.events disk.new) }
-    ensures same { KeepsHeldFor opening (D.events disk.old) (D.events disk.new) }
+    ensures rests { RestsFor opening (D.events disk.old) (D.events disk.new) }
     ensures says { IfOk result (λ opened. SaysIf opened (D.events disk.new)) }
     ensures guard { IfOk result (λ opened. GuardsOpenedIf opened (D.events disk.new)) }
 {
@@ -164,9 +153,7 @@ pub(crate) fn open_locked<D: Disk>(
     opening: Opening,
     wait: u64,
 ) -> io::Result<Opened<D::File, D::Pipe>>
-    ensures falls { Falls (D.events disk.old) (D.events disk.new) }
-    ensures power { KeepsDisk (D.events disk.old) (D.events disk.new) }
-    ensures same { KeepsHeldFor opening (D.events disk.old) (D.events disk.new) }
+    ensures rests { RestsFor opening (D.events disk.old) (D.events disk.new) }
     ensures says { IfOk result (λ opened. Says opened (D.events disk.new)) }
     ensures guard { IfOk result (λ opened. GuardsOpened opened (D.events disk.new)) }
 {

@@ -1,6 +1,6 @@
 //! How runs use the file of a system, and the directory of a file.
 ghost use Rattle.std.specs.Prelude.{◌≡◌};
-ghost use Rattle.rrd_undo.specs.declared.tail.Syncs.{Syncs};
+ghost use Rattle.rrd_change.specs.declared.calls.Syncs.{Syncs};
 
 use crate::{Cause, Settings};
 use std::path::Path;

@@ -1,5 +1,5 @@
 //! The settings by which a run uses its file.
-use rrd_undo::Syncs;
+use rrd_change::Syncs;
 
 /// The settings by which a run uses its file.
 #[derive(Clone, Copy, Debug, PartialEq, Eq)]

@@ -1,31 +1,34 @@
 //! A file as the storage of a database. A run opens the file once: the run reads and writes one file, under one lock,
 //! even if another file gets the name meanwhile.
-ghost use Rattle.std.specs.Prelude.{◌≡◌, ◌≢◌, Err, IfErr, IfOk, IsTrue, List, None, Ok, OnOk, Some, ℕ};
-ghost use Rattle.rrd_disk.specs.Calls.{Falls, KeepsHeld, KeepsHeldFor};
+ghost use Rattle.std.specs.Prelude.{◌≡◌, IfErr, IfOk, IsTrue, None, Ok, OnErr, OnOk, Some};
+ghost use Rattle.rrd_change.specs.Views.{Does, seen};
+ghost use Rattle.rrd_change.specs.declared.log.Base.{Base};
+ghost use Rattle.rrd_disk.specs.Asked.{view_of};
+ghost use Rattle.rrd_disk.specs.Calls.{Falls, Rests, RestsFor};
 ghost use Rattle.rrd_disk.specs.Entries.{SaysEntry};
-ghost use Rattle.rrd_disk.specs.Loading.{IsStillThere, IsValidStanding, KeepsHonest, StandsSo};
-ghost use Rattle.rrd_disk.specs.Openings.{IsThere, IsUnmarked};
-ghost use Rattle.rrd_disk.specs.Power.{AreUnmarkedDatabase, BecameIf, ChangesIf, DiffersIn, HasDatabase, KeepsDisk, KeepsSurviving, KeepsSurvivingIf, KeepsSyncs, RepresentDatabase};
-ghost use Rattle.rrd_disk.specs.Storing.{AreOf, HasDecoded, IsEmpty, IsReadable, IsRepaired, IsStanding, KeepsBytes, KeepsOpen, KeepsSettled, Loads, LoadsMarked, LoadsOpen, Prepares, PreparesMarked, PreparesOpen, PreparesUnmarked, ReadsSome, RepresentsBytes, RepresentsSome, Spoils, TellsMark, TellsNoDatabase, Writes, WritesWhere};
-ghost use Rattle.rrd_disk.specs.declared.storage.Found.TheVariants.{Open, Unopened};
-ghost use Rattle.rrd_file.specs.Faults.{IsFile, IsOfFile};
+ghost use Rattle.rrd_disk.specs.Known.{TellsMark};
+ghost use Rattle.rrd_disk.specs.Loading.{IsStandingIn};
+ghost use Rattle.rrd_disk.specs.OpenRuns.{Finishes};
+ghost use Rattle.rrd_disk.specs.Openings.{IsThere};
+ghost use Rattle.rrd_disk.specs.Storing.{AreMore, AreOf, Breaks, Changes, HasDecoded, IsAsLoaded, IsEmpty, IsOpen, Loads, LoadsAs, LoadsMarked, LoadsOpen, LoadsUnmarked, RepresentsBytes, Writes, WritesAll, WritesFirst, WritesOver};
 ghost use Rattle.rrd_disk.specs.declared.disk.Opening.TheVariants.{Make};
-ghost use Rattle.rrd_store.specs.Storages.{Bytes, Finds, IsAnyFile, IsNoFile};
-ghost use Rattle.rrd_tail.specs.Settled.{settled};
+ghost use Rattle.rrd_disk.specs.declared.storage.Found.TheVariants.{Kept, Missing, Open, Unopened, Unwritable};
+ghost use Rattle.rrd_file.specs.Faults.{IsFile};
+ghost use Rattle.rrd_store.specs.Storages.{Finds, IsAnyFile};
 ghost use Rattle.rrd_store.specs.declared.faults.TaskFault.TheVariants.{CannotOpen};
+ghost use Rattle.rrd_disk.specs.Surviving.{Becomes, BecomesOrNot, DoesOr, Replaces, ReplacesOrNot};
 
 use crate::file_bytes::{Entry, FileBytes};
 use crate::laws::file_laws;
-use crate::loading::{Standing, find_standing, load, load_pipe, repair};
+use crate::loading::{Standing, find_standing, load, load_pipe};
 use crate::opening::not_regular;
-use crate::{Cause, Disk, Location, Opening};
+use crate::preparing::{base_of, prepare};
+use crate::{Disk, Location, Opening, Syncs};
 use rrd_base::Database;
-use rrd_file::laws::one_answer;
-use rrd_file::{FileFault, Span};
+use rrd_change::{Base, Log, Span, change, create, mark, replace};
+use rrd_file::Span as FileSpan;
 use rrd_store::{Access, Loaded, Storage, TaskFault};
-use rrd_tail::DATABASE_MARK;
-use rrd_undo::{Bytes, Span as PageSpan, has_mark, replace, replace_where};
-use std::alloc::{AllocError, Global};
+use std::alloc::Global;
 use std::io::{self, Error, ErrorKind};
 
 /// The state of the file in a run.
@@ -37,11 +40,11 @@ pub(crate) enum Found {
     Missing,
     /// The run cannot write the file, for this reason.
     Unwritable(Error),
-    /// The file is open and locked, and has a database that the run may change.
-    Open,
-    /// The file is open and locked. It may have a mark, because the last call of a change failed. After a change whose
-    /// spans the caller knew, it is a database only if the caller was right.
-    Unsettled,
+    /// The file is open and locked. It is a database that the run may change, and begins like this.
+    Open(Base),
+    /// The file is open and locked, and has a mark: it was changed. The database that it stands for begins like this, and the
+    /// log, if there is one, has the changes that wait to be brought into place.
+    Kept(Base, Option<Log>),
 }
 
 /// The result of loading a database.
@@ -63,19 +66,6 @@ pub(crate) struct FileStorage<D: Disk, L: Location> {
     place: L,
     afterwards: Afterwards,
     found: Found,
-    ghost readable: { IsReadable found (D.Disk.events bytes.disk) },
-    ghost standing: { IsStanding found (D.Disk.events bytes.disk) },
-    // Whatever the run does, it syncs the file as its place says.
-    ghost syncing: { KeepsSyncs (L.Location.syncs place) bytes.syncs (D.Disk.events bytes.disk) },
-}
-
-// Returns why a file could not be read.
-fn error_of(fault: &TaskFault, cause: &Cause) -> Error {
-    match (fault, cause.last()) {
-        (TaskFault::File(FileFault::OutOfMemory), _) => Error::from(ErrorKind::OutOfMemory),
-        (_, Some(error)) => error,
-        (_, None) => Error::from(ErrorKind::Other),
-    }
 }
 
 // Returns the reason why a file does not stay open.
@@ -83,126 +73,43 @@ fn no_locks() -> Error {
     Error::new(ErrorKind::Unsupported, "the file system has no locks")
 }
 
-// Checks whether a fault is of the bytes of a file, and not of reading them.
-fn is_of_bytes(fault: &FileFault) -> bool
-    ensures { IsTrue result → IsOfFile (Err fault.now) }
+// Appends a span as the crate takes it that changes the file: what of it is within `count` bytes.
+#[tactic(auto, using(crate::proofs::Spans::more_none, crate::proofs::Spans::more_pushed))]
+fn push_within(spans: &mut Vec<Span>, span: FileSpan, count: usize) -> io::Result<()>
+    ensures { OnOk result (AreMore count span spans.old.items spans.new.items) }
 {
-    !matches!(fault, FileFault::Read | FileFault::OutOfMemory)
-}
-
-// Returns spans as the crate takes them that writes the pages.
-fn page_spans(alloc: Global, changed: &[Span]) -> Result<Vec<PageSpan>, AllocError>
-    ensures { IfOk result (λ spans. AreOf changed.now spans.items) }
-{
-    let mut spans = Vec::with_capacity(alloc, changed.len())?;
-    for span in changed {
-        spans.push(PageSpan {
-            start: span.start,
-            end: span.end,
-        })?;
-    }
-    Ok(spans)
-}
-
-// Checks whether a file begins like a database.
-fn begins_like_database<D: Disk>(alloc: Global, file: &mut FileBytes<D>) -> io::Result<bool>
-    ensures falls { Falls (D.events file.old.disk) (D.events file.new.disk) }
-    ensures power { KeepsSurviving file.old.syncs (D.events file.old.disk) (D.events file.new.disk) }
-    ensures syncs { KeepsSyncs file.old.syncs file.new.syncs (D.events file.new.disk) }
-    ensures same { KeepsOpen (D.events file.old.disk) (D.events file.new.disk) }
-    ensures ok { IfOk result (λ is. TellsNoDatabase is (D.events file.new.disk)) }
-{
-    if file.len()? < DATABASE_MARK.len() {
-        return Ok(false);
-    }
-    let mut start = Vec::new(alloc);
-    file.read(0, DATABASE_MARK.len(), &mut start)?;
-    Ok(start.starts_with(&DATABASE_MARK))
-}
-
-// Checks whether an open file has a mark.
-fn is_marked<D: Disk>(alloc: Global, file: &mut FileBytes<D>) -> io::Result<bool>
-    ensures falls { Falls (D.events file.old.disk) (D.events file.new.disk) }
-    ensures power { KeepsSurviving file.old.syncs (D.events file.old.disk) (D.events file.new.disk) }
-    ensures syncs { KeepsSyncs file.old.syncs file.new.syncs (D.events file.new.disk) }
-    ensures same { KeepsOpen (D.events file.old.disk) (D.events file.new.disk) }
-    ensures bytes { KeepsBytes (D.events file.old.disk) (D.events file.new.disk) }
-    ensures ok { IfOk result (λ is. TellsMark is (D.events file.new.disk)) }
-{
-    let mut buffer = Vec::new(alloc);
-    has_mark(file, &mut buffer)
-}
-
-// Prepares a file with a mark, whose database is to be replaced: repairs the file, if it is an interrupted change.
-fn prepare_marked<D: Disk>(alloc: Global, file: &mut FileBytes<D>, cause: &Cause) -> io::Result<()>
-    ensures falls { Falls (D.events file.old.disk) (D.events file.new.disk) }
-    ensures power { KeepsSurvivingIf RepresentDatabase file.old.syncs (D.events file.old.disk) (D.events file.new.disk) }
-    ensures syncs { KeepsSyncs file.old.syncs file.new.syncs (D.events file.new.disk) }
-    ensures prepared { PreparesMarked (D.events file.old.disk) (D.events file.new.disk) result }
-{
-    file_laws();
-    match find_standing(alloc, file, cause) {
-        Ok(standing) => repair(alloc, file, &standing),
-        Err(fault) => Err(error_of(&fault, cause)),
-    }
-}
-
-// Overwrites the first bytes of a file that begins like a database, and has none.
-fn spoil<D: Disk>(file: &mut FileBytes<D>) -> io::Result<()>
-    ensures falls { Falls (D.events file.old.disk) (D.events file.new.disk) }
-    ensures syncs { KeepsSyncs file.old.syncs file.new.syncs (D.events file.new.disk) }
-    ensures spoilt { Spoils (D.events file.old.disk) (D.events file.new.disk) result }
-{
-    file_laws();
-    file.put_whole(0, &[0; 4])
-}
-
-// Prepares a file without a mark to be replaced. A file that begins like a database, and has none, loses its first
-// bytes: a mark would have the next run look for the database that the file had.
-fn prepare_unmarked<D: Disk>(
-    alloc: Global,
-    file: &mut FileBytes<D>,
-    cause: &Cause,
-) -> io::Result<()>
-    ensures falls { Falls (D.events file.old.disk) (D.events file.new.disk) }
-    ensures power { KeepsSurvivingIf AreUnmarkedDatabase file.old.syncs (D.events file.old.disk) (D.events file.new.disk) }
-    ensures syncs { KeepsSyncs file.old.syncs file.new.syncs (D.events file.new.disk) }
-    ensures prepared { PreparesUnmarked (D.events file.old.disk) (D.events file.new.disk) result }
-{
-    one_answer();
-    file_laws();
-    if !begins_like_database(alloc, file)? {
+    let end = span.end.min(count);
+    if end <= span.start {
         return Ok(());
     }
-    match load(alloc, file, cause) {
-        Ok(_) => Ok(()),
-        Err(TaskFault::File(fault)) if is_of_bytes(&fault) => spoil(file),
-        Err(fault) => Err(error_of(&fault, cause)),
-    }
+    spans.push(Span {
+        start: span.start,
+        end,
+    })?;
+    Ok(())
 }
 
-// Prepares an open file, whose database was not loaded, to be replaced.
-fn prepare<D: Disk>(alloc: Global, file: &mut FileBytes<D>, cause: &Cause) -> io::Result<()>
-    ensures falls { Falls (D.events file.old.disk) (D.events file.new.disk) }
-    ensures power { KeepsSurvivingIf RepresentDatabase file.old.syncs (D.events file.old.disk) (D.events file.new.disk) }
-    ensures syncs { KeepsSyncs file.old.syncs file.new.syncs (D.events file.new.disk) }
-    ensures prepared { PreparesOpen (D.events file.old.disk) (D.events file.new.disk) result }
+// Returns spans as the crate takes them that changes the file: what of them is within `count` bytes.
+#[tactic(auto, using(crate::proofs::Spans::are_none, crate::proofs::Spans::are_more))]
+fn spans_within(alloc: Global, changed: &[FileSpan], count: usize) -> io::Result<Vec<Span>>
+    ensures { IfOk result (λ spans. AreOf count changed.now spans.items) }
 {
-    if is_marked(alloc, file)? {
-        prepare_marked(alloc, file, cause)
-    } else {
-        prepare_unmarked(alloc, file, cause)
+    let mut spans = Vec::new(alloc);
+    for number in 0..changed.len() {
+        push_within(&mut spans, changed[number], count)?;
     }
+    Ok(spans)
 }
 
 impl<D: Disk, L: Location> FileStorage<D, L> {
     // Creates the storage for the file of a system.
     fn at(disk: D, place: L, afterwards: Afterwards) -> FileStorage<D, L>
         ensures disk { result.bytes.disk ≡ disk }
-        ensures syncs { result.bytes.syncs ≡ L.syncs place }
+        ensures found { result.found ≡ Unopened }
+        ensures place { result.place ≡ place }
     {
         FileStorage {
-            bytes: FileBytes::new(disk, place.settings().syncs),
+            bytes: FileBytes::new(disk),
             place,
             afterwards,
             found: Found::Unopened,
@@ -214,7 +121,8 @@ impl<D: Disk, L: Location> FileStorage<D, L> {
     /// Makes no call of the system: [`Storage::load`] and [`Storage::replace`] do.
     pub fn new(disk: D, place: L) -> FileStorage<D, L>
         ensures disk { result.bytes.disk ≡ disk }
-        ensures syncs { result.bytes.syncs ≡ L.syncs place }
+        ensures found { result.found ≡ Unopened }
+        ensures place { result.place ≡ place }
     {
         FileStorage::at(disk, place, Afterwards::Closed)
     }
@@ -226,7 +134,7 @@ impl<D: Disk, L: Location> FileStorage<D, L> {
     /// promise that it stays as it is.
     pub fn staying_open(disk: D, place: L) -> FileStorage<D, L>
         ensures disk { result.bytes.disk ≡ disk }
-        ensures syncs { result.bytes.syncs ≡ L.syncs place }
+        ensures found { result.found ≡ Unopened }
     {
         FileStorage::at(disk, place, Afterwards::Open)
     }
@@ -248,6 +156,13 @@ impl<D: Disk, L: Location> FileStorage<D, L> {
         self.bytes.into_disk()
     }
 
+    // Returns when the run syncs the file.
+    fn syncs(&self) -> Syncs
+        ensures { result ≡ L.syncs self.now.place }
+    {
+        self.place.settings().syncs
+    }
+
     // Notes why the file could not be opened, and returns the fault.
     fn cannot_open(&self, error: Error) -> TaskFault
         ensures { result ≡ CannotOpen }
@@ -263,12 +178,10 @@ impl<D: Disk, L: Location> FileStorage<D, L> {
 
     // Opens and locks the file, and reads its first part.
     fn open(&mut self, opening: Opening) -> io::Result<Entry<D::Pipe>>
-        ensures falls { Falls (D.events self.old.bytes.disk) (D.events self.new.bytes.disk) }
-        ensures power { KeepsDisk (D.events self.old.bytes.disk) (D.events self.new.bytes.disk) }
-        ensures syncs { self.new.bytes.syncs ≡ self.old.bytes.syncs }
-        ensures same { KeepsHeldFor opening (D.events self.old.bytes.disk) (D.events self.new.bytes.disk) }
+        ensures rests { RestsFor opening (D.events self.old.bytes.disk) (D.events self.new.bytes.disk) }
         ensures says { IfOk result (λ entry. SaysEntry entry (D.events self.new.bytes.disk)) }
         ensures found { self.new.found ≡ Unopened }
+        ensures place { self.new.place ≡ self.old.place }
     {
         self.found = Found::Unopened;
         let wait = self.place.settings().wait;
@@ -281,7 +194,7 @@ impl<D: Disk, L: Location> FileStorage<D, L> {
     // Notes that there is no file.
     fn miss(&mut self) -> LoadResult
         ensures disk { self.new.bytes ≡ self.old.bytes }
-        ensures closed { self.new.found ≢ Open }
+        ensures found { self.new.found ≡ Missing }
         ensures none { result ≡ Ok None }
     {
         self.found = Found::Missing;
@@ -289,104 +202,99 @@ impl<D: Disk, L: Location> FileStorage<D, L> {
     }
 
     // Checks whether the open file has a mark.
-    fn is_marked(&mut self, alloc: Global) -> Result<bool, TaskFault>
-        ensures falls { Falls (D.events self.old.bytes.disk) (D.events self.new.bytes.disk) }
-        ensures same { KeepsOpen (D.events self.old.bytes.disk) (D.events self.new.bytes.disk) }
+    #[tactic(auto, using(crate::proofs::Resting::rests_refl, crate::proofs::Resting::rests_trans))]
+    fn is_marked(&mut self) -> Result<bool, TaskFault>
+        ensures rests { Rests (D.events self.old.bytes.disk) (D.events self.new.bytes.disk) }
+        ensures found { self.new.found ≡ self.old.found }
         ensures ok { IfOk result (λ is. TellsMark is (D.events self.new.bytes.disk)) }
         ensures err { IfErr result (λ fault. fault ≡ CannotOpen) }
     {
-        match is_marked(alloc, &mut self.bytes) {
+        match self.bytes.is_marked() {
             Ok(is_marked) => Ok(is_marked),
             Err(error) => Err(self.cannot_open(error)),
         }
     }
 
+    // Returns the state of an open file without a mark, whose database was loaded.
+    fn as_loaded(&self) -> Found
+        ensures { IsAsLoaded result (D.events self.now.bytes.disk) }
+    {
+        match self.bytes.base() {
+            Some(base) => Found::Open(base),
+            None => Found::Unopened,
+        }
+    }
+
     // Loads the database of an open file without a mark, which the run may then change.
+    #[tactic(auto, using(crate::proofs::Resting::rests_refl, crate::proofs::Resting::rests_trans))]
     fn load_unmarked(&mut self, alloc: Global) -> LoadResult
-        ensures falls { Falls (D.events self.old.bytes.disk) (D.events self.new.bytes.disk) }
-        ensures same { KeepsHonest (D.events self.old.bytes.disk) (D.events self.new.bytes.disk) }
-        ensures reads { ReadsSome (D.events self.new.bytes.disk) result }
+        ensures rests { Rests (D.events self.old.bytes.disk) (D.events self.new.bytes.disk) }
+        ensures loads { LoadsUnmarked (D.events self.old.bytes.disk) (D.events self.new.bytes.disk) self.new.found result }
         ensures held { HasDecoded self.new.found self.new.bytes.front.bytes.items result }
         ensures valid { Finds None result }
     {
-        let database = load(alloc, &mut self.bytes, self.place.cause())?;
-        self.found = Found::Open;
-        Ok(Some(database))
-    }
-
-    // Repairs a file with a mark. Returns whether that succeeded: if not, the run only reads the file.
-    fn try_repair(&mut self, alloc: Global, standing: &Standing) -> bool
-        requires { self.old.found ≡ Unopened }
-        ensures falls { Falls (D.events self.old.bytes.disk) (D.events self.new.bytes.disk) }
-        ensures unwritable { self.new.found ≡ Open → IsTrue result }
-        ensures place { IsStillThere (D.events self.old.bytes.disk) (D.events self.new.bytes.disk) }
-        ensures stands { KeepsSettled standing.now (D.events self.old.bytes.disk) (D.events self.new.bytes.disk) }
-        ensures ok { IsTrue result → IsRepaired standing.now (D.events self.old.bytes.disk) (D.events self.new.bytes.disk) }
-    {
-        match repair(alloc, &mut self.bytes, standing) {
-            Ok(()) => true,
-            Err(error) => {
-                self.found = Found::Unwritable(error);
-                false
+        file_laws();
+        self.found = Found::Unopened;
+        match load(alloc, &mut self.bytes, self.place.cause()) {
+            Ok(database) => {
+                self.found = self.as_loaded();
+                Ok(Some(database))
             }
-        }
-    }
-
-    // Returns the database that a file stands for which could not be repaired, if the file still stands for it: a write
-    // that was cut short is taken back first. A file that is to stay open has to be repaired.
-    fn unrepaired(&mut self, standing: Standing) -> LoadResult
-        ensures falls { Falls (D.events self.old.bytes.disk) (D.events self.new.bytes.disk) }
-        ensures found { self.new.found ≡ self.old.found }
-        ensures same { KeepsHonest (D.events self.old.bytes.disk) (D.events self.new.bytes.disk) }
-        ensures stands { (file : List ℕ) → StandsSo standing file → (IsNoFile (settled file) → ⊥) → Finds (Some (Bytes (settled file))) result }
-        ensures valid { IsValidStanding standing → Finds None result }
-    {
-        if let Err(error) = self.bytes.mend() {
-            return Err(self.cannot_open(error));
-        }
-        match self.found {
-            Found::Unwritable(error) if self.afterwards == Afterwards::Open => {
-                Err(self.cannot_open(error))
-            }
-            _ => standing.into_database(),
+            Err(fault) => Err(fault),
         }
     }
 
     // Loads the database that an open file with a mark stands for. Repairs the file, which the run may then change; if the
-    // file cannot be repaired, the run only reads the file.
+    // file cannot be repaired, the run only reads the file. A file that is to stay open has to be repaired.
     fn load_marked(&mut self, alloc: Global) -> LoadResult
         ensures falls { Falls (D.events self.old.bytes.disk) (D.events self.new.bytes.disk) }
-        ensures loads { LoadsMarked (D.events self.old.bytes.disk) (D.events self.new.bytes.disk) result }
+        ensures loads { LoadsMarked (D.events self.old.bytes.disk) (D.events self.new.bytes.disk) self.new.found result }
         ensures held { HasDecoded self.new.found self.new.bytes.front.bytes.items result }
         ensures valid { Finds None result }
     {
         file_laws();
         self.found = Found::Unopened;
         match find_standing(alloc, &mut self.bytes, self.place.cause()) {
-            Ok(standing) => {
-                let has_database = standing.has_database();
-                if !self.try_repair(alloc, &standing) {
-                    self.unrepaired(standing)
-                } else if has_database {
-                    // The database is read again from the file, and would need its memory twice.
-                    std::mem::drop(standing);
-                    self.load_unmarked(alloc)
-                } else {
-                    Err(TaskFault::File(FileFault::NotOurs))
-                }
-            }
+            Ok(standing) => self.load_standing(alloc, standing),
             Err(fault) => Err(fault),
+        }
+    }
+
+    // Repairs a file with a mark, for which this was found, and loads its database.
+    fn load_standing(&mut self, alloc: Global, standing: Standing) -> LoadResult
+        requires found { self.old.found ≡ Unopened }
+        requires stands { IsStandingIn standing (D.events self.old.bytes.disk) }
+        ensures falls { Falls (D.events self.old.bytes.disk) (D.events self.new.bytes.disk) }
+        ensures loads { LoadsMarked (D.events self.old.bytes.disk) (D.events self.new.bytes.disk) self.new.found result }
+        ensures held { HasDecoded self.new.found self.new.bytes.front.bytes.items result }
+        ensures valid { Finds None result }
+    {
+        file_laws();
+        let syncs = self.syncs();
+        match standing.found.repair(&mut self.bytes, syncs) {
+            Ok(()) => {
+                // The database is read again from the file, and would need its memory twice.
+                std::mem::drop(standing);
+                self.load_unmarked(alloc)
+            }
+            Err(error) if self.afterwards == Afterwards::Open => Err(self.cannot_open(error)),
+            Err(error) => {
+                self.found = Found::Unwritable(error);
+                Ok(Some(standing.database))
+            }
         }
     }
 
     // Loads the database that an open file with a mark stands for. Does not change the file.
     fn read_marked(&mut self, alloc: Global) -> LoadResult
         ensures falls { Falls (D.events self.old.bytes.disk) (D.events self.new.bytes.disk) }
-        ensures loads { LoadsMarked (D.events self.old.bytes.disk) (D.events self.new.bytes.disk) result }
+        ensures loads { LoadsMarked (D.events self.old.bytes.disk) (D.events self.new.bytes.disk) self.new.found result }
         ensures valid { Finds None result }
     {
+        file_laws();
+        self.found = Found::Unopened;
         match find_standing(alloc, &mut self.bytes, self.place.cause()) {
-            Ok(standing) => standing.into_database(),
+            Ok(standing) => Ok(Some(standing.database)),
             Err(fault) => Err(fault),
         }
     }
@@ -394,12 +302,12 @@ impl<D: Disk, L: Location> FileStorage<D, L> {
     // Loads the database of an open file, which the run may then change.
     fn load_open(&mut self, alloc: Global) -> LoadResult
         ensures falls { Falls (D.events self.old.bytes.disk) (D.events self.new.bytes.disk) }
-        ensures loads { LoadsOpen (D.events self.old.bytes.disk) (D.events self.new.bytes.disk) result }
+        ensures loads { LoadsOpen (D.events self.old.bytes.disk) (D.events self.new.bytes.disk) self.new.found result }
         ensures held { HasDecoded self.new.found self.new.bytes.front.bytes.items result }
         ensures valid { Finds None result }
     {
-        file_laws();
-        match self.is_marked(alloc) {
+        self.found = Found::Unopened;
+        match self.is_marked() {
             Ok(true) => self.load_marked(alloc),
             Ok(false) => self.load_unmarked(alloc),
             Err(fault) => Err(fault),
@@ -408,9 +316,9 @@ impl<D: Disk, L: Location> FileStorage<D, L> {
 
     // Checks whether the run may repair an open file that it was to read only. Without locks another program may still be
     // changing the file, so the run does not repair it.
+    #[tactic(auto, using(crate::proofs::Resting::rests_refl, crate::proofs::Resting::rests_trans))]
     fn may_repair(&mut self) -> bool
-        ensures falls { Falls (D.events self.old.bytes.disk) (D.events self.new.bytes.disk) }
-        ensures same { KeepsHeld (D.events self.old.bytes.disk) (D.events self.new.bytes.disk) }
+        ensures rests { Rests (D.events self.old.bytes.disk) (D.events self.new.bytes.disk) }
     {
         self.bytes.is_locked() && self.bytes.may_write()
     }
@@ -419,7 +327,7 @@ impl<D: Disk, L: Location> FileStorage<D, L> {
     // opens the file again under its own lock, and repairs it.
     fn load_interrupted(&mut self, alloc: Global) -> LoadResult
         ensures falls { Falls (D.events self.old.bytes.disk) (D.events self.new.bytes.disk) }
-        ensures loads { LoadsMarked (D.events self.old.bytes.disk) (D.events self.new.bytes.disk) result }
+        ensures loads { LoadsMarked (D.events self.old.bytes.disk) (D.events self.new.bytes.disk) self.new.found result }
         ensures valid { Finds None result }
     {
         if !self.may_repair() {
@@ -436,11 +344,11 @@ impl<D: Disk, L: Location> FileStorage<D, L> {
     // Loads the database of a file that the run only reads, under a lock that readers share.
     fn load_shared(&mut self, alloc: Global) -> LoadResult
         ensures falls { Falls (D.events self.old.bytes.disk) (D.events self.new.bytes.disk) }
-        ensures loads { LoadsOpen (D.events self.old.bytes.disk) (D.events self.new.bytes.disk) result }
+        ensures loads { LoadsOpen (D.events self.old.bytes.disk) (D.events self.new.bytes.disk) self.new.found result }
         ensures valid { Finds None result }
     {
-        file_laws();
-        match self.is_marked(alloc) {
+        self.found = Found::Unopened;
+        match self.is_marked() {
             Ok(true) => self.load_interrupted(alloc),
             Ok(false) => self.load_unmarked(alloc),
             Err(fault) => Err(fault),
@@ -450,7 +358,7 @@ impl<D: Disk, L: Location> FileStorage<D, L> {
     // Closes a file that the run only reads. `unwritable` is the reason why the run cannot write the file.
     fn leave(&mut self, unwritable: Error)
         ensures disk { self.new.bytes.disk ≡ self.old.bytes.disk }
-        ensures closed { self.new.found ≢ Open }
+        ensures found { self.new.found ≡ Unwritable unwritable }
     {
         self.bytes.close();
         self.found = Found::Unwritable(unwritable);
@@ -459,8 +367,8 @@ impl<D: Disk, L: Location> FileStorage<D, L> {
     // Loads the database of a file that the run only reads. `unwritable` is the reason why the run cannot write the file.
     fn load_to_read(&mut self, alloc: Global, unwritable: Error) -> LoadResult
         ensures falls { Falls (D.events self.old.bytes.disk) (D.events self.new.bytes.disk) }
-        ensures loads { Loads (D.events self.old.bytes.disk) (D.events self.new.bytes.disk) result }
-        ensures closed { self.new.found ≢ Open }
+        ensures loads { Loads (D.events self.old.bytes.disk) (D.events self.new.bytes.disk) self.new.found result }
+        ensures held { HasDecoded self.new.found self.new.bytes.front.bytes.items result }
         ensures valid { Finds None result }
     {
         match self.open(Opening::Read) {
@@ -489,7 +397,7 @@ impl<D: Disk, L: Location> FileStorage<D, L> {
     // Loads the database of a file under this run's own lock. If the run may not write the file, the run only reads it.
     fn load_to_change(&mut self, alloc: Global) -> LoadResult
         ensures falls { Falls (D.events self.old.bytes.disk) (D.events self.new.bytes.disk) }
-        ensures loads { Loads (D.events self.old.bytes.disk) (D.events self.new.bytes.disk) result }
+        ensures loads { Loads (D.events self.old.bytes.disk) (D.events self.new.bytes.disk) self.new.found result }
         ensures held { HasDecoded self.new.found self.new.bytes.front.bytes.items result }
         ensures valid { Finds None result }
     {
@@ -505,15 +413,77 @@ impl<D: Disk, L: Location> FileStorage<D, L> {
         }
     }
 
+    // Checks whether the file is open and locked since an earlier run.
+    fn is_open(&self) -> bool
+        ensures { IsTrue result → IsOpen self.now.found }
+    {
+        matches!(self.found, Found::Open(_) | Found::Kept(_, _))
+    }
+
+    // Loads the database, for reading or for a change. A file that stayed open is read again under the same lock.
+    fn load_for(&mut self, alloc: Global, access: Access) -> LoadResult
+        ensures falls { Falls (D.events self.old.bytes.disk) (D.events self.new.bytes.disk) }
+        ensures loads { LoadsAs self.old.found (D.events self.old.bytes.disk) (D.events self.new.bytes.disk) self.new.found result }
+        ensures held { HasDecoded self.new.found self.new.bytes.front.bytes.items result }
+        ensures valid { Finds None result }
+    {
+        match access {
+            Access::Read => self.load_to_read(alloc, Error::from(ErrorKind::PermissionDenied)),
+            Access::ReadWrite if self.is_open() => self.load_open(alloc),
+            Access::ReadWrite => self.load_to_change(alloc),
+        }
+    }
+
+    // Returns a database that was loaded, with the bytes of its file, if they are in memory.
+    fn with_bytes(&mut self, database: Database) -> Loaded
+        requires { (base : Base) → self.old.found ≡ Open base → IsFile self.old.bytes.front.bytes.items database }
+        ensures disk { self.new.bytes.disk ≡ self.old.bytes.disk }
+        ensures found { self.new.found ≡ self.old.found }
+        ensures database { result.database ≡ Some database }
+        ensures bytes { RepresentsBytes result.encoded (D.events self.new.bytes.disk) }
+    {
+        file_laws();
+        match self.found {
+            Found::Open(_) if self.bytes.is_whole() => {
+                Loaded::with_bytes(database, self.bytes.give_front())
+            }
+            _ => Loaded::without_bytes(Some(database)),
+        }
+    }
+
+    // Closes the file, and forgets what was found.
+    fn let_go(&mut self)
+        ensures disk { self.new.bytes.disk ≡ self.old.bytes.disk }
+        ensures found { self.new.found ≡ Unopened }
+    {
+        self.found = Found::Unopened;
+        self.bytes.close();
+    }
+
+    /// Ends the runs on a file that stayed open: brings into place what waits in its log, and removes the mark. If a call
+    /// fails, the next run on the file does so.
+    pub(crate) fn finish(&mut self)
+        ensures falls { Falls (D.events self.old.bytes.disk) (D.events self.new.bytes.disk) }
+        ensures same { Finishes self.old.found (D.events self.old.bytes.disk) (D.events self.new.bytes.disk) }
+    {
+        file_laws();
+        match &self.found {
+            Found::Kept(_, _) => {
+                let alloc = self.bytes.disk().alloc();
+                let syncs = self.syncs();
+                let _ended = prepare(alloc, &mut self.bytes, self.place.cause(), syncs);
+            }
+            _ => {}
+        }
+    }
+
     // Opens the file for writing, whatever the file contains. If there is no file, the system creates the file, or the
     // file that a symbolic link names.
     fn make(&mut self) -> io::Result<()>
-        ensures falls { Falls (D.events self.old.bytes.disk) (D.events self.new.bytes.disk) }
-        ensures power { KeepsDisk (D.events self.old.bytes.disk) (D.events self.new.bytes.disk) }
-        ensures syncs { self.new.bytes.syncs ≡ self.old.bytes.syncs }
-        ensures same { KeepsHeldFor Make (D.events self.old.bytes.disk) (D.events self.new.bytes.disk) }
+        ensures rests { RestsFor Make (D.events self.old.bytes.disk) (D.events self.new.bytes.disk) }
         ensures there { OnOk result (IsThere (D.events self.new.bytes.disk)) }
         ensures found { self.new.found ≡ Unopened }
+        ensures place { self.new.place ≡ self.old.place }
     {
         match self.open(Opening::Make)? {
             Entry::Open => Ok(()),
@@ -523,14 +493,12 @@ impl<D: Disk, L: Location> FileStorage<D, L> {
         }
     }
 
-    // Creates the file. If another program has created and written the file meanwhile, the other program's file stays.
-    fn create(&mut self) -> io::Result<()>
-        ensures falls { Falls (D.events self.old.bytes.disk) (D.events self.new.bytes.disk) }
-        ensures power { KeepsDisk (D.events self.old.bytes.disk) (D.events self.new.bytes.disk) }
-        ensures syncs { self.new.bytes.syncs ≡ self.old.bytes.syncs }
-        ensures same { KeepsHeldFor Make (D.events self.old.bytes.disk) (D.events self.new.bytes.disk) }
+    // Creates an empty file. If another program has created and written the file meanwhile, the other program's file stays.
+    fn make_empty(&mut self) -> io::Result<()>
+        ensures rests { RestsFor Make (D.events self.old.bytes.disk) (D.events self.new.bytes.disk) }
         ensures empty { OnOk result (IsEmpty (D.events self.new.bytes.disk)) }
         ensures found { self.new.found ≡ Unopened }
+        ensures place { self.new.place ≡ self.old.place }
     {
         self.make()?;
         if !self.bytes.is_empty() {
@@ -542,199 +510,176 @@ impl<D: Disk, L: Location> FileStorage<D, L> {
         Ok(())
     }
 
-    // Opens the file for writing, if it is not open, so that its bytes can be replaced.
-    fn open_to_write(&mut self, alloc: Global) -> io::Result<()>
+    // Writes a database to a file that was missing.
+    fn put_new(&mut self, bytes: &[u8]) -> io::Result<()>
+        requires { IsAnyFile bytes.now }
         ensures falls { Falls (D.events self.old.bytes.disk) (D.events self.new.bytes.disk) }
-        ensures power { KeepsSurvivingIf RepresentDatabase self.old.bytes.syncs (D.events self.old.bytes.disk) (D.events self.new.bytes.disk) }
-        ensures syncs { KeepsSyncs self.old.bytes.syncs self.new.bytes.syncs (D.events self.new.bytes.disk) }
-        ensures prepared { Prepares (D.events self.old.bytes.disk) (D.events self.new.bytes.disk) result }
-        ensures found { self.new.found ≡ Unopened }
+        ensures writes { WritesAll Missing self.new.found bytes.now (D.events self.old.bytes.disk) (D.events self.new.bytes.disk) result }
     {
         file_laws();
-        match std::mem::replace(&mut self.found, Found::Unopened) {
-            Found::Open => Ok(()),
-            Found::Unopened => {
-                self.make()?;
-                prepare(alloc, &mut self.bytes, self.place.cause())
+        self.make_empty()?;
+        let syncs = self.syncs();
+        create(&mut self.bytes, bytes, syncs)?;
+        self.found = Found::Open(base_of(bytes));
+        Ok(())
+    }
+
+    // Replaces all bytes of the database of an open file, which began like this.
+    fn put_all(&mut self, alloc: Global, base: &Base, bytes: &[u8]) -> io::Result<()>
+        requires any { IsAnyFile bytes.now }
+        requires found { self.old.found ≡ Unopened }
+        ensures falls { Falls (D.events self.old.bytes.disk) (D.events self.new.bytes.disk) }
+        ensures writes { WritesOver base.now self.new.found bytes.now (D.events self.old.bytes.disk) (D.events self.new.bytes.disk) result }
+        ensures power { DoesOr (λ _. Replaces base.now bytes.now) (ReplacesOrNot base.now bytes.now) result (L.syncs self.old.place) (D.events self.old.bytes.disk) (D.events self.new.bytes.disk) }
+    {
+        file_laws();
+        let syncs = self.syncs();
+        let all = [Span {
+            start: 0,
+            end: bytes.len(),
+        }];
+        match replace(alloc, &mut self.bytes, base, bytes, &all, syncs) {
+            Ok(()) => {
+                self.found = Found::Open(base_of(bytes));
+                Ok(())
             }
-            Found::Unsettled => prepare(alloc, &mut self.bytes, self.place.cause()),
-            Found::Missing => self.create(),
-            Found::Unwritable(error) => Err(error),
+            Err(error) => Err(error),
+        }
+    }
+
+    // Writes a database to an open file, in place of bytes that are none.
+    fn put_first(&mut self, bytes: &[u8]) -> io::Result<()>
+        requires any { IsAnyFile bytes.now }
+        requires found { self.old.found ≡ Unopened }
+        ensures falls { Falls (D.events self.old.bytes.disk) (D.events self.new.bytes.disk) }
+        ensures writes { WritesFirst self.new.found bytes.now (D.events self.old.bytes.disk) (D.events self.new.bytes.disk) result }
+    {
+        file_laws();
+        let syncs = self.syncs();
+        self.bytes.truncate(syncs)?;
+        match create(&mut self.bytes, bytes, syncs) {
+            Ok(()) => {
+                self.found = Found::Open(base_of(bytes));
+                Ok(())
+            }
+            Err(error) => Err(error),
+        }
+    }
+
+    // Opens the file, and replaces its database; or writes one in place of bytes that are none.
+    fn put_anew(&mut self, alloc: Global, bytes: &[u8]) -> io::Result<()>
+        requires { IsAnyFile bytes.now }
+        ensures falls { Falls (D.events self.old.bytes.disk) (D.events self.new.bytes.disk) }
+        ensures writes { WritesAll Unopened self.new.found bytes.now (D.events self.old.bytes.disk) (D.events self.new.bytes.disk) result }
+        ensures power { DoesOr (λ _. Becomes bytes.now) (BecomesOrNot bytes.now) result (L.syncs self.old.place) (D.events self.old.bytes.disk) (D.events self.new.bytes.disk) }
+    {
+        file_laws();
+        self.make()?;
+        let syncs = self.syncs();
+        match prepare(alloc, &mut self.bytes, self.place.cause(), syncs) {
+            Ok(Some(base)) => self.put_all(alloc, &base, bytes),
+            Ok(None) => self.put_first(bytes),
+            Err(error) => Err(error),
+        }
+    }
+
+    // Changes a file that stays open, and has a mark.
+    fn put_kept(
+        &mut self,
+        alloc: Global,
+        base: &Base,
+        log: Option<Log>,
+        bytes: &[u8],
+        spans: &[Span],
+    ) -> io::Result<()>
+        requires { IsAnyFile bytes.now }
+        ensures does { Does (λ _. Changes (Kept base.now log) self.new.found spans.now bytes.now) (Breaks (Kept base.now log) spans.now bytes.now) result
+            (seen (L.syncs self.old.place) (view_of (D.events self.old.bytes.disk))) (seen (L.syncs self.old.place) (view_of (D.events self.new.bytes.disk))) }
+        ensures found { OnErr result (self.new.found ≡ self.old.found) }
+    {
+        file_laws();
+        let syncs = self.syncs();
+        let kept = change(alloc, &mut self.bytes, log, base, bytes, spans, syncs)?;
+        self.found = Found::Kept(base_of(bytes), kept);
+        Ok(())
+    }
+
+    // Changes a file that was found open. A file that stays open gets a mark first.
+    fn put_open(
+        &mut self,
+        alloc: Global,
+        base: &Base,
+        bytes: &[u8],
+        spans: &[Span],
+    ) -> io::Result<()>
+        requires { IsAnyFile bytes.now }
+        ensures does { Does (λ _. Changes (Open base.now) self.new.found spans.now bytes.now) (Breaks (Open base.now) spans.now bytes.now) result
+            (seen (L.syncs self.old.place) (view_of (D.events self.old.bytes.disk))) (seen (L.syncs self.old.place) (view_of (D.events self.new.bytes.disk))) }
+        ensures found { OnErr result (self.new.found ≡ self.old.found) }
+    {
+        file_laws();
+        let syncs = self.syncs();
+        match self.afterwards {
+            Afterwards::Open => {
+                mark(&mut self.bytes, syncs)?;
+                self.put_kept(alloc, base, None, bytes, spans)
+            }
+            Afterwards::Closed => {
+                replace(alloc, &mut self.bytes, base, bytes, spans, syncs)?;
+                self.found = Found::Open(base_of(bytes));
+                Ok(())
+            }
         }
     }
 
     // Opens the file, if it is not open, and replaces its bytes.
-    fn put(&mut self, alloc: Global, bytes: &[u8]) -> io::Result<()>
+    fn put(&mut self, alloc: Global, bytes: &[u8], changed: &[FileSpan]) -> io::Result<()>
         requires { IsAnyFile bytes.now }
         ensures falls { Falls (D.events self.old.bytes.disk) (D.events self.new.bytes.disk) }
-        ensures power { ChangesIf HasDatabase bytes.now self.old.bytes.syncs (D.events self.old.bytes.disk) (D.events self.new.bytes.disk) }
-        ensures stored { OnOk result (BecameIf HasDatabase bytes.now self.old.bytes.syncs (D.events self.old.bytes.disk) (D.events self.new.bytes.disk)) }
-        ensures syncs { KeepsSyncs self.old.bytes.syncs self.new.bytes.syncs (D.events self.new.bytes.disk) }
-        ensures writes { Writes bytes.now (D.events self.old.bytes.disk) (D.events self.new.bytes.disk) result }
-        ensures has { OnOk result (RepresentsSome (D.events self.new.bytes.disk)) }
-        ensures found { self.new.found ≡ Unopened }
+        ensures writes { Writes self.old.found self.new.found changed.now bytes.now (D.events self.old.bytes.disk) (D.events self.new.bytes.disk) result }
+        ensures power { self.old.found ≡ Unopened → DoesOr (λ _. Becomes bytes.now) (BecomesOrNot bytes.now) result (L.syncs self.old.place) (D.events self.old.bytes.disk) (D.events self.new.bytes.disk) }
     {
         file_laws();
-        self.open_to_write(alloc)?;
-        let syncs = self.bytes.syncs();
-        replace(alloc, &mut self.bytes, bytes, syncs)
-    }
-
-    // Keeps the file open and locked, which represents a database, for the next change. A file that still has a mark is
-    // repaired before that change.
-    fn keep(&mut self, alloc: Global)
-        requires found { self.old.found ≡ Unopened }
-        requires has { RepresentsSome (D.events self.old.bytes.disk) }
-        ensures falls { Falls (D.events self.old.bytes.disk) (D.events self.new.bytes.disk) }
-        ensures power { KeepsSurviving self.old.bytes.syncs (D.events self.old.bytes.disk) (D.events self.new.bytes.disk) }
-        ensures syncs { KeepsSyncs self.old.bytes.syncs self.new.bytes.syncs (D.events self.new.bytes.disk) }
-        ensures same { KeepsOpen (D.events self.old.bytes.disk) (D.events self.new.bytes.disk) }
-        ensures stays { self.new.found ≡ Unopened → ⊥ }
-    {
-        file_laws();
-        match is_marked(alloc, &mut self.bytes) {
-            Ok(false) => self.found = Found::Open,
-            Ok(true) | Err(_) => self.found = Found::Unsettled,
+        let spans = spans_within(alloc, changed, bytes.len())?;
+        match std::mem::replace(&mut self.found, Found::Unopened) {
+            Found::Unopened => self.put_anew(alloc, bytes),
+            Found::Missing => self.put_new(bytes),
+            Found::Unwritable(error) => Err(error),
+            Found::Open(base) => self.put_open(alloc, &base, bytes, &spans),
+            Found::Kept(base, log) => self.put_kept(alloc, &base, log, bytes, &spans),
         }
     }
 
-    /// Replaces the bytes of the file. Then keeps the file open, or closes it.
-    pub(crate) fn write(&mut self, bytes: &[u8]) -> io::Result<()>
+    /// Replaces the bytes of the file, of which only these may differ. Then keeps the file open, or closes it.
+    pub(crate) fn write(&mut self, bytes: &[u8], changed: &[FileSpan]) -> io::Result<()>
         requires { IsAnyFile bytes.now }
         ensures falls { Falls (D.events self.old.bytes.disk) (D.events self.new.bytes.disk) }
-        ensures power { ChangesIf HasDatabase bytes.now self.old.bytes.syncs (D.events self.old.bytes.disk) (D.events self.new.bytes.disk) }
-        ensures stored { OnOk result (BecameIf HasDatabase bytes.now self.old.bytes.syncs (D.events self.old.bytes.disk) (D.events self.new.bytes.disk)) }
-        ensures syncs { KeepsSyncs self.old.bytes.syncs self.new.bytes.syncs (D.events self.new.bytes.disk) }
-        ensures writes { Writes bytes.now (D.events self.old.bytes.disk) (D.events self.new.bytes.disk) result }
+        ensures writes { Writes self.old.found self.new.found changed.now bytes.now (D.events self.old.bytes.disk) (D.events self.new.bytes.disk) result }
+        ensures power { self.old.found ≡ Unopened → DoesOr (λ _. Becomes bytes.now) (BecomesOrNot bytes.now) result (L.syncs self.old.place) (D.events self.old.bytes.disk) (D.events self.new.bytes.disk) }
     {
+        file_laws();
         let alloc = self.bytes.disk().alloc();
-        let ended = self.put(alloc, bytes);
+        let ended = self.put(alloc, bytes, changed);
         match (&ended, self.afterwards) {
-            (Ok(()), Afterwards::Open) => self.keep(alloc),
-            (Ok(()), Afterwards::Closed) | (Err(_), _) => self.bytes.close(),
+            (Ok(()), Afterwards::Open) => {}
+            (Ok(()), Afterwards::Closed) | (Err(_), _) => self.let_go(),
         }
         ended
-    }
-
-    // Replaces the bytes of an open file without a mark, of which only these may differ.
-    fn put_where(&mut self, alloc: Global, bytes: &[u8], changed: &[Span]) -> io::Result<()>
-        requires file { IsAnyFile bytes.now }
-        requires there { IsThere (D.events self.old.bytes.disk) }
-        requires unmarked { IsUnmarked (D.events self.old.bytes.disk) }
-        ensures falls { Falls (D.events self.old.bytes.disk) (D.events self.new.bytes.disk) }
-        ensures power { ChangesIf (DiffersIn changed.now bytes.now) bytes.now self.old.bytes.syncs (D.events self.old.bytes.disk) (D.events self.new.bytes.disk) }
-        ensures stored { OnOk result (BecameIf (DiffersIn changed.now bytes.now) bytes.now self.old.bytes.syncs (D.events self.old.bytes.disk) (D.events self.new.bytes.disk)) }
-        ensures syncs { KeepsSyncs self.old.bytes.syncs self.new.bytes.syncs (D.events self.new.bytes.disk) }
-        ensures writes { WritesWhere changed.now bytes.now (D.events self.old.bytes.disk) (D.events self.new.bytes.disk) result }
-        ensures there { IsThere (D.events self.new.bytes.disk) }
-        ensures found { self.new.found ≡ Unopened }
-    {
-        file_laws();
-        self.found = Found::Unopened;
-        let changed = page_spans(alloc, changed)?;
-        let syncs = self.bytes.syncs();
-        replace_where(alloc, &mut self.bytes, bytes, &changed, syncs)
-    }
-
-    // Replaces the bytes of an open file without a mark, of which only these may differ. Then keeps the file open, or
-    // closes it.
-    fn write_open(&mut self, alloc: Global, bytes: &[u8], changed: &[Span]) -> io::Result<()>
-        requires file { IsAnyFile bytes.now }
-        requires there { IsThere (D.events self.old.bytes.disk) }
-        requires unmarked { IsUnmarked (D.events self.old.bytes.disk) }
-        ensures falls { Falls (D.events self.old.bytes.disk) (D.events self.new.bytes.disk) }
-        ensures power { ChangesIf (DiffersIn changed.now bytes.now) bytes.now self.old.bytes.syncs (D.events self.old.bytes.disk) (D.events self.new.bytes.disk) }
-        ensures stored { OnOk result (BecameIf (DiffersIn changed.now bytes.now) bytes.now self.old.bytes.syncs (D.events self.old.bytes.disk) (D.events self.new.bytes.disk)) }
-        ensures syncs { KeepsSyncs self.old.bytes.syncs self.new.bytes.syncs (D.events self.new.bytes.disk) }
-        ensures writes { WritesWhere changed.now bytes.now (D.events self.old.bytes.disk) (D.events self.new.bytes.disk) result }
-    {
-        let ended = self.put_where(alloc, bytes, changed);
-        match (&ended, self.afterwards) {
-            (Ok(()), Afterwards::Open) => self.found = Found::Unsettled,
-            (Ok(()), Afterwards::Closed) | (Err(_), _) => self.bytes.close(),
-        }
-        ended
-    }
-
-    // Replaces the bytes of the file, of which only these may differ. Compares all bytes, unless the file has been open
-    // since an earlier run and has no mark.
-    fn write_where(&mut self, bytes: &[u8], changed: &[Span]) -> io::Result<()>
-        requires { IsAnyFile bytes.now }
-        ensures falls { Falls (D.events self.old.bytes.disk) (D.events self.new.bytes.disk) }
-        ensures power { ChangesIf (DiffersIn changed.now bytes.now) bytes.now self.old.bytes.syncs (D.events self.old.bytes.disk) (D.events self.new.bytes.disk) }
-        ensures stored { OnOk result (BecameIf (DiffersIn changed.now bytes.now) bytes.now self.old.bytes.syncs (D.events self.old.bytes.disk) (D.events self.new.bytes.disk)) }
-        ensures syncs { KeepsSyncs self.old.bytes.syncs self.new.bytes.syncs (D.events self.new.bytes.disk) }
-        ensures writes { WritesWhere changed.now bytes.now (D.events self.old.bytes.disk) (D.events self.new.bytes.disk) result }
-    {
-        if !self.is_open() {
-            return self.write(bytes);
-        }
-        let alloc = self.bytes.disk().alloc();
-        match is_marked(alloc, &mut self.bytes) {
-            Ok(false) => self.write_open(alloc, bytes, changed),
-            Ok(true) | Err(_) => self.write(bytes),
-        }
-    }
-
-    // Closes the file, and forgets what was found.
-    fn let_go(&mut self)
-        ensures { self.new.bytes.disk ≡ self.old.bytes.disk }
-    {
-        self.found = Found::Unopened;
-        self.bytes.close();
-    }
-
-    // Checks whether the file is open and locked since an earlier run.
-    fn is_open(&self) -> bool
-        ensures { IsTrue result → IsThere (D.events self.now.bytes.disk) }
-    {
-        file_laws();
-        matches!(self.found, Found::Open | Found::Unsettled)
-    }
-
-    // Loads the database, for reading or for a change. A file that stayed open is read again under the same lock.
-    fn load_for(&mut self, alloc: Global, access: Access) -> LoadResult
-        ensures falls { Falls (D.events self.old.bytes.disk) (D.events self.new.bytes.disk) }
-        ensures loads { Loads (D.events self.old.bytes.disk) (D.events self.new.bytes.disk) result }
-        ensures held { HasDecoded self.new.found self.new.bytes.front.bytes.items result }
-        ensures valid { Finds None result }
-    {
-        match access {
-            Access::Read => self.load_to_read(alloc, Error::from(ErrorKind::PermissionDenied)),
-            Access::ReadWrite if self.is_open() => self.load_open(alloc),
-            Access::ReadWrite => self.load_to_change(alloc),
-        }
-    }
-
-    // Returns a database that was loaded, with the bytes of its file, if they are in memory and the run is over after one
-    // change. If the file stays open, the bytes stay here: a change reads the old bytes of its pages from them.
-    fn with_bytes(&mut self, database: Database) -> Loaded
-        requires { self.old.found ≡ Open → IsFile self.old.bytes.front.bytes.items database }
-        ensures disk { self.new.bytes.disk ≡ self.old.bytes.disk }
-        ensures database { result.database ≡ Some database }
-        ensures bytes { RepresentsBytes result.encoded (D.events self.new.bytes.disk) }
-    {
-        file_laws();
-        let is_last = self.afterwards == Afterwards::Closed;
-        match self.found {
-            Found::Open if is_last && self.bytes.is_whole() => {
-                Loaded::with_bytes(database, self.bytes.give_front())
-            }
-            _ => Loaded::without_bytes(Some(database)),
-        }
     }
 }
 
 impl<D: Disk, L: Location> Storage for FileStorage<D, L> {
-    ghost use Rattle.rrd_disk.specs.Contents.{contents_after, is_honest_by, is_sound_after};
+    ghost use Rattle.rrd_disk.specs.Contents.{contents_after, is_honest_by};
+    ghost use Rattle.rrd_disk.specs.Storing.{is_sound_by};
 
     ghost contents = { λ s f. contents_after s (D.Disk.events f.bytes.disk) };
 
     ghost is_honest = { λ s f. is_honest_by s (D.Disk.events f.bytes.disk) };
 
-    ghost is_sound = { λ s f. is_sound_after s (D.Disk.events f.bytes.disk) };
+    ghost is_sound = { λ s f. is_sound_by s f.found (D.Disk.events f.bytes.disk) };
 
     fn load(&mut self, alloc: Global, access: Access) -> Result<Option<Database>, TaskFault> {
+        file_laws();
         let loaded = self.load_for(alloc, access);
         if loaded.is_err() {
             self.let_go();
@@ -743,6 +688,7 @@ impl<D: Disk, L: Location> Storage for FileStorage<D, L> {
     }
 
     fn load_to_update(&mut self, alloc: Global) -> Result<Loaded, TaskFault> {
+        file_laws();
         match self.load_for(alloc, Access::ReadWrite) {
             Ok(Some(database)) => Ok(self.with_bytes(database)),
             Ok(None) => Ok(Loaded::without_bytes(None)),
@@ -754,13 +700,17 @@ impl<D: Disk, L: Location> Storage for FileStorage<D, L> {
     }
 
     fn replace(&mut self, bytes: &[u8]) -> io::Result<()> {
-        let ended = self.write(bytes);
+        let all = [FileSpan {
+            start: 0,
+            end: bytes.len(),
+        }];
+        let ended = self.write(bytes, &all);
         self.place.cause().note_write(&ended);
         ended
     }
 
-    fn replace_where(&mut self, bytes: &[u8], changed: &[Span]) -> io::Result<()> {
-        let ended = self.write_where(bytes, changed);
+    fn replace_where(&mut self, bytes: &[u8], changed: &[FileSpan]) -> io::Result<()> {
+        let ended = self.write(bytes, changed);
         self.place.cause().note_write(&ended);
         ended
     }

@@ -2,8 +2,8 @@
 use Rattle.std.specs.Prelude.{ℕ, ◌*◌, min, List, Option, Some, None, codes, if◌then◌else◌}
 use Rattle.std.specs.Str.{bytes_eq}
 use Rattle.rrd_fixed.specs.Reading.{whole_of}
-use Rattle.rrd_undo.specs.declared.tail.Syncs.{Syncs}
-use Rattle.rrd_undo.specs.declared.tail.Syncs.TheVariants.{Never, Ordered}
+use Rattle.rrd_change.specs.declared.calls.Syncs.{Syncs}
+use Rattle.rrd_change.specs.declared.calls.Syncs.TheVariants.{Never, Ordered}
 
 -- a whole number of seconds, at most 3,600, in milliseconds; otherwise 5 seconds
 abbrev pub seconds_or_5 : Option ℕ → ℕ

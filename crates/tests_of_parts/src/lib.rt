@@ -1,4 +1,4 @@
-//! The tests of rows, of parts of rows, of how a change of a file is redone or undone, and of the record of the undo.
+//! The tests of rows, of parts of rows, and of how a file is changed.
 #![tactic(auto)]
 
 #[cfg(test)]
@@ -7,7 +7,3 @@ mod change;
 mod fold;
 #[cfg(test)]
 mod ring;
-#[cfg(test)]
-mod tail;
-#[cfg(test)]
-mod undo;

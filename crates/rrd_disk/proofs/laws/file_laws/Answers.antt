@@ -1,8 +1,9 @@
+use Rattle.rrd_file.specs.End.{file_end}
 use Rattle.rrd_disk.proofs.laws.file_laws.Goals as goal
 
 pub returns : goal.returns
 returns c = record {
   begins = c.file_begins.ensures;
-  database = c.files_without_marks_stand_for_themselves.ensures.database;
-  unmarked = c.files_without_marks_stand_for_themselves.ensures.unmarked;
+  ends = c.ends_are_found.ensures;
+  stands = λ now file. c.represented_stand.ensures file_end now file;
 }

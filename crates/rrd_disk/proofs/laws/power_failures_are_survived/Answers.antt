@@ -2,4 +2,4 @@ use Rattle.rrd_disk.proofs.Failures.{failure_survived}
 use Rattle.rrd_disk.proofs.laws.power_failures_are_survived.Goals as goal
 
 pub returns : goal.returns
-returns c = failure_survived
+returns c = failure_survived c.file_laws.ensures

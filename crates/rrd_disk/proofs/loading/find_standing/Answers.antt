@@ -1,25 +1,37 @@
-use Rattle.std.proofs.Common.{rules}
-use Rattle.rrd_disk.proofs.Surviving.{survives_twice, syncs_twice}
+use Rattle.std.proofs.Common.{◌≡◌, ◌∙◌, ℕ, List, rules, sym, subst}
+use Rattle.rrd_file.specs.Faults.{IsFile}
+use Rattle.rrd_disk.specs.Replayed.{bytes_after}
+use Rattle.rrd_disk.specs.Storing.{Laws}
+use Rattle.rrd_disk.proofs.Loaded.{no_file}
+use Rattle.rrd_disk.proofs.Storing.{stands_for}
 use Rattle.rrd_disk.proofs.loading.find_standing.Goals as goal
 
-pub loop-preserved : goal.loop-preserved
-loop-preserved g c =
-    let old = g.D.Disk.events c.args.file.now.disk in
-    let mid = g.D.Disk.events c.loop.file.disk in
-    let new = g.D.Disk.events c.standing_within.new.file.disk in
+pub returns-in-Err-find-clause-fault : goal.returns-in-Err-find-clause-fault
+returns-in-Err-find-clause-fault g c = record { valid = c.read_fault-in-Err-find.ensures.unknown; known = λ s honest now stand. c.read_fault-in-Err-find.ensures.known now }
+
+pub returns-in-Ok-decoded-clause-stands : goal.returns-in-Ok-decoded-clause-stands
+returns-in-Ok-decoded-clause-stands g c =
+    let laws : Laws = c.file_laws.ensures in
     record {
-      falls = search rules;
-      power = survives_twice c.args.file.now.syncs c.loop.file.syncs old mid new c.standing_within.ensures.falls c.loop.invariant.syncs c.loop.invariant.power c.standing_within.ensures.power;
-      syncs = syncs_twice c.args.file.now.syncs c.loop.file.syncs c.standing_within.new.file.syncs mid new c.standing_within.ensures.falls c.loop.invariant.syncs c.standing_within.ensures.syncs;
-      same = search rules;
+      file = subst (λ (b : List ℕ). IsFile b c.in-Ok-decoded.database) c.database.ensures c.in-Ok-decoded.ensures.known;
+      valid = c.in-Ok-decoded.ensures.valid;
+      mark = c.in-Ok.ensures.mark;
+      database = λ s honest now stand. c.in-Ok.ensures.database s honest ∙ stands_for laws now (bytes_after s (g.D.Disk.events c.find.new.file.disk)) stand.is stand.represents;
     }
 
-pub returns-in_err-standing-clause-power : goal.returns-in_err-standing-clause-power
-returns-in_err-standing-clause-power g c =
-    survives_twice c.args.file.now.syncs c.loop.file.syncs (g.D.Disk.events c.args.file.now.disk) (g.D.Disk.events c.loop.file.disk) (g.D.Disk.events c.standing_within.new.file.disk)
-    c.standing_within.ensures.falls c.loop.invariant.syncs c.loop.invariant.power c.standing_within.ensures.power
+pub returns-in-Err-decoded-clause-fault : goal.returns-in-Err-decoded-clause-fault
+returns-in-Err-decoded-clause-fault g c =
+    let laws : Laws = c.file_laws.ensures in
+    record {
+      valid = tt;
+      known = λ s honest now stand.
+          let same : c.database.result.now ≡ now = c.database.ensures ∙ c.in-Ok.ensures.database s honest ∙ stands_for laws now (bytes_after s (g.D.Disk.events c.find.new.file.disk)) stand.is stand.represents in
+          let none = no_file c.one_answer.ensures c.database.result.now c.in-Err-decoded.fault c.in-Err-decoded.ensures.known (sym c.is_of_bytes.ensures ∙ c.if-is_of_bytes.true) in
+          absurd (none stand.is.0 (subst (λ (b : List ℕ). IsFile b stand.is.0) (sym same) stand.is.1));
+    }
 
-pub returns-in-Some-clause-power : goal.returns-in-Some-clause-power
-returns-in-Some-clause-power g c =
-    survives_twice c.args.file.now.syncs c.loop.file.syncs (g.D.Disk.events c.args.file.now.disk) (g.D.Disk.events c.loop.file.disk) (g.D.Disk.events c.standing_within.new.file.disk)
-    c.standing_within.ensures.falls c.loop.invariant.syncs c.loop.invariant.power c.standing_within.ensures.power
+pub returns-in-Ok-false-clause-fault : goal.returns-in-Ok-false-clause-fault
+returns-in-Ok-false-clause-fault g c = record { valid = tt; known = λ s honest now stand. absurd (c.in-Ok-false.ensures.no (search rules) s honest now stand) }
+
+pub returns-in-Err-clause-fault : goal.returns-in-Err-clause-fault
+returns-in-Err-clause-fault g c = record { valid = c.read_fault.ensures.unknown; known = λ s honest now stand. c.read_fault.ensures.known now }

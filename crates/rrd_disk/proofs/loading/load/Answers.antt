@@ -1,7 +1,6 @@
-use Rattle.std.proofs.Common.{◌∙◌, ap, refl, rules}
-use Rattle.rrd_disk.specs.Replayed.{bytes_after, bytes_of}
+use Rattle.std.proofs.Common.{◌∙◌, refl}
+use Rattle.rrd_disk.specs.Replayed.{bytes_after}
 use Rattle.rrd_disk.proofs.Loaded.{begins_itself, decodes_front}
-use Rattle.rrd_disk.proofs.Surviving.{survives_reads, survives_twice, syncs_twice}
 use Rattle.rrd_disk.proofs.loading.load.Goals as goal
 
 pub returns-in-Some-clause-reads : goal.returns-in-Some-clause-reads
@@ -16,24 +15,3 @@ returns-in-Err-clause-reads g c = λ s honest. c.read_fault.ensures.known _
 
 pub returns-clause-reads : goal.returns-clause-reads
 returns-clause-reads g c = λ s honest. c.read_fault-2.ensures.known _
-
-pub loop-preserved : goal.loop-preserved
-loop-preserved g c =
-    let old = g.D.Disk.events c.args.file.now.disk in
-    let mid = g.D.Disk.events c.loop.file.disk in
-    let new = g.D.Disk.events c.read_more.new.self.disk in
-    record {
-      falls = search rules;
-      power = survives_twice c.args.file.now.syncs c.loop.file.syncs old mid new c.read_more.ensures.falls c.loop.invariant.syncs c.loop.invariant.power
-          (survives_reads c.loop.file.syncs mid new (λ w honest. ap bytes_of (c.read_more.ensures.same w honest)) c.read_more.ensures.power);
-      syncs = syncs_twice c.args.file.now.syncs c.loop.file.syncs c.read_more.new.self.syncs mid new c.read_more.ensures.falls c.loop.invariant.syncs (λ w honest. c.read_more.ensures.syncs);
-      same = search rules;
-    }
-
-pub returns-in-Err-clause-power : goal.returns-in-Err-clause-power
-returns-in-Err-clause-power g c =
-    let old = g.D.Disk.events c.args.file.now.disk in
-    let mid = g.D.Disk.events c.loop.file.disk in
-    let new = g.D.Disk.events c.read_more.new.self.disk in
-    survives_twice c.args.file.now.syncs c.loop.file.syncs old mid new c.read_more.ensures.falls c.loop.invariant.syncs c.loop.invariant.power
-    (survives_reads c.loop.file.syncs mid new (λ w honest. ap bytes_of (c.read_more.ensures.same w honest)) c.read_more.ensures.power)

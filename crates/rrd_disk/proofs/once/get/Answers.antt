@@ -1,6 +1,7 @@
 use Rattle.std.proofs.Common.{◌≡◌, ◌+◌, ◌-◌, ◌≤◌, length, refl, arith, rules}
 use Rattle.std.proofs.lemmas.Slice.{take-put_mid}
 use Rattle.rrd_disk.proofs.Calling.{more_so_far}
+use Rattle.rrd_disk.proofs.Resting.{rests_trans}
 use Rattle.rrd_disk.proofs.once.get.Goals as goal
 
 pub loop-count-preserved : goal.loop-count-preserved
@@ -13,11 +14,9 @@ loop-count-preserved g c =
     let from : c.in-Some.from ≡ c.args.at + c.loop-count.count = search rules in
     record {
       few = search rules;
-      falls = search rules;
-      same = search rules;
-      power = search rules;
+      rests = search (rules, rests_trans);
       guard = search rules;
       got = λ s honest. rw all (more_so_far _ c.args.at c.loop-count.count more c.loop-count.bytes rest _ inv.few few
           (take-put_mid c.loop-count.count (length c.loop-count.bytes - c.loop-count.count) c.loop-count.bytes rest _ refl inv.few)
-          (inv.got s (search rules)) (rw (from, inv.same s) at (c.in_ok-more.ensures.ok s honest)));
+          (inv.got s (search rules)) (rw (from, inv.rests.held s) at (c.in_ok-more.ensures.ok s honest)));
     }

@@ -1,17 +1,14 @@
 use Rattle.std.proofs.Common.{◌-◌, ◌≤◌, length, IsTrue}
-use Rattle.rrd_disk.specs.Calls.{Falls, KeepsHeld}
+use Rattle.rrd_disk.specs.Calls.{Rests}
 use Rattle.rrd_disk.specs.Replayed.{World, bytes_after, is_honest_after}
 use Rattle.rrd_disk.specs.Locks.{KeepsGuard}
-use Rattle.rrd_disk.specs.Power.{KeepsDisk}
 use Rattle.rrd_disk.proofs.Calling.{IsGotSoFar}
 use Rattle.rrd_disk.proofs.once.get.Given as goal
 
 abbrev pub invariant-loop-count : goal.invariant-loop-count
 invariant-loop-count g l = record {
   few : l.count ≤ length l.bytes;
-  falls : Falls (g.D.Disk.events l.fn.disk) (g.D.Disk.events l.disk);
-  same : KeepsHeld (g.D.Disk.events l.fn.disk) (g.D.Disk.events l.disk);
-  power : KeepsDisk (g.D.Disk.events l.fn.disk) (g.D.Disk.events l.disk);
+  rests : Rests (g.D.Disk.events l.fn.disk) (g.D.Disk.events l.disk);
   guard : KeepsGuard (g.D.Disk.events l.fn.disk) (g.D.Disk.events l.disk);
   got : (s : World) → IsTrue (is_honest_after s (g.D.Disk.events l.disk)) → IsGotSoFar (bytes_after s (g.D.Disk.events l.fn.disk)) l.at l.count l.bytes;
 }

@@ -13,4 +13,4 @@ returns g c =
     let begun : before ≡ [] = ap g.D.Disk.events c.new-storage.ensures.disk ∙ c.requires in
     let ended : g.D.Disk.events c.into_disk.result ≡ after = ap g.D.Disk.events c.into_disk.ensures in
     subst (λ (events : List Event). IsRun events run) (sym ended)
-    (run_from before after run begun c.run_file_command-end.ensures.sound c.run_file_command-end.ensures.run)
+    (run_from c.new-storage.result.found c.run_file_command-end.new.storage.found before after run begun c.new-storage.ensures.found c.run_file_command-end.ensures.sound c.run_file_command-end.ensures.run)

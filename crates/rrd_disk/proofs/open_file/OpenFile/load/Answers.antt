@@ -16,7 +16,7 @@ place_of Q (Err fault) finds f = of_place fault (finds fault f)
 
 pub returns-clause-kept : goal.returns-clause-kept
 returns-clause-kept g c =
-    kept_from (g.D.Disk.events c.args.self.now.session.storage.bytes.disk) (g.D.Disk.events c.load.new.self.storage.bytes.disk)
+    kept_from c.args.self.now.session.storage.found c.load.new.self.storage.found (g.D.Disk.events c.args.self.now.session.storage.bytes.disk) (g.D.Disk.events c.load.new.self.storage.bytes.disk)
     c.args.self.now.session.database c.load.new.self.database c.args.self.now.session.encoded c.load.new.self.encoded
     c.load.ensures.falls (λ s honest is memory. c.load.ensures.sound s honest is) c.load.ensures.memory
 

@@ -5,13 +5,13 @@ use Rattle.rrd_disk.proofs.open_file.OpenFile.run_command.Goals as goal
 
 pub returns-clause-kept : goal.returns-clause-kept
 returns-clause-kept g c =
-    kept_from (g.D.Disk.events c.args.self.now.session.storage.bytes.disk) (g.D.Disk.events c.run_command.new.self.storage.bytes.disk)
+    kept_from c.args.self.now.session.storage.found c.run_command.new.self.storage.found (g.D.Disk.events c.args.self.now.session.storage.bytes.disk) (g.D.Disk.events c.run_command.new.self.storage.bytes.disk)
     c.args.self.now.session.database c.run_command.new.self.database c.args.self.now.session.encoded c.run_command.new.self.encoded
     c.run_command.ensures.falls c.run_command.ensures.sound c.run_command.ensures.memory
 
 pub returns-clause-file : goal.returns-clause-file
 returns-clause-file g c =
-    open_from (g.D.Disk.events c.args.self.now.session.storage.bytes.disk) (g.D.Disk.events c.run_command.new.self.storage.bytes.disk)
+    open_from c.args.self.now.session.storage.found c.run_command.new.self.storage.found (g.D.Disk.events c.args.self.now.session.storage.bytes.disk) (g.D.Disk.events c.run_command.new.self.storage.bytes.disk)
     c.args.self.now.session.database c.run_command.new.self.database c.args.self.now.session.encoded c.run_command.new.self.encoded
     c.run_command.ensures.falls
     (runs.request_run c.args.command (g.W.Write.contents c.args.out.now) (g.W.Write.contents c.run_command.new.out) c.run_command.result)

@@ -1,0 +1,178 @@
+-- Calls that change nothing, one after another.
+use Rattle.std.proofs.Common.{◌≡◌, ◌⊎◌, ℕ, Bool, true, false, List, [], ◌∷◌, Option, Some, None, IsTrue, refl, sym, ◌∙◌, subst, inl, inr}
+use Rattle.rrd_change.specs.Views as views
+use Rattle.rrd_disk.specs.Calls.{KeepsHeldFor, Rests, RestsFor, opened, seen}
+use Rattle.rrd_disk.specs.Events.{Event, Found, Made, Missing, Locked, NoLocks, Measured, Got, Put, PutFailed, Sized, SizeFailed, Synced, SyncFailed, Streamed}
+use Rattle.rrd_disk.specs.Locks.{locked}
+use Rattle.rrd_disk.specs.Power.{moved, world_after}
+use Rattle.rrd_disk.specs.Replayed.{World, bytes_after, held_after, left, part_after}
+use Rattle.rrd_disk.specs.declared.disk.Facts.{Facts}
+use Rattle.rrd_disk.specs.declared.disk.Lock.{Lock}
+use Rattle.rrd_disk.specs.declared.disk.LockResult.{LockResult}
+use Rattle.rrd_disk.specs.declared.disk.LockResult.TheVariants.{Taken, NoLocks as Lacking}
+use Rattle.rrd_disk.specs.declared.disk.Opening.{Opening}
+use Rattle.rrd_disk.specs.declared.disk.Opening.TheVariants.{Read, Write, Make}
+use Rattle.rrd_store.specs.Storages.{Held, Missing as NoFile, Bytes}
+use Rattle.rrd_disk.proofs.Replaying.{honest_before}
+
+-- ---- the file of a world
+
+moved_held : (held : List ℕ) (part : ℕ) (e : Event) (w : views.World) → (moved held part e w).held ≡ held
+moved_held held part Missing w = refl
+moved_held held part Found w = refl
+moved_held held part Made w = refl
+moved_held held part (Locked lock) w = refl
+moved_held held part NoLocks w = refl
+moved_held held part (Measured count) w = refl
+moved_held held part (Got at wanted bytes) w = refl
+moved_held held part (Put at bytes taken) w = refl
+moved_held held part (PutFailed at bytes) w = refl
+moved_held held part (Sized count) w = refl
+moved_held held part (SizeFailed count) w = refl
+moved_held held part Synced w = refl
+moved_held held part SyncFailed w = refl
+moved_held held part Streamed w = refl
+
+pub held_is : (d : List ℕ) (w : World) (events : List Event) → (world_after d w events).held ≡ bytes_after w events
+held_is d w [] = refl
+held_is d w (e ∷ earlier) = moved_held (bytes_after w (e ∷ earlier)) (part_after w earlier) e (world_after d w earlier)
+
+-- ---- one call that changes nothing
+
+abbrev is_quiet : Event → Bool
+is_quiet Missing = true
+is_quiet Found = true
+is_quiet (Locked lock) = true
+is_quiet NoLocks = true
+is_quiet (Measured count) = true
+is_quiet (Got at wanted bytes) = true
+is_quiet Streamed = true
+is_quiet _ = false
+
+left_quiet : (h : Held) (part : ℕ) (e : Event) → IsTrue (is_quiet e) → left h part e ≡ h
+left_quiet NoFile part Missing quiet = refl
+left_quiet NoFile part Found quiet = refl
+left_quiet NoFile part (Locked lock) quiet = refl
+left_quiet NoFile part NoLocks quiet = refl
+left_quiet NoFile part (Measured count) quiet = refl
+left_quiet NoFile part (Got at wanted bytes) quiet = refl
+left_quiet NoFile part Streamed quiet = refl
+left_quiet (Bytes file) part Missing quiet = refl
+left_quiet (Bytes file) part Found quiet = refl
+left_quiet (Bytes file) part (Locked lock) quiet = refl
+left_quiet (Bytes file) part NoLocks quiet = refl
+left_quiet (Bytes file) part (Measured count) quiet = refl
+left_quiet (Bytes file) part (Got at wanted bytes) quiet = refl
+left_quiet (Bytes file) part Streamed quiet = refl
+left_quiet h part _ quiet = absurd cc
+
+module _ (held : List ℕ) (part : ℕ) (w : views.World) (c : List ℕ) where
+  leave_quiet : (e : Event) → IsTrue (is_quiet e) → (moved held part e w).may_leave c → w.may_leave c
+  leave_quiet Missing quiet may = may
+  leave_quiet Found quiet may = may
+  leave_quiet (Locked lock) quiet may = may
+  leave_quiet NoLocks quiet may = may
+  leave_quiet (Measured count) quiet may = may
+  leave_quiet (Got at wanted bytes) quiet may = may
+  leave_quiet Streamed quiet may = may
+  leave_quiet _ quiet may = absurd cc
+
+  keep_quiet : (e : Event) → IsTrue (is_quiet e) → (moved held part e w).may_keep c → w.may_keep c
+  keep_quiet Missing quiet may = may
+  keep_quiet Found quiet may = may
+  keep_quiet (Locked lock) quiet may = may
+  keep_quiet NoLocks quiet may = may
+  keep_quiet (Measured count) quiet may = may
+  keep_quiet (Got at wanted bytes) quiet may = may
+  keep_quiet Streamed quiet may = may
+  keep_quiet _ quiet may = absurd cc
+
+rests_once : (e : Event) (mid : List Event) → IsTrue (is_quiet e) → Rests mid (e ∷ mid)
+rests_once e mid quiet = record {
+  falls = λ s honest. honest_before s mid e honest;
+  held = λ s. left_quiet (held_after s mid) (part_after s mid) e quiet;
+  leave = λ d w c may. leave_quiet (bytes_after w (e ∷ mid)) (part_after w mid) (world_after d w mid) c e quiet may;
+  keep = λ d w c may. keep_quiet (bytes_after w (e ∷ mid)) (part_after w mid) (world_after d w mid) c e quiet may;
+}
+
+made_held : (h : Held) (part : ℕ) → (left h part Made ≡ h) ⊎ ((h ≡ NoFile) × (left h part Made ≡ Bytes []))
+made_held NoFile part = inr (refl, refl)
+made_held (Bytes file) part = inl refl
+
+made_once : (mid : List Event) → RestsFor Make mid (Made ∷ mid)
+made_once mid = record {
+  falls = λ s honest. honest_before s mid Made honest;
+  held = λ s. made_held (held_after s mid) (part_after s mid);
+  leave = λ d w c may. may;
+  keep = λ d w c may. may;
+}
+
+-- ---- several calls
+
+pub rests_refl : (events : List Event) → Rests events events
+rests_refl events = record { falls = λ s honest. honest; held = λ s. refl; leave = λ d w c may. may; keep = λ d w c may. may }
+
+held_for : (opening : Opening) (old new : List Event) → ((s : World) → held_after s new ≡ held_after s old) → KeepsHeldFor opening old new
+held_for Read old new same = same
+held_for Write old new same = same
+held_for Make old new same = λ s. inl (same s)
+
+pub rests_for : (opening : Opening) (old new : List Event) → Rests old new → RestsFor opening old new
+rests_for opening old new r = record { falls = r.falls; held = held_for opening old new r.held; leave = r.leave; keep = r.keep }
+
+held_then : (opening : Opening) (old mid new : List Event) → KeepsHeldFor opening old mid → KeepsHeldFor opening mid new → KeepsHeldFor opening old new
+held_then Read old mid new first second = λ s. second s ∙ first s
+held_then Write old mid new first second = λ s. second s ∙ first s
+held_then Make old mid new first second = λ s. elim (second s) as (λ _. (held_after s new ≡ held_after s old) ⊎ ((held_after s old ≡ NoFile) × (held_after s new ≡ Bytes []))) [
+  | inl same ↦ elim (first s) as (λ _. (held_after s new ≡ held_after s old) ⊎ ((held_after s old ≡ NoFile) × (held_after s new ≡ Bytes []))) [
+    | inl was ↦ inl (same ∙ was)
+    | inr (none, made) ↦ inr (none, same ∙ made)
+  ]
+  | inr (none, made) ↦ elim (first s) as (λ _. (held_after s new ≡ held_after s old) ⊎ ((held_after s old ≡ NoFile) × (held_after s new ≡ Bytes []))) [
+    | inl was ↦ inr (sym was ∙ none, made)
+    | inr (missing, before) ↦ inr (missing, made)
+  ]
+]
+
+pub rests_then : (opening : Opening) (old mid new : List Event) → RestsFor opening old mid → RestsFor opening mid new → RestsFor opening old new
+rests_then opening old mid new first second = record {
+  falls = λ s honest. first.falls s (second.falls s honest);
+  held = held_then opening old mid new first.held second.held;
+  leave = λ d w c may. first.leave d w c (second.leave d w c may);
+  keep = λ d w c may. first.keep d w c (second.keep d w c may);
+}
+
+pub rests_trans : (old mid new : List Event) → Rests old mid → Rests mid new → Rests old new
+rests_trans old mid new first second = rests_then Read old mid new first second
+
+-- ---- the calls of the system, by their answers
+
+module _ (old new : List Event) where
+  pub rests_same : new ≡ old → Rests old new
+  rests_same is = subst (λ (events : List Event). Rests old events) (sym is) (rests_refl old)
+
+  rests_by : (e : Event) → IsTrue (is_quiet e) → new ≡ e ∷ old → Rests old new
+  rests_by e quiet is = subst (λ (events : List Event). Rests old events) (sym is) (rests_once e old quiet)
+
+  pub opened_rests : {F : Type 0} (opening : Opening) (found : Option F) → new ≡ opened opening found ∷ old → RestsFor opening old new
+  opened_rests opening None is = rests_for opening old new (rests_by Missing refl is)
+  opened_rests Read (Some file) is = rests_by Found refl is
+  opened_rests Write (Some file) is = rests_for Write old new (rests_by Found refl is)
+  opened_rests Make (Some file) is = subst (λ (events : List Event). RestsFor Make old events) (sym is) (made_once old)
+
+  pub seen_rests : (facts : Option Facts) → new ≡ seen facts old → Rests old new
+  seen_rests None is = rests_by Missing refl is
+  seen_rests (Some facts) is = rests_same is
+
+  pub locked_rests : (lock : Lock) (taken : LockResult) → new ≡ locked lock taken ∷ old → Rests old new
+  locked_rests lock Taken is = rests_by (Locked lock) refl is
+  locked_rests lock Lacking is = rests_by NoLocks refl is
+
+  pub measured_rests : (count : ℕ) → new ≡ Measured count ∷ old → Rests old new
+  measured_rests count is = rests_by (Measured count) refl is
+
+  pub got_rests : (at wanted : ℕ) (bytes : List ℕ) → new ≡ Got at wanted bytes ∷ old → Rests old new
+  got_rests at wanted bytes is = rests_by (Got at wanted bytes) refl is
+
+  pub streamed_rests : new ≡ Streamed ∷ old → Rests old new
+  streamed_rests is = rests_by Streamed refl is

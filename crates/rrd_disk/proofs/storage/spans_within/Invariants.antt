@@ -1,0 +1,6 @@
+use Rattle.std.proofs.Common.{take}
+use Rattle.rrd_disk.specs.Storing.{AreOf}
+use Rattle.rrd_disk.proofs.storage.spans_within.Given as goal
+
+abbrev pub invariant-loop-number : goal.invariant-loop-number
+invariant-loop-number l = AreOf l.count (take l.number l.changed) l.spans.items

@@ -1,5 +1,0 @@
-use Rattle.rrd_runs.proofs.FileRuns.{files_follow}
-use Rattle.rrd_runs.proofs.laws.files_follow_specification.Goals as goal
-
-pub returns : goal.returns
-returns c = files_follow c.file_laws.ensures c.runs_follow_specification.ensures.all

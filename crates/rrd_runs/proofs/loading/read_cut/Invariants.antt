@@ -1,5 +1,0 @@
-use Rattle.rrd_runs.specs.Calls.{Rests}
-use Rattle.rrd_runs.proofs.loading.read_cut.Given as goal
-
-abbrev pub invariant-loop : goal.invariant-loop
-invariant-loop g l = Rests (g.D.Disk.events l.fn.file.disk) (g.D.Disk.events l.file.disk)

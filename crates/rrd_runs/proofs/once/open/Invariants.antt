@@ -1,5 +1,0 @@
-use Rattle.std.proofs.Common.{◌≡◌}
-use Rattle.rrd_runs.proofs.once.open.Given as goal
-
-abbrev pub invariant-loop : goal.invariant-loop
-invariant-loop g l = g.D.Disk.events l.disk ≡ g.D.Disk.events l.fn.disk

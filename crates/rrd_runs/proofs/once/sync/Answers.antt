@@ -1,5 +1,0 @@
-use Rattle.rrd_runs.proofs.Doing.{sync_did}
-use Rattle.rrd_runs.proofs.once.sync.Goals as goal
-
-pub returns-clause-did : goal.returns-clause-did
-returns-clause-did g c = sync_did (g.D.Disk.events c.args.disk.now) c.sync.result (g.D.Disk.events c.sync.new.self) c.sync.ensures.ok c.sync.ensures.err

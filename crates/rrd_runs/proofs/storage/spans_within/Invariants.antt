@@ -1,6 +1,0 @@
-use Rattle.std.proofs.Common.{take}
-use Rattle.rrd_runs.specs.Storing.{AreOf}
-use Rattle.rrd_runs.proofs.storage.spans_within.Given as goal
-
-abbrev pub invariant-loop-number : goal.invariant-loop-number
-invariant-loop-number l = AreOf l.count (take l.number l.changed) l.spans.items
