@@ -219,7 +219,8 @@ void rrdi_fetch_open(struct rrdi_file *file, uint32_t function, uint64_t resolut
                      struct rrdi_rows *rows, struct rrdi_value *values, size_t values_room, uint8_t *output, size_t output_room,
                      struct rrdi_answer *answer) RRDI_NONNULL;
 
-/* Closes a file, and releases its lock and its memory. Does nothing if the struct has no open file. */
+/* Closes a file, and releases its lock and its memory. The changes that wait in the file's log are brought into place first; if
+ * a call fails, the next program that opens the file does that. Does nothing if the struct has no open file. */
 void rrdi_close(struct rrdi_file *file) RRDI_NONNULL;
 
 /* Returns the version of the header with which the program was compiled, such as "0.2.0". */
