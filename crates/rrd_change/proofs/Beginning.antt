@@ -146,7 +146,7 @@ first_length old tail c at bytes h =
     omega (arith, ap length h.spelled, length-append zeros (own ++ next), length-append own next, gap, own_size, next_size, length-first old h.is.enough, h.behind, h.below)
 
 pub first_made : (base : Base) (old new : List ℕ) (changed : List Span) (tail : ℕ) (bytes : List ℕ) → Began base old → IsDatabase new → AreSpans (length new) changed →
-    tail ≡ max base.length (length new) →
+    max base.length (length new) ≤ tail →
     bytes ≡ replicate (tail - base.length) 0 ++ (change_bytes tail tail (change_of base.length base.first (record { start = 0; end = 16 } ∷ [])) ++ change_bytes tail (tail + 80) (change_of (length new) new changed)) →
     IsFirst old tail (change_of (length new) new changed) base.length bytes
 first_made base old new changed tail bytes b is are at_tail e =

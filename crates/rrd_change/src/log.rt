@@ -1,5 +1,5 @@
 //! The log of a file that is changed.
-ghost use Rattle.std.specs.Prelude.{◌≡◌, ◌+◌, ◌-◌, ◌++◌, ◌∷◌, [], ◌≤◌, ◌<◌, ℕ, List, length, IfOk, OnOk, replicate, slice_range, IsTrue, ◌↔◌};
+ghost use Rattle.std.specs.Prelude.{◌≡◌, ◌+◌, ◌-◌, ◌++◌, ◌∷◌, [], ◌≤◌, ◌<◌, ℕ, List, length, max, IfOk, OnOk, replicate, slice_range, IsTrue, ◌↔◌};
 ghost use Rattle.rrd_change.specs.Changes.{Change, change_bytes};
 ghost use Rattle.rrd_change.specs.Laws.{Fill, Leads};
 ghost use Rattle.rrd_change.specs.Repairs.{IsLeft, IsStopped, Torn, Whole};
@@ -25,8 +25,8 @@ pub(crate) const CUT_MARK: [u8; 4] = [b'R', b'R', b'D', b'C'];
 // The first eight bytes of a file with a log.
 const LOG_WORD: [u8; 8] = [b'R', b'R', b'D', b'L', b'o', b'g', 0, 0];
 
-// The number of changes that a log takes. More of them would make each reader of the file lay more over it.
-const MOST_CHANGES: usize = 16;
+/// The number of changes that a log takes. More of them would make each reader of the file lay more over it.
+pub(crate) const MOST_CHANGES: usize = 16;
 
 // The size of the first change of a log: its head, and one piece of sixteen bytes.
 const BASE_SIZE: usize = 80;
@@ -151,29 +151,36 @@ fn commit_first<F: Bytes>(
 
 /// Begins a log in a file with a cut mark, and commits the first change: the file then stands for `new`.
 ///
+/// The log begins `room` bytes behind the longer one of both databases: a later one may be longer by so many bytes before it
+/// does not fit in front of the log any more ([`Log::has_room`]).
+///
 /// Each byte of `new` that is in none of the spans `changed` must also be the byte of the database there, at the same
 /// offset. The spans may be in any order and overlap.
 ///
 /// # Errors
 ///
-/// A call of the file failed, memory ran out, `new` is no database, or a span is not within it. The file then stands for
-/// the old database or for the new one.
+/// A call of the file failed, memory ran out, `new` is no database, a span is not within it, or the file would be too large.
+/// The file then stands for the old database or for the new one.
 pub fn begin<F: Bytes>(
     alloc: Global,
     file: &mut F,
     base: &Base,
     new: &[u8],
     changed: &[Span],
+    room: usize,
     syncs: Syncs,
 ) -> io::Result<Log>
-    ensures { Does (λ log (w v : World). (old : List ℕ) → Began base.now old → AgreesOutside changed.now old new.now → IsMarked old w → IsLogOf new.now log v)
+    ensures room { IfOk result (λ log. log.tail ≡ max base.now.length (length new.now) + room) }
+    ensures does { Does (λ log (w v : World). (old : List ℕ) → Began base.now old → AgreesOutside changed.now old new.now → IsMarked old w → IsLogOf new.now log v)
         (λ (w v : World). (old : List ℕ) → Began base.now old → AgreesOutside changed.now old new.now → IsMarked old w → IsStopped Whole old new.now v) result
         (seen syncs (F.view file.old)) (seen syncs (F.view file.new)) }
 {
     if !is_database(new) {
         return Err(Error::from(ErrorKind::InvalidInput));
     }
-    let tail = base.length.max(new.len());
+    let Some(tail) = base.length.max(new.len()).checked_add(room) else {
+        return Err(Error::from(ErrorKind::FileTooLarge));
+    };
     let bytes = encode_first(alloc, base, tail, new, changed)?;
     let mut spans = Vec::new(alloc);
     spans.extend_from_slice(changed)?;
@@ -344,7 +351,7 @@ pub fn replace<F: Bytes>(
         return replace_page(file, base, new);
     }
     mark(file, syncs)?;
-    let log = begin(alloc, file, base, new, changed, syncs)?;
+    let log = begin(alloc, file, base, new, changed, 0, syncs)?;
     log.settle(file, new, syncs)?;
     unmark(file, syncs)
 }

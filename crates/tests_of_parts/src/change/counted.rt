@@ -102,3 +102,48 @@ fn counts_of_changes(rt: HostRuntime) -> Result<(), Fail> {
     }
     Ok(())
 }
+
+// The numbers of writes of the changes of an open file whose database grows from 5,000 bytes on by so many at each change.
+fn writes_of_growth(alloc: Global, growth: usize, changes: usize) -> Result<Vec<usize>, Fail> {
+    let mut lengths = Vec::new(alloc);
+    let mut length: usize = 5_000;
+    for _ in 0..changes {
+        lengths.push(length)?;
+        length = length.saturating_add(growth);
+    }
+    lengths.push(length)?;
+    let states = states(alloc, &lengths)?;
+    let mut old = states.first().ok_or("no database")?;
+    let mut disk = Disk::new(alloc, &old.bytes, NO_FAULTS)?;
+    mark(&mut disk, Syncs::Never)?;
+    disk.take_counts();
+    let mut writes = Vec::new(alloc);
+    let mut log = None;
+    for new in states.iter().skip(1) {
+        let (base, bytes, spans) = (old.base(), &new.bytes, &new.spans);
+        log = change(alloc, &mut disk, log, &base, bytes, spans, Syncs::Never)?;
+        let [count, _, _] = disk.take_counts();
+        writes.push(count)?;
+        old = new;
+    }
+    Ok(writes)
+}
+
+// A log has room for sixteen changes of a database that grows. The sixteenth brings all into place: one place of each change,
+// the bytes that came, the first bytes under a cut mark, and the length.
+const FULL_LOG: &[usize] = &[2, 1, 1, 1, 1, 1, 1, 1, 1, 1, 1, 1, 1, 1, 1, 20, 2];
+
+// A log leaves at most 65,536 bytes free. The eighth change by 10,000 bytes brings the seven before it into place.
+const OUTGROWN_LOG: &[usize] = &[2, 1, 1, 1, 1, 1, 1, 12, 1, 1, 1, 1, 1, 1, 12];
+
+#[test]
+fn counts_of_changes_of_a_database_that_grows(rt: HostRuntime) -> Result<(), Fail> {
+    let alloc = rt.alloc();
+    for growth in [1, 100, 4_369] {
+        let writes = writes_of_growth(alloc, growth, FULL_LOG.len())?;
+        assert_eq!(&rt; writes.as_slice(), FULL_LOG, "{growth}");
+    }
+    let writes = writes_of_growth(alloc, 10_000, OUTGROWN_LOG.len())?;
+    assert_eq!(&rt; writes.as_slice(), OUTGROWN_LOG);
+    Ok(())
+}

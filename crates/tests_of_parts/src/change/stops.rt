@@ -102,13 +102,15 @@ impl Run<'_> {
     }
 }
 
-// The lengths of the databases of a file, one after another. The file of length 0 has none.
+// The lengths of the databases of a file, one after another. The file of length 0 has none. The first log of the last run has
+// room for the third database, and not for the fourth one.
 const RUNS: &[(Way, &[usize])] = &[
     (Way::Make, &[0, 16]),
     (Way::Replace, &[900, 900]),
     (Way::Replace, &[700, 901]),
     (Way::Replace, &[900, 699, 16, 324]),
     (Way::Open, &[900, 900, 890, 895, 16, 900]),
+    (Way::Open, &[60, 61, 70, 80]),
 ];
 
 // Two writes make a file; and two logs get full, and a third one is brought into place when the file is closed.

@@ -32,7 +32,7 @@ returns-in_err-mark g c =
 pub returns-in_err-log : goal.returns-in_err-log
 returns-in_err-log g c =
     failed _ _ c.from_residual-in_err-log.result _ _ c.from_residual-in_err-log.ensures.0
-    (steps_then _ _ _ _ _ _ (λ u v w m b old began agrees rest. b old began agrees (m old rest)) c.in_ok-mark.ensures c.in_err-log.ensures)
+    (steps_then _ _ _ _ _ _ (λ u v w m b old began agrees rest. b old began agrees (m old rest)) c.in_ok-mark.ensures c.in_err-log.ensures.does)
 
 pub returns-in_err-settle : goal.returns-in_err-settle
 returns-in_err-settle g c =
@@ -43,7 +43,7 @@ returns-in_err-settle g c =
     let Logged : Effect = λ u w. (old : List ℕ) → Began base old → AgreesOutside changed old new → IsAtRest old u → IsLogOf new log w in
     failed _ _ c.from_residual-in_err-settle.result _ _ c.from_residual-in_err-settle.ensures.0
     (steps_then Logged _ _ _ _ _ (λ u v w l s old began agrees rest. inr (left_as Whole new old new w (inr refl) (s (l old began agrees rest))))
-    (steps_then _ _ Logged _ _ _ (λ u v w m b old began agrees rest. b old began agrees (m old rest)) c.in_ok-mark.ensures c.in_ok-log.ensures) c.in_err-settle.ensures)
+    (steps_then _ _ Logged _ _ _ (λ u v w m b old began agrees rest. b old began agrees (m old rest)) c.in_ok-mark.ensures c.in_ok-log.ensures.does) c.in_err-settle.ensures)
 
 pub returns : goal.returns
 returns g c =
@@ -58,5 +58,5 @@ returns g c =
     let marked = p old began agrees rest in
     inr (plain_left Whole old new w marked.is (m new marked)))
     (steps_then Logged _ Placed _ _ _ (λ u v w l s old began agrees rest. s (l old began agrees rest))
-    (steps_then _ _ Logged _ _ _ (λ u v w m b old began agrees rest. b old began agrees (m old rest)) c.in_ok-mark.ensures c.in_ok-log.ensures) c.in_ok-settle.ensures)
+    (steps_then _ _ Logged _ _ _ (λ u v w m b old began agrees rest. b old began agrees (m old rest)) c.in_ok-mark.ensures c.in_ok-log.ensures.does) c.in_ok-settle.ensures)
     c.unmark.ensures
