@@ -194,6 +194,19 @@ mark_leaves log u v w again f end other now h =
     let P : ℕ → Type 0 = λ n. Fails (AreWholeOrNot 0 (log_mark n)) (IsTorn 0 (log_mark n)) v w in
     with_world end other now u w l (mark_failed end other now l.old l.tail l.changes v w (subst P h.found.tail_is f) (again end other now h))
 
+-- the log needs no more than its length if nothing is claimed of the disk
+pub cut_is_log : (log : Log) (u v : World) → ((c : List ℕ) → v.may_leave c → ⊥) → ((c : List ℕ) → v.may_keep c → ⊥) → Cuts log u v → (end : LogEnd) (other now : List ℕ) →
+    IsLogFound end other now log u → IsLogOf now log v
+cut_is_log log u v leaves keeps cut end other now h =
+    let l = h.left in
+    let Q : ℕ → Type 0 = λ n. All (IsOpen l.old n l.changes) v in
+    record {
+      old = l.old;
+      changes = l.changes;
+      follows = log_follows end other now log u h;
+      world = subst Q (sym h.found.tail_is) (record { held = (cut end other now h).held; leave = λ c left. absurd (leaves c left); keep = λ c kept. absurd (keeps c kept) });
+    }
+
 -- ---- after a failure of the power
 
 alone_left : (now : List ℕ) (mark : Mark) (w : World) → IsMarkedFor now mark w → IsLeft Whole now now w

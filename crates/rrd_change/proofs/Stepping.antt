@@ -1,5 +1,5 @@
 -- Lemmas on calls one after another.
-use Rattle.std.proofs.Common.{ℕ, List, sym, subst, inl, inr}
+use Rattle.std.proofs.Common.{◌≡◌, ℕ, List, sym, subst, inl, inr}
 use Rattle.std.specs.Prelude.{Result, Ok, Err}
 use Rattle.std.specs.Result.{IsErr}
 use Rattle.rrd_change.specs.Views.{Does, Effect, Fails, IsSynced, IsUnsynced, Moves, Steps, Stores, View, World, seen}
@@ -45,6 +45,12 @@ seen_moves Never c t old new s = record {
   falls = s.falls;
   does = λ d x honest. record { held = (s.does d x honest).held; leave = λ z left. absurd left; keep = λ z kept. absurd kept };
 }
+
+pub never_steps : (syncs : Syncs) (e f : Effect) (old new : View) → syncs ≡ Never →
+    ((u v : World) → ((c : List ℕ) → v.may_leave c → ⊥) → ((c : List ℕ) → v.may_keep c → ⊥) → e u v → f u v) →
+    Steps e (seen syncs old) (seen syncs new) → Steps f (seen syncs old) (seen syncs new)
+never_steps Never e f old new is to s = record { falls = s.falls; does = λ d x honest. to _ _ (λ c left. left) (λ c kept. kept) (s.does d x honest) }
+never_steps Ordered e f old new is to s = absurd (cc)
 
 -- a call that ended with an error
 pub failed : {A E : Type 0} (well : A → Effect) (badly : Effect) (r : Result A E) (old new : View) → IsErr r → Steps badly old new → Does well badly r old new

@@ -32,15 +32,19 @@ pub fn finish_cut<F: Bytes>(file: &mut F, new: &[u8], syncs: Syncs) -> io::Resul
     unmark(file, syncs)
 }
 
-// Writes a log again that programs read: its length, its bytes and at last its mark, with a sync after each. After a kill, or
-// after a sync that failed, the disk may lack any of them.
+// Cuts a file to the end of its log, and writes again what programs read of the log: its bytes and at last its mark, with a
+// sync after each step. After a kill, or after a sync that failed, the disk may lack any of them. Without syncs there is
+// nothing to write again, since nothing is claimed of the disk.
 fn restore<F: Bytes>(file: &mut F, log: &Log, syncs: Syncs) -> io::Result<()>
     ensures { Does (λ _ (w v : World). (end : LogEnd) (other now : List ℕ) → IsLogFound end other now log.now w → IsLogOf now log.now v)
         (λ (w v : World). (end : LogEnd) (other now : List ℕ) → IsLogFound end other now log.now w → IsLogLeft end other now v) result
         (seen syncs (F.view file.old)) (seen syncs (F.view file.new)) }
 {
-    let alloc = *log.spans.allocator();
     resize_and_sync(file, log.end, syncs)?;
+    if syncs == Syncs::Never {
+        return Ok(());
+    }
+    let alloc = *log.spans.allocator();
     rewrite_and_sync(alloc, file, log.tail, log.end, syncs)?;
     mark_and_sync(file, &log_mark(log.tail), syncs)
 }
@@ -48,7 +52,7 @@ fn restore<F: Bytes>(file: &mut F, log: &Log, syncs: Syncs) -> io::Result<()>
 /// Brings the changes of a log into place in a file that has the log, and perhaps other bytes behind it. The file then is the
 /// database `new` that it stands for.
 ///
-/// The log is written again before: the disk may lack bytes of it that programs read.
+/// If syncs are wanted, the log is written again before: the disk may lack bytes of it that programs read.
 ///
 /// # Errors
 ///

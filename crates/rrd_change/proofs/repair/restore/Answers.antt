@@ -1,8 +1,8 @@
-use Rattle.std.proofs.Common.{ℕ, List, subst, max}
+use Rattle.std.proofs.Common.{rules, ℕ, List, subst, max}
 use Rattle.rrd_change.specs.Calls.{ArePut, AreWholeOrNot, IsSized, IsSizedOrNot, IsTorn}
 use Rattle.rrd_change.specs.Views.{Does, Fails, FailsToRestore, Stores, StoresAgain, seen}
-use Rattle.rrd_change.proofs.Restoring.{Cuts, Leaves, Rewrites, cut_leaves, cuts, mark_leaves, marks_again, rewrite_leaves, rewrites}
-use Rattle.rrd_change.proofs.Stepping.{does_then, failed, steps_as, steps_then}
+use Rattle.rrd_change.proofs.Restoring.{Cuts, Leaves, Rewrites, cut_is_log, cut_leaves, cuts, mark_leaves, marks_again, rewrite_leaves, rewrites}
+use Rattle.rrd_change.proofs.Stepping.{does_then, failed, never_steps, steps_as, steps_then}
 use Rattle.rrd_change.proofs.repair.restore.Goals as goal
 
 pub returns-in_err-resize_and_sync : goal.returns-in_err-resize_and_sync
@@ -16,6 +16,11 @@ returns-in_err-rewrite_and_sync g c =
     failed _ _ c.from_residual-in_err-rewrite_and_sync.result _ _ c.from_residual-in_err-rewrite_and_sync.ensures.0
     (steps_then (Cuts log) (FailsToRestore log.tail (max log.tail log.end)) (Leaves log) _ _ _ (rewrite_leaves log)
     (steps_as (Stores (IsSized log.end)) (Cuts log) _ _ (cuts log) c.in_ok-resize_and_sync.ensures) c.in_err-rewrite_and_sync.ensures)
+
+pub returns-then-eq : goal.returns-then-eq
+returns-then-eq g c =
+    let log = c.args.log.now in
+    never_steps c.args.syncs (Cuts log) _ _ _ (search rules) (cut_is_log log) (steps_as (Stores (IsSized log.end)) (Cuts log) _ _ (cuts log) c.in_ok-resize_and_sync.ensures)
 
 pub returns : goal.returns
 returns g c =
