@@ -109,10 +109,10 @@ NAMED = re.compile(r"\[`([\w:]+)`\]\((\.\./(?:crates|library)/[^)#]+)\)")
 IMPLEMENTATION = re.compile(r"^impl\b.*\b(Bytes|Disk|Storage) for (\w+)", re.MULTILINE)
 # Words that may lead around the prover, and the lines that have one.
 WAY_AROUND = re.compile(r"\b(unsafe|axiom|postulate)\b", re.IGNORECASE)
-UNSAFE = {*((f"crates/{crate}/src/record.rt", "unsafe impl Send for Record {}") for crate in ("rrd_disk", "rrd_disk")),
+UNSAFE = {("crates/rrd_disk/src/record.rt", "unsafe impl Send for Record {}"),
           ("library/rrdi_c/src/raw_box.rt.in", "unsafe { Box::from_raw(alloc, address) }")}
 # The proofs by hand, which may say of a value what no check of the code sees.
-BY_HAND = {f"crates/{crate}/proofs/{name}" for crate in ("rrd_disk", "rrd_disk") for name in (
+BY_HAND = {f"crates/rrd_disk/proofs/{name}" for name in (
     "begun/Begun/note/Proof.antt", "record/Record/new/Proof.antt", "record/Record/note/Proof.antt",
     "record/Record/TheSendSync/Send.antt")} | {"crates/rrd_ring/proofs/ring/row_mut/Proof.antt"} | {
     f"library/rrdi_c/proofs/{name}/Proof.antt.in" for name in (

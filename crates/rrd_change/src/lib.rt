@@ -1,7 +1,7 @@
 //! Changes of a file, which a kill or a power failure at any time leaves out or leaves complete.
 //!
 //! A change is redone and not undone: its new bytes are appended to a log behind the database, and one write, of sixteen
-//! bytes or of the change itself, commits it. Then the bytes are brought into place. No program uses this crate yet.
+//! bytes or of the change itself, commits it. Then the bytes are brought into place.
 #![tactic(auto)]
 
 mod calls;

@@ -154,9 +154,9 @@ impl<D: Disk> Disk for Killed<D> {
 ///
 /// Theorem: if the record is that of an honest file that nobody else wrote, the file represents what it represented
 /// before the run, or what the definitions say of an accepted command; or it is damaged, if there was no database. A write
-/// that the kill interrupted may have written a first part of its bytes, but within one page all of them or none: if it
-/// wrote none, the kill came between two calls. The body is a part of the theorem: one that makes no call on the file, and
-/// fails, would keep the contract too.
+/// that the kill interrupted may have written a first part of its bytes, but of a small one, within a sector or of the first
+/// page, all of them or none: if it wrote none, the kill came between two calls. The body is a part of the theorem: one that
+/// makes no call on the file, and fails, would keep the contract too.
 pub fn run_command_killed<D: Disk, W: Write>(
     alloc: Global,
     disk: D,
