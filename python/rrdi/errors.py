@@ -90,7 +90,7 @@ class CannotRead(OperationalError):
 
 
 class CannotWrite(OperationalError):
-    """The file cannot be written. It holds the old database; if undoing the change failed too, the old or the new one."""
+    """The file cannot be written. It holds the old database or the new one."""
 
 
 class Exists(CannotWrite, FileExistsError):

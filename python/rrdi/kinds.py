@@ -4,7 +4,7 @@
 from .locks import open_regular
 
 # The first bytes of a file of rrdi: without a change, and during a change.
-RRDI_MARKS = (b"RRDI", b"RRDC", b"RRDc", b"RRDU")
+RRDI_MARKS = (b"RRDI", b"RRDC", b"RRDL")
 RRDTOOL_MARK = b"RRD\0"
 # A file of whisper begins with the number of a method, 1 to 8; the name tells it from others.
 WHISPER_END = ".wsp"

@@ -273,7 +273,7 @@ class Files(DataCase):
                 reader.read_file(self.path)
             with self.assertRaises(errors.Damaged):
                 OpenFile(self.path).outline()
-        for mark in (b"RRDX", b"RRDC", b"RRDc", b"RRDUndo\0" + bytes(8), b"RRDUndo\0" + b"\xff" * 8, b"RRDI\0\2", b""):
+        for mark in (b"RRDX", b"RRDC", b"RRDLog\0\0" + bytes(8), b"RRDLog\0\0" + b"\xff" * 8, b"RRDI\0\2", b""):
             self.write(mark)
             self.reads_at_most(50_000, refused)
 

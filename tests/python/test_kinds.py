@@ -39,7 +39,7 @@ rra[1].rows = 6
 class Kinds(DataCase):
     def test_first_bytes(self) -> None:
         for number, (data, is_own, other) in enumerate((
-                (b"RRDI\0\2", True, ""), (b"RRDC\0", True, ""), (b"RRDc", True, ""), (b"RRDUndo\0", True, ""), (b"RRDX", False, ""),
+                (b"RRDI\0\2", True, ""), (b"RRDC\0", True, ""), (b"RRDLog\0", True, ""), (b"RRDc", False, ""), (b"RRDX", False, ""),
                 (b"RRD", False, ""), (b"", False, ""), (b"RRD\0003", False, "RRDtool"), (b"rrdi", False, ""),
                 (b"\0\0\0\1", False, "whisper"), (b"\0\0\0\x08more", False, "whisper"), (b"\0\0\0\0", False, ""),
                 (b"\0\0\0\x09", False, ""), (b"\0\0\0", False, ""), (b"\1\0\0\1", False, ""), (b"\0\0\1\1", False, ""))):

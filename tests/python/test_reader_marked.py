@@ -6,15 +6,16 @@ from __future__ import annotations
 import fcntl
 import io
 import os
+import re
 import unittest
 from pathlib import Path
-from typing import List, Tuple
+from typing import List
 from unittest import mock
 
 import graphite_doubles as graphite
 from cases import DataCase, child_status, counted_reads, sleeping_child
 from support import marks
-from support.marks import PAGE, pages, record
+from support.marks import PAGE, number
 from rrdi import errors, locks, reader
 from rrdi.locks import SHARED, locked
 from rrdi.reader.files import opened, read_bytes
@@ -23,27 +24,23 @@ from rrdi.reader.selected import OpenFile
 OLD = graphite.file_bytes(130, archives=[(1, 400, {130: [2.5], 20: [1.5]})])  # over a page
 NEW = graphite.file_bytes(140, archives=[(1, 400, {140: [9.5], 130: [2.5]})])
 SMALL = graphite.file_bytes(130)
-# It ends with a page, where its record begins.
-FULL = graphite.file_bytes(130, archives=[(1, 246, {130: [2.5]})])
-# Its length ends where a short record would end, so its record is a long one.
-LONG = graphite.file_bytes(130, archives=[(1, 250, {130: [2.5]})])
+FULL = graphite.file_bytes(130, archives=[(1, 246, {130: [2.5]})])  # it ends with a page
 NOTES = b"RRDCached notes of a user\n" * 40
+# A log at byte 32 that says of a database of 20 bytes how it began, and then another byte 19.
+WRITTEN = bytes.fromhex("""
+    0000000000000020 0000000000000020 0000000000000020 0000000000000001 0000000000000014 db370110b9a57a13
+    0000000000000000 0000000000000010 52524449 000200000000000000000001
+    0000000000000070 0000000000000020 0000000000000011 0000000000000001 0000000000000014 998c989becdef643
+    0000000000000013 0000000000000001 07""")
 
 
-def cut(data: bytes, tail: bytes = b"", mark: bytes = marks.SHORT_CUT) -> bytes:
-    """A file under a cut mark, whose record begins at the first page after the data."""
-    return mark + data[4:] if not tail else (mark + data[4:]).ljust(marks.tail_of(len(data)), b"\x07") + tail
+def flipped(data: bytes, at: int) -> bytes:
+    return data[:at] + bytes([data[at] ^ 1]) + data[at + 1:]
 
 
-def cut_with_record(data: bytes, length: int = -1, first: bytes = b"", size: int = marks.SHORT) -> bytes:
-    told = len(data) if length < 0 else length
-    return cut(data, record(marks.tail_of(len(data)), told, first or data, size),
-               marks.LONG_CUT if size == marks.LONG else marks.SHORT_CUT)
-
-
-def undone(old: bytes, new: bytes, slots: List[Tuple[int, bytes]]) -> bytes:
-    """A file under an undo mark: new bytes, the record of the old ones, and slots with old bytes."""
-    return marks.with_slots(marks.begun(old, new), marks.tail_of(len(old), len(new)), slots)
+def runs(data: bytes, begin: int) -> List[marks.Piece]:
+    """The bytes from a position on that are not zero, as pieces."""
+    return [(begin + found.start(), found.group()) for found in re.finditer(rb"[^\0]+", data[begin:])]
 
 
 class Marked(DataCase):
@@ -63,7 +60,7 @@ class Marked(DataCase):
         self.assertEqual(reader.read_file(str(self.path)), whole)
         with opened(str(self.path)) as stored, OpenFile(str(self.path)) as file:
             length = len(wanted)
-            for begin, end in ((0, length), (0, 20), (3, 5), (15, 17), (PAGE - 3, PAGE + 3), (length - 9, length + 9), (9, 2)):
+            for begin, end in ((0, length), (0, 20), (3, 5), (15, 17), (PAGE - 3, PAGE + 3), (length - 9, length), (9, 2)):
                 self.assertEqual(stored[begin:min(end, length)], wanted[begin:end], (begin, end))
             archive = file.outline().archives[0]
             rows = {row["time"]: row["cells"] for row in whole["archives"][0]["rows"]}
@@ -78,80 +75,107 @@ class Marked(DataCase):
             reader.read_file(str(self.path))
         self.assertEqual([str(of_bytes.exception), str(of_file.exception)], ["file: not ours"] * 2)
 
-    def test_the_new_database(self) -> None:
+    def test_a_cut_mark(self) -> None:
+        """The database with which the bytes begin, whatever follows it."""
         self.assertEqual(len(FULL) % PAGE, 0)
         for data in (SMALL, NEW, FULL):
-            self.check(cut(data), data)
-            self.check(cut_with_record(data), data)
+            for rest in (b"", b"x", bytes(64), bytes(PAGE), marks.logged(data, OLD)[len(data):], SMALL):
+                self.check(marks.cut(data) + rest, data)
 
-    def test_a_long_record(self) -> None:
-        self.assertEqual(len(LONG) % PAGE, 64)
-        self.check(cut_with_record(LONG, size=marks.LONG), LONG)
-        self.check(cut(LONG, bytes(500), b"RRDc"), LONG)
-        for forged in (cut_with_record(LONG), cut(LONG, bytes(500))):
-            self.check(forged, forged)
+    def test_bytes_by_hand(self) -> None:
+        """The definitions byte by byte: the log mark, and two changes."""
+        file = b"RRDLog\0\0" + number(32) + b"\1\2\3\4" + bytes(12) + WRITTEN
+        first = b"RRDI\0\2" + bytes(9) + b"\1"
+        for data, wanted in ((file, first + b"\1\2\3\7"), (file[:-1], first + b"\1\2\3\4")):
+            stored = reader.Stored.of_bytes(data)
+            self.assertEqual((stored[0:99], len(stored), stored.is_marked), (wanted, 20, True))
+        self.assertEqual(reader.Stored.of_bytes(flipped(file, 111))[0:99], flipped(file, 111)[:99])
+        self.assertEqual([marks.change(32, 32, 20, (0, first)), marks.change(32, 112, 20, (19, b"\7"))],
+                         [WRITTEN[:80], WRITTEN[80:]])
+        for data, total in ((b"", 0x9E3779B97F4A7C15), (b"RRDI", 0x9063A9EC83AE697C), (bytes(8), 0x0DD9089542A42EE9),
+                            (bytes(7) + b"\1\2", 0x66B8CEE99AB16011)):
+            self.assertEqual([marks.checksum(data), reader.checksum(data)], [total] * 2, data)
 
-    def test_the_old_database(self) -> None:
-        self.check(undone(OLD, NEW, pages(OLD)), OLD)
-        # The later slot of two counts, and slots need not be pages.
-        self.check(undone(OLD, OLD, [(16, b"x" * 100), (16, OLD[16:300])]), OLD)
-        self.check(undone(OLD, OLD[:20] + b"x" * 300 + OLD[320:], [(19, OLD[19:200]), (150, OLD[150:400])]), OLD)
+    def test_a_log(self) -> None:
+        for old, new in ((OLD, NEW), (SMALL, NEW), (NEW, SMALL), (FULL, SMALL), (SMALL, FULL), (SMALL, SMALL)):
+            self.check(marks.with_base(old), old)
+            self.check(marks.with_base(old, len(old) + 99), old)
+            for data in (marks.logged(old, new), marks.placed(old, new), marks.uncut(old, new)):
+                self.check(data, new)
+                self.check(data + b"more", new)
+            for data in (marks.logged(old, new)[:-1], marks.uncommitted(old, new)):
+                self.check(data, old)
+
+    def test_several_changes(self) -> None:
+        """The later one of two counts, and the later piece of two."""
+        held = marks.with_change(marks.with_base(OLD), len(OLD), (16, b"x" * 100), (0, b""), (len(OLD), b""))
+        held = marks.with_change(held, len(OLD), (0, b"y" * 50), (100, OLD[100:400]), (0, OLD[:150]),
+                                 (120, OLD[120:130]))
+        self.check(held, OLD)
+        self.check(marks.with_change(held, len(NEW), (0, NEW)), NEW)
         for length in range(1, 18):  # the checksum takes eight bytes at a time
-            self.check(undone(OLD, OLD[:20] + b"x" * length + OLD[20 + length:], [(20, OLD[20:20 + length])]), OLD)
-        self.check(undone(FULL, FULL, pages(FULL)), FULL)
-        # A slot that is broken does not count, nor one after it: the file's own bytes do. One with bytes of the mark is broken.
-        other = graphite.file_bytes(140)
-        for place, wanted in ((15, SMALL), (16, other)):
-            self.check(undone(SMALL, SMALL, [(place, other[place:])]), wanted)
-        whole = undone(OLD, OLD, pages(OLD))
-        self.check(whole[:-1], OLD)
-        self.check(whole[:-1] + bytes([whole[-1] ^ 1]), OLD)
-        tail = marks.tail_of(len(OLD))
-        padded = whole.ljust(tail + marks.LONG + len(pages(OLD)) * (marks.SLOT_HEAD + PAGE), b"\0")
-        self.check(padded + marks.slot(4 * PAGE, 900, b"not here"), OLD)
+            self.check(marks.with_change(marks.with_base(OLD[:20] + b"x" * length + OLD[20 + length:]), len(OLD),
+                                         (20, OLD[20:20 + length])), OLD)
 
-    def test_a_length_before_its_bytes(self) -> None:
-        """A file system may have stored the new length, and not the record: what follows the database does not count."""
-        for data in (SMALL, OLD):
-            for rest in (bytes(64), bytes(PAGE), b"x"):
-                self.check(cut(data, rest), data)
-        self.check(cut(SMALL, bytes(64), b"RRDc"), cut(SMALL, bytes(64), b"RRDc"))  # a long record was to follow
+    def test_a_database_that_grows_again(self) -> None:
+        """What was behind its end counts as zeros, in the file and in the changes."""
+        for size in (100, PAGE - 100, PAGE, PAGE + 100):
+            held = marks.with_base(b"\7" * len(NEW))
+            held = marks.with_change(held, len(NEW), (50, b"\7" * (len(NEW) - 50)))
+            held = marks.with_change(held, size, (0, NEW[:size]))
+            self.check(marks.with_change(held, len(NEW), *runs(NEW, size)), NEW)
 
-    def test_forged_records(self) -> None:
-        """The record must be that of a database: its length, the first bytes, and the shape for the length."""
-        for data in (cut_with_record(SMALL, 12), cut_with_record(SMALL, len(SMALL) - 1, b"NOPE" + SMALL[4:16])):
-            self.check(data, SMALL)  # no record, so what follows the database does not count
-        self.check(cut_with_record(SMALL, len(SMALL) - 1), cut_with_record(SMALL, len(SMALL) - 1))
-        self.check(cut_with_record(SMALL, size=marks.LONG), cut_with_record(SMALL, size=marks.LONG))
-        self.check(cut_with_record(SMALL, 16), cut_with_record(SMALL, 16))
-        for place in (40, 47, 55):  # zeros, which the checksum counts
-            head = bytearray(record(PAGE, len(SMALL), SMALL)[:56])
-            head[place] = 1
-            tail = (bytes(head) + marks.number(marks.checksum(bytes(head)))).ljust(marks.SHORT, b"\0")
-            self.check(cut(SMALL, tail), SMALL)
-            marked = (marks.UNDO + marks.number(PAGE) + SMALL[16:]).ljust(PAGE, b"\0") + tail
-            self.check(marked, marked)
-        for place in (PAGE + 8, PAGE - 8, 2 * PAGE + 1):  # no page begins there
-            forged = (marks.UNDO + marks.number(place) + SMALL[16:]).ljust(place, b"\0") + record(place, len(SMALL), SMALL)
-            self.check(forged, forged)
-        for first, length in ((b"NOPE" + SMALL[4:16], len(SMALL)), (SMALL[:16], 12)):
-            forged = marks.UNDO + marks.number(PAGE) + SMALL[16:]
-            self.check(forged.ljust(PAGE, b"\0") + record(PAGE, length, first, marks.LONG), forged.ljust(PAGE, b"\0")
-                       + record(PAGE, length, first, marks.LONG))
+    def test_a_change_that_is_not_right(self) -> None:
+        """It does not count, nor what follows it. Without a right change the file stands for itself."""
+        base, whole = marks.with_base(OLD), marks.logged(OLD, OLD[:20] + b"x" + OLD[21:])
+        tail = len(OLD)
+        for at in range(0, len(base) - tail):
+            self.refused(flipped(base, tail + at))
+        for at in (*range(0, 90, 8), len(whole) - len(base) - 1):
+            self.check(marks.with_change(flipped(whole, len(base) + at), len(NEW), (0, NEW)), OLD)
+        for length in (tail, tail + 1, tail + marks.HEAD, len(base) - 1):
+            self.refused(base[:length])
+        for length in (len(base) + 1, len(base) + marks.HEAD, len(whole) - 1):
+            self.check(whole[:length], OLD)
+
+    def test_forged_changes(self) -> None:
+        base = marks.with_base(OLD)
+        tail, at = len(OLD), len(base)
+        right = marks.change(tail, at, len(NEW), (0, NEW))
+        self.check(base + right, NEW)
+        body = right[marks.HEAD:]
+        whole = [at, tail, len(body), 1, tail]
+        for place, wrong in ((0, at + 1), (0, tail), (1, tail + 1), (1, at), (2, len(body) - 1), (2, len(body) + 1), (2, 2**64 - 1),
+                             (3, 0), (3, 2), (3, 2**64 - 1), (4, tail - 1), (4, 15), (4, tail + 1), (4, 2**64 - 1)):
+            front = [*whole[:place], wrong, *whole[place + 1:]]
+            self.check(base + marks.spelled(b"".join(map(number, front)), body) + b"x", OLD)
+        for size, piece in ((15, (0, b"")), (tail + 1, (0, NEW)), (tail, (1, NEW)), (tail, (tail + 1, b"")),
+                            (16, (2, NEW[:15]))):
+            self.check(marks.with_change(base, size, piece), OLD)
+        for body in (bytes(15), number(0) + number(2) + b"x", number(0) + number(1) + b"xx",
+                     number(0) + number(2**64 - 1) + b"x", number(2**64 - 1) + number(1) + b"x"):
+            self.check(base + marks.spelled(b"".join(map(number, (at, tail, len(body), 1, tail))), body), OLD)
+
+    def test_marks_that_lead_nowhere(self) -> None:
+        for tail in (0, 15, len(SMALL) - 1, len(SMALL) + 1, len(SMALL) + 1000, 2**63, 2**64 - 1):
+            held = marks.LOG + number(tail) + marks.with_base(SMALL)[16:]
+            self.check(held, held)
+        # What is read has to be a database.
+        bad = SMALL[:5] + b"\x09" + SMALL[6:]
+        for held in (marks.with_base(SMALL[:16]), marks.with_base(bad), marks.logged(SMALL, bad), marks.logged(SMALL, SMALL[:-1]),
+                     marks.logged(OLD, SMALL + b"x"), marks.with_change(marks.begun(SMALL), len(SMALL))):
+            self.check(held, held)
 
     def test_files_of_others(self) -> None:
-        for data in (NOTES, b"RRDC", b"RRDc" + bytes(11), b"RRDUndo\0", b"RRDUndo\0" + b"\xff" * 8, b"RRDUndo\0" + bytes(90),
-                     b"RRDC" + b"\0" * 300, cut(OLD[:-1]), cut(SMALL[:5] + b"\x09" + SMALL[6:])):
+        for data in (NOTES, b"RRDC", b"RRDc" + SMALL[4:], marks.LOG, marks.LOG + bytes(7), marks.LOG + b"\xff" * 8,
+                     marks.LOG + bytes(90), marks.LOG[:7] + b"\1" + marks.with_base(SMALL)[8:], b"RRDLogs of a user\n" * 9,
+                     b"RRDUndo\0" + bytes(90), b"RRDC" + bytes(300), marks.cut(OLD[:-1]),
+                     marks.cut(SMALL[:5] + b"\x09" + SMALL[6:])):
             self.check(data, data)
-            if data[4:6] != OLD[4:6]:  # otherwise only its last byte is missing
+            if data[4:6] != OLD[4:6] or data[:4] == b"RRDc":  # otherwise only its last byte is missing
                 with self.assertRaises(errors.Damaged) as raised:
                     OpenFile(str(self.path)).outline()
                 self.assertEqual(str(raised.exception), "file: not ours")
-
-    def test_more_slots_than_pages(self) -> None:
-        """A change keeps each old page once; of forged slots, the last one with a byte counts."""
-        self.check(undone(SMALL, SMALL, [(16, b"x" * 84)] * 3 + [(16, SMALL[16:100])]), SMALL)
-        self.check(undone(SMALL, NEW, [(16, SMALL[16:])]), SMALL)
 
     def test_a_file_cut_within_its_cells(self) -> None:
         self.path.write_bytes(SMALL[:-20])
@@ -172,8 +196,10 @@ class Marked(DataCase):
         self.assertEqual(found, whole)
 
     def test_only_parts_are_read(self) -> None:
-        """Of a marked file each slot is read once to be checked, and then what is asked for."""
-        self.path.write_bytes(undone(OLD, OLD, pages(OLD)) + bytes(300 * PAGE))
+        """Of a marked file the log is read once, and then what is asked for."""
+        large = graphite.file_bytes(130, archives=[(1, 100_000, {130: [2.5]})])
+        change = (16, large[16:PAGE])
+        self.path.write_bytes(marks.with_change(marks.with_base(large), len(large), change) + bytes(300 * PAGE))
         with counted_reads() as read, OpenFile(str(self.path)) as file:
             file.rows(file.outline().archives[0], 130, 130)
         self.assertTrue(0 < read.count < 10 * PAGE, read.count)

@@ -84,13 +84,10 @@ def as_dump(step: int, last: int, steps: List[float], archives: List[Tuple[str, 
 
 
 def marked(old: bytes, new: bytes) -> Dict[str, bytes]:
-    """Returns files that represent the old bytes after an interrupted change, and one that represents the new bytes."""
-    tail = marks.tail_of(len(old), len(new))
-    torn = bytearray(marks.with_slots(marks.begun(old, old), tail, marks.pages(old)))
-    torn[tail + marks.LONG + 1] ^= 1
-    return {"only marked": marks.cut(old), "with a record": marks.cut_with_record(old),
-            "undone": marks.with_slots(marks.begun(old, new), tail, marks.pages(old)), "begun": marks.begun(old, old),
-            "torn slot": bytes(torn)}
+    """Returns files of an interrupted change that stand for the old bytes, and files that stand for them as new ones."""
+    return {"only marked": marks.cut(old), "an uncommitted log": marks.uncommitted(old, new), "begun": marks.with_base(old),
+            "a torn log": marks.logged(old, new)[:-1], "a log": marks.logged(new, old), "in place": marks.placed(new, old),
+            "not cut": marks.uncut(new, old)}
 
 
 @needs_program
@@ -215,13 +212,11 @@ class ReaderScript(ProcessCase):
         for what, data in marked(old, old[:100] + bytes(len(old) - 100)).items():
             (self.folder / "marked").write_bytes(data)
             self.same(f"a broken change, {what}", self.ran(reader, "csv", "marked"), Ran(0, wanted, ""))
-        wrong = bytearray(marked(old, old)["undone"])
-        wrong[int.from_bytes(wrong[8:16], "big") + 63] ^= 1
-        tail = marks.tail_of(len(old))
-        long_mark = (marks.LONG_CUT + old[4:]).ljust(tail, b"\0") + marks.record(tail, len(old), old) + bytes(64)  # a short record
-        for data in (marks.UNDO + marks.number(4_096) + old[16:], wrong, long_mark):
+        wrong = bytearray(marks.logged(old, old))
+        wrong[len(old) + marks.HEAD - 1] ^= 1
+        for data in (marks.LOG + marks.number(4_096) + old[16:], wrong, marks.cut(old[:-1])):
             (self.folder / "marked").write_bytes(data)
-            self.same("a mark without a right record", self.ran(reader, "check", "marked"),
+            self.same("a mark without a database", self.ran(reader, "check", "marked"),
                        Ran(1, "", "rrdi.py: marked: file: not ours\n"))
         (self.folder / "cut").write_bytes(old[:100])
         self.same("a damaged file", self.ran(reader, "check", "cut"),

@@ -46,7 +46,7 @@ def pixels(picture: bytes) -> bytes:
 class Words(ToolCase):
     def test_which_files_go_to_the_callback(self) -> None:
         new = self.write("a b:c\\d.rrdi", b"RRDI..")
-        broken = self.write("broken.rrdi", b"RRDUndo\0")
+        broken = self.write("broken.rrdi", b"RRDLog\0\0")
         old = self.write("old.rrd", b"RRD\x000003")
         escaped = new.replace("\\", "\\\\").replace(":", "\\:")
         for word, wanted in ((f"DEF:x={escaped}:g:AVERAGE", f"DEF:x=cb//{escaped}:g:AVERAGE"),

@@ -7,7 +7,7 @@ from ..errors import Damaged
 from ..limits import FUNCTIONS, LATEST, TYPES
 from .files import opened, read, read_bytes, read_file, settled
 from .pieces import TOP, UNKNOWN, VERSIONS, Parts, Reader
-from .undo import Stored, checksum
+from .stored import Stored, checksum
 
 # The reason why bytes are not a database.
 Fault = Damaged

@@ -12,7 +12,7 @@ from ..errors import Damaged
 from ..locks import SHARED, close, locked, open_locked
 from ..environment import milliseconds
 from .pieces import Parts, Reader
-from .undo import Stored
+from .stored import Stored
 
 
 def settled(data: bytes) -> bytes:

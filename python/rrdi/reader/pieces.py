@@ -10,7 +10,7 @@ from ..amounts import MILLION, Millionths
 from ..errors import BAD_BLOCK, BAD_ENTRY, NOT_OURS, TRAILING, TRUNCATED, VERSION, Damaged
 from ..limits import (FUNCTIONS, LATEST, LONGEST_STEP, MOST_ARCHIVES, MOST_CELLS, MOST_CHANGES, MOST_ROWS, MOST_SOURCES,
                       MOST_STEPS, NAME_OF_SOURCE, TYPES)
-from .undo import Stored
+from .stored import Stored
 
 Parts = Dict[str, Any]
 
@@ -160,7 +160,7 @@ class Reader:
         marked = self.data if isinstance(self.data, Stored) and self.data.is_marked else None
         try:
             found = self.pieces()
-            if self.at < len(self.data) and not (marked and marked.may_end_at(self.at)):
+            if self.at < len(self.data) and not (marked and marked.is_cut):
                 raise Damaged(f"file: trailing at {self.at}", None, TRAILING, self.at)
             return found
         except Damaged:

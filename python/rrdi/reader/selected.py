@@ -15,7 +15,7 @@ from ..errors import Damaged
 from ..locks import SHARED, close, open_locked
 from .files import patience
 from .pieces import UNKNOWN, VERSIONS, Parts, Reader, not_ours, truncated
-from .undo import MARK, Stored
+from .stored import MARK, Stored
 
 VERSION_END = 6  # the bytes before the header
 PARTIAL, CELL = 20, 16  # bytes of a piece

@@ -13,7 +13,7 @@ from ..making import NewFile
 from ..reader import Damaged, Reader, opened
 from ..reader.files import patience
 from ..reader.selected import OpenFile
-from ..reader.undo import Stored
+from ..reader.stored import Stored
 from ..words import in_one_line
 from . import rrdtool_program
 from .children import ChildAnswer, answers

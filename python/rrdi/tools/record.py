@@ -54,7 +54,7 @@ from ..errors import NOT_OURS, TRAILING, TRUNCATED, fault_of
 from ..limits import MOST_CHANGES
 from ..locks import EXCLUSIVE, close, lock, open_file
 from ..making import NewFile, is_there, make
-from ..reader.undo import MARK
+from ..reader.stored import MARK
 from . import machine, program
 from .command_line import Failure, Tool, WrongArguments, called_name, error_text, say
 from .machine import Number
