@@ -4,9 +4,8 @@ from __future__ import annotations
 
 import pytest
 
-from support import definitions, layout, manual, random_batches
+from support import definitions, layout, manual, marks, random_batches
 from support.layout import UNKNOWN, heads, known
-from support.marks import checksum, cut, cut_with_record, record, slot, undo
 from support.sizes import LARGE, SMALL, START
 
 
@@ -45,17 +44,25 @@ def test_layout() -> None:
 
 
 def test_marks() -> None:
-    made = record(4_096, 224, OLD)
-    assert (len(made), made[56:].hex()) == (64, "9d3a5cc99937c8b7")
-    part = slot(4_096, 16, OLD[16:])
-    assert (part[:8].hex(), part[24:32].hex()) == ("0000000000000010", "46b1ef4ddb484cf4")
+    """A log of two changes: how the database of 224 bytes began, and a new byte 16 of one of 309 bytes."""
+    tail = 309
+    held = marks.begun(OLD, tail)
+    assert held == bytes.fromhex("5252444c6f6700000000000000000135") + OLD[16:] + bytes(85)
+    held = marks.with_base(OLD, tail)
+    assert held[tail:].hex() == (
+        "0000000000000135" "0000000000000135" "0000000000000020" "0000000000000001" "00000000000000e0"
+        "2c097dc66912ae8b" "0000000000000000" "0000000000000010" "5252444900020000000a000000000000")
+    assert marks.with_change(held, 309, (16, b"\7"))[len(held):].hex() == (
+        "0000000000000185" "0000000000000135" "0000000000000011" "0000000000000001" "0000000000000135"
+        "b8549533786deef5" "0000000000000010" "0000000000000001" "07")
     new = OLD[:176] + known(1) + OLD[192:] + bytes(85)
-    held = undo(OLD, new)
-    assert (len(held), held[:16].hex()) == (4_464, "525244556e646f000000000000001000") and held[16:309] == new[16:]
-    assert cut(OLD) == b"RRDC" + OLD[4:]
-    for data, size, mark in ((OLD, 4_160, b"RRDC\0\2"), (OLD[:64], 4_224, b"RRDc\0\2")):
-        assert (len(cut_with_record(data)), cut_with_record(data)[:6]) == (size, mark)
-    assert checksum(b"\1") == checksum(b"\1" + bytes(7)) != checksum(b"\2")
+    for made, mark, size in ((marks.cut(OLD), b"RRDC\0\2", 224), (marks.uncommitted(OLD, new), b"RRDC\0\2", 762),
+                             (marks.logged(OLD, new), b"RRDLog", 762), (marks.placed(OLD, new), b"RRDLog", 762),
+                             (marks.uncut(OLD, new), b"RRDC\0\2", 762)):
+        assert (made[:6], len(made)) == (mark, size)
+    assert marks.logged(OLD, new)[16:224] == OLD[16:] and marks.placed(OLD, new)[16:309] == new[16:]
+    assert marks.uncut(OLD, new)[4:309] == new[4:]
+    assert marks.checksum(b"\1") == marks.checksum(b"\1" + bytes(7)) != marks.checksum(b"\2")
 
 
 # ---- the forms of commands

@@ -111,17 +111,18 @@ def test_files_of_others(t: Runs) -> None:
     like one whose change was interrupted."""
     new = layout.heads(2, ["g"], [4]) + 4 * layout.UNKNOWN
     bad = new[:9] + b"\0" + new[10:]
-    front = b"RRDI" + NOTES[:12]
-    others = {"RRDCached": b"RRDCach" + NOTES, "RRDc": b"RRDcar" + NOTES, "four letters": b"RRDC",
-              "four other letters": b"RRDc",
-              "a version": b"RRDC\0\3" + NOTES, "zeros": b"RRDC" + bytes(9_000),
-              "a part of a database": b"RRDC" + new[4:100],
-              "a bad header": b"RRDC" + bad[4:], "a record": (b"RRDC" + NOTES).ljust(12_288, b"\0")
-              + marks.record(12_288, 5_000, front),
-              "an undo mark": marks.UNDO + NOTES, "a short undo mark": b"RRDUndo\0",
-              "an undo mark and a record": (marks.UNDO + marks.number(12_288) + NOTES).ljust(12_288, b"\0")
-              + marks.record(12_288, 16, front),
-              "a record of a bad database": marks.undo(bad, new), "a cut bad database": marks.cut_with_record(bad)}
+    others = {"RRDCached": b"RRDCach" + NOTES, "four letters": b"RRDC", "a version": b"RRDC\0\3" + NOTES,
+              "zeros": b"RRDC" + bytes(9_000), "a part of a database": b"RRDC" + new[4:100],
+              "a bad header": b"RRDC" + bad[4:], "another letter": b"RRDc" + new[4:],
+              "a log mark": marks.LOG + NOTES, "a short log mark": marks.LOG, "half a log mark": b"RRDLog" + NOTES,
+              "a log mark without a change": marks.begun(new, 12_288) + NOTES,
+              "a log of notes": marks.with_base(b"RRDI" + NOTES),
+              "a log of a short database": marks.with_base(new[:16]),
+              "a log behind the file": marks.LOG + marks.number(2**64 - 1) + NOTES,
+              "a change that is not right": marks.with_base(new)[:-1] + b"x",
+              "a log that makes a bad database": marks.logged(new, bad),
+              "a log over a bad database": marks.with_base(bad),
+              "another word": b"RRDUndo\0" + marks.number(4_096) + new[16:]}
     for name, held in others.items():
         for words in COMMANDS:
             t.put(held)
@@ -136,17 +137,21 @@ def test_files_of_others(t: Runs) -> None:
 
 def test_interrupted(t: Runs) -> None:
     """Checks that each form of a file whose change was interrupted is read as the database that it stands for, and that
-    the file then has that database's bytes."""
+    the file then has that database's bytes. Without a log the database is the one with which the file begins."""
     t.run(["create", FILE, *CREATE])
     new = t.held()
     t.run(["update", FILE, "10:1"])
     held = t.held()
-    for name, left in {"a cut mark": marks.cut(held), "a cut mark and a record": marks.cut_with_record(held),
-                       "an undo mark": marks.undo(held, new),
-                       "an undo mark over less": marks.undo(held, held + new),
+    for name, left in {"a cut mark": marks.cut(held),
                        "a length without its bytes": marks.cut(held).ljust(4_160, b"\0"),
-                       "a length up to a page": marks.cut(held).ljust(4_096, b"\0"),
-                       "bytes that follow": marks.cut(held) + NOTES}.items():
+                       "bytes that follow": marks.cut(held) + NOTES,
+                       "a log without its mark": marks.uncommitted(held, new),
+                       "a log of no change": marks.with_base(held), "a torn log": marks.logged(held, new)[:-1],
+                       "a log": marks.logged(new, held), "a log over more": marks.logged(held + new, held),
+                       "a log and more": marks.logged(new, held) + NOTES, "a log in its place": marks.placed(new, held),
+                       "two changes": marks.with_change(marks.logged(held, new), len(held), (0, held[:150]),
+                                                        (99, held[99:])),
+                       "a change that is not cut": marks.uncut(new, held)}.items():
         for words, wanted in ((["last"], held), (["batch"], held), (["update", "5:1"], held), (["revert"], new)):
             t.put(left)
             status, out, err = t.told([words[0], FILE, *words[1:]], "last\n" if words[0] == "batch" else "")

@@ -32,15 +32,15 @@ FILES = {"a new file": (f"{CREATE}\n", 224), "an update": (f"{CREATE}\nupdate 10
 REFUSED = re.compile(r"ERROR: file: (not ours|version|(truncated|bad block|trailing) at \d+|bad entry \d+)\n")
 # A changed byte may make the mark of another program, which one more line names.
 OF_RRDTOOL = b"RRD\0"
-# The marks of a file whose change only has to be ended.
-CUT_MARKS = (b"RRDC", b"RRDc")
+# The mark of a file whose change only has to be ended.
+CUT_MARK = b"RRDC"
 # The bytes of a file are changed in parts, which run side by side.
 PARTS = 4
 
 
 def as_written(held: bytes) -> bytes:
     """Returns the file that a batch leaves after it has read these bytes: of the second version, and without a mark."""
-    database = b"RRDI" + held[4:] if held[:4] in CUT_MARKS else held
+    database = b"RRDI" + held[4:] if held[:4] == CUT_MARK else held
     return as_version(2, database) if database[5] == 1 else database
 
 

@@ -64,8 +64,8 @@ def test_closed_streams(t: Runs) -> None:
             (["fetch", FILE, "LAST", "-s", "0", "-e", "39"], "", held), (["batch", FILE], lines, later),
             (["batch", FILE], "last\n", held),
             (["create", FILE, *CREATE], "", new), (["revert", FILE], "", new))
-    begun = {"a file": held, "a file with a cut mark": marks.cut_with_record(held),
-             "a file with an undo mark": marks.undo(held, later)}
+    begun = {"a file": held, "a file with a cut mark": marks.uncommitted(held, later),
+             "a file with a log mark": marks.logged(later, held)}
     for name, left in begun.items():
         for words, given, wanted in runs:
             t.put(left)
@@ -209,9 +209,9 @@ def test_sparse_files(t: Runs, between_all: str) -> None:
     least = touched(program, library, log, layout.heads(2, ["g"], [4]) + 4 * layout.UNKNOWN, 0, True)[1]
     large = layout.heads(2, ["g"], [200_000])
     most = touched(program, library, log, large, LONG, True)[1] - least
-    starts = {mark: mark + bytes(12) for mark in (b"RRDI", b"RRDX", b"RRDC", b"RRDc", b"RRD!", b"RRDUndo\0", bytes(4))}
+    starts = {mark: mark + bytes(12) for mark in (b"RRDI", b"RRDX", b"RRDC", b"RRDc", b"RRD!", marks.LOG, bytes(4))}
     starts[b"RRDC, a header"] = b"RRDC" + large[4:]
-    starts[b"an undo mark with a position"] = marks.UNDO + marks.number(1 << 30)
+    starts[b"a log mark with a position"] = marks.LOG + marks.number(1 << 30)
     for name, begun in starts.items():
         for may_write in (True, False):
             (status, _, err), cost = touched(program, library, log, begun, LONG, may_write)

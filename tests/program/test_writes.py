@@ -1,6 +1,6 @@
 # SPDX-License-Identifier: MIT OR Apache-2.0
-"""One update writes few bytes, however large the file is (docs/performance.md): for the smallest file at most one page
-and the copy that protects it (8 KB), for 30 KB to 4 MB at most 24 KB, for 64 MB at most 48 KB."""
+"""One update writes few bytes, however large the file is (docs/performance.md): for a file of up to 4 MB at most 4 KB,
+for 64 MB at most 8 KB. They have the new bytes twice, in the log and in their place."""
 from __future__ import annotations
 
 import re

@@ -6,66 +6,59 @@ import random
 from typing import Callable
 
 from support import marks
-from support.marks import LONG, PAGE, SHORT, SIXTEEN, UNDO, number, pages, record
-
-CUT, LONG_CUT = marks.SHORT_CUT, marks.LONG_CUT
+from support.marks import CUT, LOG, PAGE, SIXTEEN, number
 
 
 # ---- Each way makes a file of an old and a new database.
 
 def any_cut(rng: random.Random, old: bytes, new: bytes) -> bytes:
-    """A cut mark without a record, and often bytes after the database: a length that was stored before the record."""
-    rest = rng.choice([b"", b"", b"x", bytes(64), bytes(rng.randrange(1, PAGE)), rng.randbytes(rng.randrange(1, 200)),
-                       None])
-    data = rng.choice([CUT, CUT, CUT, LONG_CUT]) + old[4:]
-    return data.ljust(marks.tail_of(len(data)) + rng.choice([SHORT, LONG]), b"\0") if rest is None else data + rest
+    """A cut mark, and often bytes after the database: a log without its mark, or a length without its bytes."""
+    rest = rng.choice([b"", b"x", bytes(rng.randrange(1, PAGE)), rng.randbytes(rng.randrange(1, 200)), new])
+    return rng.choice([marks.cut(old) + rest, marks.uncommitted(old, new), marks.uncut(old, new)])
 
 
-def any_record(rng: random.Random, old: bytes, new: bytes) -> bytes:
-    """A cut mark and a record, which may have a wrong length, wrong first bytes or a wrong shape."""
-    length, first, size = len(old), old[:SIXTEEN], LONG if marks.is_long(len(old)) else SHORT
-    wrong = rng.random()
-    if wrong < 0.2:
-        length = rng.choice([0, 1, 4, 12, 15, SIXTEEN, len(old) - 1, len(old) + 1, len(new), 2**20])
-    elif wrong < 0.4:
-        first = rng.choice([b"RRDC", b"NOPE", bytes(4)]) + old[4:SIXTEEN]
-    elif wrong < 0.5:
-        size = SHORT + LONG - size
-    at = marks.tail_of(len(old), length) + PAGE * rng.choice([0, 0, 1])
-    begun = (CUT if size == SHORT else LONG_CUT) + old[4:]
-    return begun.ljust(at, rng.choice([b"\0", b"x"])) + record(at, length, first, size)
+def any_pieces(rng: random.Random, new: bytes) -> list[marks.Piece]:
+    """Pieces of bytes, which may overlap, and mostly make a database: the last one has all of it, or some have parts."""
+    cuts = sorted(rng.choices(range(len(new) + 1), k=rng.randrange(4)))
+    parts = [(begin, new[begin:end]) for begin, end in zip([0, *cuts], [*cuts, len(new)])]
+    rng.shuffle(parts)
+    return [(at, rng.randbytes(rng.randrange(9))) for at in rng.choices(range(len(new)), k=rng.randrange(3))
+            if at + 8 < len(new)] + parts
 
 
-def any_undone(rng: random.Random, old: bytes, new: bytes) -> bytes:
-    """An undo mark, the record of the old database, and its slots, one of which may be missing, twice there or
-    wrong."""
-    slots, length, first = pages(old), len(old), old[:SIXTEEN]
-    wrong = rng.random()
-    if wrong < 0.15:
-        slots.pop(rng.randrange(len(slots)))
-    elif wrong < 0.3:
-        slots[0] = (SIXTEEN, rng.randbytes(rng.randrange(1, 40)))
-    elif wrong < 0.4:
-        slots += [slots[0]] * rng.choice([1, 2, 3])
-    elif wrong < 0.5:
-        slots.insert(0, (rng.choice([0, 8, 15, 2**30]), b"here"))
-    elif wrong < 0.6:
-        first = rng.choice([b"RRDU", b"NOPE"]) + old[4:SIXTEEN]
-    elif wrong < 0.7:
-        length = rng.choice([0, 4, 15, len(old) - 1, len(old) + 1])
-    tail, changed = marks.tail_of(len(old), len(new)), new if rng.random() < 0.8 else old
-    begun = (UNDO + number(tail) + changed[SIXTEEN:]).ljust(tail, b"\0") + record(tail, length, first, LONG)
-    return marks.with_slots(begun, tail, slots)
+def any_log(rng: random.Random, old: bytes, new: bytes) -> bytes:
+    """A log of a few changes between two databases, whose pieces are in their places in part."""
+    held, count = marks.with_base(old, max(len(old), len(new)) + rng.choice([0, 0, 9])), rng.randrange(4)
+    for database in rng.choices([old, new], k=count):
+        held = marks.with_change(held, len(database), *any_pieces(rng, database))
+    at = rng.randrange(SIXTEEN, len(old))
+    placed = rng.choice([b"", new[at:at + rng.randrange(PAGE)], rng.randbytes(8)])[:len(old) - at]
+    return held[:at] + placed + held[at + len(placed):] + rng.choice([b"", b"", rng.randbytes(rng.randrange(60))])
+
+
+def any_change(rng: random.Random, old: bytes, new: bytes) -> bytes:
+    """A log of which a change has a wrong number, and mostly a right checksum: mostly not the first one."""
+    held = rng.choice([marks.with_base, marks.with_base, marks.begun])(old, max(len(old), len(new)))
+    if rng.random() < 0.3:
+        held = marks.with_change(held, len(new), (0, new))
+    tail, at = int.from_bytes(held[8:SIXTEEN], "big"), len(held)
+    start = rng.choice([0, 0, 0, 1, len(new), 2**63, 2**64 - 1])
+    body = number(start) + number(rng.choice([len(new), len(new), 0, len(new) + 1, 2**64 - 1])) + new
+    size = rng.choice([len(new), len(new), 15, 16, 2**64 - 1])
+    numbers = [at, tail, len(body), 1, size]
+    numbers[rng.randrange(5)] += rng.choice([-1, 0, 0, 1])
+    held += marks.spelled(b"".join(number(value % 2**64) for value in numbers), body) + rng.choice([b"", b"x", new])
+    return held if rng.random() < 0.8 else marks.with_change(held, len(new), (0, new))
 
 
 def any_other(rng: random.Random, old: bytes, new: bytes) -> bytes:
     """A file that is not rrdi's and begins like a mark."""
-    mark = rng.choice([CUT, LONG_CUT, UNDO, UNDO + number(rng.choice([0, PAGE, 2**63, 2**64 - 1])), b"RRDU", b"RRDX"])
+    mark = rng.choice([CUT, LOG, LOG + number(rng.choice([0, 16, PAGE, 2**63, 2**64 - 1])), b"RRDL", b"RRDc", b"RRDX"])
     return mark + rng.choice([b"", b"ached notes of a user\n", bytes(rng.randrange(40)),
-                              rng.randbytes(rng.randrange(200)), old[4:20]])
+                              rng.randbytes(rng.randrange(200)), old[4:20], old[SIXTEEN:]])
 
 
-WAYS: tuple[Callable[[random.Random, bytes, bytes], bytes], ...] = (any_cut, any_record, any_undone, any_other)
+WAYS: tuple[Callable[[random.Random, bytes, bytes], bytes], ...] = (any_cut, any_log, any_change, any_other)
 
 
 def forged(rng: random.Random, old: bytes, new: bytes) -> bytes:

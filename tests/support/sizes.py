@@ -35,11 +35,11 @@ class SizedFile(NamedTuple):
 
 
 FILES = [
-    SizedFile("480 B", 2, "RRA:LAST:0.5:1:4", 8_192),
-    SizedFile("30 KB", 16, "RRA:AVERAGE:0.5:1:1750", 24_576),
-    SizedFile("400 KB", 16, "RRA:AVERAGE:0.5:1:25000", 24_576),
-    SizedFile("4 MB", 16, "RRA:AVERAGE:0.5:1:250000", 24_576),
-    SizedFile("64 MB", 16, " ".join(f"RRA:{name}:0.5:1:1000000" for name in ("AVERAGE", "MIN", "MAX", "LAST")), 49_152),
+    SizedFile("480 B", 2, "RRA:LAST:0.5:1:4", 4_096),
+    SizedFile("30 KB", 16, "RRA:AVERAGE:0.5:1:1750", 4_096),
+    SizedFile("400 KB", 16, "RRA:AVERAGE:0.5:1:25000", 4_096),
+    SizedFile("4 MB", 16, "RRA:AVERAGE:0.5:1:250000", 4_096),
+    SizedFile("64 MB", 16, " ".join(f"RRA:{name}:0.5:1:1000000" for name in ("AVERAGE", "MIN", "MAX", "LAST")), 8_192),
 ]
 
 
