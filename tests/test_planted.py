@@ -59,9 +59,7 @@ REFUSED = "a refused update over a change without its last three calls, 4 rows"
 # A fault of the small program, and the task that finds it.
 CALLS = {
     "hides-failure": LONGER, "hides-short": LONGER, "hides-second": LONGER, "hides-sync": LARGER,
-    "leaves-change": LARGER,
-    "restores-less": MANY, "restores-less,reads-anything": MANY, "wrong-status": LONGER, "wrong-text": LONGER,
-    "no-reason": LONGER,
+    "wrong-status": LONGER, "wrong-text": LONGER, "no-reason": LONGER,
     "wrong-reason": LONGER, "never-waits": LAST, "forgets-lock": LAST, "needs-locks": LAST, "goes-on-unlocked": LAST,
     "keeps-lock": LAST,
     "reads-without-lock": LAST, "creates-without-lock": NEW, "changes-share": LONGER, "no-tail": MANY,
@@ -78,8 +76,7 @@ KILLS = {"no-tail": LARGER, "marks-late": LARGER, "commits-early": LARGER, "cuts
 POWER = {"no-sync-1": LARGER, "no-sync-2": LARGER, "no-sync-3": LARGER, "no-sync-4": SMALLER,
          "no-sync-to-recover": LARGER,
          "marks-by-length": LONGER, "first-page-at-once": PAGES, "stays-marked": LARGER, "trusts-cache": LARGER,
-         "syncs-cache": LARGER, "marks-unsynced": MANY,
-         "hides-sync": LARGER}
+         "syncs-cache": LARGER, "hides-sync": LARGER}
 # The small program writes its first 64 bytes by one call.
 EFFORT = SHORT._replace(whole=64)
 
@@ -326,7 +323,7 @@ LOST: dict[str, Sequence[list[Any]]] = {
     "writes-devices": [ODD],
     "loses-updates": [CROWD], "refuses-some": [CROWD], "refuses-all": [CROWD], "fails-to-read": [CROWD],
     "prints-more": [EXCLUSION],
-    "touches-file": [EXCLUSION], "loses-other-bytes": [FULL, LIMITS], "forgets-change": [EXCLUSION, LIMITS],
+    "touches-file": [EXCLUSION], "keeps-other-bytes": [FULL, LIMITS], "forgets-change": [EXCLUSION, LIMITS],
     "opens-to-write": [READ_ONLY],
     "writes-first": [READ_ONLY], "hides-failure": [FULL], "overwrites-new": [MADE], "breaks-links": [LINKS, DANGLING],
     "stays-marked": [LIMITS], "keeps-old-name": [MOVED], "refuses-pipes": [ODD], "replaces-pipes": [ODD],

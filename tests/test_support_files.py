@@ -44,18 +44,18 @@ def test_layout() -> None:
 
 
 def test_marks() -> None:
-    """A log of two changes: how the database of 224 bytes began, and a new byte 16 of one of 309 bytes."""
-    tail = 309
-    held = marks.begun(OLD, tail)
-    assert held == bytes.fromhex("5252444c6f6700000000000000000135") + OLD[16:] + bytes(85)
-    held = marks.with_base(OLD, tail)
-    assert held[tail:].hex() == (
-        "0000000000000135" "0000000000000135" "0000000000000020" "0000000000000001" "00000000000000e0"
-        "2c097dc66912ae8b" "0000000000000000" "0000000000000010" "5252444900020000000a000000000000")
-    assert marks.with_change(held, 309, (16, b"\7"))[len(held):].hex() == (
-        "0000000000000185" "0000000000000135" "0000000000000011" "0000000000000001" "0000000000000135"
-        "b8549533786deef5" "0000000000000010" "0000000000000001" "07")
-    new = OLD[:176] + known(1) + OLD[192:] + bytes(85)
+    """The file of the update, killed after the log mark."""
+    updated = layout.settings("g")[:-16] + known(1) + bytes(20)
+    new = b"".join([heads(2, ["g"], [4], last=10, entries=1).replace(layout.source("g"), updated), UNKNOWN, known(1),
+                    2 * UNKNOWN, b"\1", bytes(8), UNKNOWN, bytes(40), layout.number(1, 4), UNKNOWN])
+    held = marks.with_base(OLD, 309)
+    assert held[:309] == marks.begun(OLD, 309) == bytes.fromhex("5252444c6f6700000000000000000135") + OLD[16:] + bytes(85)
+    assert held[309:].hex() == ("0000000000000135" "0000000000000135" "0000000000000020" "0000000000000001"
+                                "00000000000000e0" "2c097dc66912ae8b" "0000000000000000" "0000000000000010"
+                                "5252444900020000000a000000000000")
+    held = marks.with_change(held, 309, (176, new[176:192]), (0, new[:160]), (224, new[224:]))
+    assert len(held) == 746 and held[389:437].hex() == ("0000000000000185" "0000000000000135" "0000000000000135"
+                                                        "0000000000000003" "0000000000000135" "cca699fd8b4547b7")
     for made, mark, size in ((marks.cut(OLD), b"RRDC\0\2", 224), (marks.uncommitted(OLD, new), b"RRDC\0\2", 762),
                              (marks.logged(OLD, new), b"RRDLog", 762), (marks.placed(OLD, new), b"RRDLog", 762),
                              (marks.uncut(OLD, new), b"RRDC\0\2", 762)):

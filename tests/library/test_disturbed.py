@@ -52,7 +52,7 @@ def pytest_generate_tests(metafunc: pytest.Metafunc) -> None:
 @pytest.mark.parametrize("way", ON_FILES)
 def test_disturbed(way: str, kind: str, name: str, part: int, by_library: Program, between: str, folder: Path,
                    check: Check, is_long: bool) -> None:
-    place = Place(InWay(by_library.path, {"STACK": str(STACK), **WAYS[way]}), between, folder)
+    place = Place(InWay(by_library.path, {"STACK": str(STACK), **WAYS[way]}), between, folder, "OPEN" in WAYS[way])
     if kind == CALLS:
         task = failing.TASKS[name]
         has_syncs = not task.reads and (is_long or name.endswith("lengthens 1000 rows"))

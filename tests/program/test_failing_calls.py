@@ -3,8 +3,8 @@
 
 For each call that opens, locks, queries, truncates, syncs, reads or writes:
 
-- The call fails, alone, and with each later call that changes a file. If it fails alone and the fault is reported, FILE
-  itself has its old bytes again. A failed sync must be reported, unless a kill before the sync leaves the new database.
+- The call fails, alone, and with each later call that changes a file. A failed sync of a change must be reported, unless
+  it comes when a file is closed that stayed open.
 - A signal interrupts the call once, and 1,000 times in succession. 1,001 times may be a fault.
 - The call moves only some of its bytes. The next call of the same kind on that file moves another number, or fails.
 - The disk is full: from this call on, no byte after some of the bytes of a written file can be written.
@@ -15,14 +15,15 @@ For each call that opens, locks, queries, truncates, syncs, reads or writes:
 - The process is forked while it holds the lock: the child that lives on must not keep the lock.
 
 All this also on files whose last change was interrupted. If FILE cannot be opened, read or written, one more line
-gives the reason. After a fault the next command must find the old database, and without a fault the new one, but a
-call after the commit may fail without a report; and if all later writes failed too, the next command may find either.
+gives the reason. After a fault the next command must find the old database before the commit, and the new one from
+then on, as after a kill. If all later writes failed too, it may find either.
 The log of the calls must show that the program reads and writes only under the lock that the call needs."""
 from __future__ import annotations
 
 import errno
 import os
 import signal
+from functools import cached_property
 from pathlib import Path
 from typing import Any
 
@@ -53,8 +54,8 @@ STREAMS = {0: "read failed", 1: "write failed"}
 PIECES = 3
 # The answers of a system that has no locks, and those by which only this lock fails.
 NO_LOCKS, LOCK_FAILS = (errno.ENOSYS, errno.EOPNOTSUPP, errno.EINVAL), (errno.ENOLCK, errno.EIO, errno.EBADF)
-# The first bytes of a file, which a kill leaves whole.
-FIRST = 16
+# The first bytes of a file, which a kill leaves whole, and the most bytes of a mark; the small program's have 64.
+FIRST, MARK = 16, 64
 # How often a call is interrupted before the program gives up, and the numbers of calls after that before which a kill
 # comes.
 GIVES_UP, KILLS_AFTER = 1_001, (1, 2, 4, 7)
@@ -68,6 +69,7 @@ SHORT = ("create of 4 rows over", "create of 4000 rows over nothing", "create of
          "last of", "fetch of 4 rows", "info of 4000", "last over a change without its last two calls, 1000",
          "last over a change without its last three calls, 1000", "update over a change without its last call, 4",
          "update over a change without its last three calls, 1000",
+         "update over a change without its last four calls, 1000", "last over a change of two calls, 1000",
          "a refused update over a change without its last three calls, 4",
          "create over a change without its last two calls, 1000")
 TASKS = {task.name: task for task in changes() + readings() + over_interrupted()}
@@ -85,7 +87,6 @@ class Faults:
 
     def __init__(self, place: Place, task: Task, check: Check, **always: object) -> None:
         self.place, self.task, self.check, self.always = place, task, check, always
-        self.is_committed = False
         self.old = place.old(task)
         self.plain = place.run(task, self.old, **always)
         _, self.new = place.after_next()
@@ -107,10 +108,15 @@ class Faults:
             found.add(self.place.after_next()[1])
         return found
 
-    @property
-    def has_old(self) -> bool:
-        """Checks whether FILE itself has the bytes of the old database."""
-        return self.task.over_database and not self.task.form
+    @cached_property
+    def commit(self) -> int:
+        """Returns the number of the first call before which a kill leaves the new database."""
+        first, behind = 1, len(self.plain.calls) + 1
+        while first < behind and self.old != self.new:
+            middle = (first + behind) // 2
+            self.place.run(self.task, self.old, **self.always, KILL=middle)
+            first, behind = (first, middle) if self.place.after_next()[1] == self.new else (middle + 1, behind)
+        return behind
 
     # ---- the results that are right
 
@@ -140,9 +146,7 @@ class Faults:
                 faults: set[str]) -> bool:
         if faults & set(STREAMS.values()):
             return now in self.fronts or now == self.old or now == self.new and self.task.is_batch
-        if now == self.old:
-            return True
-        if (may_be_either or self.is_committed) and now == self.new:
+        if may_be_either and now in (self.old, self.new) or now == (self.new if self.is_committed else self.old):
             return True
         return is_refused(answer) and (not self.task.over_database or may_be_refused)
 
@@ -159,7 +163,7 @@ class Faults:
         is_stream = call.kind in ("read", "write") and call.file in STREAMS
         faults = {STREAMS[call.file]} if is_stream else FAULTS.get(call.kind, {"cannot write"})
         changes_file = call.kind in calls_between.CHANGING
-        self.is_committed = "RRDI_SYNC" in self.always and self.is_new_before(number)
+        self.is_committed = self.commit <= number
         if call.kind == "write" and call.file == STANDARD_ERROR:
             self.try_error_stream(number, what)
             return
@@ -184,9 +188,8 @@ class Faults:
         for why in (errno.EIO, errno.ENOSPC) if call.kind in calls_between.CHANGING else (errno.EIO,):
             ran = self.run(f"{what} fails", faults, why=why, CALL=number)
             self.check.count(FAILED)
-            is_kept = not self.has_old or ran.answer == self.plain.answer or ran.held in (self.old, *self.fronts)
-            self.check(is_kept or self.is_committed, f"{self.task.name}, {what} fails: the change is not taken back")
-            if call.kind in SYNCS and (self.is_committed or self.is_old_before(number)):
+            is_over = self.is_committed and self.place.stays_open
+            if call.kind in SYNCS and not is_over and self.old != self.new:
                 self.check(ran.answer != self.plain.answer, f"{self.task.name}, {what} fails: not reported")
 
     def try_error_stream(self, number: int, what: str) -> None:
@@ -201,20 +204,6 @@ class Faults:
             self.check(is_right and now == self.new,
                        f"{self.task.name}, {what} fails {more}: {ran.answer}, {self.same(now)}")
             self.check.count(FAILED)
-
-    def after_kill(self, number: int) -> bytes | None:
-        """Returns the file that the next command leaves after a kill before this call."""
-        self.place.run(self.task, self.old, **self.always, KILL=number)
-        return self.place.after_next()[1]
-
-    def is_old_before(self, number: int) -> bool:
-        """Checks whether a kill before this call leaves the old database."""
-        return self.after_kill(number) == self.old != self.new
-
-    def is_new_before(self, number: int) -> bool:
-        """Checks whether a kill before this call leaves the new database: with RRDI_SYNC=1 a failure is still
-        reported."""
-        return not self.task.reads and self.after_kill(number) == self.new != self.old
 
     def try_lock(self, number: int, what: str) -> None:
         """Checks that a run waits for another program's lock for as long as the manual says, and goes on without
@@ -286,13 +275,12 @@ class Faults:
         for count in sorted({1, half, most}):
             self.run(f"{what} moves {count} bytes", faults, must_be_whole=True, CALL=number, MOVES=[count])
             self.check.count("short calls")
-        # If a write within a page fails after one part of the bytes was written, which no system does, the only
-        # requirement is that no mixture is read.
-        is_within = call.kind == "pwrite" and call.at < len(self.old or b"") and call.at % 4_096 + call.size <= 4_096
+        # If a write of a mark fails after one part of the bytes was written, which no system does, the only requirement
+        # is that no mixture is read.
+        is_mark = call.kind == "pwrite" and call.at == 0 and call.size <= MARK
         for moves in ([half, 1], [1, half], [most, half], [half, -1], [half, 1, -1], [1, half, -1]):
-            may_be_refused = is_within and len(moves) > 2
-            self.run(f"{what} moves {moves} bytes, one call after the other", faults, may_be_either=may_be_refused,
-                     may_be_refused=may_be_refused, CALL=number, MOVES=moves)
+            self.run(f"{what} moves {moves} bytes, one call after the other", faults, may_be_either=is_mark,
+                     may_be_refused=is_mark, CALL=number, MOVES=moves)
             self.check.count("short calls")
         if call.kind == "pwrite" and call.at >= FIRST:
             self.try_short_and_killed(number, call, what)

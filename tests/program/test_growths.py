@@ -12,7 +12,8 @@
 - An allocation after the line of a fault is refused: the line that says more may be missing, and after a usage fault
   the usage may be that of all commands. Everything else is as without a refusal.
 - An allocation for the bytes that replace those of the file is refused: the program reports `ERROR: cannot write` and
-  the reason, and ends with status 1. The file is unchanged. If there was no file, there is none or an empty one.
+  the reason, and ends with status 1. The next command finds the file unchanged. If there was no file, there is none or
+  an empty one.
 - In every run the program frees as many blocks as without a refusal. After the last line it allocates only for the
   bytes of the file. The lines first, last, lastupdate, info, revert, fetch, and a tune that adds no archive, allocate
   only to be parsed, with and without a database.

@@ -18,11 +18,12 @@ PAGE, PAGES, MANY = 4, 1_000, 4_000
 LOCK_SH, LOCK_EX, LOCK_UN = 1, 2, 8
 SYNCS = ("fsync", "fdatasync")
 LAST_STREAM = 2
-# A change of many pages and of the length, which is interrupted before one of its last calls that change the file; and
-# the number of that call, counted from the end.
+# A change of many pages and of the length, which is interrupted before one of its calls that change the file; and the
+# number of that call among these.
 INTERRUPTED = ("resize", FILE, "0", "GROW", "300")
-FORMS = {"a change without its last call": 1, "a change without its last two calls": 2,
-         "a change without its last three calls": 3}
+FORMS = {"a change without its last call": -1, "a change without its last two calls": -2,
+         "a change without its last three calls": -3, "a change without its last four calls": -4,
+         "a change of two calls": 2}
 
 
 def create(rows: int, journal: int = 16, value: str = "U") -> str:
@@ -41,7 +42,7 @@ def samples(first: int, count: int) -> str:
 @dataclass(frozen=True)
 class Task:
     """A command or a batch, and the file on which it runs: the file that lines create, fixed bytes, or no file. With a
-    form, a later change of the file was interrupted before one of its last calls."""
+    form, a later change of the file was interrupted before one of its calls."""
     name: str
     words: tuple[str, ...]
     lines: str = ""
@@ -161,10 +162,11 @@ class Ran:
 
 
 class Place:
-    """A folder with a file, and a program whose calls may fail."""
+    """A folder with a file, and a program whose calls may fail. Perhaps it tells that a change is over while the file
+    stays open."""
 
-    def __init__(self, program: Program, library: str, folder: str | Path) -> None:
-        self.program, self.library, self.folder = program, library, Path(folder)
+    def __init__(self, program: Program, library: str, folder: str | Path, stays_open: bool = False) -> None:
+        self.program, self.library, self.folder, self.stays_open = program, library, Path(folder), stays_open
         self.file, self.log = self.folder / FILE, self.folder / "log"
         self.count = 0
         self.interrupted: dict[Task, bytes] = {}
@@ -194,7 +196,7 @@ class Place:
         calls = between.calls_of(between.events_of(self.log))
         numbers = [number for number, call in enumerate(calls, 1) if call.kind in between.CHANGING]
         put(self.file, made)
-        killed = self.plain(INTERRUPTED, KILL=numbers[-FORMS[task.form]])
+        killed = self.plain(INTERRUPTED, KILL=numbers[FORMS[task.form]])
         left = held(self.file)
         answer, recovered = self.after_next()
         if left is None or (killed.status, answer.status) != (KILLED, 0) or recovered == left:

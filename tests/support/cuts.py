@@ -212,13 +212,7 @@ class Cuts:
         what = f"call {number} of {count}, a sync, fails"
         self.fail(what, CALL=number)
         self.fail(f"{what}, and each later one", CALL=number, MOVES=[-1] * FOR_GOOD)
-        for killed in self.kills_after(number):
-            self.fail(f"{what}, killed before call {killed}", CALL=number, KILL=killed)
-
-    def kills_after(self, number: int) -> list[int]:
-        """Returns calls after a failed sync before which a kill comes: the first one, and some of those that take the
-        change back."""
-        return [number + more for more in (1, *self.chance.sample(range(2, 20), 1 if self.effort.kills else 6))]
+        self.fail(f"{what}, then killed", CALL=number, KILL=number + 1)
 
     def fail(self, what: str, **settings: object) -> None:
         """Runs the change with a failing sync, and cuts the power from then on, also during the next command."""

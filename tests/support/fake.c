@@ -211,22 +211,6 @@ static void unlock(void) {
 
 /* ---- a change */
 
-/* Takes a change back: marks the file again, since a failed sync may have left the new header on the disk alone. */
-static int take_back(int file, struct base old, struct base new, const struct head *marked) {
-    if (has("leaves-change"))
-        return -1;
-    size_t count = old.length > new.length ? old.length : new.length;
-    if (has("restores-less"))
-        count = HEAD + ROW;
-    if (count > old.length)
-        count = old.length;
-    int is_marked = !put(file, (const unsigned char *)marked, HEAD, 0) && (has("marks-unsynced") || !settle_on_disk(file));
-    if (is_marked && !put(file, old.bytes + HEAD, count - HEAD, HEAD) && !settle_on_disk(file) && !put(file, old.bytes, HEAD, 0) &&
-        !settle_on_disk(file) && !cut(file, old.length))
-        settle_on_disk(file);
-    return -1;
-}
-
 static int put_pages(int file, struct base old, struct base new) {
     for (size_t at = has("first-page-at-once") ? PAGE : 0; at < new.length; at += PAGE) {
         if (has("slow"))
@@ -249,17 +233,10 @@ static int put_all_pages(int file, struct base old, struct base new, size_t tail
     return put(file, present.bytes, old.length, tail) || put_pages(file, old, new);
 }
 
-/* Writes a file whose bytes are not a database. */
-static int store_bare(int file, struct base old, struct base new) {
-    unsigned char spoiled[4] = {0};
-    int takes_room = old.length && old.length < new.length && !has("loses-other-bytes");
-    if ((takes_room && cut(file, new.length)) || (old.length && put(file, spoiled, 4, 0)) ||
-        put(file, new.bytes + HEAD, new.length - HEAD, HEAD) || cut(file, new.length) || put(file, new.bytes, HEAD, 0)) {
-        if (has("loses-other-bytes") || put(file, old.bytes, old.length, 0) || cut(file, old.length))
-            cut(file, 0);
-        return -1;
-    }
-    return settle_on_disk(file);
+/* Writes a file whose bytes are not a database: the header at last, so that before that the file begins with zeros. */
+static int store_bare(int file, struct base new) {
+    return ((!has("keeps-other-bytes") && cut(file, 0)) || put(file, new.bytes + HEAD, new.length - HEAD, HEAD) ||
+            put(file, new.bytes, HEAD, 0) || cut(file, new.length)) ? -1 : settle_on_disk(file);
 }
 
 static int store(int file, struct base old, struct base new, int is_database) {
@@ -267,7 +244,7 @@ static int store(int file, struct base old, struct base new, int is_database) {
     head_of(new)->length = new.length;
     head_of(new)->sum = sum_of(new);
     if (!is_database)
-        return store_bare(file, old, new);
+        return store_bare(file, new);
     size_t most = old.length > new.length ? old.length : new.length, tail = ((most + PAGE - 1) / PAGE) * PAGE;
     memcpy(&marked, old.bytes, HEAD);
     marked.state = 1;
@@ -281,12 +258,12 @@ static int store(int file, struct base old, struct base new, int is_database) {
         return -1;
     }
     if (has("marks-late") && put_pages(file, old, new))
-        return take_back(file, old, new, &marked);
+        return -1;
     size_t front = has("first-page-at-once") && new.length > PAGE ? PAGE : HEAD;
     int is_marked = has("marks-by-length") || (!put(file, (unsigned char *)&marked, HEAD, 0) && !settle_on_disk(file));
     if (!is_marked || put_all_pages(file, old, new, tail) || settle_on_disk(file) || (has("cuts-early") && cut(file, new.length)) ||
         put(file, new.bytes, front, 0) || settle_on_disk(file))
-        return take_back(file, old, new, &marked);
+        return -1;
     cut(file, new.length);
     return settle_on_disk(file);
 }

@@ -12,6 +12,7 @@ from pathlib import Path
 from typing import Any, NamedTuple, Union
 
 from support import between
+from support.marks import CUT
 from support.program import Answer, Program, held, put
 
 FILE = "net.rrdi"
@@ -47,7 +48,7 @@ class Task:
 
 
 class Told(NamedTuple):
-    """The answer of a run, and the file afterwards."""
+    """The answer of a run, and the file afterwards: under a cut mark, as the next command leaves it."""
     status: int | str
     out: str
     err: str
@@ -143,4 +144,6 @@ class Runner:
             env = between.settings(self.library, LOG=log, LINES=1, SHRINKS=int(self.shrinks), **settings)
             answer = self.program.run(task.words, task.lines, cwd=folder, env=env, name="rrdi")
             self.count += 1
+            if (held(file) or b"").startswith(CUT):
+                self.program.run(["last", FILE], cwd=folder)
             return End(Told(*answer, held(file)), between.events_of(log))
