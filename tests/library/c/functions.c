@@ -68,7 +68,7 @@ ssize_t pread(int from, void *bytes, size_t size, off_t at) {
     return pread64(from, bytes, size, at);
 }
 
-/* The error of one last write of a change, which takes the mark off the file; 0 if it works. */
+/* The error of one last write, which takes the mark off a file; 0 if it works. */
 static int last_error;
 
 ssize_t pwrite64(int to, const void *bytes, size_t size, off_t at) {
@@ -432,21 +432,40 @@ static void test_opening(void) {
     want(gave(RRDI_OK, false, "0\n"), "a file that was let go of");
 }
 
+/* The bytes for which an open file stands, while changes wait in its log: a command brings those of a copy into place. */
+static size_t stands_for(const char *path, uint8_t *bytes) {
+    static uint8_t kept_output[sizeof output];
+    struct rrdi_answer kept = answer;
+    memcpy(kept_output, output, sizeof output);
+    put("copy", bytes, bytes_of(path, bytes));
+    run_file("copy", WORDS("last"), 0);
+    memcpy(output, kept_output, sizeof output);
+    answer = kept;
+    return bytes_of("copy", bytes);
+}
+
+static size_t length_of(const char *path) {
+    static uint8_t bytes[1 << 16];
+    return stands_for(path, bytes);
+}
+
 static size_t run_opened(const uint8_t *words, size_t words_length, size_t room) {
     rrdi_run_open(&opened, words, words_length, 0, output, room, &answer);
-    return held("kept");
+    return length_of("kept");
 }
 
 static void test_run_open(void) {
     open_file("kept");
     test_steps(2, run_opened);
     run_open(WORDS("create\0DS:g:GAUGE:100:U:U"));
-    want(answer.fault && held("kept") == 224, "a create that is refused, on an open file");
+    want(answer.fault && length_of("kept") == 224, "a create that is refused, on an open file");
     run_open(WORDS("last"));
     want(gave(RRDI_OK, false, "0\n"), "the database stays after a create that is refused");
     run_open(WORDS(CREATE "\0RRA:MAX:0.5:1:4"));
-    want(gave(RRDI_OK, true, "") && held("kept") > 224, "create over an open file");
+    want(gave(RRDI_OK, true, "") && length_of("kept") > 224, "create over an open file");
+    size_t length = length_of("kept");
     rrdi_close(&opened);
+    want(held("kept") == length, "a file that was closed has no log");
     test_unopened("a file that was closed");
 }
 
@@ -464,11 +483,12 @@ static void test_same_bytes(void) {
         uint32_t fault = answer.fault;
         run_file("other", (const uint8_t *)words, size, 0);
         size_t length = bytes_of("other", other);
-        want(fault == RRDI_OK && answer.fault == RRDI_OK && bytes_of("one", one) == length &&
+        want(fault == RRDI_OK && answer.fault == RRDI_OK && stands_for("one", one) == length &&
                  !memcmp(one, other, length),
              "an open file and a file at a path");
     }
     rrdi_close(&opened);
+    want(has_bytes("one", other, bytes_of("other", other)), "a file that was closed and a file at a path");
 }
 
 static void test_batch_open(void) {
@@ -483,7 +503,8 @@ static void test_batch_open(void) {
     run_file("lines", WORDS("last"), 0);
     want(cannot_open(EAGAIN), "a file stays locked after a batch without room");
     rrdi_batch_open(&opened, WORDS("update 10:1\nupdate 5:1\nlast\n"), 0, output, room, refused, 1, &answer);
-    want(gave(RRDI_OK, true, "ERROR: not later than 10\n10\n") && held("lines") == 309, "a batch on an open file");
+    want(gave(RRDI_OK, true, "ERROR: not later than 10\n10\n") && length_of("lines") == 309,
+         "a batch on an open file");
     want(answer.refused == 1 && refused[0] == 2 && refused[1] == 0, "the number of the line that an open file refuses");
     run_open(WORDS("last"));
     want(gave(RRDI_OK, false, "10\n"), "last after a batch on an open file");
@@ -544,34 +565,35 @@ static void test_open_faults(void) {
     open_file("limited");
     with_limit(size, update_opened);
     bool is_right = gave(RRDI_CANNOT_WRITE, false, "cannot write") && answer.system_error;
-    want(is_right && has_bytes("limited", old, size), "an update of an open file under a limit");
+    want(is_right, "an update of an open file under a limit");
     run_file("limited", WORDS("last"), 0);
-    want(gave(RRDI_OK, false, "0\n"), "a file whose change failed is not locked");
+    want(gave(RRDI_OK, false, "0\n") && has_bytes("limited", old, size), "a file whose change failed is not locked");
     run_open(WORDS("update\00010:1"));
-    want(gave(RRDI_OK, true, "") && held("limited") == 309 && !answer.system_error,
+    want(gave(RRDI_OK, true, "") && length_of("limited") == 309 && !answer.system_error,
          "an update after a change that failed");
     rrdi_close(&opened);
     run_file("closed", WORDS(CREATE), 0);
     want(without_streams(7, open_and_update) && gave(RRDI_OK, true, ""), "an open file without the standard streams");
 }
 
-/* A file whose change is valid, but still has its mark, stays locked: the next call removes the mark. */
+/* A file that still has its mark after it was closed has all changes: the next call removes the mark. */
 static void test_last_write(void) {
     static uint8_t right[1 << 16];
     const char *paths[] = {"marked", "unmarked"};
     for (size_t at = 0; at < 2; at++) {
         run_file(paths[at], WORDS("create\0--step\00010\0--start\0000\0DS:g:GAUGE:100:U:U\0RRA:LAST:0:1:2000"), 0);
         open_file(paths[at]);
-        last_error = at ? 0 : EIO;
         run_open(WORDS("update\00015000:3"));
-        want(gave(RRDI_OK, true, "") && !last_error, "an update of an open file whose last write fails");
-        run_file(paths[at], WORDS("update\00015010:77"), 0);
-        want(cannot_open(EAGAIN), "a file whose last write failed is locked");
         run_open(WORDS("update\00015020:4"));
-        want(gave(RRDI_OK, true, ""), "an update after a last write that failed");
+        want(gave(RRDI_OK, true, ""), "a second update of an open file");
+        last_error = at ? 0 : EIO;
         rrdi_close(&opened);
+        want(!last_error, "a file is closed whose last write fails");
     }
-    want(has_bytes("marked", right, bytes_of("unmarked", right)), "the file after a last write that failed");
+    want(!has_bytes("marked", right, bytes_of("unmarked", right)), "a last write that failed");
+    run_file("marked", WORDS("last"), 0);
+    want(gave(RRDI_OK, false, "15020\n") && has_bytes("marked", right, bytes_of("unmarked", right)),
+         "the file after a last write that failed");
 }
 
 static void test_open(void) {
