@@ -255,6 +255,10 @@ class Growths:
         log.unlink(missing_ok=True)
         result = Result.of(self.by_library, self.folder, self.old, self.task.words, self.task.lines,
                            LD_PRELOAD=self.preload, LOG=str(log), **WAYS[self.way], **env)
+        if result.held and not result.held.startswith(b"RRDI"):
+            # The next command brings a change into place that the library could not.
+            self.program.run(["last", FILE], cwd=self.folder)
+            result = Result(result.answer, held(self.folder / FILE))
         return result, between.events_of(log)
 
     def is_fault(self, result: Result) -> bool:
