@@ -18,8 +18,8 @@ from support.cuts import AFTER_KILL, AFTER_SYNC, CUTS, LONG, SHORT, Cuts
 from support.library import ON_FILES, STACK, WAYS
 from support.program import Answer, Program
 
-LEAST = {"runs": 6_800, kills.KILLS: 68, kills.NEXT_KILLS: 1_300, failing.FAILED: 240, "short calls": 550, CUTS: 170,
-         AFTER_KILL: 200, AFTER_SYNC: 900}
+LEAST = {"runs": 5_000, kills.KILLS: 60, kills.NEXT_KILLS: 800, failing.FAILED: 200, "short calls": 400, CUTS: 100,
+         AFTER_KILL: 120, AFTER_SYNC: 300}
 ONLY = ("update that lengthens 1000 rows", "batch over 1000 rows")
 CALLS, KILLS = "failing calls", "kills"
 

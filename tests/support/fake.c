@@ -236,7 +236,9 @@ static int put_all_pages(int file, struct base old, struct base new, size_t tail
 /* Writes a file whose bytes are not a database: the header at last, so that before that the file begins with zeros. */
 static int store_bare(int file, struct base new) {
     return ((!has("keeps-other-bytes") && cut(file, 0)) || put(file, new.bytes + HEAD, new.length - HEAD, HEAD) ||
-            put(file, new.bytes, HEAD, 0) || cut(file, new.length)) ? -1 : settle_on_disk(file);
+            put(file, new.bytes, HEAD, 0) || cut(file, new.length))
+               ? -1
+               : settle_on_disk(file);
 }
 
 static int store(int file, struct base old, struct base new, int is_database) {
