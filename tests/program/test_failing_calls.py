@@ -82,6 +82,10 @@ def is_reason(reason: str, why: int | None) -> bool:
     return reason.lower() in (os.strerror(why).lower(), f"{os.strerror(why)} (os error {why})".lower())
 
 
+def writes_mark(call: calls_between.Event) -> bool:
+    return call.kind == "pwrite" and call.at == 0 and call.size <= MARK
+
+
 class Faults:
     """Tries the faults of one task."""
 
@@ -277,7 +281,7 @@ class Faults:
             self.check.count("short calls")
         # If a write of a mark fails after one part of the bytes was written, which no system does, the only requirement
         # is that no mixture is read.
-        is_mark = call.kind == "pwrite" and call.at == 0 and call.size <= MARK
+        is_mark = writes_mark(call)
         for moves in ([half, 1], [1, half], [most, half], [half, -1], [half, 1, -1], [1, half, -1]):
             self.run(f"{what} moves {moves} bytes, one call after the other", faults, may_be_either=is_mark,
                      may_be_refused=is_mark, CALL=number, MOVES=moves)
@@ -311,7 +315,8 @@ class Faults:
         lengths = range(1, call.size) if call.size <= 16 else sorted({1, 2, 3, call.size // 3, call.size // 2,
                                                                       call.size - 1})
         for length in lengths:
-            is_behind = call.at + length >= len(self.place.begun(self.task, self.old) or b"")
+            is_behind = (call.at + length >= len(self.place.begun(self.task, self.old) or b"")
+                         and not writes_mark(call))
             self.run(f"{what} ends for good after {length} bytes", {"cannot write"}, may_be_either=not is_behind,
                      may_be_refused=not is_behind, CALL=number, CUT=length)
             self.check.count("writes cut for good")
