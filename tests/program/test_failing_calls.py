@@ -311,12 +311,14 @@ class Faults:
             self.check.count("interrupted calls")
 
     def try_cuts(self, number: int, call: calls_between.Event, what: str) -> None:
-        """Tries a full disk: bytes that the file had can be written, but no bytes after some offset."""
+        """Tries a full disk: bytes that the file had can be written, but no bytes after some offset. The file has those of
+        a mark before they are written."""
+        if writes_mark(call):
+            return
         lengths = range(1, call.size) if call.size <= 16 else sorted({1, 2, 3, call.size // 3, call.size // 2,
                                                                       call.size - 1})
         for length in lengths:
-            is_behind = (call.at + length >= len(self.place.begun(self.task, self.old) or b"")
-                         and not writes_mark(call))
+            is_behind = call.at + length >= len(self.place.begun(self.task, self.old) or b"")
             self.run(f"{what} ends for good after {length} bytes", {"cannot write"}, may_be_either=not is_behind,
                      may_be_refused=not is_behind, CALL=number, CUT=length)
             self.check.count("writes cut for good")
