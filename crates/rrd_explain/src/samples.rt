@@ -1,6 +1,6 @@
 //! What is wrong with a sample whose text cannot be read.
 ghost use Rattle.std.specs.Prelude.{◌≡◌, ◌≤◌, is_none, length};
-ghost use Rattle.rrdi.specs.Advice.{is_value};
+ghost use Rattle.rrd_explain.specs.Values.{is_value};
 
 use crate::shown::Quoted;
 use rrd_fixed::{read_number, read_whole};

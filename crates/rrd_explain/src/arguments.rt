@@ -1,5 +1,5 @@
-//! The arguments after FILE: options and other words, as the program takes them.
-use crate::shown::{Shown, shown_char};
+//! The arguments of a command: options and other words, as the program takes them.
+use crate::shown::Shown;
 use rrd_tool::begins_with_minus;
 use std::alloc::{AllocError, Global};
 use std::fmt::{self, Display, Formatter};
@@ -17,7 +17,7 @@ impl<'a> Display for OptionName<'a> {
     fn fmt<W: fmt::Write>(&self, f: &mut Formatter<W>) -> fmt::Result {
         match self {
             OptionName::Long(name) => write!(f, "{}", Shown(name)),
-            OptionName::Letter(letter) => write!(f, "-{}", shown_char(*letter)),
+            OptionName::Letter(letter) => write!(f, "-{letter}"),
         }
     }
 }
@@ -45,14 +45,9 @@ impl<'a> OptionName<'a> {
     pub(crate) fn long_in(self, options: &[&'static str]) -> Option<&'static str> {
         let mut is_next = false;
         for option in options {
-            if is_next {
+            is_next = is_next || self.names(option);
+            if is_next && option.starts_with("--") {
                 return Some(*option);
-            }
-            if self.names(option) {
-                if option.starts_with("--") {
-                    return Some(*option);
-                }
-                is_next = true;
             }
         }
         None
@@ -68,30 +63,6 @@ pub(crate) struct GivenOption<'a> {
     pub(crate) value: Option<&'a str>,
     /// The word that follows in place of the value, and begins with a dash.
     pub(crate) next: Option<&'a str>,
-}
-
-/// An argument after FILE.
-#[derive(Clone, Copy)]
-pub(crate) enum Argument<'a> {
-    /// A word that is no option.
-    Word(&'a str),
-    /// An option.
-    Option(GivenOption<'a>),
-}
-
-impl<'a> Argument<'a> {
-    // An option, its value, and the word in the place of a value.
-    fn option(name: OptionName<'a>, value: Option<&'a str>, next: Option<&'a str>) -> Argument<'a> {
-        Argument::Option(GivenOption { name, value, next })
-    }
-
-    /// Returns the word, if this is no option.
-    pub(crate) fn word(&self) -> Option<&'a str> {
-        match self {
-            Argument::Word(word) => Some(*word),
-            Argument::Option(_) => None,
-        }
-    }
 }
 
 /// An option, as one word has it.
@@ -143,43 +114,79 @@ fn typed_in(word: &str) -> Typed<'_> {
     }
 }
 
-/// Takes the words after FILE apart as the program does.
-///
-/// # Errors
-/// `AllocError` if memory runs out.
-pub(crate) fn arguments_in(
-    alloc: Global,
-    words: &[String],
-) -> Result<Vec<Argument<'_>>, AllocError> {
-    let mut arguments = Vec::new(alloc);
-    // The option whose value comes next.
-    let mut waiting: Option<OptionName<'_>> = None;
-    let mut has_options = true;
-    for word in words {
-        let word = word.as_str();
-        let is_word = !has_options || !is_option(word);
-        if let Some(name) = waiting {
-            waiting = None;
+/// The arguments of a command.
+#[derive(Drop)]
+pub(crate) struct Arguments<'a> {
+    /// The words that are no options: the samples of an update, the definitions of a create.
+    pub(crate) words: Vec<&'a str>,
+    /// The options, in their order.
+    pub(crate) options: Vec<GivenOption<'a>>,
+}
+
+impl<'a> Arguments<'a> {
+    /// Takes the arguments of a command apart as the program does.
+    ///
+    /// # Errors
+    /// `AllocError` if memory runs out.
+    pub(crate) fn new(alloc: Global, arguments: &[&'a str]) -> Result<Arguments<'a>, AllocError> {
+        let mut given = Arguments {
+            words: Vec::new(alloc),
+            options: Vec::new(alloc),
+        };
+        // The option whose value comes next.
+        let mut waiting = None;
+        let mut has_options = true;
+        for word in arguments {
+            let is_word = !has_options || !is_option(word);
+            let name = waiting.take();
             if is_word {
-                arguments.push(Argument::option(name, Some(word), None))?;
+                given.push_word(name, word)?;
                 continue;
             }
-            arguments.push(Argument::option(name, None, Some(word)))?;
+            if let Some(name) = name {
+                given.push_option(name, None, Some(*word))?;
+            }
+            match typed_in(word) {
+                Typed::End => has_options = false,
+                Typed::Name(name) => waiting = Some(name),
+                Typed::Both(name, value) => given.push_option(name, Some(value), None)?,
+            }
         }
-        if is_word {
-            arguments.push(Argument::Word(word))?;
-            continue;
+        if let Some(name) = waiting {
+            given.push_option(name, None, None)?;
         }
-        match typed_in(word) {
-            Typed::End => has_options = false,
-            Typed::Name(name) => waiting = Some(name),
-            Typed::Both(name, value) => {
-                arguments.push(Argument::option(name, Some(value), None))?
+        Ok(given)
+    }
+
+    // Adds a word: the value of the option of this name, if one waits for it.
+    fn push_word(&mut self, name: Option<OptionName<'a>>, word: &'a str) -> Result<(), AllocError> {
+        match name {
+            Some(name) => self.push_option(name, Some(word), None),
+            None => {
+                self.words.push(word)?;
+                Ok(())
             }
         }
     }
-    if let Some(name) = waiting {
-        arguments.push(Argument::option(name, None, None))?;
+
+    // Adds an option.
+    fn push_option(
+        &mut self,
+        name: OptionName<'a>,
+        value: Option<&'a str>,
+        next: Option<&'a str>,
+    ) -> Result<(), AllocError> {
+        self.options.push(GivenOption { name, value, next })?;
+        Ok(())
     }
-    Ok(arguments)
+
+    /// Returns the value of the option with this long name, which `options` has.
+    pub(crate) fn value(&self, long: &str, options: &[&'static str]) -> Option<&'a str> {
+        for option in &self.options {
+            if option.name.long_in(options) == Some(long) {
+                return option.value;
+            }
+        }
+        None
+    }
 }

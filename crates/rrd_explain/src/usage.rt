@@ -49,14 +49,18 @@ pub(crate) fn lines_of(alloc: Global, command: &str) -> Result<Vec<&'static str>
     Ok(lines)
 }
 
-/// Returns the usage of a command as it is printed.
-pub(crate) fn text_of(alloc: Global, lines: &[&str]) -> Result<String, AllocError> {
-    let mut text = String::from_str(alloc, "usage: rrdi ")?;
-    for line in lines {
-        text.push_str(line)?;
-        text.push_str("\n")?;
+/// Returns the usage of a command as it is printed. Returns `None` if no command has this name, or memory runs out.
+pub(crate) fn text_of(alloc: Global, command: &str) -> Option<String> {
+    let lines = lines_of(alloc, command).ok()?;
+    if lines.is_empty() {
+        return None;
     }
-    Ok(text)
+    let mut text = String::from_str(alloc, "usage: rrdi ").ok()?;
+    for line in &lines {
+        text.push_str(line).ok()?;
+        text.push_str("\n").ok()?;
+    }
+    Some(text)
 }
 
 /// Returns the options that the usage of a command has. The letter of an option precedes the option's name.

@@ -1,0 +1,101 @@
+//! An explanation: a text in one line, without characters that command a terminal or hide.
+ghost use Rattle.std.specs.Prelude.{◌≡◌, true};
+ghost use Rattle.std.specs.List.{list_all};
+ghost use Rattle.rrd_explain.specs.Lines.{is_in_line};
+
+use std::alloc::{AllocError, Global};
+
+/// A text in one line, in UTF-8.
+///
+/// Control characters, and characters that a reader cannot see or that turn the direction of a text, are escaped as in
+/// Rust: `\n`, `\u{202e}`.
+#[derive(Drop)]
+pub struct Explanation {
+    bytes: Vec<u8>,
+    ghost in_line: { list_all is_in_line bytes.items ≡ true },
+}
+
+// Checks whether a byte belongs into a line: it is no control character of ASCII.
+fn is_in_line(byte: u8) -> bool
+    ensures { result ≡ is_in_line byte }
+{
+    b' ' <= byte && byte != 0x7f
+}
+
+// Checks whether a character is shown as its code: a control character, or one without a width of its own that joins,
+// separates or turns others.
+fn is_hidden(character: char) -> bool {
+    character.is_control()
+        || matches!(
+            character as u32,
+            0xad | 0x61c
+                | 0x180e
+                | 0x200b..=0x200f
+                | 0x2028..=0x202e
+                | 0x2060..=0x206f
+                | 0xfeff
+                | 0xfff9..=0xfffb
+                | 0xe0000..=0xe007f
+        )
+}
+
+impl Explanation {
+    /// Creates an explanation from a text, which may have any characters.
+    ///
+    /// # Errors
+    /// `AllocError` if memory runs out.
+    pub fn new(alloc: Global, text: &str) -> Result<Explanation, AllocError> {
+        let mut explanation = Explanation {
+            bytes: Vec::new(alloc),
+        };
+        for character in text.chars() {
+            explanation.push(character)?;
+        }
+        Ok(explanation)
+    }
+
+    /// Returns the bytes: no line feed, and no other control character of ASCII.
+    pub fn as_bytes(&self) -> &[u8]
+        ensures { list_all is_in_line result.now ≡ true }
+    {
+        &self.bytes
+    }
+
+    // Adds a character, or its code.
+    fn push(&mut self, character: char) -> Result<(), AllocError> {
+        match character {
+            '\n' => self.push_bytes(b"\\n"),
+            '\r' => self.push_bytes(b"\\r"),
+            '\t' => self.push_bytes(b"\\t"),
+            other if is_hidden(other) => self.push_code(other),
+            other => {
+                let mut buffer = [0; 4];
+                self.push_bytes(other.encode_utf8(&mut buffer).as_bytes())
+            }
+        }
+    }
+
+    // Adds the code of a character.
+    fn push_code(&mut self, character: char) -> Result<(), AllocError> {
+        for part in character.escape_unicode() {
+            self.push_byte(part as u8)?;
+        }
+        Ok(())
+    }
+
+    // Adds the bytes of a character.
+    fn push_bytes(&mut self, bytes: &[u8]) -> Result<(), AllocError> {
+        for byte in bytes {
+            self.push_byte(*byte)?;
+        }
+        Ok(())
+    }
+
+    // Adds a byte, unless it is a control character.
+    fn push_byte(&mut self, byte: u8) -> Result<(), AllocError> {
+        if is_in_line(byte) {
+            self.bytes.push(byte)?;
+        }
+        Ok(())
+    }
+}

@@ -1,0 +1,27 @@
+//! Explanations of refused commands: which word was wrong, what would do, and what the file has.
+#![tactic(auto)]
+
+mod arguments;
+mod create;
+mod explanation;
+mod file;
+mod hints;
+mod likeness;
+mod misuse;
+mod numbers;
+mod programs;
+mod ranges;
+mod reading;
+mod request;
+mod samples;
+mod shown;
+mod tools;
+mod tune;
+mod unreadable;
+mod update;
+mod usage;
+
+pub use explanation::Explanation;
+pub use misuse::{Misuse, misuse_of};
+pub use programs::other_program;
+pub use request::{Request, explain, needs_database};
