@@ -14,6 +14,9 @@ from support.program import error
 from support.runs import CREATE, FILE, RUNS, Runs
 
 LEAST = {RUNS: 245}
+# What the program says of times, and of other words, that RRDtool takes.
+TIMES = "rrdi-rrdtool --rrdi takes RRDtool's times"
+TOOL = "or run rrdi-rrdtool --rrdi"
 # Arguments that are not a command, what the program says of them, and the command whose usage follows; without one, the
 # whole usage.
 MISTAKES = [
@@ -30,13 +33,20 @@ MISTAKES = [
     (["upadte", FILE, "10:1"], "there is no command upadte; did you mean update?", "update"),
     (["batsh"], "there is no command batsh; did you mean batch?", "batch"),
     (["x" * 50, FILE], f"there is no command {'x' * 20}", ""),
-    (["a\tb\x1b[1m", FILE], "there is no command a?b?[1m", ""), (["", FILE], "there is no command ", ""),
+    (["a\tb\x1b[1m", FILE], "there is no command a\\tb\\u{1b}[1m", ""), (["", FILE], "there is no command ", ""),
     (["create", FILE, "--stpe", "5"], "there is no option --stpe; did you mean --step?", "create"),
     (["fetch", FILE, "LAST", "--strat=5"], "there is no option --strat; did you mean --start?", "fetch"),
     (["last", FILE, "--start", "5"], "there is no option --start", "last"),
     (["info", FILE, "-x"], "there is no option -x", "info"),
     (["update", FILE, "10:1", "-T", "g"], "there is no option -T", "update"),
-    (["fetch", FILE, "LAST", "--start", "-1h"], "--start has no value; '-1h' begins with a dash", "fetch"),
+    (["fetch", FILE, "LAST", "--start", "-1x"], f"--start has no value; '-1x' begins with a dash; {TIMES}", "fetch"),
+    (["tune", FILE, "--minimum", "-5"], "--minimum has no value; '-5' begins with a dash", "tune"),
+    (["graph", "a.png"], "there is no command graph; rrdi-graph draws with RRDtool's grapher, rrdi-plot with gnuplot", ""),
+    (["dump", FILE],
+     "there is no command dump; rrdi-export prints the XML of RRDtool, rrdi-show JSON, CSV or OpenMetrics", ""),
+    (["import", "a.rrd", FILE], "there is no command import; run rrdi-import", ""),
+    (["rrdinfo", FILE], "there is no command rrdinfo; did you mean info?", "info"),
+    (["-"], "- is no command; rrdi-rrdtool - reads commands as RRDtool does, and rrdi batch its own", ""),
     (["fetch", FILE, "LAST", "-s"], "--start has no value", "fetch"),
     (["create", FILE, "--step", "10", "-s5"], "--step is given twice", "create"),
     (["first", FILE, "--rraindex=0", "--", "-x"], "", "first")]
@@ -61,7 +71,7 @@ ADVICE = [
        f"its value 2 is '{text}'; a value is a number, such as 21.5 or -3, or U for unknown")
       for text in ("-,5", "1,", "+1,5", "1,1234567", f"{'1' * 21},5", "1,5,6", "1,5e3")),
     (["update", "10:U:1e3"], "unreadable sample 1",
-     "its value 2 is '1e3', with an exponent; a value has at most six decimals and no exponent"),
+     "its value 2 is '1e3', with an exponent; a value has at most six decimals and no exponent; write 1000, " + TOOL),
     (["update", "--template=a", "--", "10:-.5E-3"], "unreadable sample 1",
      "its value 1 is '-.5E-3', with an exponent; a value has at most six decimals and no exponent"),
     (["update", "10:1:0.1234567"], "unreadable sample 1",
@@ -89,8 +99,13 @@ ADVICE = [
     (["update", "-tb:a", "10:1"], "wrong number of values", "sample 1 has 1 value, 2 are wanted: b, a"),
     (["update", "--template", "a", "10:1:2"], "wrong number of values", "sample 1 has 2 values, 1 is wanted: a"),
     (["fetch", "AVG"], "unreadable function", "it is 'AVG', not AVERAGE, MIN, MAX or LAST"),
-    (["fetch", "-s", "now", "LAST"], "unreadable start", "it is 'now', not whole seconds since 1970"),
-    (["fetch", "LAST", "-r=5m"], "unreadable resolution", "it is '5m', not a whole number of seconds"),
+    (["fetch", "-s", "noon", "LAST"], "unreadable start", f"it is 'noon', not whole seconds since 1970; {TIMES}"),
+    (["fetch", "LAST", "-r=5m"], "unreadable resolution", f"it is '5m', not a whole number of seconds; write 300, {TOOL}"),
+    (["tune", "--heartbeat", "a:15m"], "unreadable heartbeat", f"it is 'a:15m', not NAME:SECONDS; write a:900, {TOOL}"),
+    (["update", "now:1:2"], "unreadable sample 1",
+     f"its time is 'now', not whole seconds since 1970 or N; write N, {TOOL}"),
+    (["update", "10:1:\x1b[2J\u202e\u200b\u2028"], "unreadable sample 1",
+     "its value 2 is '\\u{1b}[2J\\u{202e}\\u{200b}\\u{2028}'; a value is a number, such as 21.5 or -3, or U for unknown"),
     (["create", "DS:a:GAUGE:60:U:U", "RRA:AVG:0.5:1:1"], "unreadable definition 2",
      "it is 'RRA:AVG:0.5:1:1', not DS:name:GAUGE|COUNTER|DERIVE|ABSOLUTE:heartbeat:min:max "
      "or RRA:AVERAGE|MIN|MAX|LAST:xff:steps:rows"),
@@ -187,6 +202,15 @@ def test_misuse(t: Runs, words: list[str], says: str, command: str) -> None:
 def test_advice(t: Runs, words: list[str], fault: str, says: str) -> None:
     t.run(["create", FILE, *"--step 10 --start 0 DS:a:GAUGE:100:U:U DS:b:COUNTER:100:U:U RRA:LAST:0.5:1:4".split()])
     t.same([words[0], FILE, *words[1:]], 1, error(fault) + line(says))
+
+
+@pytest.mark.parametrize("words, before", [(["-s", "now"], 0), (["-s-1h"], 3_600), (["-e", "now-5m"], 300),
+                                           (["-s", "-1d"], 86_400), (["--end", "-2w"], 1_209_600)])
+def test_times_of_rrdtool(t: Runs, words: list[str], before: int) -> None:
+    """Checks that the seconds to write are named for times that RRDtool takes."""
+    _, _, err = t.told(["fetch", FILE, "LAST", *words])
+    found = re.search(rf"; write (\d+), {TOOL}$", err, re.MULTILINE)
+    t.check.same(found is not None and abs(time.time() - before - int(found[1])) < 60, True, err)
 
 
 @pytest.mark.parametrize("held, name, other", OTHERS, ids=range(len(OTHERS)))

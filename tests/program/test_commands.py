@@ -35,7 +35,7 @@ def test_words_and_files(t: Runs) -> None:
     long = "long" * 100
     t.run(["last", long], 1, err=refused("cannot open", long, "File name too long (os error 36)"))
     # No control character of a name reaches the terminal.
-    t.run(["last", "\033[31m\nred\177"], 1, err=refused("cannot open", "?[31m?red?", MISSING))
+    t.run(["last", "\033[31m\nred\177"], 1, err=refused("cannot open", "\\u{1b}[31m\\nred\\u{7f}", MISSING))
 
 
 def test_one_file(t: Runs) -> None:

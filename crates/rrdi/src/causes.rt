@@ -1,8 +1,8 @@
-//! The line after a fault: the reason why a file could not be opened, read or written, or what was wrong with the arguments.
-use crate::advice::Advice;
-use crate::shown::ShownPath;
+//! The line after a fault: an explanation, such as the reason why a file could not be opened, read or written.
 use rrd_disk::Settings;
+use rrd_explain::Explanation;
 use rrd_fixed::write_bytes;
+use std::alloc::{AllocError, Global};
 use std::fmt::{self, Display, Formatter};
 use std::io::{Error, ErrorKind};
 
@@ -34,27 +34,38 @@ impl Display for Cause {
     }
 }
 
-/// Reports on standard error why the file at `path` could not be opened, read or written.
+/// Reports an explanation on standard error, in the line `rrdi: EXPLANATION`.
 ///
-/// The line is `rrdi: PATH: REASON`, with `?` for each control character of the path. If memory runs out for the line, or the write fails, nothing more is reported.
-pub(crate) fn report_cause(rt: &HostRuntime, path: &str, error: Error, settings: Settings) {
+/// If memory runs out for the line, or the write fails, nothing more is reported.
+pub(crate) fn report(rt: &HostRuntime, explanation: &Explanation) {
+    let Ok(line) = line_of(rt.alloc(), explanation) else {
+        return;
+    };
+    let _written = write_bytes(&mut rt.stderr(), &line);
+}
+
+// Returns the line of an explanation.
+fn line_of(alloc: Global, explanation: &Explanation) -> Result<Vec<u8>, AllocError> {
+    let mut line = Vec::new(alloc);
+    line.extend_from_slice(b"rrdi: ")?;
+    line.extend_from_slice(explanation.as_bytes())?;
+    line.push(b'\n')?;
+    Ok(line)
+}
+
+/// Explains why the file at `path` could not be opened, read or written: `PATH: REASON`.
+///
+/// Returns `None` if memory runs out.
+pub(crate) fn explain_cause(
+    alloc: Global,
+    path: &str,
+    error: Error,
+    settings: Settings,
+) -> Option<Explanation> {
     let cause = Cause {
         error,
         wait: settings.wait,
     };
-    let path = ShownPath(path);
-    let Ok(line) = format!(in rt.alloc(); "rrdi: {path}: {cause}\n") else {
-        return;
-    };
-    let _written = write_bytes(&mut rt.stderr(), line.as_bytes());
-}
-
-/// Reports on standard error what was wrong with the arguments, or with the file.
-///
-/// The line is `rrdi: ADVICE`. If memory runs out for the line, or the write fails, nothing more is reported.
-pub(crate) fn report_advice(rt: &HostRuntime, advice: &Advice<'_>) {
-    let Ok(line) = format!(in rt.alloc(); "rrdi: {advice}\n") else {
-        return;
-    };
-    let _written = write_bytes(&mut rt.stderr(), line.as_bytes());
+    let text = format!(in alloc; "{path}: {cause}").ok()?;
+    Explanation::new(alloc, &text).ok()
 }

@@ -4,7 +4,6 @@
 //! that noted a call that it does not make, or another answer, would be proved too.
 ghost use Rattle.std.specs.Prelude.{◌≡◌, []};
 
-use crate::front::Front;
 use rrd_disk::{
     Disk, DiskFile, Facts, Kind, Lock, LockResult, Noted, Opening, Record, directory_of, note_lock,
 };
@@ -61,8 +60,6 @@ pub(crate) struct Host<'a> {
     rt: &'a HostRuntime,
     path: &'a str,
     pub(crate) record: Record,
-    /// The first bytes of the file, as far as the run has read them.
-    pub(crate) front: Front,
 }
 
 impl<'a> Host<'a> {
@@ -74,7 +71,6 @@ impl<'a> Host<'a> {
             rt,
             path,
             record: Record::of_program(rt),
-            front: Front::new(),
         }
     }
 
@@ -205,9 +201,6 @@ impl<'a> Disk for Host<'a> {
     fn read_at(&mut self, file: &HostFile, bytes: &mut [u8], at: u64) -> io::Result<usize> {
         let wanted = bytes.len();
         let count = file.file.read_at(bytes, at)?;
-        if at == 0 {
-            self.front.keep(&bytes[..count]);
-        }
         self.record.note(&Noted::Got {
             at,
             wanted,

@@ -1,25 +1,12 @@
 //! `rrdi`: runs a command, or a batch of commands, on a round-robin database in a file.
 #![tactic(auto)]
 
-mod advice;
-mod arguments;
 mod causes;
 mod clock;
 mod disk;
-mod front;
-mod given;
-mod likeness;
-mod lookups;
-mod misuse;
-mod objection;
-mod objections;
-mod ranges;
-mod refused;
-mod samples;
+mod explaining;
 mod settings;
-mod shown;
 mod tasks;
-mod usage;
 
 use crate::tasks::{batch, fail, file_batch, misuse, single};
 use rrd_store::{Task, TaskFault, parse_task};

@@ -1,20 +1,17 @@
 //! The tasks on the program's streams and files. Each returns the status of the program.
 ghost use Rattle.std.specs.Prelude.{◌≡◌};
 
-use crate::causes::{report_advice, report_cause};
+use crate::causes::{explain_cause, report};
 use crate::clock::seconds_now;
 use crate::disk::Host;
-use crate::front::Front;
-use crate::misuse::misuse_of;
-use crate::refused::advice_on;
+use crate::explaining::{explanation_of, texts_of};
 use crate::settings::settings;
-use crate::usage::text_of;
 use crate::{NO_MEMORY, USAGE_ERROR};
 use rrd_disk::{Cause, Place, run_batch_at, run_command_at};
+use rrd_explain::{Misuse, misuse_of};
 use rrd_fixed::write_bytes;
 use rrd_store::{Always, TaskFault, USAGE, report_batch, report_command, report_file_batch};
 use rrd_tool::{Words, run_batch, write_error};
-use std::alloc::AllocError;
 use std::io::{BufWriter, Error, ErrorKind, Stdout};
 
 /// The maximum number of bytes of output that one call writes.
@@ -31,32 +28,31 @@ pub(crate) fn fail(rt: &HostRuntime, fault: TaskFault) -> u8 {
 /// The status of the program after arguments that are not a command.
 const MISUSED: u8 = 2;
 
-// Reports on standard error what was wrong with arguments that are not a command, and the usage of the command that they
-// name. Returns whether the usage is that of one command and was reported.
-fn report_misuse(rt: &HostRuntime, words: &[String]) -> Result<bool, AllocError> {
-    let misuse = misuse_of(rt.alloc(), words)?;
-    if let Some(advice) = &misuse.advice {
-        report_advice(rt, advice);
+// Reports on standard error what was wrong with arguments that are not a command, and returns the usage of the command that
+// they name, if they name one.
+fn report_misuse(rt: &HostRuntime, arguments: &[String]) -> Option<String> {
+    let words = texts_of(rt.alloc(), arguments.get(1..)?)?;
+    let Misuse { explanation, usage } = misuse_of(rt.alloc(), &words, seconds_now(rt));
+    if let Some(explanation) = &explanation {
+        report(rt, explanation);
     }
-    if misuse.lines.is_empty() {
-        return Ok(false);
-    }
-    let usage = text_of(rt.alloc(), &misuse.lines)?;
-    let _written = write_bytes(&mut rt.stderr(), usage.as_bytes());
-    Ok(true)
+    usage
 }
 
 /// Reports arguments that are not a command, and returns the status for them.
 ///
 /// After the line of the fault follows what was wrong, if the arguments show it, and the usage of the command that they
 /// name. If they name none, or memory runs out, the usage of the whole program follows.
-pub(crate) fn misuse(rt: &HostRuntime, words: &[String]) -> u8
+pub(crate) fn misuse(rt: &HostRuntime, arguments: &[String]) -> u8
     ensures { result ≡ 2 }
 {
     let _reported = write_error(&mut rt.stderr(), "usage");
-    if report_misuse(rt, words) != Ok(true) {
-        let _written = write_bytes(&mut rt.stderr(), USAGE.as_bytes());
-    }
+    let usage = report_misuse(rt, arguments);
+    let text = match &usage {
+        Some(usage) => usage.as_str(),
+        None => USAGE,
+    };
+    let _written = write_bytes(&mut rt.stderr(), text.as_bytes());
     MISUSED
 }
 
@@ -79,11 +75,11 @@ pub(crate) fn batch(rt: &HostRuntime) -> u8 {
 // Returns why the file could not be opened, read or written, if `fault` is such a fault. After a fault of the bytes that
 // were read there is no reason, because no call failed. If no call failed, a file that could not be opened is not there,
 // and memory ran out for the new bytes of a file that could not be written.
-fn reason_of(cause: &Cause, fault: Option<TaskFault>) -> Option<Error> {
+fn reason_of(cause: &Cause, fault: TaskFault) -> Option<Error> {
     match (fault, cause.last()) {
-        (Some(TaskFault::CannotOpen), None) => Some(Error::from(ErrorKind::NotFound)),
-        (Some(TaskFault::CannotWrite), None) => Some(Error::from(ErrorKind::OutOfMemory)),
-        (Some(TaskFault::CannotOpen | TaskFault::CannotWrite | TaskFault::File(_)), last) => last,
+        (TaskFault::CannotOpen, None) => Some(Error::from(ErrorKind::NotFound)),
+        (TaskFault::CannotWrite, None) => Some(Error::from(ErrorKind::OutOfMemory)),
+        (TaskFault::CannotOpen | TaskFault::CannotWrite | TaskFault::File(_), last) => last,
         _ => None,
     }
 }
@@ -94,50 +90,61 @@ struct Ended {
     status: u8,
     // The fault that was reported.
     fault: Option<TaskFault>,
-    // The first bytes of the file.
-    front: Front,
 }
 
-// Runs a task on the database in the file at `path`, and returns the status of the program. If a call on the file
-// failed, reports why; if the arguments, or the file, show what was wrong, reports that.
+// Explains the end of a run, if it had a fault: why a call on the file failed or, if none did, what the arguments or the
+// file show.
+fn explain_end(
+    rt: &HostRuntime,
+    path: &str,
+    arguments: &[String],
+    fault: TaskFault,
+    error: Option<Error>,
+    now: u64,
+) {
+    let explanation = match error {
+        Some(error) => explain_cause(rt.alloc(), path, error, settings(rt)),
+        None => explanation_of(rt, path, arguments, fault, now),
+    };
+    if let Some(explanation) = &explanation {
+        report(rt, explanation);
+    }
+}
+
+// Runs a task on the database in the file at `path`, explains its fault, if it has one, and returns the status of the
+// program.
 //
-// `run` gets the settings and the cause of a failed call for the file, and the writer of the output.
-fn on_file<R>(rt: &HostRuntime, path: &str, words: &[String], run: R) -> u8
+// `run` gets the settings and the cause of a failed call for the file, the present time, and the writer of the output.
+fn on_file<R>(rt: &HostRuntime, path: &str, arguments: &[String], run: R) -> u8
 where
-    R: FnOnce(Place<'_>, &mut OutputWriter) -> Ended,
+    R: FnOnce(Place<'_>, u64, &mut OutputWriter) -> Ended,
     requires { R.IsAlwaysCallable run }
 {
     let Ok(mut out) = BufWriter::with_capacity(rt.alloc(), OUTPUT, rt.stdout()) else {
         return fail(rt, NO_MEMORY);
     };
-    let settings = settings(rt);
+    let now = seconds_now(rt);
     let cause = Cause::new();
-    let ended = run(
-        Place {
-            settings,
-            cause: &cause,
-        },
-        &mut out,
-    );
-    if let Some(error) = reason_of(&cause, ended.fault) {
-        report_cause(rt, path, error, settings);
-    } else if let Some(fault) = ended.fault {
-        let now = seconds_now(rt);
-        if let Some(advice) = advice_on(rt.alloc(), words, &ended.front, fault, now) {
-            report_advice(rt, &advice);
-        }
+    let place = Place {
+        settings: settings(rt),
+        cause: &cause,
+    };
+    let ended = run(place, now, &mut out);
+    if let Some(fault) = ended.fault {
+        let error = reason_of(&cause, fault);
+        explain_end(rt, path, arguments, fault, error, now);
     }
     ended.status
 }
 
 /// Runs the commands on standard input on the database in a file.
-pub(crate) fn file_batch(rt: &HostRuntime, path: &str, words: &[String]) -> u8 {
-    on_file(rt, path, words, |place, out| {
+pub(crate) fn file_batch(rt: &HostRuntime, path: &str, arguments: &[String]) -> u8 {
+    on_file(rt, path, arguments, |place, now, out| {
         let ran = run_batch_at(
             rt.alloc(),
             Host::new(rt, path),
             place,
-            seconds_now(rt),
+            now,
             0,
             &mut rt.stdin(),
             out,
@@ -150,34 +157,35 @@ pub(crate) fn file_batch(rt: &HostRuntime, path: &str, words: &[String]) -> u8 {
         Ended {
             status: report_file_batch(&mut rt.stderr(), ran.end),
             fault,
-            front: ran.disk.front,
         }
     })
 }
 
 // Reports the fault of one command, if there is one, and returns the status for it.
-fn report_end(rt: &HostRuntime, words: &[String], end: Result<(), TaskFault>) -> u8 {
+fn report_end(rt: &HostRuntime, arguments: &[String], end: Result<(), TaskFault>) -> u8 {
     if end == Err(USAGE_ERROR) {
-        return misuse(rt, words);
+        return misuse(rt, arguments);
     }
     report_command(&mut rt.stderr(), end)
 }
 
-/// Runs one command on the database in a file. `words` are all arguments of the program.
-pub(crate) fn single(rt: &HostRuntime, path: &str, command: &Words<'_>, words: &[String]) -> u8 {
-    on_file(rt, path, words, |place, out| {
-        let ran = run_command_at(
-            rt.alloc(),
-            Host::new(rt, path),
-            place,
-            command,
-            seconds_now(rt),
-            out,
-        );
+// Returns the fault that is to be explained. What was wrong with arguments that are not a command is reported with them.
+fn unexplained(end: Result<(), TaskFault>) -> Option<TaskFault> {
+    end.err().filter(|fault| *fault != USAGE_ERROR)
+}
+
+/// Runs one command on the database in a file. `arguments` are all arguments of the program.
+pub(crate) fn single(
+    rt: &HostRuntime,
+    path: &str,
+    command: &Words<'_>,
+    arguments: &[String],
+) -> u8 {
+    on_file(rt, path, arguments, |place, now, out| {
+        let ran = run_command_at(rt.alloc(), Host::new(rt, path), place, command, now, out);
         Ended {
-            status: report_end(rt, words, ran.end),
-            fault: ran.end.err(),
-            front: ran.disk.front,
+            status: report_end(rt, arguments, ran.end),
+            fault: unexplained(ran.end),
         }
     })
 }
