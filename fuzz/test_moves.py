@@ -15,11 +15,11 @@ from typing import Any, Callable, Iterator, Sequence
 
 import pytest
 
-import rrdi
 from fuzz.random_rrd import Case, odd_case, random_case
 from rrdi.importing.batch import batch_of
 from rrdi.importing.dump import RrdFile
 from rrdi.importing.dump import read_rrd as read_dumped
+from rrdi.reader.files import read
 from rrdi.tools.rrdtool_xml import as_xml
 from support.check import Check
 from support.program import TOP, Program, environment
@@ -95,7 +95,7 @@ class Move:
         assert answer == (0, "", ""), f"the batch: {str(answer)[:500]}"
 
     def restore(self) -> RrdFile:
-        text = "\n".join(as_xml(rrdi.read(self.new.read_bytes())))
+        text = "\n".join(as_xml(read(self.new.read_bytes())))
         ran = subprocess.run(["rrdtool", "restore", "/dev/stdin", str(self.back)], input=text, capture_output=True,
                              text=True)
         assert (ran.returncode, ran.stderr) == (0, ""), f"rrdtool restore: {ran}"
@@ -129,12 +129,12 @@ def compared(move: Move, spoil: Spoil) -> Differing:
     old, kind, differing = move.create(), move.case.kind, Differing()
     move.batch(batch_of(read_rrd(move.old), None, lambda note: None))
     spoil(old)
-    database = rrdi.read(move.new.read_bytes())
+    database = read(move.new.read_bytes())
     differing.compare("there", old, database, kind)
     differing.compare("back", move.restore(), database, "whole")
     if move.case.later and not differing.wrong:
         move.add()
-        database = rrdi.read(move.new.read_bytes())
+        database = read(move.new.read_bytes())
         differing.compare("later", read_rrd(move.old), database, kind)
         differing.compare("later, back", read_rrd(move.back), database, kind)
     return differing
@@ -191,7 +191,7 @@ def faults_of(old: RrdFile, said: str, new: Path) -> list[str]:
     """Returns what is wrong in the line of a file."""
     if not new.exists():
         return [] if re.match("not converted: .+", said) else ["there is no file, and no reason"]
-    wanted, noted = differing_archives(old, rrdi.read(new.read_bytes())), set(map(int, SAID.findall(said)))
+    wanted, noted = differing_archives(old, read(new.read_bytes())), set(map(int, SAID.findall(said)))
     kinds = {"COMPUTE": "skipped data source {}: type COMPUTE is not supported; its formula is ",
              **{kind: f"source {{}}: its type {kind} becomes DERIVE" for kind in ("DCOUNTER", "DDERIVE")}}
     lacking = [source.name for source in old.sources if kinds.get(source.kind, "").format(source.name) not in said]

@@ -15,7 +15,6 @@ from __future__ import annotations
 from typing import TYPE_CHECKING
 
 if TYPE_CHECKING:
-    from .amounts import Millionths
     from .commands import (Batch, RefusedLine, batch, create, fetch, first, info, last, lastupdate, resize, revert, tune,
                            update)
     from .database import Database, RefusedLines
@@ -23,28 +22,29 @@ if TYPE_CHECKING:
                          OperationalError, OutOfMemory, ProgrammingError, Refused, Unreadable, Usage)
     from .library import library_path, load_library
     from .memory import Ran, RanBatch, run, run_batch
-    from .reader import Fault, Reader, read, read_file
+    from .reader import Fault
+    from .reader.values import read, read_file
     from .samples import Sample
 
 __version__ = "0.2.0"
 
 __all__ = ["BadSample", "Batch", "Busy", "CannotOpen", "CannotRead", "CannotWrite", "Damaged", "Database", "Error",
-           "Exists", "Fault", "Millionths", "NoDatabase", "OperationalError", "OutOfMemory", "ProgrammingError", "Ran",
-           "RanBatch", "Reader", "Refused", "RefusedLine", "RefusedLines", "Sample", "Unreadable", "Usage", "batch",
+           "Exists", "Fault", "NoDatabase", "OperationalError", "OutOfMemory", "ProgrammingError", "Ran",
+           "RanBatch", "Refused", "RefusedLine", "RefusedLines", "Sample", "Unreadable", "Usage", "batch",
            "create", "fetch", "first", "info", "last", "lastupdate", "library_path", "load_library", "read", "read_file",
            "resize", "revert", "run", "run_batch", "tune", "update"]
 
 # The modules and their names. A module is imported when a program first asks for one of its names, so that a tool, or a
 # program that only reads, imports what it uses.
 _HOMES = {name: module for module, names in {
-    "amounts": "Millionths",
     "commands": "Batch RefusedLine batch create fetch first info last lastupdate resize revert tune update",
     "database": "Database RefusedLines",
     "errors": "BadSample Busy CannotOpen CannotRead CannotWrite Damaged Error Exists NoDatabase OperationalError "
               "OutOfMemory ProgrammingError Refused Unreadable Usage",
     "library": "library_path load_library",
     "memory": "Ran RanBatch run run_batch",
-    "reader": "Fault Reader read read_file",
+    "reader": "Fault",
+    "reader.values": "read read_file",
     "samples": "Sample"}.items() for name in names.split()}
 
 

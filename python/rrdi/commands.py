@@ -160,8 +160,8 @@ def update(path: FilePath, *samples: Sample, template: Optional[str] = None, now
            busy_timeout: Optional[float] = None, sync: Optional[bool] = None) -> None:
     """Adds samples, all or none. A sample is a text `TIME:VALUE..`, or a tuple of a time and values.
 
-    In a tuple, the time is a time or `"N"`, and a value is an int, a float, a Decimal, a Fraction or a `Millionths`,
-    which is rounded to six decimals (half to even). None and nan are unknown, and a text is sent as it is.
+    In a tuple, the time is a time or `"N"`, and a value is an int, a float, a Decimal or a Fraction, which is rounded to
+    six decimals (half to even). None and nan are unknown, and a text is sent as it is.
 
     # Errors
     `BadSample`, a `ValueError`, if no database can take a time or a value of a tuple. Then nothing is sent.
@@ -248,8 +248,8 @@ def fetch(path: FilePath, function: Words, *words: Words, values: type = float, 
           busy_timeout: Optional[float] = None) -> object:
     """Returns rows of one archive: `((start, end, step), names, rows)`. A row is a tuple; an unknown value is None.
 
-    Row n ends at start + (n + 1) * step. `values` is the type of the values: `float`, which rounds, `decimal.Decimal`,
-    which is exact, or `Millionths`, an `int`, which is exact.
+    Row n ends at start + (n + 1) * step. `values` is the type of the values: `float`, which rounds, or
+    `decimal.Decimal`, which is exact.
     """
     time = moment(now)
     asked = fetch_words(function, words, resolution, start, end)

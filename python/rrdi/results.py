@@ -6,13 +6,13 @@ import datetime
 from decimal import Decimal
 from typing import TYPE_CHECKING, Callable, Dict, Generic, List, Optional, Tuple, Type, TypedDict, TypeVar, Union
 
-from .amounts import MILLION, Millionths, shortened
+from .amounts import shortened
 from .printed import PrintedRows, printed_rows, settings_of
 
-Value = TypeVar("Value", float, Decimal, Millionths)
+Value = TypeVar("Value", float, Decimal)
 Row = Tuple[Optional[Value], ...]
 Table = Tuple[Tuple[int, int, int], Tuple[str, ...], List[Tuple[Optional[Value], ...]]]
-AnyNumber = Union[float, Decimal]  # a Millionths is an int
+AnyNumber = Union[float, Decimal]
 Info = Dict[str, Union[str, int, float, Decimal, None]]
 UNKNOWN = frozenset({"nan", "U"})
 
@@ -26,19 +26,14 @@ else:
     LastUpdate = dict
 
 
-def _millionths(word: str) -> Millionths:
-    """Returns the millionths of a number that rrdi printed, without a point or with six digits after the point."""
-    return Millionths(word.replace(".", "")) if "." in word else Millionths(int(word) * MILLION)
-
-
-_CONVERSIONS: Dict[type, Callable[[str], AnyNumber]] = {float: float, Decimal: Decimal, Millionths: _millionths}
+_CONVERSIONS: Dict[type, Callable[[str], AnyNumber]] = {float: float, Decimal: Decimal}
 
 
 def conversion(values: Type[Value]) -> Callable[[str], Value]:
     """Returns the function that converts a printed number to a value.
 
     # Errors
-    `TypeError` if `values` is not float, Decimal or Millionths.
+    `TypeError` if `values` is neither float nor Decimal.
     """
     return any_conversion(values)  # type: ignore[return-value]
 
@@ -47,7 +42,7 @@ def any_conversion(values: type) -> Callable[[str], AnyNumber]:
     """Does the same as `conversion` for a type that the checker does not know."""
     found = _CONVERSIONS.get(values)
     if found is None:
-        raise TypeError(f"values must be float, Decimal or Millionths, not {values!r}")
+        raise TypeError(f"values must be float or Decimal, not {values!r}")
     return found
 
 

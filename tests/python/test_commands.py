@@ -37,9 +37,6 @@ class Commands(OfFiles):
         _, _, rows = rrdi.fetch(file, "AVERAGE", start=1_600_000_000, end=1_600_000_029, values=Decimal)
         self.assertEqual(rows, [(Decimal("1.5"), None), (None, Decimal("0.3")), (Decimal("-2.25"), Decimal("0.7"))])
         self.assertEqual(str(rows[2][0]), "-2.250000")
-        _, _, whole = rrdi.fetch(file, "AVERAGE", start=1_600_000_000, end=1_600_000_029, values=rrdi.Millionths)
-        self.assertEqual(whole, [(1_500_000, None), (None, 300_000), (-2_250_000, 700_000)])
-        self.assertEqual(str(whole[2][0]), "-2.250000")
         with self.assertRaises(TypeError):
             rrdi.fetch(file, "AVERAGE", start=1_600_000_000, end=1_600_000_029, values=str)  # type: ignore[type-var]
 
@@ -79,7 +76,6 @@ class Commands(OfFiles):
         self.assertIsInstance(rrdi.lastupdate(file)["ds"]["c"], float)
         found = rrdi.lastupdate(file, values=Decimal)["ds"]
         self.assertEqual({name: str(value) for name, value in found.items()}, {"g": "-2.250000", "c": "15"})
-        self.assertEqual(rrdi.lastupdate(file, values=rrdi.Millionths)["ds"], {"g": -2_250_000, "c": 15_000_000})
         rrdi.update(file, "1600000040:U:18446744073709551615")
         self.assertEqual(rrdi.lastupdate(file, values=Decimal)["ds"], {"g": None, "c": Decimal(2**64 - 1)})
 
@@ -98,8 +94,6 @@ class Commands(OfFiles):
         exact = {key: Decimal(value) if isinstance(value, float) else value for key, value in wanted.items()}
         self.assertEqual({key: (value, type(value)) for key, value in rrdi.info(self.file, values=Decimal).items()},
                          {key: (value, type(value)) for key, value in exact.items()})
-        millionths = rrdi.info(self.file, values=rrdi.Millionths)
-        self.assertEqual((millionths["ds[g].min"], millionths["rra[1].xff"]), (-10_000_000, 250_000))
         with self.assertRaises(TypeError):
             rrdi.info(self.file, values=str)  # type: ignore[arg-type]
         rrdi.tune(self.file, "--maximum", f"g:{2**64 - 1}")
@@ -378,7 +372,7 @@ class Collecting(OfFiles):
             self.assertEqual(one, ((1_600_000_020, LAST, 10), ("g", "c"), [(Decimal("-2.25"), Decimal("0.7"))]))
             database.revert()
             self.assertEqual(database.lastupdate()["ds"], {"g": None, "c": 8.0})
-            self.assertEqual(database.lastupdate(values=rrdi.Millionths)["ds"], {"g": None, "c": 8_000_000})
+            self.assertEqual(database.lastupdate(values=Decimal)["ds"], {"g": None, "c": Decimal(8)})
             database.resize(0, "GROW", 2)
             self.assertEqual((database.info()["rra[0].rows"], database.info()["filename"]), (6, str(file)))
             self.assertEqual((database.first(), database.first(1)), (1_599_999_970, 1_599_999_960))

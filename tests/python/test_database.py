@@ -12,6 +12,7 @@ import signal
 import subprocess
 import sys
 import unittest
+from decimal import Decimal
 from pathlib import Path
 from typing import Any, Callable, List
 
@@ -93,7 +94,7 @@ class Blocks(OfFiles):
                 lambda of: of.last(), lambda of: of.first(), lambda of: of.first(rraindex=1),
                 lambda of: of.lastupdate(),
                 lambda of: of.fetch("AVERAGE", start=1_600_000_000, end=1_600_000_029),
-                lambda of: of.fetch("AVERAGE", start=1_600_000_020, end=1_600_000_020, values=rrdi.Millionths),
+                lambda of: of.fetch("AVERAGE", start=1_600_000_020, end=1_600_000_020, values=Decimal),
                 lambda of: {**of.info(), "filename": ""}]
             for ask in asked:
                 self.assertEqual(ask(database), ask(whole))

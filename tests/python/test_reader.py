@@ -9,6 +9,7 @@ import struct
 import subprocess
 import sys
 import unittest
+from decimal import Decimal
 from typing import List, Tuple
 
 from cases import new_folder
@@ -16,7 +17,9 @@ from doubles import TOP
 
 import rrdi
 from rrdi import reader
+from rrdi.amounts import Millionths
 from rrdi.reader.printing import as_csv, as_json, as_openmetrics
+from rrdi.reader.values import as_decimal, as_float
 
 
 def amount(value: int) -> bytes:
@@ -45,7 +48,24 @@ class Reading(unittest.TestCase):
                          ("g", "GAUGE", 99, None, "5.000000"))
         archive, = found["archives"]
         self.assertEqual(archive["rows"], [{"time": 10, "cells": [None]}, {"time": 20, "cells": [2_500_000]}])
-        self.assertIsInstance(archive["rows"][1]["cells"][0], rrdi.Millionths)
+
+    def test_values(self) -> None:
+        """Amounts are exact decimals, or floats at request, and never whole numbers of millionths."""
+        data = file_bytes()
+        for given, kind, text in ((rrdi.read(data), Decimal, "2.500000"), (rrdi.read(data, values=float), float, "2.5")):
+            cell = given["archives"][0]["rows"][1]["cells"][0]
+            self.assertEqual((type(cell), str(cell), f"{cell:.2f}", float(cell)), (kind, text, "2.50", 2.5))
+            source, archive = given["sources"][0], given["archives"][0]
+            for amount in (source["max"], source["last_raw"], source["sum"], archive["xff"],
+                           archive["preparations"][0]["value"]):
+                self.assertIs(type(amount), kind)
+            self.assertEqual((source["max"], source["last_raw"], archive["xff"], source["min"]), (5, 2.5, 0.5, None))
+        for wrong in (int, str, None):
+            with self.assertRaisesRegex(TypeError, "values must be float or Decimal, not "):
+                rrdi.read(data, values=wrong)  # type: ignore[arg-type]
+        for number in (0, -1, 1, 10**6, -(2**64 - 1) * 10**6 * 10**6 - 1):
+            self.assertEqual(str(as_decimal(number)), str(Millionths(number)))
+            self.assertEqual(as_float(number), float(str(Millionths(number))))
 
     def test_faults(self) -> None:
         data = file_bytes()
@@ -112,12 +132,12 @@ class Reading(unittest.TestCase):
             f'rrdi_row{{source="b",{average}}} 2 30', f'rrdi_row{{source="a",{last}}} 1 20', f'rrdi_row{{source="a",{last}}} 0 30',
             f'rrdi_row{{source="b",{last}}} 4 30', "# EOF"])
         self.assertEqual(json.loads(as_json(database)), database)
-        self.assertEqual(as_json({"a": [rrdi.Millionths(-1), None, 7, 'x"y'], "b": {}}),
+        self.assertEqual(as_json({"a": [Millionths(-1), None, 7, 'x"y'], "b": {}}),
                          '{"a": [-0.000001, null, 7, "x\\"y"], "b": {}}')
 
     def test_amounts(self) -> None:
         for value, text in ((0, "0.000000"), (-1, "-0.000001"), (1_500_000, "1.500000"), (-2_250_000, "-2.250000")):
-            self.assertEqual(str(rrdi.Millionths(value)), text)
+            self.assertEqual(str(Millionths(value)), text)
 
 
 class CommandLine(unittest.TestCase):

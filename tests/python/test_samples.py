@@ -17,6 +17,7 @@ from cases import WithLibrary, WithProgram
 from file_case import LAST, OfFiles
 
 import rrdi
+from rrdi.amounts import Millionths
 from rrdi.samples import sample_text, sample_words, value_text
 from rrdi.times import seconds_of, span_word
 
@@ -46,8 +47,8 @@ class Values(unittest.TestCase):
                     (2**64 - 1, "18446744073709551615"), (-2**63, "-9223372036854775808"),
                     (Decimal("1.5"), "1.5"), (Decimal("1E+3"), "1000"), (Decimal("1E-9999999"), "0"),
                     (Decimal(10)**17, "1" + "0" * 17), (Fraction(2, 3), "0.666667"), (Fraction(6, 2), "3"),
-                    (rrdi.Millionths(1_500_000), "1.5"), (rrdi.Millionths(-1), "-0.000001"),
-                    (rrdi.Millionths(15_000_000), "15"), ("1.500", "1.500"), ("U", "U")])
+                    (Millionths(1_500_000), "1.5"), (Millionths(-1), "-0.000001"),
+                    (Millionths(15_000_000), "15"), ("1.500", "1.500"), ("U", "U")])
 
     def test_half_to_even(self) -> None:
         """A float is what it is in binary: 0.0078125 is half way, 0.0000005 is not."""
@@ -67,7 +68,7 @@ class Values(unittest.TestCase):
                 value_text(value)
         wrong: List[Any] = [1e300, 2.0**64, -1e19, 2**64, -2**63 - 1, 10**5_000,
                             Decimal("1E+9999999"), Decimal(-2**64), Decimal("1e18") + Decimal("0.5"), Fraction(10**40),
-                            Fraction(10**18) + Fraction(1, 2), rrdi.Millionths(10**24 + 1)]
+                            Fraction(10**18) + Fraction(1, 2), Millionths(10**24 + 1)]
         for value in wrong:
             with self.assertRaises(ValueError) as raised:
                 value_text(value)
@@ -113,7 +114,7 @@ class Updates(OfFiles):
 
     def test_numbers(self: Any) -> None:
         self.create("DS:g:GAUGE:100:U:U", "RRA:LAST:0.5:1:9")
-        given: List[Any] = [1 / 3, 0.1 + 0.2, 1e-07, Decimal("2.0000005"), Fraction(2, 3), rrdi.Millionths(5), 7, None,
+        given: List[Any] = [1 / 3, 0.1 + 0.2, 1e-07, Decimal("2.0000005"), Fraction(2, 3), Decimal("0.000005"), 7, None,
                             math.nan, "1.25"]
         wanted = ["0.333333", "0.300000", "0.000000", "2.000000", "0.666667", "0.000005", "7.000000", None, None,
                   "1.250000"]
@@ -126,7 +127,7 @@ class Updates(OfFiles):
         rrdi.update(self.file, (1_600_000_010, 2**64 - 1, -2**63, 0.5))
         self.assertEqual(self.raw(), [2**64 - 1, -2**63, Decimal("0.5")])
         # What was read goes back, also as a float or a number with a point, if it is whole.
-        last = rrdi.lastupdate(self.file, values=rrdi.Millionths)["ds"]
+        last = rrdi.lastupdate(self.file, values=Decimal)["ds"]
         rrdi.update(self.file, [1_600_000_020, *last.values()])
         self.assertEqual(self.raw(), [2**64 - 1, -2**63, Decimal("0.5")])
         rrdi.update(self.file, (1_600_000_030, 5.0, Decimal("-7.00"), 1))

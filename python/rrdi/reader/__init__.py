@@ -1,5 +1,8 @@
 # SPDX-License-Identifier: MIT OR Apache-2.0
-"""Reads a database of rrdi from its file, as docs/file-format.md describes the bytes. The C library is not needed."""
+"""Reads a database of rrdi from its file, as docs/file-format.md describes the bytes. The C library is not needed.
+
+Here amounts are whole numbers of millionths, for the tools. `rrdi.read` and `rrdi.read_file` give decimals or floats
+(`values`)."""
 from __future__ import annotations
 
 from ..amounts import MILLION, Millionths

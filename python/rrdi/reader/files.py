@@ -29,7 +29,7 @@ def settled(data: bytes) -> bytes:
 
 
 def read(data: bytes) -> Parts:
-    """Returns the database that these bytes represent, by names.
+    """Returns the database that these bytes represent, by names, with amounts in whole millionths.
 
     # Errors
     `Damaged` if the bytes represent no database.
@@ -82,7 +82,7 @@ def opened(path: str) -> Iterator[Stored]:
 
 
 def read_file(path: str) -> Parts:
-    """Returns the database in a file, by names; - is standard input.
+    """Returns the database in a file, by names, with amounts in whole millionths; - is standard input.
 
     # Errors
     - `OSError` if the file cannot be opened, locked or read.

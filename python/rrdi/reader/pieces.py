@@ -103,10 +103,13 @@ class Reader:
         whole = min(count * self.sources, (len(self.data) - self.at) // 16)
         cells: List[Optional[Millionths]] = []
         for high, low in struct.iter_unpack(">qQ", self.data[self.at:self.at + whole * 16]):
-            self.piece_at = self.at + len(cells) * 16
             value = high << 64 | low
-            self.check(-TOP <= value <= TOP or value == UNKNOWN)
-            cells.append(None if value == UNKNOWN else Millionths(value))
+            if -TOP <= value <= TOP:
+                cells.append(Millionths(value))
+                continue
+            self.piece_at = self.at + len(cells) * 16
+            self.check(value == UNKNOWN)
+            cells.append(None)
         self.at += whole * 16
         if whole < count * self.sources:
             self.take(">qQ")

@@ -5,7 +5,8 @@ from __future__ import annotations
 from contextlib import contextmanager
 from typing import Any, Dict, Iterator
 
-from .. import reader
+from ..errors import Damaged
+from ..reader import files
 from .command_line import Failure, error_text
 
 
@@ -16,7 +17,7 @@ def reporting(file: str) -> Iterator[None]:
         yield
     except OSError as error:
         raise Failure(f"{file}: {error.strerror or error_text(error)}") from None
-    except reader.Fault as fault:
+    except Damaged as fault:
         raise Failure(f"{file}: {fault}") from None
 
 
@@ -27,4 +28,4 @@ def read_file(file: str) -> Dict[str, Any]:
     `Failure` if the file cannot be opened, locked or read, or is not a database.
     """
     with reporting(file):
-        return reader.read_file(file)
+        return files.read_file(file)
