@@ -18,8 +18,9 @@ if TYPE_CHECKING:
     from .commands import (Batch, RefusedLine, batch, create, fetch, first, info, last, lastupdate, resize, revert, tune,
                            update)
     from .database import Database, RefusedLines
-    from .errors import (BadSample, Busy, CannotOpen, CannotRead, CannotWrite, Damaged, Error, Exists, NoDatabase,
-                         OperationalError, OutOfMemory, ProgrammingError, Refused, Unreadable, Usage)
+    from .errors import (BadSample, Busy, CannotOpen, CannotRead, CannotWrite, Damaged, Error, Exists, MayNotOpen,
+                         MayNotWrite, NoDatabase, NoLibrary, OperationalError, OutOfMemory, ProgrammingError, Refused,
+                         Unreadable, Usage)
     from .library import library_path, load_library
     from .memory import Ran, RanBatch, run, run_batch
     from .reader import Fault
@@ -29,18 +30,18 @@ if TYPE_CHECKING:
 __version__ = "0.2.0"
 
 __all__ = ["BadSample", "Batch", "Busy", "CannotOpen", "CannotRead", "CannotWrite", "Damaged", "Database", "Error",
-           "Exists", "Fault", "NoDatabase", "OperationalError", "OutOfMemory", "ProgrammingError", "Ran",
-           "RanBatch", "Refused", "RefusedLine", "RefusedLines", "Sample", "Unreadable", "Usage", "batch",
-           "create", "fetch", "first", "info", "last", "lastupdate", "library_path", "load_library", "read", "read_file",
-           "resize", "revert", "run", "run_batch", "tune", "update"]
+           "Exists", "Fault", "MayNotOpen", "MayNotWrite", "NoDatabase", "NoLibrary", "OperationalError", "OutOfMemory",
+           "ProgrammingError", "Ran", "RanBatch", "Refused", "RefusedLine", "RefusedLines", "Sample", "Unreadable",
+           "Usage", "batch", "create", "fetch", "first", "info", "last", "lastupdate", "library_path", "load_library",
+           "read", "read_file", "resize", "revert", "run", "run_batch", "tune", "update"]
 
 # The modules and their names. A module is imported when a program first asks for one of its names, so that a tool, or a
 # program that only reads, imports what it uses.
 _HOMES = {name: module for module, names in {
     "commands": "Batch RefusedLine batch create fetch first info last lastupdate resize revert tune update",
     "database": "Database RefusedLines",
-    "errors": "BadSample Busy CannotOpen CannotRead CannotWrite Damaged Error Exists NoDatabase OperationalError "
-              "OutOfMemory ProgrammingError Refused Unreadable Usage",
+    "errors": "BadSample Busy CannotOpen CannotRead CannotWrite Damaged Error Exists MayNotOpen MayNotWrite NoDatabase "
+              "NoLibrary OperationalError OutOfMemory ProgrammingError Refused Unreadable Usage",
     "library": "library_path load_library",
     "memory": "Ran RanBatch run run_batch",
     "reader": "Fault",

@@ -22,7 +22,7 @@ def loaded_library() -> Optional[Library]:
     from .library import library_path, load_library
     try:
         return load_library() if library_path() is not None else None
-    except (OSError, AttributeError):
+    except OSError:  # also `NoLibrary`
         return None
 
 

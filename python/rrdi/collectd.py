@@ -217,7 +217,7 @@ class Plugin:
     def start(self) -> None:
         try:
             load_library(self.options.library or None)
-        except (OSError, AttributeError) as error:
+        except OSError as error:
             self.collectd.error(f"rrdi: {error}")
 
     def write(self, values: Values) -> None:

@@ -80,6 +80,6 @@ def set_aside(path: str, fault: Damaged) -> str:
                 return f"{fault.reason}; the file has changed meanwhile"
             os.rename(path, aside)
     except (OSError, Error) as error:
-        why = error.strerror if isinstance(error, OSError) else ""
+        why = "" if isinstance(error, Error) else error.strerror
         return f"{fault.reason}, and the file cannot be renamed: {why or error}"
     return f"{fault.reason}; the file is now {aside}"

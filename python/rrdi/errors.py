@@ -3,7 +3,7 @@
 
 `OperationalError` and `ProgrammingError` have the same names in Python's module `rrdtool`. `OperationalError` means that
 the arguments are right, but the file, its contents or the system prevents the command. `ProgrammingError` is a mistake in
-the arguments.
+the arguments. Where an exception of Python fits, it is a base too: `FileNotFoundError`, `TimeoutError`, `ValueError` ..
 """
 from __future__ import annotations
 
@@ -15,8 +15,9 @@ from typing import Dict, List, Optional, Tuple, Type
 OK, NO_ROOM, NO_MEMORY = 0, 1, 2
 USAGE, BAD_WORD, NO_DATABASE, REFUSED, CANNOT_OPEN, CANNOT_WRITE = 10, 11, 12, 13, 14, 15
 NOT_OURS, VERSION, TRUNCATED, BAD_BLOCK, BAD_ENTRY, TRAILING, READ_FAILED = 20, 21, 22, 23, 24, 25, 26
-# What the system says if another program holds a lock.
+# What the system says if another program holds a lock, and if a user may not do something.
 LOCKED = frozenset({errno.EAGAIN, errno.EWOULDBLOCK})
+NOT_PERMITTED = frozenset({errno.EACCES, errno.EPERM})
 ERROR = "ERROR: "  # begins the line of a fault, and of a refused line of a batch; the reason follows
 NO_FILE = "no database"  # the reason of a refused line if there is no file
 
@@ -50,8 +51,28 @@ class OperationalError(Error):
     """The file, its contents, a lack of memory or the system prevents a command."""
 
 
-class ProgrammingError(Error):
+class ProgrammingError(Error, ValueError):
     """The arguments are not a command, or an argument cannot be read."""
+
+
+class SystemFault(OperationalError, OSError):
+    """The system prevents a command. `errno`, `strerror` and `filename` are those of an `OSError`."""
+
+    @property
+    def errno(self) -> Optional[int]:  # type: ignore[override]
+        return self.system_error or None
+
+    @property
+    def strerror(self) -> Optional[str]:  # type: ignore[override]
+        return os.strerror(self.system_error) if self.system_error else None
+
+    @property
+    def filename(self) -> Optional[str]:
+        return self.path
+
+
+class NoLibrary(SystemFault):
+    """The C library is not found, or cannot be loaded."""
 
 
 class Usage(ProgrammingError):
@@ -73,30 +94,36 @@ class BadSample(Refused, ValueError):
         super().__init__(reason, path, REFUSED, detail=detail)
 
 
-class NoDatabase(OperationalError):
+class NoDatabase(SystemFault, FileNotFoundError):
     """There is no file, or, in memory, no database."""
 
 
-class Busy(OperationalError):
+class Busy(SystemFault, TimeoutError):
     """Another program held the file's lock for longer than `busy_timeout`."""
 
 
-class CannotOpen(OperationalError):
+class CannotOpen(SystemFault):
     """The system does not open the file."""
 
 
-class CannotRead(OperationalError):
+class MayNotOpen(CannotOpen, PermissionError):
+    """The system does not let this user open the file."""
+
+
+class CannotRead(SystemFault):
     """A read of the file failed."""
 
 
-class CannotWrite(OperationalError):
+class CannotWrite(SystemFault):
     """The file cannot be written. It holds the old database or the new one."""
+
+
+class MayNotWrite(CannotWrite, PermissionError):
+    """The system does not let this user write the file, or make one in its folder."""
 
 
 class Exists(CannotWrite, FileExistsError):
     """There is a file already, which `create` replaces only if it is told to."""
-
-    errno = errno.EEXIST
 
     def __init__(self, path: str):
         super().__init__("cannot write", path, CANNOT_WRITE, None, errno.EEXIST,
@@ -156,6 +183,8 @@ def error_of(fault: int, reason: str, path: Optional[str] = None, at: int = 0, s
         kind = Busy
     elif fault == CANNOT_OPEN and system_error == errno.ENOENT:
         kind = NoDatabase
+    elif fault in (CANNOT_OPEN, CANNOT_WRITE) and system_error in NOT_PERMITTED:
+        kind = MayNotOpen if fault == CANNOT_OPEN else MayNotWrite
     return kind(reason, path, fault, at if TRUNCATED <= fault <= TRAILING else None, system_error)
 
 

@@ -14,7 +14,7 @@ from collections import deque
 from typing import Callable, Deque, List, Optional, Tuple
 
 from .calls import Call, StaysOpen, calls
-from .errors import NO_ROOM
+from .errors import NO_ROOM, NoLibrary
 from .protocol import DONE as DONE, Answer as Answer, Library as Library, OpenedFile
 
 NAMES = ("librrdi.so.0", "librrdi.so")
@@ -304,13 +304,15 @@ def load_library(path: Optional[str] = None) -> Library:
     """Loads the library at `path`, or the library that `library_path` finds, for all functions of this package.
 
     # Errors
-    - `OSError` if there is no library, or the library cannot be loaded.
-    - `AttributeError` if the library lacks a function.
+    `NoLibrary` if there is no library, or it cannot be loaded or lacks a function.
     """
     found = path or library_path()
     if found is None:
-        raise OSError("librrdi.so.0 not found; install it, or name it by the variable RRDI_LIBRARY")
-    loaded = CLibrary(ctypes.CDLL(found))  # two threads may do this at once: each library is good
+        raise NoLibrary(f"the C library {NAMES[0]} is not found; install it, or name it by the variable RRDI_LIBRARY")
+    try:
+        loaded = CLibrary(ctypes.CDLL(found))  # two threads may do this at once: each library is good
+    except (OSError, AttributeError) as error:
+        raise NoLibrary(f"the C library cannot be used: {error}") from None
     _loaded.library = loaded
     return loaded
 

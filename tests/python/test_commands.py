@@ -4,6 +4,7 @@ library, and with the built program in its place."""
 from __future__ import annotations
 
 import datetime
+import errno
 import fcntl
 import os
 import pickle
@@ -174,6 +175,8 @@ class Commands(OfFiles):
                      lambda file: rrdi.update(file, "N:1"), lambda file: rrdi.fetch(file, "MAX")):
             error = self.refuses(rrdi.NoDatabase, "cannot open", call, self.file)
             self.assertEqual((error.fault, error.path), (14, str(self.file)))
+            self.assertEqual((error.errno, error.strerror, error.filename),
+                             (errno.ENOENT, "No such file or directory", str(self.file)))
         self.assertEqual(str(error), f"{self.file}: cannot open: No such file or directory")
         error = self.refuses(rrdi.CannotWrite, "cannot write", rrdi.create, self.folder / "none" / "f", *BOTH)
         self.assertEqual(error.fault, 15)
@@ -181,11 +184,11 @@ class Commands(OfFiles):
     def test_permissions(self: Any) -> None:
         self.fill().chmod(0)
         with self.as_nobody():
-            self.refuses_without_reading(rrdi.CannotOpen, "cannot open: Permission denied", rrdi.last)
+            self.refuses_without_reading(rrdi.MayNotOpen, "cannot open: Permission denied", rrdi.last)
         self.file.chmod(0o444)
         with self.as_nobody():
             self.assertEqual(rrdi.last(self.file), LAST)
-            self.refuses_without_reading(rrdi.CannotWrite, "cannot write: Permission denied", rrdi.revert)
+            self.refuses_without_reading(rrdi.MayNotWrite, "cannot write: Permission denied", rrdi.revert)
 
     def refuses_without_reading(self: Any, kind: type, reason: str, call: Any) -> None:
         with self.assertRaises(kind) as raised:

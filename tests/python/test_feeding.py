@@ -17,7 +17,7 @@ from tool_case import EachWriter, finished, taken
 
 import rrdi
 from rrdi import choice, library
-from rrdi.errors import CANNOT_OPEN, CANNOT_WRITE, NO_MEMORY
+from rrdi.errors import CANNOT_OPEN, CANNOT_WRITE, NO_MEMORY, NoLibrary
 from rrdi.feeding.feeder import Feeder, FeedOptions, line_text
 from rrdi.by_program import ByProgram
 from rrdi.feeding.writers import BatchWriter, Outcome
@@ -266,7 +266,7 @@ class Writers(EachWriter, unittest.TestCase):
             with mock.patch.object(library, "library_path", return_value=None):
                 self.assertEqual(self.program(), "rrdi")
             with mock.patch.object(library, "library_path", return_value="/nowhere/librrdi.so.0"):
-                for error in (OSError, AttributeError):
+                for error in (OSError(), NoLibrary("none")):
                     with mock.patch.object(library, "load_library", side_effect=error):
                         self.assertEqual(self.program(), "rrdi")
                 with mock.patch.object(library, "load_library", return_value=FakeLibrary(Answer(0, 0, 0, b""))):

@@ -214,9 +214,9 @@ class Places(unittest.TestCase):
 
     def test_loading(self) -> None:
         use_library(self, None)
-        with self.assertRaises(OSError):
-            load_library("/nowhere/librrdi.so.0")
-        with self.assertRaises(AttributeError):
-            load_library("libc.so.6")
+        for path in ("/nowhere/librrdi.so.0", "libc.so.6"):
+            with self.assertRaisesRegex(rrdi.NoLibrary, f"the C library cannot be used: .*{path}") as raised:
+                load_library(path)
+            self.assertIsInstance(raised.exception, OSError)
         if has_library():
             self.assertIs(load_library(), library.the_library())

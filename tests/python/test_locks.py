@@ -264,7 +264,7 @@ class Pipes(LockCase):
             with mock.patch("rrdi.damaged.is_still_damaged", side_effect=error):
                 said = set_aside(self.path, rrdi.Damaged("file: trailing at 9", None, 25, 9))
             self.assertEqual(said, f"file: trailing at 9, and the file cannot be renamed: "
-                             f"{'why' if isinstance(error, OSError) else error}")
+                             f"{error if isinstance(error, rrdi.Error) else 'why'}")
         numbers = open_numbers()
         for read in (reader.read_file, OpenFile):
             with self.assertRaises(IsADirectoryError):

@@ -190,9 +190,10 @@ class Package(unittest.TestCase):
     def test_without_a_library(self) -> None:
         """Without the C library the package can be imported, and its reader works; a command says what is missing."""
         asks = "import rrdi\nfrom rrdi import library\nlibrary.NAMES = ('nothing.so',)\n" \
-               "try:\n    rrdi.last('f')\nexcept OSError as error:\n    print(error)"
+               "try:\n    rrdi.last('f')\nexcept rrdi.Error as error:\n    print(type(error).__name__, error)"
         env = {**os.environ, "PYTHONPATH": str(TOP / "python")}
         env.pop("RRDI_LIBRARY", None)
         ran = subprocess.run([sys.executable, "-B", "-c", asks], env=env, stdout=subprocess.PIPE,
                              universal_newlines=True)
-        self.assertEqual(ran.stdout, "librrdi.so.0 not found; install it, or name it by the variable RRDI_LIBRARY\n")
+        self.assertEqual(ran.stdout, "NoLibrary the C library nothing.so is not found; install it, or name it by the "
+                                     "variable RRDI_LIBRARY\n")

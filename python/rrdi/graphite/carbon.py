@@ -57,7 +57,7 @@ class RrdiDatabase(TimeSeriesDatabase):  # type: ignore[misc]
         super().__init__(settings)
         try:
             load_library(settings.get("RRDI_LIBRARY") or None)
-        except (OSError, AttributeError) as error:
+        except OSError as error:
             raise SystemExit(f"rrdi: {error}") from None
         self.journal = whole_number(settings, "RRDI_JOURNAL", 16, MOST_CHANGES)
         most_future = whole_number(settings, "RRDI_MAX_FUTURE", 600, 10**9)
