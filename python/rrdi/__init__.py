@@ -5,10 +5,11 @@
 
     rrdi.create("room.rrdi", "DS:temp:GAUGE:60:U:U", "RRA:AVERAGE:0.5:1:360", step=10)
     rrdi.update("room.rrdi", ("N", 21.5))
-    (start, end, step), names, rows = rrdi.fetch("room.rrdi", "AVERAGE")
+    for time, values in rrdi.fetch("room.rrdi", "AVERAGE").records():
+        print(time, values["temp"])
 
-The functions have the names of Python's module `rrdtool`, and results of the same form. docs/python.md lists them.
-`rrdi.reader` reads files without the C library; `rrdi.compat.rrdtool` takes RRDtool's own syntax.
+The functions have the names of Python's module `rrdtool`. docs/python.md lists them. `rrdi.read_file` reads files without
+the C library; `rrdi.compat.rrdtool` takes RRDtool's own syntax.
 """
 from __future__ import annotations
 
@@ -18,20 +19,23 @@ if TYPE_CHECKING:
     from .commands import (Batch, RefusedLine, batch, create, fetch, first, info, last, lastupdate, resize, revert, tune,
                            update)
     from .database import Database, RefusedLines
-    from .errors import (BadSample, Busy, CannotOpen, CannotRead, CannotWrite, Damaged, Error, Exists, MayNotOpen,
-                         MayNotWrite, NoDatabase, NoLibrary, OperationalError, OutOfMemory, ProgrammingError, Refused,
-                         Unreadable, Usage)
+    from .described import ArchiveInfo, Info, SourceInfo
+    from .errors import (BadSample, Busy, CannotOpen, CannotRead, CannotWrite, Damaged, Different, Error, Exists,
+                         MayNotOpen, MayNotWrite, NoDatabase, NoLibrary, OperationalError, OutOfMemory,
+                         ProgrammingError, Refused, Unreadable, Usage)
     from .library import library_path, load_library
     from .memory import Ran, RanBatch, run, run_batch
     from .reader import Fault
     from .reader.values import read, read_file
+    from .results import LastUpdate, NamedRow, Table
     from .samples import Sample
 
 __version__ = "0.2.0"
 
-__all__ = ["BadSample", "Batch", "Busy", "CannotOpen", "CannotRead", "CannotWrite", "Damaged", "Database", "Error",
-           "Exists", "Fault", "MayNotOpen", "MayNotWrite", "NoDatabase", "NoLibrary", "OperationalError", "OutOfMemory",
-           "ProgrammingError", "Ran", "RanBatch", "Refused", "RefusedLine", "RefusedLines", "Sample", "Unreadable",
+__all__ = ["ArchiveInfo", "BadSample", "Batch", "Busy", "CannotOpen", "CannotRead", "CannotWrite", "Damaged",
+           "Database", "Different", "Error", "Exists", "Fault", "Info", "LastUpdate", "MayNotOpen", "MayNotWrite",
+           "NamedRow", "NoDatabase", "NoLibrary", "OperationalError", "OutOfMemory", "ProgrammingError", "Ran",
+           "RanBatch", "Refused", "RefusedLine", "RefusedLines", "Sample", "SourceInfo", "Table", "Unreadable",
            "Usage", "batch", "create", "fetch", "first", "info", "last", "lastupdate", "library_path", "load_library",
            "read", "read_file", "resize", "revert", "run", "run_batch", "tune", "update"]
 
@@ -40,12 +44,14 @@ __all__ = ["BadSample", "Batch", "Busy", "CannotOpen", "CannotRead", "CannotWrit
 _HOMES = {name: module for module, names in {
     "commands": "Batch RefusedLine batch create fetch first info last lastupdate resize revert tune update",
     "database": "Database RefusedLines",
-    "errors": "BadSample Busy CannotOpen CannotRead CannotWrite Damaged Error Exists MayNotOpen MayNotWrite NoDatabase "
-              "NoLibrary OperationalError OutOfMemory ProgrammingError Refused Unreadable Usage",
+    "described": "ArchiveInfo Info SourceInfo",
+    "errors": "BadSample Busy CannotOpen CannotRead CannotWrite Damaged Different Error Exists MayNotOpen MayNotWrite "
+              "NoDatabase NoLibrary OperationalError OutOfMemory ProgrammingError Refused Unreadable Usage",
     "library": "library_path load_library",
     "memory": "Ran RanBatch run run_batch",
     "reader": "Fault",
     "reader.values": "read read_file",
+    "results": "LastUpdate NamedRow Table",
     "samples": "Sample"}.items() for name in names.split()}
 
 

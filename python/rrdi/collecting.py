@@ -5,7 +5,7 @@ from __future__ import annotations
 import os
 from typing import List, NamedTuple, Optional, Sequence, Tuple
 
-from .commands import Batch, Lines, RefusedLine, batch, make_at, run_explained
+from .commands import Batch, Lines, RefusedLine, batch, check_same, make_at, run_explained
 from .errors import REFUSED, Error, Exists, Refused, error_of_line, reasons_in
 from .times import moment
 from .words import line_of
@@ -60,9 +60,11 @@ class Collected:
     def create(self, words: List[str], overwrite: bool, exist_ok: bool) -> None:
         if not overwrite:
             if self._is_created() or os.path.exists(self.path):
-                if exist_ok:
-                    return
-                raise Exists(self.path)
+                if not exist_ok:
+                    raise Exists(self.path)
+                if not self._is_created():
+                    check_same(self.path, words, self.now, self.busy_timeout)
+                return
             self._creation = _Creation(len(self._waiting), exist_ok)
         self.change(words)
 

@@ -21,17 +21,20 @@ from __future__ import annotations
 
 import datetime
 import os
-from typing import Callable, Iterable, List, NamedTuple, Optional, Tuple, Type, TypeVar, Union, overload
+from typing import TYPE_CHECKING, Callable, Iterable, List, NamedTuple, Optional, Tuple, Type, TypeVar, Union, overload
 
 from .environment import is_synced, milliseconds
-from .errors import (CANNOT_WRITE, NOT_OURS, OK, USAGE, Busy, Error, Exists, Refused, Unreadable, Usage, error_of, reason_of,
-                     reasons_in)
+from .errors import (CANNOT_WRITE, NOT_OURS, OK, USAGE, Busy, Different, Error, Exists, Refused, Unreadable, Usage, error_of,
+                     reason_of, reasons_in)
 from .fetching import fetched
 from .library import Answer, the_library
-from .results import AnyNumber, Info, LastUpdate, Table, Value, info_of, last_update
+from .results import LastUpdate, Table, Value, info_of, last_update
 from .samples import Sample, sample_words
 from .times import Span, Time, moment, span_word, time_word
 from .words import FilePath, Words, as_bytes, encoded, encoded_path, flat, options
+
+if TYPE_CHECKING:
+    from .described import Info
 
 Filled = TypeVar("Filled")
 Lines = Union[str, Iterable[str]]
@@ -100,10 +103,11 @@ def create(path: FilePath, *definitions: Words, step: Optional[Span] = None, sta
     """Creates a database with data sources (`DS:..`) and archives (`RRA:..`), whole or not at all.
 
     `overwrite` replaces a file that is at `path`, whatever it contains; `revert` does not bring it back. `exist_ok`
-    keeps a database that is at `path`, as it is.
+    keeps a database that is at `path`, if it has this definition: `start` does not count, and `journal` if it is given.
 
     # Errors
-    `Exists`, a `FileExistsError`, if there is a file, and neither is True.
+    - `Exists`, a `FileExistsError`, if there is a file, and neither is True.
+    - `Different`, an `Exists`, if `exist_ok` is True, and the file has another definition.
     """
     words = creation(definitions, step, start, journal, overwrite, exist_ok)
     made(path, words, overwrite, exist_ok, now, busy_timeout, sync)
@@ -117,7 +121,26 @@ def made(path: FilePath, words: List[str], overwrite: bool, exist_ok: bool, now:
     elif make_at(path, lambda new: run_explained(new, words, now, busy_timeout, sync)) is None:
         if not exist_ok:
             raise Exists(os.fsdecode(path))
-        last(path, now=now, busy_timeout=busy_timeout)  # fails if the file is no database
+        check_same(path, words, now, busy_timeout)
+
+
+def check_same(path: FilePath, words: List[str], now: Optional[Time], busy_timeout: Optional[float]) -> None:
+    """Compares the database in a file with one that the words of a creation would make.
+
+    # Errors
+    `Different` if their definitions differ, or that of `info` or `create`.
+    """
+    from .differences import difference  # here, since most calls find no file
+    found = run_on(path, ["info"], now, busy_timeout, None)
+    made_now = the_library().run(None, encoded(words), moment(now))
+    if made_now.fault != OK:
+        error = failed(made_now, path)
+        add_detail(error, words, lambda _: "")
+        raise error
+    wanted = the_library().run(made_now.data, b"info", moment(now)).output.decode()
+    why = difference(found, wanted, any(word.startswith("--journal") for word in words))
+    if why:
+        raise Different(os.fsdecode(path), why)
 
 
 def creation(definitions: Iterable[Words], step: Optional[Span], start: Optional[Time], journal: Optional[int],
@@ -158,16 +181,17 @@ def make_at(path: FilePath, fill: Callable[[str], Filled]) -> Optional[Filled]:
 
 def update(path: FilePath, *samples: Sample, template: Optional[str] = None, now: Optional[Time] = None,
            busy_timeout: Optional[float] = None, sync: Optional[bool] = None) -> None:
-    """Adds samples, all or none. A sample is a text `TIME:VALUE..`, or a tuple of a time and values.
+    """Adds samples, all or none: texts `TIME:VALUE..`, or iterables of a time and values, or iterables of these.
 
-    In a tuple, the time is a time or `"N"`, and a value is an int, a float, a Decimal or a Fraction, which is rounded to
-    six decimals (half to even). None and nan are unknown, and a text is sent as it is.
+    After the time there are the values, or one iterable of them, or a mapping of names of sources to values; a source that
+    no sample names is unknown. The time is a time or `"N"`. A value is a number, which is rounded to six decimals (half to
+    even): an int, a float, a Decimal, a Fraction, or one of numpy or pandas. None, nan and pandas' NA are unknown, and a
+    text is sent as it is.
 
     # Errors
     `BadSample`, a `ValueError`, if no database can take a time or a value of a tuple. Then nothing is sent.
     """
-    words = ["update"] if template is None else ["update", f"--template={template}"]
-    words += sample_words(samples, path)
+    words = ["update", *sample_words(samples, path, template=template)]
     run_explained(path, words, now, busy_timeout, sync)
 
 
@@ -202,11 +226,20 @@ def last(path: FilePath, *, now: Optional[Time] = None, busy_timeout: Optional[f
     return int(run_on(path, ["last"], now, busy_timeout, None))
 
 
-def info(path: FilePath, *, values: Type[AnyNumber] = float, now: Optional[Time] = None,
-         busy_timeout: Optional[float] = None) -> Info:
-    """Returns the settings by RRDtool's names, and `journal` and `undoable` by rrdi's.
+@overload
+def info(path: FilePath, *, now: Optional[Time] = ..., busy_timeout: Optional[float] = ...) -> Info[float]: ...
 
-    `values` is the type of the bounds and of xff, as in `fetch`.
+
+@overload
+def info(path: FilePath, *, values: Type[Value], now: Optional[Time] = ...,
+         busy_timeout: Optional[float] = ...) -> Info[Value]: ...
+
+
+def info(path: FilePath, *, values: type = float, now: Optional[Time] = None,
+         busy_timeout: Optional[float] = None) -> object:
+    """Returns the settings, with those of each source by its name, and of each archive.
+
+    `values` is the type of the bounds, of the last raw values and of xff, as in `fetch`.
     """
     return info_of(run_on(path, ["info"], now, busy_timeout, None), os.fsdecode(path), values)
 
@@ -223,9 +256,9 @@ def lastupdate(path: FilePath, *, values: Type[Value], tz: Optional[datetime.tzi
 
 def lastupdate(path: FilePath, *, values: type = float, tz: Optional[datetime.tzinfo] = None,
                now: Optional[Time] = None, busy_timeout: Optional[float] = None) -> object:
-    """Returns the last raw values: `{"date": datetime, "ds": {name: value}}`; an unknown value is None.
+    """Returns the `date` of the last sample, and its raw `values` by name; an unknown value is None.
 
-    `values` is as in `fetch`. The date is in the zone `tz`; without one it is a local time without a zone, as in
+    The type `values` is as in `fetch`. The date is in the zone `tz`; without one it is a local time without a zone, as in
     Python's module `rrdtool`.
     """
     return last_update(run_on(path, ["lastupdate"], now, busy_timeout, None), values, tz)
@@ -246,10 +279,11 @@ def fetch(path: FilePath, function: Words, *words: Words, values: Type[Value], r
 def fetch(path: FilePath, function: Words, *words: Words, values: type = float, resolution: Optional[Span] = None,
           start: Optional[Time] = None, end: Optional[Time] = None, now: Optional[Time] = None,
           busy_timeout: Optional[float] = None) -> object:
-    """Returns rows of one archive: `((start, end, step), names, rows)`. A row is a tuple; an unknown value is None.
+    """Returns rows of one archive: a tuple `((start, end, step), names, rows)` that has these as attributes too.
 
-    Row n ends at start + (n + 1) * step. `values` is the type of the values: `float`, which rounds, or
-    `decimal.Decimal`, which is exact.
+    Each of the `rows` is a tuple of values, of which an unknown one is None. `records()` yields the rows with their times,
+    and values by name; `columns()` returns lists of floats for numpy and pandas. `values` is the type of the values:
+    `float`, which rounds, or `decimal.Decimal`, which is exact.
     """
     time = moment(now)
     asked = fetch_words(function, words, resolution, start, end)

@@ -5,17 +5,20 @@ from __future__ import annotations
 import datetime
 import os
 from types import TracebackType
-from typing import List, Optional, Protocol, Type, overload
+from typing import TYPE_CHECKING, List, Optional, Protocol, Type, overload
 
 from .collecting import Collected
 from .collecting import RefusedLines as RefusedLines
 from .commands import Batch, Lines, RefusedLine, batch, creation, fetch_words, made, run_explained
 from .fetching import fetched
 from .kept import KeptFile
-from .results import AnyNumber, Info, LastUpdate, Table, Value, info_of, last_update
+from .results import LastUpdate, Table, Value, info_of, last_update
 from .samples import Sample, sample_words
 from .times import Span, Time, moment, seconds_of
 from .words import FilePath, Words, flat, options
+
+if TYPE_CHECKING:
+    from .described import Info
 
 
 class _Way(Protocol):
@@ -93,7 +96,7 @@ class Database:
 
     Each command runs when it is called, and its change is then in the file. The first command of a block opens the
     file, and the end of the block closes it; in between the file is locked, so no other program can read it or change
-    it by rrdi. Without a block, each command opens and closes the file.
+    it by rrdi. Without a block, each command opens and closes the file. `open` and `close` are a block without `with`.
 
     With `collect=True` changes wait, and run together at the end of the block, in one call; the file is locked only
     during a call. A query such as `fetch` or `last` first runs the waiting changes, in the same call. If the block ends
@@ -115,9 +118,21 @@ class Database:
         """The refused lines that no exception has shown yet; only with `collect=True` there are any."""
         return self._way.refused
 
-    def __enter__(self) -> Database:
+    def open(self) -> Database:
+        """Begins a block that `close` ends, for a program that cannot use `with`. Returns this object."""
         self._way.begin()
         return self
+
+    def close(self) -> None:
+        """Ends a block, as the end of a `with` does: closes the file, or runs the waiting changes.
+
+        # Errors
+        Those of `flush`.
+        """
+        self._way.end(True)
+
+    def __enter__(self) -> Database:
+        return self.open()
 
     def __exit__(self, kind: Optional[Type[BaseException]], error: Optional[BaseException],
                  trace: Optional[TracebackType]) -> None:
@@ -137,8 +152,8 @@ class Database:
 
     def update(self, *samples: Sample, template: Optional[str] = None) -> None:
         """Adds samples, as `rrdi.update`: all samples of a call or none."""
-        words = sample_words(samples, self.path, self._way.time_of_samples())
-        self._way.change(["update", *options(template=template), *words])
+        words = sample_words(samples, self.path, self._way.time_of_samples(), template)
+        self._way.change(["update", *words])
 
     def tune(self, *words: Words) -> None:
         """Changes settings, or adds or removes an archive, as `rrdi.tune`."""
@@ -175,7 +190,13 @@ class Database:
         """Returns the time of the last sample, as `rrdi.last`."""
         return int(self._way.ask(["last"]))
 
-    def info(self, *, values: Type[AnyNumber] = float) -> Info:
+    @overload
+    def info(self) -> Info[float]: ...
+
+    @overload
+    def info(self, *, values: Type[Value]) -> Info[Value]: ...
+
+    def info(self, *, values: type = float) -> object:
         """Returns the settings, as `rrdi.info`."""
         return info_of(self._way.ask(["info"]), self.path, values)
 

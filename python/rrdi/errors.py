@@ -125,12 +125,15 @@ class MayNotWrite(CannotWrite, PermissionError):
 class Exists(CannotWrite, FileExistsError):
     """There is a file already, which `create` replaces only if it is told to."""
 
-    def __init__(self, path: str):
-        super().__init__("cannot write", path, CANNOT_WRITE, None, errno.EEXIST,
-                         "overwrite=True replaces it, exist_ok=True keeps it")
+    def __init__(self, path: str, detail: str = "overwrite=True replaces it, exist_ok=True keeps it"):
+        super().__init__("cannot write", path, CANNOT_WRITE, None, errno.EEXIST, detail)
 
     def __reduce__(self) -> Tuple[object, ...]:
-        return Exists, (self.path,)
+        return type(self), (self.path, self.detail)
+
+
+class Different(Exists):
+    """There is a database already, and it has another definition than `create` with `exist_ok=True` wants."""
 
 
 class Damaged(OperationalError):

@@ -47,7 +47,7 @@ def run(data: Optional[bytes], *words: Sample, now: Optional[Time] = None) -> Ra
     # Errors
     A subclass of `Error` in `rrdi.errors`.
     """
-    given = sample_words(words) if words[:1] == ("update",) else flat(words)  # type: ignore[arg-type]
+    given = ["update", *sample_words(words[1:])] if words[:1] == ("update",) else flat(words)  # type: ignore[arg-type]
     answer = the_library().run(data, encoded(given), moment(now))
     if answer.fault != OK:
         from .explaining import explain  # here, since most commands succeed

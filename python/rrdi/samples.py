@@ -1,32 +1,40 @@
 # SPDX-License-Identifier: MIT OR Apache-2.0
 """Writes the samples of a call as words of `update`.
 
-A sample is a text (`"1700000010:21.5"`), which stays as it is, or a tuple or list of a time and values. A value becomes
-text with at most six decimals: rrdi keeps whole millionths.
+A sample is a text (`"1700000010:21.5"`), which stays as it is, or an iterable of a time and values, which may also be in
+one iterable, or in a mapping by the names of the sources. A value becomes text with at most six decimals: rrdi keeps whole
+millionths.
 """
 from __future__ import annotations
 
 import datetime
 import math
+import operator
 import os
+import re
 from decimal import ROUND_HALF_EVEN, Context, Decimal
 from fractions import Fraction
-from numbers import Rational, Real
-from typing import Iterable, List, Optional, Sequence, Union
+from numbers import Complex, Rational, Real
+from typing import Dict, Iterable, List, Mapping, NamedTuple, Optional, Sequence, SupportsFloat, SupportsInt, Union
 
 from .amounts import LARGEST, MILLION, Millionths, shortened
 from .errors import BadSample
-from .limits import LATEST
+from .limits import LATEST, NAME_OF_SOURCE
 from .times import seconds_of
 from .words import FilePath
 
-Number = Union[int, float, Decimal, Fraction]
+Number = Union[int, float, Decimal, Fraction, SupportsFloat, SupportsInt]
 Cell = Union[str, Number, datetime.datetime, None]
-Sample = Union[str, int, Sequence[Cell], Sequence[Sequence[Cell]]]
+Part = Union[Cell, Iterable[Cell], Mapping[str, Cell]]
+Sample = Union[str, int, Iterable[Part], Iterable[Iterable[Part]]]
 
 LEAST, MOST = -2**63, 2**64 - 1  # whole numbers: the least of a DERIVE, the most of a COUNTER
 EXACT = Context(prec=50, rounding=ROUND_HALF_EVEN, traps=[])
 MILLIONTH = Decimal("0.000001")
+# Types of numpy and pandas by their names, so that no program imports these for rrdi.
+BOOLEANS, MISSING = frozenset({"bool", "bool_"}), frozenset({"NAType", "NaTType"})
+# What has no order, or is no text: a sample of these would not be what it seems.
+NO_SAMPLES = (bytes, bytearray, memoryview, set, frozenset, Mapping)
 
 
 def value_text(value: object) -> str:
@@ -50,13 +58,28 @@ def value_text(value: object) -> str:
         raise TypeError(f"{value}, which is no number; write 1 or 0")
     if isinstance(value, Millionths):
         return _of_fraction(Fraction(int(value), MILLION))
-    if isinstance(value, (int, Rational)):
-        return _of_fraction(Fraction(value))
+    if isinstance(value, Rational):  # a whole number of numpy has only 64 bits to reckon with
+        return _of_fraction(Fraction(int(value.numerator), int(value.denominator)))
     if isinstance(value, Decimal):
         return _of_decimal(value)
-    if isinstance(value, Real):
-        return _of_float(float(value))
-    raise TypeError(f"of type {type(value).__name__}, which is neither a number nor text nor None")
+    return _of_other(value)
+
+
+def _of_other(value: object) -> str:
+    """Returns the text of a number of another type, such as one of numpy or pandas."""
+    kind = type(value).__name__
+    if kind in MISSING:
+        return "U"
+    if kind in BOOLEANS:
+        raise TypeError(f"{value}, which is no number; write 1 or 0")
+    if not is_many(value) and not (isinstance(value, Complex) and not isinstance(value, Real)):
+        for convert in (operator.index, float):
+            try:
+                number = convert(value)  # type: ignore[operator]
+            except TypeError:
+                continue
+            return _of_fraction(Fraction(number)) if isinstance(number, int) else _of_float(number)
+    raise TypeError(f"of type {kind}, which is neither a number nor text nor None")
 
 
 def _of_float(value: float) -> str:
@@ -105,11 +128,18 @@ def _beyond(value: object) -> ValueError:
                       "a DERIVE whole numbers from -2^63 on")
 
 
+def is_many(value: object) -> bool:
+    """Returns whether a value is an iterable of others, and no text. An array of numpy may have no dimension."""
+    if isinstance(value, (list, tuple)):
+        return True
+    return hasattr(type(value), "__iter__") and not isinstance(value, str) and getattr(value, "ndim", 1) != 0
+
+
 def _is_time(first: object) -> bool:
-    """Returns whether the first part of a tuple or list is a time, so that the whole is a sample."""
+    """Returns whether the first part of an iterable is a time, so that the whole is a sample."""
     if isinstance(first, str):
         return first == "N" or first.isdigit()
-    return not isinstance(first, (list, tuple))
+    return not is_many(first)
 
 
 def _time_text(time: object, number: int, now: Optional[int]) -> str:
@@ -150,44 +180,112 @@ def sample_text(sample: Sequence[object], number: int, path: Optional[FilePath] 
     - `BadSample` if the time or a value is beyond the limits, or a datetime has no zone.
     - `TypeError` if the time or a value has another type.
     """
-    try:
-        words = [_time_text(sample[0], number, now)]
-    except ValueError as error:
-        raise BadSample("bad time", _decoded(path), str(error)) from None
+    words = [_time_of(sample, number, path, now)]
     for at, value in enumerate(sample[1:], 1):
         try:
             words.append(value_text(value))
-        except ValueError as error:
-            raise BadSample("bad value", _decoded(path), f"value {at} of sample {number} is {error}") from None
-        except TypeError as error:
-            raise TypeError(f"value {at} of sample {number} is {error}") from None
+        except (ValueError, TypeError) as error:
+            raise _of_value(error, at, number, path) from None
     return ":".join(words)
 
 
-def sample_words(samples: Iterable[Sample], path: Optional[FilePath] = None, now: Optional[int] = None) -> List[str]:
-    """Returns the samples as text. A list or tuple that does not begin with a time is a list of samples.
+def _time_of(sample: Sequence[object], number: int, path: Optional[FilePath], now: Optional[int]) -> str:
+    try:
+        return _time_text(sample[0], number, now)
+    except ValueError as error:
+        raise BadSample("bad time", _decoded(path), str(error)) from None
 
-    `now` replaces the time N.
+
+def _of_value(error: Exception, at: Union[int, str], number: int, path: Optional[FilePath]) -> Exception:
+    """Returns the error of `value_text` for a value, which has a place or a name."""
+    text = f"value {at} of sample {number} is {error}"
+    return BadSample("bad value", _decoded(path), text) if isinstance(error, ValueError) else TypeError(text)
+
+
+def sample_words(samples: Iterable[object], path: Optional[FilePath] = None, now: Optional[int] = None,
+                 template: Optional[str] = None) -> List[str]:
+    """Returns the samples as text, after the option of a template, if there is one or if values have names.
+
+    An iterable that does not begin with a time is one of samples. `now` replaces the time N.
 
     # Errors
     - `BadSample` if a time or a value is beyond the limits.
-    - `TypeError` if a sample has another type.
+    - `TypeError` if a sample has another type, or only some samples have values by name.
     """
-    found: List[str] = []
-    _add_words(found, samples, path, now)
-    return found
+    found = _Words(path, now)
+    found.add_all(samples)
+    if found.named:
+        if template is not None:
+            raise TypeError("values by name need no template")
+        template = found.put_names()
+    return found.words if template is None else [f"--template={template}", *found.words]
 
 
-def _add_words(found: List[str], samples: Iterable[object], path: Optional[FilePath], now: Optional[int]) -> None:
-    for sample in samples:
-        if isinstance(sample, str):
-            found.append(sample if now is None or not sample.startswith("N:") else f"{now}{sample[1:]}")
-        elif isinstance(sample, (list, tuple)):
-            if sample and _is_time(sample[0]):
-                found.append(sample_text(sample, len(found) + 1, path, now))
+class _Named(NamedTuple):
+    """A sample with values by name: the place of its word, and the texts of its time and values."""
+
+    place: int
+    time: str
+    values: Dict[str, str]
+
+
+class _Words:
+    """The words of samples. Those with values by name are written when the names of all are known."""
+
+    def __init__(self, path: Optional[FilePath], now: Optional[int]):
+        self.path, self.now = path, now
+        self.words: List[str] = []
+        self.named: List[_Named] = []
+
+    def add_all(self, samples: Iterable[object]) -> None:
+        for sample in samples:
+            if type(sample) is tuple:
+                self._add(sample)
+            elif isinstance(sample, str):
+                is_now = self.now is not None and sample.startswith("N:")
+                self.words.append(f"{self.now}{sample[1:]}" if is_now else sample)
+            elif isinstance(sample, int) and not isinstance(sample, bool):
+                self.words.append(str(sample))
+            elif is_many(sample) and not isinstance(sample, NO_SAMPLES):
+                self._add(list(sample))  # type: ignore[call-overload]
             else:
-                _add_words(found, sample, path, now)
-        elif isinstance(sample, int) and not isinstance(sample, bool):
-            found.append(str(sample))
-        else:
-            raise TypeError(f"a sample must be text or a tuple of a time and values, not {type(sample).__name__}")
+                raise TypeError(f"a sample must be text or a tuple of a time and values, not {type(sample).__name__}")
+
+    def _add(self, parts: Sequence[object]) -> None:
+        if not parts or not _is_time(parts[0]):
+            self.add_all(parts)
+            return
+        if len(parts) == 2 and type(parts[1]) not in (float, int) and is_many(parts[1]):
+            if isinstance(parts[1], Mapping):
+                self._add_named(parts, parts[1])
+                return
+            if not isinstance(parts[1], NO_SAMPLES):
+                parts = [parts[0], *parts[1]]  # type: ignore[misc]
+        self.words.append(sample_text(parts, len(self.words) + 1, self.path, self.now))
+
+    def _add_named(self, parts: Sequence[object], values: Mapping[object, object]) -> None:
+        number = len(self.words) + 1
+        for name in values:
+            if not isinstance(name, str):
+                raise TypeError(f"the names of sample {number} must be text, not {type(name).__name__}")
+            if not re.fullmatch(NAME_OF_SOURCE, name):
+                raise BadSample("no such data source", _decoded(self.path), f"sample {number} has the name {name[:40]!r}")
+        texts: Dict[str, str] = {}
+        for name, value in values.items():
+            try:
+                texts[str(name)] = value_text(value)
+            except (ValueError, TypeError) as error:
+                raise _of_value(error, str(name), number, self.path) from None
+        self.named.append(_Named(len(self.words), _time_of(parts, number, self.path, self.now), texts))
+        self.words.append("")
+
+    def put_names(self) -> str:
+        """Writes the samples with values by name, and returns their template. What a sample does not name is unknown."""
+        names = list(dict.fromkeys(name for sample in self.named for name in sample.values))
+        if not names:
+            raise TypeError("a sample has no values")
+        for sample in self.named:
+            self.words[sample.place] = ":".join([sample.time, *(sample.values.get(name, "U") for name in names)])
+        if len(self.named) < sum(not word.startswith("-") for word in self.words):
+            raise TypeError("give values by name in each sample of a call, or in none")
+        return ":".join(names)

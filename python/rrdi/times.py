@@ -33,7 +33,7 @@ def seconds_of(time: Time) -> int:
         if time.utcoffset() is None:
             raise ValueError(f"the datetime {time} has no zone; "
                              "write datetime.now(timezone.utc), or time.astimezone() for a local time")
-        return (time - EPOCH) // SECOND
+        return int((time - EPOCH) // SECOND)  # that of pandas is no int
     if isinstance(time, Real):
         if not math.isfinite(time):
             raise ValueError(f"{time} is no time")

@@ -16,7 +16,7 @@ import pytest
 from support.program import TOP
 
 CREATE = ("create", "net.rrdi", "--start", "0", "--step", "10", "DS:g:GAUGE:99:U:U", "RRA:MAX:0.5:1:3")
-SHOW = 'import rrdi; print(rrdi.info("net.rrdi")["step"], rrdi.load_library() is not None)'
+SHOW = 'import rrdi; print(rrdi.info("net.rrdi").step, rrdi.load_library() is not None)'
 PATIENCE = 600
 
 

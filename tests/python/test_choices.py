@@ -172,16 +172,16 @@ class Values:
                 rrdi.create(self.file, "DS:g:GAUGE:60:U:U", "RRA:LAST:0.5:1:4", step=10, start=local.astimezone(), overwrite=True)
                 self.assertEqual(rrdi.last(self.file), NOW)
                 rrdi.update(self.file, ((utc + datetime.timedelta(hours=9, seconds=10)).replace(tzinfo=east), 1.5))
-                found = rrdi.lastupdate(self.file)["date"]
+                found = rrdi.lastupdate(self.file).date
                 self.assertEqual((found, found.tzinfo), (local + datetime.timedelta(seconds=10), None))
-                self.assertEqual(rrdi.lastupdate(self.file, tz=east)["date"].isoformat(), "2023-11-15T07:20:10+09:00")
+                self.assertEqual(rrdi.lastupdate(self.file, tz=east).date.isoformat(), "2023-11-15T07:20:10+09:00")
 
     def test_bounds_above_the_largest_value(self: Any) -> None:
         """A bound may have a size of up to 2^64 - 1, a value of a GAUGE one below 10^18."""
         rrdi.create(self.file, f"DS:g:GAUGE:60:-{GREATEST}:{GREATEST}", "DS:d:COUNTER:60:0:2000000000000000000",
                     "RRA:LAST:0.5:1:4", step=10, start=NOW)
         found = rrdi.info(self.file, values=Decimal)
-        self.assertEqual((found["ds[g].min"], found["ds[g].max"], found["ds[d].max"]), (-GREATEST, GREATEST, 2 * 10**18))
+        self.assertEqual((found.sources["g"].min, found.sources["g"].max, found.sources["d"].max), (-GREATEST, GREATEST, 2 * 10**18))
         sources = reader.read_file(str(self.file))["sources"]
         self.assertEqual([source["max"] for source in sources], [GREATEST * 10**6, 2 * 10**24])
         rrdi.update(self.file, f"{NOW + 10}:{10**18 - 1}:0")
@@ -212,7 +212,7 @@ class Values:
             for archive, wanted in zip(file.outline().archives, (range(2, 5), (2, 4))):
                 self.assertEqual(file.rows(archive, NOW, NOW + 40),
                                  {NOW + 10 * row: [(100 * row + number) * 10**6 for number in range(64)] for row in wanted})
-        self.assertEqual(rrdi.lastupdate(self.file)["ds"], {name: 400.0 + number for number, name in enumerate(names)})
+        self.assertEqual(rrdi.lastupdate(self.file).values, {name: 400.0 + number for number, name in enumerate(names)})
 
 
 class ByTheProgram(WithProgram, Values, DataCase):

@@ -337,7 +337,7 @@ class Rows(WriterCase):
             run_in_threads(2, lambda at: writers[at].end())
             taken = sum(writer.counts["taken"] for writer in writers)
             path = str(self.folder / f"h{number}/load/gauge.rrdi")
-            self.assertEqual(commands.info(path)["undoable"], taken)
+            self.assertEqual(commands.info(path).undoable, taken)
             self.assertEqual(taken + sum(writer.counts["lost"] for writer in writers), 10)
         self.assertEqual([name for name in self.files() if not name.endswith("gauge.rrdi")], [])
 

@@ -87,7 +87,7 @@ class Starting(DataCase):
             taken, lines = sum(one.taken for one in both), [line for one in both for line in one.lines]
             self.assertEqual(taken + sum(one.lost for one in both), 2 * TURNS, lines)
             self.assertGreater(taken, 0, lines)
-            self.assertEqual(commands.info(str(self.folder / host / "load/gauge.rrdi"))["undoable"], taken, lines)
+            self.assertEqual(commands.info(str(self.folder / host / "load/gauge.rrdi")).undoable, taken, lines)
         wanted = sorted(f"data/h{number}/load/gauge.rrdi" for number in range(ROUNDS))
         self.assertEqual(self.files(), wanted)
 

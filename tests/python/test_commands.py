@@ -73,64 +73,59 @@ class Commands(OfFiles):
     def test_lastupdate(self: Any) -> None:
         file = self.fill()
         date = datetime.datetime.fromtimestamp(LAST)
-        self.assertEqual(rrdi.lastupdate(file), {"date": date, "ds": {"g": -2.25, "c": 15.0}})
-        self.assertIsInstance(rrdi.lastupdate(file)["ds"]["c"], float)
-        found = rrdi.lastupdate(file, values=Decimal)["ds"]
+        self.assertEqual(rrdi.lastupdate(file), (date, {"g": -2.25, "c": 15.0}))
+        self.assertIsInstance(rrdi.lastupdate(file).values["c"], float)
+        found = rrdi.lastupdate(file, values=Decimal).values
         self.assertEqual({name: str(value) for name, value in found.items()}, {"g": "-2.250000", "c": "15"})
         rrdi.update(file, "1600000040:U:18446744073709551615")
-        self.assertEqual(rrdi.lastupdate(file, values=Decimal)["ds"], {"g": None, "c": Decimal(2**64 - 1)})
+        self.assertEqual(rrdi.lastupdate(file, values=Decimal).values, {"g": None, "c": Decimal(2**64 - 1)})
 
     def test_info(self: Any) -> None:
-        wanted = {
-            "filename": str(self.fill()), "step": 10, "last_update": LAST, "journal": 16, "undoable": 1,
-            "ds[g].index": 0, "ds[g].type": "GAUGE", "ds[g].minimal_heartbeat": 100, "ds[g].min": -10.0,
-            "ds[g].max": None, "ds[g].last_ds": "-2.25", "ds[c].index": 1, "ds[c].type": "COUNTER",
-            "ds[c].minimal_heartbeat": 100, "ds[c].min": 0.0, "ds[c].max": 50.0, "ds[c].last_ds": "15",
-            "rra[0].cf": "AVERAGE", "rra[0].rows": 4, "rra[0].pdp_per_row": 1, "rra[0].xff": 0.5,
-            "rra[1].cf": "MAX", "rra[1].rows": 4, "rra[1].pdp_per_row": 2, "rra[1].xff": 0.25}
-        found = rrdi.info(self.file)
-        self.assertEqual(found, wanted)
-        self.assertEqual({key: type(value) for key, value in found.items()},
-                         {key: type(value) for key, value in wanted.items()})
-        exact = {key: Decimal(value) if isinstance(value, float) else value for key, value in wanted.items()}
-        self.assertEqual({key: (value, type(value)) for key, value in rrdi.info(self.file, values=Decimal).items()},
-                         {key: (value, type(value)) for key, value in exact.items()})
+        file = str(self.fill())
+        for values in (float, Decimal):
+            found = rrdi.info(file, values=values)
+            wanted = rrdi.Info(file, 10, LAST, 16, 1, {
+                "g": rrdi.SourceInfo("g", "GAUGE", 100, values("-10"), None, values("-2.25")),
+                "c": rrdi.SourceInfo("c", "COUNTER", 100, values("0"), values("50"), values("15"))}, (
+                rrdi.ArchiveInfo("AVERAGE", values("0.5"), 1, 4, 10), rrdi.ArchiveInfo("MAX", values("0.25"), 2, 4, 20)))
+            self.assertEqual(found, wanted)
+            self.assertEqual((list(found.sources), type(found.archives[0].xff)), (["g", "c"], values))
         with self.assertRaises(TypeError):
-            rrdi.info(self.file, values=str)  # type: ignore[arg-type]
+            rrdi.info(self.file, values=str)  # type: ignore[type-var]
         rrdi.tune(self.file, "--maximum", f"g:{2**64 - 1}")
-        self.assertEqual(rrdi.info(self.file, values=Decimal)["ds[g].max"], 2**64 - 1)
+        self.assertEqual(rrdi.info(self.file, values=Decimal).sources["g"].max, 2**64 - 1)
         rrdi.update(self.file, "1600000040:100:U")
-        self.assertEqual((rrdi.info(self.file)["ds[g].last_ds"], rrdi.info(self.file)["ds[c].last_ds"]), ("100", "U"))
+        self.assertEqual((rrdi.info(self.file).sources["g"].last_raw, rrdi.info(self.file).sources["c"].last_raw), (100, None))
 
     def test_changes_and_revert(self: Any) -> None:
         file = self.fill()
         before = file.read_bytes()
         rrdi.tune(file, "--heartbeat", "g:200", "--minimum=g:-5")
-        self.assertEqual((rrdi.info(file)["ds[g].minimal_heartbeat"], rrdi.info(file)["ds[g].min"]), (200, -5.0))
+        self.assertEqual((rrdi.info(file).sources["g"].heartbeat, rrdi.info(file).sources["g"].min), (200, -5.0))
         rrdi.revert(file)
         self.assertEqual(file.read_bytes(), before)
         rrdi.tune(file, "RRA:LAST:0:1:9")
-        self.assertEqual(rrdi.info(file)["rra[2].rows"], 9)
+        self.assertEqual(rrdi.info(file).archives[2].rows, 9)
         rrdi.resize(file, 2, "GROW", 3)
         rrdi.resize(file, ["0", "SHRINK", "1"])
-        self.assertEqual((rrdi.info(file)["rra[2].rows"], rrdi.info(file)["rra[0].rows"]), (12, 3))
+        self.assertEqual((rrdi.info(file).archives[2].rows, rrdi.info(file).archives[0].rows), (12, 3))
         for _ in range(3):
             rrdi.revert(file)
         self.assertEqual(file.read_bytes(), before)
         rrdi.update(file, "1600000040:7", template="g")
-        self.assertEqual(rrdi.lastupdate(file)["ds"], {"g": 7.0, "c": None})
+        self.assertEqual(rrdi.lastupdate(file).values, {"g": 7.0, "c": None})
 
     def test_create(self: Any) -> None:
         rrdi.create(self.file, ["DS:g:GAUGE:9:U:U"], "RRA:LAST:0:1:5")
         found = rrdi.info(self.file)
-        self.assertEqual((found["step"], found["journal"]), (300, 16))
+        self.assertEqual((found.step, found.journal), (300, 16))
         self.assertLessEqual(abs(rrdi.last(self.file) - time.time() + 10), 30)
         rrdi.create(self.file, "DS:g:GAUGE:9:U:U", "RRA:LAST:0:1:5", "--journal", "3", step=7, start=70,
                     overwrite=True)
         found = rrdi.info(self.file)
-        self.assertEqual((found["step"], found["journal"], found["last_update"]), (7, 3, 70))
+        self.assertEqual((found.step, found.journal, found.last_update), (7, 3, 70))
         rrdi.create(self.file, "DS:g:GAUGE:9:U:U", "RRA:LAST:0:1:5", journal=4, overwrite=True)
-        self.assertEqual(rrdi.info(self.file)["journal"], 4)
+        self.assertEqual(rrdi.info(self.file).journal, 4)
 
     def test_refusals(self: Any) -> None:
         file = self.fill()
@@ -290,13 +285,13 @@ class Commands(OfFiles):
                 for count in range(1, 26):
                     rrdi.update(own, f"{count * 10}:{number}", busy_timeout=60)
                     rrdi.tune(self.file, f"--heartbeat=g:{number + 1}", busy_timeout=60)
-                    self.assertEqual(rrdi.lastupdate(own)["ds"], {f"s{number}": float(number)})
+                    self.assertEqual(rrdi.lastupdate(own).values, {f"s{number}": float(number)})
             except BaseException as error:
                 failed.append(error)
 
         run_in_threads(8, work)
         self.assertEqual(failed, [])
-        self.assertEqual(rrdi.info(self.file)["undoable"], 200)
+        self.assertEqual(rrdi.info(self.file).undoable, 200)
         self.assertEqual([rrdi.last(self.folder / f"{number}.rrdi") for number in range(8)], [250] * 8)
 
 
@@ -311,7 +306,7 @@ class Batches(OfFiles):
         wanted = "ERROR: not later than 1600000010\n1600000010\nERROR: usage\n" \
                  "time: g\n1600000010: 1.000000\n1600000020: 3.000000\n"
         self.assertEqual(ran.output, wanted)
-        self.assertEqual(rrdi.info(file)["undoable"], 2)
+        self.assertEqual(rrdi.info(file).undoable, 2)
         file.unlink()
         self.create("DS:g:GAUGE:100:U:U", "RRA:AVERAGE:0.5:1:4")
         self.assertEqual(rrdi.batch(file, "\n".join(lines)), ran)
@@ -357,7 +352,7 @@ class Collecting(OfFiles):
             database.tune("--heartbeat", "g:50")
             self.assertEqual(rrdi.last(file), 1_600_000_000)
         found = rrdi.info(file)
-        self.assertEqual((found["last_update"], found["undoable"], found["ds[g].minimal_heartbeat"]), (LAST, 3, 50))
+        self.assertEqual((found.last_update, found.undoable, found.sources["g"].heartbeat), (LAST, 3, 50))
 
     def test_questions(self: Any) -> None:
         file = self.create()
@@ -374,10 +369,10 @@ class Collecting(OfFiles):
             one = database.fetch("AVERAGE", start=1_600_000_020, end=1_600_000_020, values=Decimal)
             self.assertEqual(one, ((1_600_000_020, LAST, 10), ("g", "c"), [(Decimal("-2.25"), Decimal("0.7"))]))
             database.revert()
-            self.assertEqual(database.lastupdate()["ds"], {"g": None, "c": 8.0})
-            self.assertEqual(database.lastupdate(values=Decimal)["ds"], {"g": None, "c": Decimal(8)})
+            self.assertEqual(database.lastupdate().values, {"g": None, "c": 8.0})
+            self.assertEqual(database.lastupdate(values=Decimal).values, {"g": None, "c": Decimal(8)})
             database.resize(0, "GROW", 2)
-            self.assertEqual((database.info()["rra[0].rows"], database.info()["filename"]), (6, str(file)))
+            self.assertEqual((database.info().archives[0].rows, database.info().filename), (6, str(file)))
             self.assertEqual((database.first(), database.first(1)), (1_599_999_970, 1_599_999_960))
             self.assertEqual([line.number for line in database.refused], [2])
             database.refused.clear()
@@ -437,7 +432,7 @@ class Collecting(OfFiles):
         database.flush()
         self.assertEqual(rrdi.last(self.file), 1_600_000_010)
         database.flush()
-        self.assertEqual(rrdi.info(self.file)["undoable"], 1)
+        self.assertEqual(rrdi.info(self.file).undoable, 1)
 
     def test_words_that_are_no_line(self: Any) -> None:
         database = rrdi.Database(self.create(), collect=True)
@@ -463,7 +458,7 @@ class Collecting(OfFiles):
         with rrdi.Database(self.file, collect=True) as database:
             database.create(*BOTH, step=10, start=50, journal=5)
             database.update("60:1:2")
-        self.assertEqual((rrdi.last(self.file), rrdi.info(self.file)["journal"]), (60, 5))
+        self.assertEqual((rrdi.last(self.file), rrdi.info(self.file).journal), (60, 5))
 
 
 class InMemory(OfFiles):

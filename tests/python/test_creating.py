@@ -8,7 +8,7 @@ import errno
 import os
 import pickle
 import unittest
-from typing import Any, List
+from typing import Any, Dict, List
 from unittest import mock
 
 from cases import WithLibrary, WithProgram, use_library
@@ -58,8 +58,31 @@ class Creating(OfFiles):
         rrdi.create(self.file, *BOTH, step=10, start=5, exist_ok=True)
         rrdi.update(self.file, "6:1:2")
         before = self.file.read_bytes()
-        rrdi.create(self.file, *ONE, exist_ok=True)
+        same = [one.replace(":100:", ":0100:").replace(":0.5:", ":0.500:") for one in BOTH]
+        given: List[Dict[str, Any]] = [{}, {"start": 7}, {"journal": 16}]
+        for options in given:
+            rrdi.create(self.file, *same, step=10, exist_ok=True, **options)
         self.assertEqual((self.file.read_bytes(), self.files()), (before, ["f.rrdi"]))
+
+    def test_another_definition(self: Any) -> None:
+        """A database with another definition is kept, and the error says what differs."""
+        self.create()
+        g, c, average, most = BOTH
+        for definitions, step, journal, text in (
+                (BOTH, None, None, "step=10, not step=300"), (BOTH, 10, 17, "journal=16, not journal=17"),
+                ((c, g, average, most), 10, None, f"{g}, not {c}"), ((g, average, most), 10, None, f"{c}, not {average}"),
+                ((g.replace("100", "99"), c, average, most), 10, None, f"{g}, not DS:g:GAUGE:99:-10:U"),
+                ((g, c, average), 10, None, most), ((*BOTH, "RRA:LAST:0:1:5"), 10, None, "lacks RRA:LAST:0:1:5")):
+            error = self.refuses(rrdi.Different, "cannot write", rrdi.create, self.file, *definitions, step=step,
+                                 journal=journal, exist_ok=True)
+            told = f"the file {'' if text.startswith('lacks') else 'has '}{text}"
+            self.assertEqual(str(error), f"{self.file}: cannot write: File exists; {told}")
+            self.assertIsInstance(error, rrdi.Exists)
+            again = pickle.loads(pickle.dumps(error))
+            self.assertEqual((type(again), str(again)), (rrdi.Different, str(error)))
+        error = self.refuses(rrdi.Refused, "bad heartbeat", rrdi.create, self.file, "DS:g:GAUGE:0:U:U", average,
+                             exist_ok=True)
+        self.assertIn("heartbeat of g", error.detail)
         self.file.write_bytes(OTHERS)
         self.refuses(rrdi.Damaged, "file: not ours", rrdi.create, self.file, *ONE, exist_ok=True)
 
@@ -94,10 +117,10 @@ class Creating(OfFiles):
         begin = datetime.datetime(2020, 9, 13, 14, 26, 40, 999_999, datetime.timezone(datetime.timedelta(hours=2)))
         rrdi.create(self.file, *ONE, step=datetime.timedelta(minutes=1), start=begin)
         found = rrdi.info(self.file)
-        self.assertEqual((found["step"], found["last_update"]), (60, 1_600_000_000))
+        self.assertEqual((found.step, found.last_update), (60, 1_600_000_000))
         rrdi.create(self.file, *ONE, step=20, start=1_600_000_001.9, overwrite=True)
         found = rrdi.info(self.file)
-        self.assertEqual((found["step"], found["last_update"]), (20, 1_600_000_001))
+        self.assertEqual((found.step, found.last_update), (20, 1_600_000_001))
         with self.assertRaisesRegex(ValueError, "has no zone"):
             rrdi.create(self.file, *ONE, start=datetime.datetime(2020, 9, 13), overwrite=True)
         with self.assertRaisesRegex(ValueError, "whole seconds, not 0:00:00.500000"):
@@ -126,9 +149,12 @@ class InBlocks(Creating):
         for _ in range(2):
             with rrdi.Database(self.file, collect=True) as database:
                 database.create(*BOTH, step=10, start=5, exist_ok=True)
-                database.create(*ONE, exist_ok=True)  # the first one waits
+                if self.file.exists():
+                    self.assertRaises(rrdi.Different, database.create, *ONE, exist_ok=True)
+                else:
+                    database.create(*ONE, exist_ok=True)  # the first one waits
                 database.update((rrdi.last(self.file) + 1 if self.file.exists() else 6, 1, 2))
-        self.assertEqual((rrdi.last(self.file), rrdi.info(self.file)["undoable"], self.files()), (7, 2, ["f.rrdi"]))
+        self.assertEqual((rrdi.last(self.file), rrdi.info(self.file).undoable, self.files()), (7, 2, ["f.rrdi"]))
 
     def test_overwrite(self: Any) -> None:
         with rrdi.Database(self.fill(), collect=True) as database:
@@ -167,7 +193,7 @@ class InBlocks(Creating):
         self.assertEqual((self.file.read_bytes(), self.files()), (OTHERS, ["f.rrdi"]))
         self.file.unlink()
         database.flush()  # the change has waited
-        self.assertEqual(rrdi.info(self.file)["ds[g].type"], "GAUGE")
+        self.assertEqual(rrdi.info(self.file).sources["g"].type, "GAUGE")
 
     def test_another_program_makes_the_database_meanwhile(self: Any) -> None:
         chosen = self.library() or library.load_library()
@@ -178,7 +204,7 @@ class InBlocks(Creating):
         database.create(*ONE, exist_ok=True)
         database.update("6:1:2")
         database.flush()
-        self.assertEqual((rrdi.last(self.file), rrdi.info(self.file)["ds[g].minimal_heartbeat"]), (6, 7))
+        self.assertEqual((rrdi.last(self.file), rrdi.info(self.file).sources["g"].heartbeat), (6, 7))
         self.assertEqual(self.files(), ["f.rrdi"])
 
     def test_times(self: Any) -> None:
@@ -186,7 +212,7 @@ class InBlocks(Creating):
         with rrdi.Database(self.file, collect=True, now=begin + datetime.timedelta(seconds=3)) as database:
             database.create(*ONE, step=datetime.timedelta(minutes=1), start=begin)
             database.update(("N", 5))
-        self.assertEqual((rrdi.last(self.file), rrdi.info(self.file)["step"]), (1_600_000_003, 60))
+        self.assertEqual((rrdi.last(self.file), rrdi.info(self.file).step), (1_600_000_003, 60))
 
 
 class CreatingByProgram(WithProgram, Creating, unittest.TestCase):

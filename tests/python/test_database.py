@@ -3,6 +3,7 @@
 program each command opens it."""
 from __future__ import annotations
 
+import dataclasses
 import fcntl
 import os
 import random
@@ -82,7 +83,7 @@ class Blocks(OfFiles):
                 change(database)
                 change(OfPath(other))
                 self.assertEqual(self.bytes_of(), other.read_bytes())
-        self.assertEqual((rrdi.info(self.file)["undoable"], self.bytes_of()), (5, other.read_bytes()))
+        self.assertEqual((rrdi.info(self.file).undoable, self.bytes_of()), (5, other.read_bytes()))
 
     def test_questions(self: Any) -> None:
         with rrdi.Database(self.create()) as database:
@@ -95,10 +96,10 @@ class Blocks(OfFiles):
                 lambda of: of.lastupdate(),
                 lambda of: of.fetch("AVERAGE", start=1_600_000_000, end=1_600_000_029),
                 lambda of: of.fetch("AVERAGE", start=1_600_000_020, end=1_600_000_020, values=Decimal),
-                lambda of: {**of.info(), "filename": ""}]
+                lambda of: dataclasses.replace(of.info(), filename="")]
             for ask in asked:
                 self.assertEqual(ask(database), ask(whole))
-            self.assertEqual(database.info()["filename"], str(self.file))
+            self.assertEqual(database.info().filename, str(self.file))
 
     def test_an_error_at_the_call(self: Any) -> None:
         with rrdi.Database(self.fill()) as database:
@@ -146,7 +147,7 @@ class Blocks(OfFiles):
             database.create(*BOTH, step=10, start=50, journal=5)
             database.update("60:1:2")
             self.assertEqual(self.last_in_file(), 60)
-        self.assertEqual((rrdi.last(self.file), rrdi.info(self.file)["journal"]), (60, 5))
+        self.assertEqual((rrdi.last(self.file), rrdi.info(self.file).journal), (60, 5))
 
     def test_create_in_a_block(self: Any) -> None:
         with rrdi.Database(self.fill()) as database:
@@ -274,6 +275,22 @@ class BlocksByLibrary(WithLibrary, Blocks, unittest.TestCase):
                 fcntl.flock(other, fcntl.LOCK_UN)
                 database.update((LAST + 10, 1, 20))
         self.assertEqual(rrdi.last(self.file), LAST + 10)
+
+    def test_open_and_close(self) -> None:
+        """A block without `with`."""
+        database = rrdi.Database(self.fill()).open()
+        database.update((LAST + 10, 1, 20))
+        self.assertTrue(self.is_locked())
+        for _ in range(2):
+            database.close()
+            self.assertFalse(self.is_locked())
+        self.assertEqual(database.last(), LAST + 10)
+        collecting = rrdi.Database(self.file, collect=True).open()
+        collecting.update((LAST + 20, 1, 20))
+        collecting.update((LAST + 20, 1, 20))
+        with self.assertRaises(rrdi.RefusedLines):
+            collecting.close()
+        self.assertEqual(rrdi.last(self.file), LAST + 20)
 
     def test_a_file_that_can_only_be_read(self) -> None:
         self.fill().chmod(0o444)

@@ -52,7 +52,7 @@ class Errors(unittest.TestCase):
             assert isinstance(error, OSError)
             self.assertEqual((error.errno, error.strerror, error.filename), (number, os.strerror(number), "f.rrdi"))
             self.assertEqual(str(error), f"f.rrdi: reason: {os.strerror(number)}")
-            error.path = "other"  # type: ignore[attr-defined]
+            error.path = "other"
             self.assertEqual(error.filename, "other")
         exists = rrdi.Exists("f.rrdi")
         self.assertEqual((exists.errno, exists.filename), (errno.EEXIST, "f.rrdi"))

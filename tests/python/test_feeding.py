@@ -285,7 +285,7 @@ class Writers(EachWriter, unittest.TestCase):
             wanted = Outcome(refused=((b"10:2", "not later than 10"), (b"x", "unreadable sample 1"),
                                       (b"\xff", "usage")))
             self.assertEqual(writer.write(name, [b"10:1", b"10:2", b"20:2", b"x", b"30:3", b"\xff"]), wanted)
-            self.assertEqual((rrdi.last(file), rrdi.info(file)["undoable"]), (30, 3))
+            self.assertEqual((rrdi.last(file), rrdi.info(file).undoable), (30, 3))
             with open(file, "rb") as other:
                 import fcntl
                 fcntl.flock(other, fcntl.LOCK_EX)

@@ -5,6 +5,7 @@ from __future__ import annotations
 
 import json
 import os
+import re
 import struct
 import subprocess
 import sys
@@ -186,6 +187,9 @@ class Package(unittest.TestCase):
             self.assertIsNotNone(getattr(rrdi, name))
         with self.assertRaises(AttributeError):
             getattr(rrdi, "graph")
+        pages = "".join((TOP / "docs" / page).read_text() for page in ("python.md", "export.md"))
+        words = set(re.findall(r"\w+", pages))
+        self.assertEqual([name for name in rrdi.__all__ if name not in words], [], "public names are documented")
 
     def test_without_a_library(self) -> None:
         """Without the C library the package can be imported, and its reader works; a command says what is missing."""

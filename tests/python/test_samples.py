@@ -5,6 +5,7 @@ from __future__ import annotations
 
 import datetime
 import functools
+import importlib
 import math
 import time
 import unittest
@@ -108,9 +109,112 @@ class Values(unittest.TestCase):
         self.assertEqual((span_word(datetime.timedelta(days=1)), span_word(None), span_word("5")), (86_400, None, "5"))
 
 
+class Number:
+    """A number of another library."""
+
+    def __init__(self, number: float):
+        self.number = number
+
+    def __float__(self) -> float:
+        return self.number
+
+
+class Whole:
+    """A whole number of another library."""
+
+    def __index__(self) -> int:
+        return 2**63 + 1
+
+
+class Forms(unittest.TestCase):
+    """The forms in which samples may be given."""
+
+    def test_iterables(self) -> None:
+        wanted = ["10:1:2.5", "20:U:3"]
+        samples = [(10, 1, 2.5), (20, None, 3)]
+        given: List[Any] = [samples, [samples], [iter(samples)], [[10, [1, 2.5]], (20, iter([None, 3]))],
+                            zip([10, 20], [(1, 2.5), (None, 3)]), [{10: (1, 2.5), 20: (None, 3)}.items()],
+                            [iter([10, 1, 2.5]), (part for part in (20, None, 3))], [(str(10), (1, 2.5)), "20:U:3"]]
+        for form in given:
+            self.assertEqual(sample_words(form), wanted)
+
+    def test_values_by_name(self) -> None:
+        self.assertEqual(sample_words([(10, {"g": 1, "c": 2.5})]), ["--template=g:c", "10:1:2.5"])
+        self.assertEqual(sample_words([[(10, {"g": 1}), ("N", {"c": None, "g": 3})], (30, {"c": 4})], None, 25),
+                         ["--template=g:c", "10:1:U", "25:3:U", "30:U:4"])
+        wrong: List[Tuple[List[Any], str]] = [
+            ([(10, {"g": 1}), (20, 2)], "in each sample"), ([(10, {"g": 1}), "20:2"], "in each sample"),
+            ([(10, {})], "no values"), ([(10, {5: 1})], "names of sample 1 must be text"),
+            ([(10, {"g": True})], "value g of sample 1 is True"), ([{"g": 1}], "not dict"), ([(10, 1, {"g": 1})], "of type dict")]
+        for samples, text in wrong:
+            with self.assertRaisesRegex(TypeError, text):
+                sample_words(samples)
+        with self.assertRaisesRegex(TypeError, "need no template"):
+            sample_words([(10, {"g": 1})], template="g")
+        for name in ("a:b", "", "a b", "x" * 20):
+            with self.assertRaisesRegex(rrdi.BadSample, "no such data source: sample 1 has the name"):
+                sample_words([(10, {name: 1})])
+        with self.assertRaisesRegex(rrdi.BadSample, "bad value: value g of sample 1 is inf"):
+            sample_words([(10, {"g": math.inf})])
+
+    def test_what_has_no_order(self) -> None:
+        unordered: List[Any] = [{10, 5}, frozenset((10, 5)), b"10", bytearray(b"10")]
+        for wrong in unordered:
+            given: List[List[Any]] = [[wrong], [(10, wrong)], [[wrong, 5]]]
+            for samples in given:
+                with self.assertRaises(TypeError):
+                    sample_words(samples)
+
+    def test_numbers_of_other_libraries(self) -> None:
+        self.assertEqual([value_text(value) for value in (Number(1.5), Number(1 / 3), Number(math.nan), Whole())],
+                         ["1.5", "0.333333", "U", str(2**63 + 1)])
+        for wrong, kind in ((Number(math.inf), ValueError), (object(), TypeError), ([1], TypeError), (1j, TypeError)):
+            with self.assertRaises(kind):
+                value_text(wrong)
+
+    def test_numpy(self) -> None:
+        try:
+            numpy: Any = importlib.import_module("numpy")
+        except ImportError:
+            self.skipTest("not installed: numpy")
+        times = numpy.array([10, 20], dtype="int64")
+        self.assertEqual(sample_words(zip(times, numpy.array([0.5, math.nan]))), ["10:0.5", "20:U"])
+        self.assertEqual(sample_words([numpy.array([[10, 0.5], [20, 1 / 3]])]), ["10:0.5", "20:0.333333"])
+        self.assertEqual(sample_words([(times[0], numpy.array([1.5, 2.5], dtype="float32"))]), ["10:1.5:2.5"])
+        self.assertEqual([value_text(value) for value in (
+            numpy.uint64(2**64 - 1), numpy.float32(0.1), numpy.array(2.5), numpy.int8(-3))],
+            [str(2**64 - 1), "0.1", "2.5", "-3"])
+        for wrong in (numpy.bool_(True), numpy.array([1.5, 2]), numpy.complex128(1)):
+            with self.assertRaises(TypeError):
+                value_text(wrong)
+
+    def test_pandas(self) -> None:
+        try:
+            pandas: Any = importlib.import_module("pandas")
+        except ImportError:
+            self.skipTest("not installed: pandas")
+        frame = pandas.DataFrame({"g": [1.5, None], "c": [1, 2]}, index=pandas.to_datetime([10, 20], unit="s", utc=True))
+        self.assertEqual(sample_words(frame.itertuples()), ["10:1.5:1", "20:U:2"])
+        self.assertEqual(sample_words(frame.iterrows()), ["10:1.5:1", "20:U:2"])
+        self.assertEqual(value_text(pandas.NA), "U")
+        with self.assertRaisesRegex(rrdi.BadSample, "has no zone"):
+            sample_words(frame.tz_localize(None).itertuples())
+        with self.assertRaises(rrdi.BadSample):
+            sample_words([(pandas.NaT, 1)])
+
+
 class Updates(OfFiles):
+    def test_values_by_name(self: Any) -> None:
+        rrdi.update(self.create(), (1_600_000_010, {"c": 5}), (1_600_000_020, {"g": 1.5, "c": 8}))
+        self.assertEqual(rrdi.lastupdate(self.file).values, {"g": 1.5, "c": 8.0})
+        with rrdi.Database(self.file) as database:
+            database.update((1_600_000_030, {"c": 9}))
+        self.assertEqual(rrdi.lastupdate(self.file).values, {"g": None, "c": 9.0})
+        with self.assertRaisesRegex(rrdi.Refused, "no such data source: there is no data source x; the file has g, c"):
+            rrdi.update(self.file, (1_600_000_040, {"x": 5}))
+
     def raw(self: Any) -> Any:
-        return list(rrdi.lastupdate(self.file, values=Decimal)["ds"].values())
+        return list(rrdi.lastupdate(self.file, values=Decimal).values.values())
 
     def test_numbers(self: Any) -> None:
         self.create("DS:g:GAUGE:100:U:U", "RRA:LAST:0.5:1:9")
@@ -127,7 +231,7 @@ class Updates(OfFiles):
         rrdi.update(self.file, (1_600_000_010, 2**64 - 1, -2**63, 0.5))
         self.assertEqual(self.raw(), [2**64 - 1, -2**63, Decimal("0.5")])
         # What was read goes back, also as a float or a number with a point, if it is whole.
-        last = rrdi.lastupdate(self.file, values=Decimal)["ds"]
+        last = rrdi.lastupdate(self.file, values=Decimal).values
         rrdi.update(self.file, [1_600_000_020, *last.values()])
         self.assertEqual(self.raw(), [2**64 - 1, -2**63, Decimal("0.5")])
         rrdi.update(self.file, (1_600_000_030, 5.0, Decimal("-7.00"), 1))
@@ -138,7 +242,7 @@ class Updates(OfFiles):
         begin = datetime.datetime.fromtimestamp(1_600_000_010, UTC)
         tick = datetime.timedelta(seconds=10, microseconds=1)
         rrdi.update(self.file, *[(begin + number * tick, number) for number in range(3)])
-        self.assertEqual((rrdi.last(self.file), rrdi.info(self.file)["undoable"]), (LAST, 1))
+        self.assertEqual((rrdi.last(self.file), rrdi.info(self.file).undoable), (LAST, 1))
         rrdi.update(self.file, (1_600_000_040.7, 1), "1600000041:2", [(1_600_000_042, 3)], ["1600000043", "4"])
         self.assertEqual(rrdi.last(self.file), 1_600_000_043)
         rrdi.update(self.file, ("N", 1))
@@ -154,10 +258,10 @@ class Updates(OfFiles):
             self.assertEqual(database.fetch("AVERAGE", start=begin, end=begin + datetime.timedelta(seconds=29)), found)
 
     def test_lastupdate_in_a_zone(self: Any) -> None:
-        date = rrdi.lastupdate(self.fill(), tz=UTC)["date"]
+        date = rrdi.lastupdate(self.fill(), tz=UTC).date
         self.assertEqual((date, date.utcoffset()), (datetime.datetime.fromtimestamp(LAST, UTC), datetime.timedelta(0)))
-        self.assertEqual(rrdi.Database(self.file).lastupdate(tz=UTC, values=Decimal)["date"], date)
-        self.assertIsNone(rrdi.lastupdate(self.file)["date"].tzinfo)
+        self.assertEqual(rrdi.Database(self.file).lastupdate(tz=UTC, values=Decimal).date, date)
+        self.assertIsNone(rrdi.lastupdate(self.file).date.tzinfo)
 
     def test_nothing_is_sent(self: Any) -> None:
         self.fill()

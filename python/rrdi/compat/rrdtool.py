@@ -14,18 +14,20 @@ from __future__ import annotations
 
 import builtins
 import time
-from typing import Callable, List, NoReturn, Optional, Tuple, Union
+from typing import Any, Callable, Dict, List, NoReturn, Optional, Tuple, Union
 
 from .. import __version__ as __version__
 from .. import commands
+from ..amounts import shortened
 from ..errors import Error, OperationalError, ProgrammingError
 from ..printed import Settings, settings_of
-from ..results import Info, LastUpdate, Table, info_of, last_update
+from ..results import Row, last_update
 from .resizing import RESIZED, resize_copy
 from .syntax import Untranslatable
 from .translate import Command, translate
 
 Words = Union[str, List[str]]
+Info = Dict[str, Union[str, int, float, None]]
 
 __all__ = ["OperationalError", "ProgrammingError", "clear_fetch_cb", "create", "dump", "fetch", "first", "flushcached",
            "graph", "graphv", "info", "last", "lastupdate", "lib_version", "list", "register_fetch_cb", "resize",
@@ -115,13 +117,14 @@ def resize(*words: Words) -> None:
             raise OperationalError("cannot open", error.filename, 0, None, error.errno or 0) from None
 
 
-def fetch(*words: Words) -> Table[float]:
+def fetch(*words: Words) -> Tuple[Tuple[int, int, int], Tuple[str, ...], List[Row[float]]]:
     """Returns rows: FILE FUNCTION [-r SECONDS] [-s START] [-e END] [-a]"""
     with _AsRrdtool():
         (_, file, *others), = _translated("fetch", words)
         if not others:
             raise OperationalError("fetch needs a FUNCTION", file)
-        return commands.fetch(file, *others)
+        found = commands.fetch(file, *others)
+        return (found.start, found.end, found.step), found.names, found.rows
 
 
 def first(*words: Words) -> int:
@@ -136,17 +139,34 @@ def last(*words: Words) -> int:
     return int(_printed("last", words)[1])
 
 
-def lastupdate(*words: Words) -> LastUpdate[float]:
+def lastupdate(*words: Words) -> Dict[str, Any]:
     """Returns the last raw values: FILE"""
     if not words:
         raise ProgrammingError("Missing filename argument")
-    return last_update(_printed("lastupdate", words)[1], float)
+    found = last_update(_printed("lastupdate", words)[1], float)
+    return {"date": found.date, "ds": found.values}
 
 
 def info(*words: Words) -> Info:
     """Returns the settings: FILE"""
     file, text = _printed("info", words)
-    return info_of(text, file)
+    return _by_keys(file, settings_of(text))
+
+
+def _by_keys(file: str, settings: Settings) -> Info:
+    """Returns settings by RRDtool's names, and those of the journal by rrdi's own names."""
+    found: Info = {"filename": file, "step": settings.step, "last_update": settings.last,
+                   "journal": settings.journal, "undoable": settings.undoable}
+    for number, source in enumerate(settings.sources):
+        bounds = [None if word == "U" else float(word) for word in (source.minimum, source.maximum)]
+        key = f"ds[{source.name}]"
+        found.update({f"{key}.index": number, f"{key}.type": source.type, f"{key}.minimal_heartbeat": source.heartbeat,
+                      f"{key}.min": bounds[0], f"{key}.max": bounds[1], f"{key}.last_ds": shortened(source.last_raw)})
+    for number, archive in enumerate(settings.archives):
+        key = f"rra[{number}]"
+        found.update({f"{key}.cf": archive.function, f"{key}.xff": float(archive.xff),
+                      f"{key}.pdp_per_row": archive.steps, f"{key}.rows": archive.rows})
+    return found
 
 
 def _printed(command: str, words: Tuple[object, ...]) -> Tuple[str, str]:

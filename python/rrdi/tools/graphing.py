@@ -10,7 +10,7 @@ from typing import List
 from ..kinds import is_of_rrdi
 from .command_line import Failure
 from .exponents import exponent
-from .librrd import PREFIX, Exported, Info, Librrd
+from .librrd import PREFIX, Exported, GraphInfo, Librrd
 from .rows import Rows, fetch
 from .rrdtool_output import Printed, lines_of
 
@@ -51,7 +51,7 @@ class Grapher:
         except locale.Error:
             pass
 
-    def draw(self, words: List[str]) -> List[Info]:
+    def draw(self, words: List[str]) -> List[GraphInfo]:
         return self.library.graph([rewrite(word) for word in words], rows_for)
 
     def graph(self, words: List[str]) -> Printed:
@@ -76,7 +76,7 @@ class Grapher:
                         as_xml(found, has_times, "--enumds" in words))
 
 
-def as_items(info: Info) -> Printed:
+def as_items(info: GraphInfo) -> Printed:
     """Returns a line as `rrdtool graphv` prints it, and the bytes of a picture after its line."""
     value = info.value
     if isinstance(value, bytes):

@@ -44,7 +44,7 @@ class _Info(ctypes.Structure):
 _Info._fields_ = [("key", ctypes.c_char_p), ("type", ctypes.c_int), ("value", _Value), ("next", Pointer(_Info))]
 
 
-class Info(NamedTuple):
+class GraphInfo(NamedTuple):
     """A line of RRDtool's information about a picture. The value is a number, a text or bytes."""
 
     key: str
@@ -153,7 +153,7 @@ class Librrd:
             raise self.failure
         raise Failure(text(self.library.rrd_get_error()).replace(PREFIX, "") or "RRDtool drew nothing")
 
-    def graph(self, words: List[str], question: Question) -> List[Info]:
+    def graph(self, words: List[str], question: Question) -> List[GraphInfo]:
         """Draws a picture and returns RRDtool's information about it.
 
         # Errors
@@ -169,7 +169,7 @@ class Librrd:
                 self.refuse()
             found, at = [], first
             while at:
-                found.append(Info(text(at.contents.key), value_of(at.contents)))
+                found.append(GraphInfo(text(at.contents.key), value_of(at.contents)))
                 at = at.contents.next
             return found
         finally:
