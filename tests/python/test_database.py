@@ -65,8 +65,9 @@ def outcome(command: Change, to: Any) -> object:
 
 class Blocks(OfFiles):
     def bytes_of(self: Any) -> bytes:
-        """Returns the bytes of the file, which may be locked."""
-        found: bytes = self.file.read_bytes()
+        """Returns the bytes that the file stands for: those of a copy after a command, since the file may be locked."""
+        self.last_in_file()
+        found: bytes = (self.folder / "copy").read_bytes()
         return found
 
     def last_in_file(self: Any) -> int:

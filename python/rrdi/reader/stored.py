@@ -28,7 +28,7 @@ def checksum(data: bytes) -> int:
     return total
 
 
-class Change(NamedTuple):
+class LogChange(NamedTuple):
     """A change in a log: the length of the database after it, its new bytes with their positions, and where it ends."""
 
     size: int
@@ -36,7 +36,7 @@ class Change(NamedTuple):
     end: int
 
 
-def read_change(read: Read, length: int, tail: int, at: int) -> Optional[Change]:
+def read_change(read: Read, length: int, tail: int, at: int) -> Optional[LogChange]:
     """Returns the right change at `at` in a file of this length, whose log begins at `tail`; None if there is none."""
     head = read(at, HEAD.size) if at < length else b""
     if len(head) < HEAD.size:
@@ -54,7 +54,7 @@ def read_change(read: Read, length: int, tail: int, at: int) -> Optional[Change]
         pieces.append((start, body[done - more:done]))
     if done != count or len(pieces) != number or any(start + len(data) > size for start, data in pieces):
         return None
-    return Change(size, pieces, at + HEAD.size + count)
+    return LogChange(size, pieces, at + HEAD.size + count)
 
 
 def in_pages(begin: int, end: int) -> Iterator[Tuple[int, int, int]]:
