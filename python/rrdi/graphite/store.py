@@ -7,11 +7,13 @@ import time
 from collections import Counter
 from typing import Callable, Dict, Iterable, List, Mapping, NamedTuple, Optional, Tuple
 
-from ..commands import batch
-from ..locks import identity_of
+from ..commands import Batch, batch
+from ..kept import KeptFile
+from ..locks import identity_at, identity_of
 from ..making import is_there, make
 from ..reader.selected import Front, OpenFile
 from ..waiting import MOST_OF_A_FILE, MOST_OF_ALL, newest, why
+from ..words import encoded_path
 from .late import plan
 from .layout import Template
 from .losses import Losses
@@ -159,19 +161,33 @@ def put(path: str, slots: Slots, known: Optional[Known]) -> Tried:
     front = (known or read_known(path)).front
     if min(slots) > front.last:
         return give(path, 0, lines_of(slots, front.last, front.step, front.sources > 1, front.depth), slots, {}, front.last)
-    with OpenFile(path) as file:
-        front, chosen = file.front, plan(file, slots)
-    counts = {"rewritten": chosen.put_in, "late": chosen.lost}
-    lines = lines_of(chosen.slots, chosen.last, front.step, front.sources > 1, front.depth)
-    return give(path, chosen.reverts, lines, chosen.slots, counts)
+    return put_late(path, slots)
 
 
-def give(path: str, reverts: int, lines: List[Line], slots: Slots, counts: Mapping[str, int], last: int = 0) -> Tried:
-    """Runs a batch. The slots of its refused lines are left, and all of them if the file's time is before `last`."""
+def put_late(path: str, slots: Slots) -> Tried:
+    """Gives slots of which some are late. The file stays locked from the look at it to its change, since the reverts would
+    also take back what another program gives meanwhile. (Where no file can stay open, nothing prevents that.)"""
+    kept = KeptFile(path)
+    try:
+        kept.run(["last"])  # opens and locks the file
+        with OpenFile(path, kept.has(identity_at(encoded_path(path)))) as file:
+            front, chosen = file.front, plan(file, slots)
+        counts = {"rewritten": chosen.put_in, "late": chosen.lost}
+        lines = lines_of(chosen.slots, chosen.last, front.step, front.sources > 1, front.depth)
+        return give(path, chosen.reverts, lines, chosen.slots, counts, run=kept.batch)
+    finally:
+        kept.close()
+
+
+def give(path: str, reverts: int, lines: List[Line], slots: Slots, counts: Mapping[str, int], last: int = 0,
+         run: Optional[Callable[[List[str]], Batch]] = None) -> Tried:
+    """Runs a batch, by `run` if the file is open. The slots of its refused lines are left, and all of them if the file's time
+    is before `last`."""
     if not lines:
         return Tried({}, counts)
     before = ["last"] if last else ["revert"] * reverts
-    ran = batch(path, before + [line.text for line in lines])
+    given = before + [line.text for line in lines]
+    ran = run(given) if run is not None else batch(path, given)
     refused: List[Tuple[int, str]] = [(one.number - 1 - len(before), one.reason) for one in ran.refused]
     if last and refused and refused[0][0] < 0:  # another program has taken the file away
         return Tried(slots, counts, refused[0][1])

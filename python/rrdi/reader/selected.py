@@ -12,7 +12,7 @@ from typing import Dict, Iterator, List, NamedTuple, Optional, Tuple, Type
 
 from ..amounts import Millionths
 from ..errors import Damaged
-from ..locks import SHARED, close, open_locked
+from ..locks import SHARED, close, open_locked, open_regular
 from .files import patience
 from .pieces import UNKNOWN, VERSIONS, Parts, Reader, not_ours, truncated
 from .stored import MARK, Stored
@@ -67,15 +67,15 @@ class Outline(NamedTuple):
 
 
 class OpenFile:
-    """A file that is read in parts.
+    """A file that is read in parts. `is_held` says that the caller holds the lock already, and is the only one to change it.
 
     # Errors
     - `OSError` if the file can't be opened, locked or read.
     - `Damaged` if its first pieces are no database's. Only the parts that are read are checked.
     """
 
-    def __init__(self, path: str):
-        self._opened = open_locked(path, SHARED, patience())
+    def __init__(self, path: str, is_held: bool = False):
+        self._opened = open_regular(path, patience()) if is_held else open_locked(path, SHARED, patience())
         try:
             self.file = self._opened.fileno()
             self._stored = Stored.of_file(self.file)
