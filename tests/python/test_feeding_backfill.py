@@ -3,17 +3,18 @@
 several feeders, kills."""
 from __future__ import annotations
 
+import fcntl
 import os
 import random
 import subprocess
 import sys
 import time
 import unittest
-from typing import Dict, List, NamedTuple, Optional
+from typing import Callable, Dict, List, NamedTuple, Optional, Tuple
 from unittest import mock
 
-from cases import HANG, DataCase, needs_library, needs_program, use_any_library
-from doubles import PROGRAM, TOP
+from cases import HANG, DataCase, needs_library, needs_program, use_any_library, use_library
+from doubles import PROGRAM, TOP, Program
 from process_case import ProcessCase, locked
 from tool_case import ToolCase, finished, taken
 
@@ -23,14 +24,19 @@ from rrdi.feeding.feeder import Feeder, FeedOptions
 from rrdi.feeding.grouped import GroupWriter
 from rrdi.feeding.ordering import in_order, seconds_of
 from rrdi.feeding.writers import BatchWriter, Outcome
+from rrdi.graphite import store as stores
 from rrdi.graphite.layout import template
 from rrdi.graphite.losses import Losses
 from rrdi.graphite.store import Store, StoreOptions
 from rrdi.library import load_library
+from rrdi.locks import open_file
+from rrdi.protocol import DONE, Answer, OpenedFile
 from rrdi.tools.command_line import Failure
 from rrdi.tools.fixing import backfill
+from rrdi.tools.fixing import held as held_files
 from rrdi.tools.fixing.backfill import BackfillWriter
-from rrdi.tools.fixing.held import HeldFile, PartlyStored
+from rrdi.tools.fixing.held import HeldFile, NotStored, PartlyStored, Session
+from rrdi.tools.fixing.trials import NoCopy
 
 GAUGE = ("DS:g:GAUGE:100:U:U", "RRA:AVERAGE:0.5:1:200", "RRA:MAX:0.5:4:50")
 SEVERAL = ("DS:g:GAUGE:900:U:U", "DS:c:COUNTER:900:0:U", "DS:d:DERIVE:900:U:U", "RRA:AVERAGE:0.5:1:600", "RRA:MIN:0.5:12:400",
@@ -232,6 +238,33 @@ class PutIn(BackfillCase):
         with mock.patch.object(backfill, "history_of", side_effect=MemoryError):
             self.assertEqual(self.put("25:2", "50:5"), Outcome(again="out of memory"))
 
+    def test_faults_that_may_pass(self) -> None:
+        """On a full disk, later samples are passed on, and late ones are tried again: none is lost."""
+        self.filled("f.rrdi", ["10:1", "30:3"])
+        full = NotStored(f"{os.fsdecode(self.path())}: cannot write: full")
+        with mock.patch.object(HeldFile, "store", side_effect=full):
+            self.assertEqual(self.put("20:2", "40:4"), Outcome(again="cannot write: full", left=(b"20:2",)))
+            self.check_like("10:1", "30:3", "40:4")
+            for second, both in ((Outcome(lost="gone"), Outcome(lost="gone", left=(b"20:2", b"60:6"))),
+                                 (Outcome(again="busy"), Outcome(again="busy", left=(b"20:2", b"60:6")))):
+                with mock.patch.object(self.writer().writer.__class__, "write", return_value=second):
+                    self.assertEqual(self.put("20:2", "60:6"), both)
+        with mock.patch.object(backfill, "history_of", side_effect=NoCopy("no room")):
+            self.assertEqual(self.put("20:2", "50:5"), Outcome(again="no room", left=(b"20:2",)))
+        self.assertEqual(self.put("20:2"), Outcome())
+        self.check_like("10:1", "20:2", "30:3", "40:4", "50:5")
+
+    def test_all_changes_are_taken_back(self) -> None:
+        """Another program does it after the look at the file. Then no sample is late any more."""
+        self.filled("f.rrdi", ["50:5"])
+
+        def taken_back(file: bytes) -> int:
+            self.rrdi("revert", "f.rrdi")
+            return 50
+        with mock.patch.object(backfill, "last_of", taken_back):
+            self.assertEqual(self.put("20:2"), Outcome())
+        self.check_like("20:2")
+
     def test_random_orders(self) -> None:
         """Whatever the order, the file is the one that got in order what was taken, and what is refused is too old."""
         for seed in range(6 * self.SIZE):
@@ -278,6 +311,17 @@ class PutInByProgram(PutIn):
 
     def writer(self) -> BackfillWriter:
         return BackfillWriter(BatchWriter(ByProgram(PROGRAM or "")))
+
+    def test_a_file_that_goes_away(self) -> None:
+        """The program, which then waits for a `create`, is not waited for."""
+        self.filled("f.rrdi", ["50:5"])
+        session_at: Callable[[str], Session] = held_files.session_at
+
+        def gone(path: str) -> Session:
+            os.unlink(path)
+            return session_at(path)
+        with mock.patch.object(held_files, "session_at", gone):
+            self.assertEqual(self.put("20:2"), Outcome(refused=((b"20:2", "no database"),)))
 
 
 @needs_program
@@ -376,6 +420,38 @@ class Tool(ProcessCase, BackfillCase):
 
 # ---- carbon
 
+class LockedFile:
+    """A file that is locked, except while the program runs a command on it."""
+
+    def __init__(self, path: bytes, library: Program):
+        self.path, self.library, self.is_open = path, library, True
+        self.file = open_file(os.fsdecode(path), os.O_RDWR)
+        fcntl.flock(self.file, fcntl.LOCK_EX | fcntl.LOCK_NB)
+
+    def unlocked(self, run: Callable[[], Answer]) -> Answer:
+        fcntl.flock(self.file, fcntl.LOCK_UN)
+        answer = run()
+        fcntl.flock(self.file, fcntl.LOCK_EX | fcntl.LOCK_NB)
+        return answer
+
+    def run(self, words: bytes, now: int) -> Answer:
+        return self.unlocked(lambda: self.library.run_file(self.path, words, now, 0, False))
+
+    def batch(self, lines: bytes, now: int) -> Answer:
+        return self.unlocked(lambda: self.library.batch_file(self.path, lines, now, 0, False))
+
+    def close(self) -> None:
+        self.is_open = False
+        self.file.close()
+
+
+class LockingLibrary(Program):
+    """The library by runs of the program, with files that stay open."""
+
+    def open(self, path: bytes, wait: int, syncs: bool) -> Tuple[Answer, Optional[OpenedFile]]:
+        return DONE, LockedFile(path, self)
+
+
 class CarbonStore(DataCase):
     """The store of carbon puts late points in by itself, as far as the journal of a metric reaches."""
 
@@ -407,3 +483,22 @@ class CarbonStore(DataCase):
             self.assertEqual((found["rewritten"] > 0, sum(found.values()) - found["rewritten"]), (True, 0))
             late.write("m", [(points[0][0], 1.0)])
             self.assertEqual(late.losses.take()["late"], 1)
+
+    @needs_program
+    def test_another_program(self) -> None:
+        """No update comes between the look at a file and the reverts, which would take it back: the file is locked."""
+        use_library(self, LockingLibrary())
+        store, outside = self.store("others"), []  # type: Store, List[int]
+        give = stores.give
+
+        def late(*words: object, **named: object) -> stores.Tried:
+            ran = subprocess.run([PROGRAM or "", "update", str(self.folder / "others/m.rrdi"), f"{self.NOW}:9"],
+                                 env={**os.environ, "RRDI_WAIT": "0"}, capture_output=True)
+            outside.append(ran.returncode)
+            return give(*words, **named)  # type: ignore[arg-type]
+        for at in (50, 40, 20):
+            store.write("m", [(self.NOW - at, 1.0)])
+        with mock.patch.object(stores, "give", late):
+            store.write("m", [(self.NOW - 30, 2.0)])
+        self.assertEqual(outside, [1])
+        self.assertEqual((store.losses.take()["rewritten"], store.waiting), (1, 0))

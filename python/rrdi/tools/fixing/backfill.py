@@ -16,8 +16,9 @@ from ...feeding.writers import NO_ROOM, TOO_OLD, Outcome, Writer
 from ...reader.selected import OpenFile
 from ..command_line import Failure
 from ..program import as_millionths
-from .held import HeldFile, NotOpened, PartlyStored, held
+from .held import HeldFile, NotOpened, NotStored, PartlyStored, held
 from .history import SAMPLE, History, OneSample, SentUpdate, history_of, wrong_change
+from .trials import NoCopy
 
 NOT_LATER = "not later than "  # begins rrdi's reason for refusing a late sample
 
@@ -40,14 +41,21 @@ class BackfillWriter:
         late = [sample for sample in samples if seconds_of(sample) <= last and is_sample(sample)]
         newer = [sample for sample in samples if not (seconds_of(sample) <= last and is_sample(sample))]
         first = put_in(file, late)
-        if first.again:
+        if first.again and first.left is None:
             return first
         if first.lost:  # the others may lie before some of those that are lost
             return first._replace(left=tuple(in_order([*(first.left or ()), *newer])))
         second = self.writer.write(file, newer) if newer else Outcome()
         if second.again or second.lost:
             second = second._replace(done=0, left=tuple(newer[second.done:]))
-        return put_overtaken(file, second._replace(refused=first.refused + second.refused))
+        outcome = put_overtaken(file, second._replace(refused=first.refused + second.refused))
+        return with_left(outcome, first) if first.again else outcome
+
+
+def with_left(outcome: Outcome, late: Outcome) -> Outcome:
+    """Returns an outcome with the samples that another one has left to be tried again."""
+    left = tuple(in_order([*(late.left or ()), *(outcome.left or ())]))
+    return outcome._replace(again="" if outcome.lost else outcome.again or late.again, left=left)
 
 
 def is_sample(sample: bytes) -> bool:
@@ -78,7 +86,11 @@ def put_overtaken(file: bytes, outcome: Outcome) -> Outcome:
 
 
 def put_in(file: bytes, late: List[bytes]) -> Outcome:
-    """Puts in late samples. If that fails, the file is as it was."""
+    """Puts in late samples. If that fails, the file is as it was.
+
+    They can be tried again at any time, since those that are there are passed over. If the outcome has them as `left`, the
+    file could be opened, and may take other samples.
+    """
     if not late:
         return Outcome()
     path = os.fsdecode(file)
@@ -87,6 +99,8 @@ def put_in(file: bytes, late: List[bytes]) -> Outcome:
             return put_in_held(opened, late)
     except NotOpened as failed:
         return Outcome(again=without_path(failed, path))
+    except (NotStored, NoCopy) as failed:
+        return Outcome(again=without_path(failed, path), left=tuple(late))
     except Failure as failed:
         return Outcome(refused=tuple((sample, without_path(failed, path)) for sample in late))
     except MemoryError:
@@ -226,6 +240,7 @@ class Sent(NamedTuple):
 def sent_with(reach: Reach, chosen: List[LateSample]) -> Sent:
     """Returns what puts in the chosen samples by as few reverts as possible."""
     earliest = min(one.sample.time for one in chosen)
-    count = next(number for number, change in enumerate(reach.changes, 1) if change.before < earliest)
+    # Another program may have taken back all changes, so that no sample is late any more.
+    count = next((number for number, change in enumerate(reach.changes, 1) if change.before < earliest), 0)
     kept = [LateSample(change.samples[0]) for change in reach.changes[:count]]
     return Sent(count, sorted([*kept, *chosen], key=lambda one: one.sample.time))

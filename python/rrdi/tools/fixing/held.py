@@ -12,7 +12,7 @@ from typing import Iterator, List, Optional, Protocol
 from ...by_program import as_argument
 from ...choice import chosen_library, program_path
 from ...environment import milliseconds, sync_of_environment
-from ...errors import ERROR, LOCKED, reasons_in
+from ...errors import ERROR, LOCKED, NO_FILE, reasons_in
 from ...locks import NO_LOCKS, SHARED, Identity, close, flock, identity_at, identity_of, open_regular
 from ...protocol import Library, OpenedFile
 from ...reader import settled
@@ -25,6 +25,7 @@ TRIES = 10  # of an opening, if another file takes the name each time
 PIPE_SIZE, SET_PIPE_SIZE = 1032, 1031  # Linux's F_GETPIPE_SZ and F_SETPIPE_SZ, which Python 3.8 does not name
 ATOMIC = 4_096  # bytes that a pipe takes whole on every Linux
 LAST = re.compile(rb"[0-9]+\n")  # what `last` prints
+REFUSED_LAST = f"{ERROR}{NO_FILE}\n".encode()  # what it prints, and all other lines too, if the file is gone
 OLD_VERSION = b"RRDI\0\1"
 NO_LOCK = "the file system has no locks, and no old sample is changed without one"
 MAY_PASS = ("cannot open", "out of memory")  # begin the reasons that another try may not meet
@@ -32,6 +33,10 @@ MAY_PASS = ("cannot open", "out of memory")  # begin the reasons that another tr
 
 class NotOpened(Failure):
     """The file could not be opened, locked or read as one file. Nothing was changed, and a later try may do."""
+
+
+class NotStored(Failure):
+    """The file could not be written, or has lost its name meanwhile: the file of the name is as it was."""
 
 
 class PartlyStored(CommandFailed):
@@ -133,6 +138,8 @@ class ProgramSession:
             found.append(self._line())
             if not found[-1] or LAST.fullmatch(found[-1]):
                 break
+            if found[-1] == REFUSED_LAST:
+                raise CommandFailed(NO_FILE)
         if sent < len(text) or not found[-1]:
             self._check_end()
             raise CommandFailed(f"{program_path()} has ended")
@@ -187,7 +194,7 @@ class HeldFile:
         """Stores a change.
 
         # Errors
-        `PartlyStored` if only a part was stored, and `Failure` if it could not be written, or if the file has lost its name
+        `PartlyStored` if only a part was stored, and `NotStored` if it could not be written, or if the file has lost its name
         meanwhile.
         """
         try:
@@ -195,9 +202,9 @@ class HeldFile:
         except PartlyStored as failed:
             raise PartlyStored(failed.of_file(self.path)) from None
         except CommandFailed as failed:
-            raise Failure(failed.of_file(self.path)) from None
+            raise NotStored(failed.of_file(self.path)) from None
         if identity_at(as_bytes(self.path)) != self.identity:
-            raise Failure(f"{self.path}: another file took the name meanwhile; the file that had it before is changed")
+            raise NotStored(f"{self.path}: another file took the name meanwhile; the file that had it before is changed")
 
 
 @contextmanager

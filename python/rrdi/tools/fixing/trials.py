@@ -17,6 +17,10 @@ from ..program import CommandFailed
 NO_TIME = 0  # what N stands for: no line of these tools has one
 
 
+class NoCopy(Failure):
+    """The system has no room for a copy, or refuses it. Nothing was changed, and a later try may do."""
+
+
 class AfterTrial(NamedTuple):
     """The database after some lines, as the bytes of its file, what the lines printed, and the numbers of those that were
     refused; the first line is 1."""
@@ -81,7 +85,7 @@ def by_program(program: str, folder: Optional[str] = None) -> Trial:
         except NoAnswer as none:
             raise not_run(none) from None
         except OSError as error:
-            raise Failure(f"cannot make a copy to try the change on: {error_text(error)}") from None
+            raise NoCopy(f"cannot make a copy to try the change on: {error_text(error)}") from None
     return tried
 
 
