@@ -204,6 +204,36 @@ class Pages(ToolCase):
         self.assertEqual(self.page("new.rrdi.html").count("No value is known in this time"), 4)
         self.assertIn("No value is known in this day.", self.page("index.html"))
 
+    def test_files_of_others(self) -> None:
+        """A page takes the place of a page only."""
+        self.database("tree/sub/a.rrdi")
+        (self.folder / "out/sub").mkdir(parents=True)
+        self.write("out/sub/a.rrdi.html", b"mine")
+        ran = self.draw("--jobs", "1")
+        self.assertEqual((ran.status, ran.out), (1, "1 file drawn; 1 not drawn\n"))
+        stays = "a.rrdi.html: rrdi-plot has not made this file, which stays as it is\n"
+        self.assertEqual(ran.err, f"rrdi-plot: tree/sub/a.rrdi: not drawn: out/sub/{stays}")
+        self.write("out/index.html", b"<!DOCTYPE html>\n<html lang=\"en\"><head><title>Home</title>" + bytes(200))
+        before = self.read("out/load.rrdi.html"), self.read("out/index.html")
+        self.assertEqual(self.draw(), Ran(1, "", f"rrdi-plot: out/{stays.replace('a.rrdi', 'index')}"))
+        self.assertEqual((self.read("out/load.rrdi.html"), self.read("out/index.html")), before)
+        self.assertEqual(self.read("out/sub/a.rrdi.html"), b"mine")
+
+    def test_what_a_kill_has_left(self) -> None:
+        left = self.folder / "out/.rrdi-0123456789abcdef.new"
+        left.parent.mkdir()
+        left.write_text("half a page")
+        os.utime(left, (START, START))
+        self.assertEqual(self.draw().status, 0)
+        self.assertFalse(left.exists())
+
+    def test_rows_of_a_second(self) -> None:
+        """A year has 31 million of them. Only those that the file can have are read."""
+        self.create("tree/load.rrdi", "DS:g:GAUGE:700:U:U", "RRA:AVERAGE:0.5:1:400", start=START, step=1)
+        self.rrdi("update", "tree/load.rrdi", f"{START + 300}:1", f"{START + 500}:2")
+        self.assertEqual(self.draw("-e", str(START + 500)).status, 0)
+        self.assertEqual(len(Parts(self.page("load.rrdi.html")).classes("line c0")), 4)
+
     def test_a_full_disk(self) -> None:
         """The old page stays if the new one cannot be written."""
         self.assertEqual(self.draw().status, 0)

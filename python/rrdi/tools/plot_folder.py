@@ -2,13 +2,15 @@
 """Draws all databases below a directory as pages for a browser."""
 from __future__ import annotations
 
+import errno
 import os
 import time
 from functools import partial
 from typing import Dict, List, NamedTuple, Optional, Set
 
 from ..kinds import RRDTOOL_MARK, first_bytes
-from ..making import NewFile
+from ..locks import open_regular
+from ..making import NewFile, is_there, remove_left_over
 from ..words import in_one_line
 from . import program
 from .children import ChildAnswer, answers
@@ -18,7 +20,7 @@ from .plotting.asked import PlotOptions
 from .plotting.columns import NothingToDraw
 from .plotting.composing import picture_of, span
 from .plotting.gnuplot import Picture
-from .plotting.pages import INDEX, PAGE_END, NotDrawn, Section, age_text, card, file_page, index_page
+from .plotting.pages import BEGIN, INDEX, PAGE_END, NotDrawn, Section, age_text, card, file_page, index_page
 from .spans import DAY, time_text, zone_of
 
 LENGTHS = {"Day": DAY, "Week": 7 * DAY, "Month": 31 * DAY, "Year": 366 * DAY}
@@ -54,16 +56,29 @@ def section(asked: PagesAsked, path: str, name: str, until: int, size: Dict[str,
     return Section(name, begin, until, picture_or_none(asked.of_file(path, {**times, **size})))
 
 
-def write_page(path: str, text: str) -> None:
-    """Writes a page, which gets its name when it is complete.
+def check_page(path: str) -> None:
+    """Checks that a file is a page, so that another one may take its place.
 
     # Errors
-    `OSError` if the system refuses it.
+    `OSError` if it is not, or cannot be read.
+    """
+    with open_regular(path) as file:
+        if file.read(len(BEGIN)) != BEGIN.encode():
+            raise FileExistsError(errno.EEXIST, "rrdi-plot has not made this file, which stays as it is", path)
+
+
+def write_page(path: str, text: str) -> None:
+    """Writes a page, which gets its name when it is complete, in place of an older page and of no other file.
+
+    # Errors
+    `OSError` if there is another file, or the system refuses the page.
     """
     with NewFile(path, makes_folder=True) as made:
         with open(made.unfinished, "x", encoding="utf-8") as written:
             written.write(text)
-        made.replace()
+        if not made.appear():
+            check_page(made.path)
+            made.replace()
 
 
 def draw_file(asked: PagesAsked, file: OldFile) -> str:
@@ -99,10 +114,15 @@ def draw_folder(asked: PagesAsked, tool: str) -> int:
     - `Failure` if there is none.
     - `OSError` if the directory can't be read, or the page of all files can't be written.
     """
+    index = os.path.join(asked.into, INDEX)
+    if is_there(index):
+        check_page(index)
     found = list(found_below(asked.tree, (NEW_END, RRDTOOL_END)))
     files = [file for file in found if file.path.endswith(NEW_END) or first_bytes(file.path) != RRDTOOL_MARK]
     if not files:
         raise Failure(f"{asked.tree}: there is no database below it")
+    for folder in dict.fromkeys(os.path.dirname(os.path.join(asked.into, name)) for name in (INDEX, *(one.name for one in files))):
+        remove_left_over(folder)  # a run that was killed has left it
     progress, cards, refused = Progress("drawing"), [], []
     for number, (file, answer) in enumerate(answers(files, partial(drawn_or_reason, asked), asked.jobs), 1):
         if answer.is_done:
@@ -114,7 +134,7 @@ def draw_folder(asked: PagesAsked, tool: str) -> int:
         progress.show(number, len(files))
     progress.end()
     title = asked.values.get("title", os.path.basename(os.path.abspath(asked.tree)))
-    write_page(os.path.join(asked.into, INDEX), index_page(title, cards, refused))
+    write_page(index, index_page(title, cards, refused))
     passed_over = len(found) - len(files)
     print(f"{counted(len(cards), 'file')} drawn" + (f"; {len(refused)} not drawn" if refused else "")
           + (f"; {passed_over} of RRDtool passed over" if passed_over else ""))

@@ -13,7 +13,7 @@ from .. import program
 from ..command_line import Failure
 from ..spans import DAY, length_text, span_of, time_text, zone_of
 from .asked import PlotOptions, read_bounds, read_size
-from .columns import Columns, Curve, chosen, columns_of, group_size, grouped, limits, series_of, since_known
+from .columns import Columns, Curve, NothingToDraw, chosen, columns_of, group_size, grouped, limits, series_of, since_known
 from .gnuplot import Picture
 from .legend import legend_of
 from .look import DARK, EDGE, LEAST_PLOT_HEIGHT, LIGHT, UNTITLED, plot_height, size_of, title_room
@@ -23,6 +23,7 @@ from .spikes import CutMark, cut_curve, cut_marks, range_of
 MOST_BANDS = 4  # more of them hide each other
 ROW_WIDTH = 1.75  # points of a row that is chosen for the picture
 NARROWEST = 0.5  # points of a row that is drawn by itself
+LEAST_ROOM = 8  # points for the rows of a file, on a page of a longer time
 SMALL_LETTER, LARGE_LETTER = 6.4, 9.4  # points: the width of a letter below the title, and of the title
 
 
@@ -119,9 +120,25 @@ class Shown(NamedTuple):
     has_band: bool
 
 
+def oldest_row(settings: Settings, function: str) -> int:
+    """Returns the time at which the oldest row of a function begins; 0 if there is no such row."""
+    return min((max((settings.last // seconds - archive.rows) * seconds, 0) for seconds, archive in (
+        (settings.resolution(number), archive) for number, archive in enumerate(settings.archives))
+        if archive.function == function), default=0)
+
+
 def shown(options: PlotOptions, settings: Settings, function: str, width: int) -> Shown:
-    """Reads the rows, and chooses the sources and the band."""
+    """Reads the rows, and chooses the sources and the band.
+
+    A page has a year of each file, and of a file with rows of seconds this may be millions: only those that the file can have
+    are read, and drawn on their part of the width.
+    """
     begin, until = span(settings, options)
+    if not options.picture:
+        first = max(begin, oldest_row(settings, function))
+        if first >= until:
+            raise NothingToDraw
+        begin, width = first, max(width * (until - first) // (until - begin), LEAST_ROOM)
     rows = fetch_for(options, function, width, begin, until)
     names = options.values["source"].split(",") if "source" in options.values else rows.names
     rows, low, high = drawn(options, settings, function, chosen(rows, names), width)

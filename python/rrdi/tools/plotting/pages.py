@@ -15,6 +15,9 @@ from .numbers import number_text
 from .svg import STYLES, svg_of
 
 PAGE_END, INDEX = ".html", "index.html"
+# Begins each page, so that no other file is taken for one.
+BEGIN = """<!DOCTYPE html>
+<html lang="en"><head><meta charset="utf-8"><meta name="generator" content="rrdi-plot">"""
 AGAIN = 300  # seconds after which a browser reads a page again
 LAYOUT = """body{margin:0 auto;padding:1.5rem;max-width:60rem;background:var(--ground);color:var(--text);
 font:15px/1.45 sans-serif}
@@ -41,7 +44,7 @@ def link_to(name: str) -> str:
 
 
 def page(title: str, kind: str, parts: Sequence[str]) -> str:
-    return "\n".join(["<!DOCTYPE html>", '<html lang="en"><head><meta charset="utf-8">',
+    return "\n".join([BEGIN,
                       f'<meta http-equiv="Content-Security-Policy" content="{POLICY}">',
                       '<meta name="viewport" content="width=device-width">', f'<meta http-equiv="refresh" content="{AGAIN}">',
                       f"<title>{title}</title><style>", STYLES, LAYOUT, f'</style></head><body class="{kind}">', *parts,
