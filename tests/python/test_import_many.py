@@ -17,6 +17,9 @@ from doubles import TOP
 from test_tools_moving import DUMP
 from tool_case import NO_RRDTOOL, RRDTOOL, Ran, ToolCase
 
+from rrdi.importing.dump import Refusal
+from rrdi.tools import importer
+from rrdi.tools.command_line import Failure
 from rrdi.tools.import_many import Bar, OldFile
 
 WHOLE = DUMP.replace("COMPUTE", "GAUGE")
@@ -42,6 +45,15 @@ class Bars(unittest.TestCase):
 
 
 @needs_program
+class Refusals(unittest.TestCase):
+    def test_one_line(self) -> None:
+        """A reason has texts of the old file, with anything in them."""
+        with patch.object(importer, "import_one", side_effect=Refusal("unknown function 'M\n\x1b[2J'")):
+            with self.assertRaises(Failure) as raised:
+                importer.convert(["a\nb.rrd"])
+        self.assertEqual(str(raised.exception), "a?b.rrd: unknown function 'M??[2J'")
+
+
 class Many(ToolCase):
     """Each old file begins as RRDtool's do and has the dump after that."""
 

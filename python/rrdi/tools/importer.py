@@ -145,7 +145,8 @@ def convert(words: List[str]) -> int:
         return import_one(arguments.old[0], arguments.new, arguments.journal)
     except Refusal as refusal:
         old = arguments.old[0]
-        raise Failure(str(refusal) if old in str(refusal) else f"{old}: {refusal}") from None
+        reason = str(refusal)  # it may have texts of the old file in it
+        raise Failure(in_one_line(reason if old in reason else f"{old}: {reason}")) from None
 
 
 TOOL = Tool("rrdi-import", "[--journal DEPTH] OLD.rrd|OLD.wsp [NEW.rrdi]\n"
