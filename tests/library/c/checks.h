@@ -105,6 +105,18 @@ static inline size_t bytes_of(const char *path, uint8_t *bytes) {
     return got;
 }
 
+/* The bytes for which an open file stands, while changes wait in its log: a command brings those of a copy into place. */
+static inline size_t stands_for(const char *path, uint8_t *bytes) {
+    static uint8_t kept_output[sizeof output];
+    struct rrdi_answer kept = answer;
+    memcpy(kept_output, output, sizeof output);
+    put("copy", bytes, bytes_of(path, bytes));
+    run_file("copy", WORDS("last"), 0);
+    memcpy(output, kept_output, sizeof output);
+    answer = kept;
+    return bytes_of("copy", bytes);
+}
+
 /* Prints how much was tried. Returns the status of the program. */
 static inline int end(void) {
     printf("%d tests: %d wrong\n", count, wrong);

@@ -432,18 +432,6 @@ static void test_opening(void) {
     want(gave(RRDI_OK, false, "0\n"), "a file that was let go of");
 }
 
-/* The bytes for which an open file stands, while changes wait in its log: a command brings those of a copy into place. */
-static size_t stands_for(const char *path, uint8_t *bytes) {
-    static uint8_t kept_output[sizeof output];
-    struct rrdi_answer kept = answer;
-    memcpy(kept_output, output, sizeof output);
-    put("copy", bytes, bytes_of(path, bytes));
-    run_file("copy", WORDS("last"), 0);
-    memcpy(output, kept_output, sizeof output);
-    answer = kept;
-    return bytes_of("copy", bytes);
-}
-
 static size_t length_of(const char *path) {
     static uint8_t bytes[1 << 16];
     return stands_for(path, bytes);

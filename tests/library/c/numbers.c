@@ -145,7 +145,7 @@ static void same_update(uint64_t time, size_t number, uint32_t fault, const char
     if (number > 0)
         want(gave(fault, !fault, text), "the same update in words");
     size_t length = bytes_of("other", other);
-    want(bytes_of("one", one) == length && !memcmp(one, other, length), "the file of an update");
+    want(stands_for("one", one) == length && !memcmp(one, other, length), "the file of an update");
 }
 
 static void all_whole(int64_t number) {
