@@ -153,7 +153,9 @@ class Blocks(OfFiles):
     def test_create_in_a_block(self: Any) -> None:
         with rrdi.Database(self.fill()) as database:
             self.assertEqual(database.last(), LAST)
-            database.create(*ONE, exist_ok=True)
+            database.create(*BOTH, step=10, exist_ok=True)
+            with self.assertRaises(rrdi.Different):
+                database.create(*ONE, step=10, exist_ok=True)
             with self.assertRaises(rrdi.Exists):
                 database.create(*ONE)
             self.assertEqual(database.last(), LAST)
