@@ -492,7 +492,7 @@ def test_changed_bytes_find(answer: tuple[int, str, str], more: str, is_right: b
     assert planted.tried[test_odd_files.CHANGED] == 255
 
 
-@pytest.mark.parametrize("more, wrong", [("", 2), ('printf RRDI | dd of="$2" conv=notrunc 2>/dev/null', 253)])
+@pytest.mark.parametrize("more, wrong", [("", 1), ('printf RRDI | dd of="$2" conv=notrunc 2>/dev/null', 254)])
 def test_changed_marks_find(more: str, wrong: int, folder: Path, planted: Check) -> None:
     test_odd_files.change(fakes.answering(folder / "it", more=more), folder, b"RRDI\0\2", 3, planted)
     assert len(planted.faults) == wrong

@@ -38,8 +38,8 @@ from support.program import KILLED, WITH_REASON, Answer, Program, error, parted,
 
 FAILED = "calls that failed"
 # The least numbers of tries, in the short mode and with --long.
-LEAST = {FAILED: 950, "runs": 11_000, "short calls": 1_900, "interrupted calls": 700, "writes cut for good": 1_000}
-LEAST_LONG = {FAILED: 5_500, "runs": 62_000}
+LEAST = {FAILED: 950, "runs": 9_500, "short calls": 1_400, "interrupted calls": 680, "writes cut for good": 450}
+LEAST_LONG = {FAILED: 5_500, "runs": 54_000}
 # The faults that may be reported if a call of this kind fails.
 FAULTS = {
     "open": {"cannot open", "cannot write"}, "fcntl": {"cannot open", "cannot write"},
