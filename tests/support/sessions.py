@@ -86,6 +86,10 @@ def of_program(source: str) -> str:
     return TRIED_IN_C.format(source="".join(f"{INPUT}{line}\n" for line in lines)) if lines else ""
 
 
+# The manual page that is made of docs/commands.md, whose commands are run there.
+MADE = "rrdi.1"
+
+
 def count_shown(text: str) -> int:
     """Returns how many lines of a page look like commands."""
     return sum(bool(SHOWN.match(line)) for line in text.splitlines())
@@ -102,6 +106,8 @@ def sessions(top: Path) -> dict[str, list[Command]]:
     `ValueError` if a page shows a command in another form, which nobody would run."""
     found: dict[str, list[Command]] = {}
     for path in pages(top):
+        if path.name == MADE:
+            continue
         text, name = path.read_text(encoding="utf-8"), str(path.relative_to(top))
         commands = commands_of(text if path.suffix == ".md" else of_manual(text))
         if len(commands) != count_shown(text):
