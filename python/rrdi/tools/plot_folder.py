@@ -121,7 +121,8 @@ def draw_folder(asked: PagesAsked, tool: str) -> int:
     files = [file for file in found if file.path.endswith(NEW_END) or first_bytes(file.path) != RRDTOOL_MARK]
     if not files:
         raise Failure(f"{asked.tree}: there is no database below it")
-    for folder in dict.fromkeys(os.path.dirname(os.path.join(asked.into, name)) for name in (INDEX, *(one.name for one in files))):
+    names = (INDEX, *(file.name for file in files))
+    for folder in dict.fromkeys(os.path.dirname(os.path.join(asked.into, name)) for name in names):
         remove_left_over(folder)  # a run that was killed has left it
     progress, cards, refused = Progress("drawing"), [], []
     for number, (file, answer) in enumerate(answers(files, partial(drawn_or_reason, asked), asked.jobs), 1):
