@@ -68,19 +68,22 @@ impl Explanation {
             '\r' => self.push_bytes(b"\\r"),
             '\t' => self.push_bytes(b"\\t"),
             other if is_hidden(other) => self.push_code(other),
-            other => {
-                let mut buffer = [0; 4];
-                self.push_bytes(other.encode_utf8(&mut buffer).as_bytes())
-            }
+            other => self.push_plain(other),
         }
     }
 
     // Adds the code of a character.
     fn push_code(&mut self, character: char) -> Result<(), AllocError> {
         for part in character.escape_unicode() {
-            self.push_byte(part as u8)?;
+            self.push_plain(part)?;
         }
         Ok(())
+    }
+
+    // Adds a character as it is.
+    fn push_plain(&mut self, character: char) -> Result<(), AllocError> {
+        let mut buffer = [0; 4];
+        self.push_bytes(character.encode_utf8(&mut buffer).as_bytes())
     }
 
     // Adds the bytes of a character.

@@ -131,7 +131,7 @@ fn command_meant(alloc: Global, word: &str) -> Option<&'static str> {
 fn no_command(alloc: Global, word: &str) -> Misuse {
     if let Some(instead) = instead_of(alloc, word) {
         let says = format!(in alloc; "there is no command {word}; {instead}").ok();
-        return Misuse::new(alloc, says, "");
+        return Misuse::new(alloc, says, None);
     }
     let meant = command_meant(alloc, word);
     let says = match meant {
@@ -141,20 +141,21 @@ fn no_command(alloc: Global, word: &str) -> Misuse {
         ),
         None => format!(in alloc; "there is no command {}", Shown(word)),
     };
-    Misuse::new(alloc, says.ok(), meant.unwrap_or(""))
+    Misuse::new(alloc, says.ok(), meant)
 }
 
 impl Misuse {
-    // Creates a misuse with this explanation, if there is one, and the usage of the command of this name.
-    fn new(alloc: Global, says: Option<String>, command: &str) -> Misuse {
+    // Creates a misuse with this explanation and the usage of the command of this name, if they are known.
+    fn new(alloc: Global, says: Option<String>, command: Option<&str>) -> Misuse {
         let explanation = match says {
             Some(text) => Explanation::new(alloc, &text).ok(),
             None => None,
         };
-        Misuse {
-            explanation,
-            usage: text_of(alloc, command),
-        }
+        let usage = match command {
+            Some(command) => text_of(alloc, command),
+            None => None,
+        };
+        Misuse { explanation, usage }
     }
 }
 
@@ -164,15 +165,15 @@ impl Misuse {
 /// If memory runs out, less is said.
 pub fn misuse_of(alloc: Global, arguments: &[&str], now: u64) -> Misuse {
     let [command, words @ ..] = arguments else {
-        return Misuse::new(alloc, None, "");
+        return Misuse::new(alloc, None, None);
     };
     if *command == "-" {
         let says =
             "- is no command; rrdi-rrdtool - reads commands as RRDtool does, and rrdi batch its own";
-        return Misuse::new(alloc, String::from_str(alloc, says).ok(), "");
+        return Misuse::new(alloc, String::from_str(alloc, says).ok(), None);
     }
     if begins_with_minus(command) {
-        return Misuse::new(alloc, None, "");
+        return Misuse::new(alloc, None, None);
     }
     let is_known = match lines_of(alloc, command) {
         Ok(lines) => !lines.is_empty(),
@@ -181,5 +182,9 @@ pub fn misuse_of(alloc: Global, arguments: &[&str], now: u64) -> Misuse {
     if !is_known {
         return no_command(alloc, command);
     }
-    Misuse::new(alloc, wrong_words(alloc, command, words, now), command)
+    Misuse::new(
+        alloc,
+        wrong_words(alloc, command, words, now),
+        Some(command),
+    )
 }
