@@ -6,7 +6,8 @@ For each call that opens, locks, queries, truncates, syncs, reads or writes:
 - The call fails, alone, and with each later call that changes a file. A failed sync of a change must be reported, unless
   it comes when a file is closed that stayed open.
 - A signal interrupts the call once, and 1,000 times in succession. 1,001 times may be a fault.
-- The call moves only some of its bytes. The next call of the same kind on that file moves another number, or fails.
+- The call moves only some of its bytes. The next call of the same kind on that file moves another number, or fails. The
+  one write of a small file may be a fault then; every other call is made again.
 - The disk is full: from this call on, no byte after some of the bytes of a written file can be written.
 - The call moves only some of its bytes, 1,001 later ones are interrupted, and then a kill ends the program.
 - Another program holds the lock, once, and ten times in succession; with RRDI_WAIT=0 always.
@@ -38,8 +39,8 @@ from support.program import KILLED, WITH_REASON, Answer, Program, error, parted,
 
 FAILED = "calls that failed"
 # The least numbers of tries, in the short mode and with --long.
-LEAST = {FAILED: 950, "runs": 9_500, "short calls": 1_400, "interrupted calls": 680, "writes cut for good": 450}
-LEAST_LONG = {FAILED: 5_500, "runs": 54_000}
+LEAST = {FAILED: 1_080, "runs": 11_900, "short calls": 1_900, "interrupted calls": 680, "writes cut for good": 1_050}
+LEAST_LONG = {FAILED: 5_500, "runs": 62_000}
 # The faults that may be reported if a call of this kind fails.
 FAULTS = {
     "open": {"cannot open", "cannot write"}, "fcntl": {"cannot open", "cannot write"},
@@ -84,6 +85,11 @@ def is_reason(reason: str, why: int | None) -> bool:
 
 def writes_mark(call: calls_between.Event) -> bool:
     return call.kind == "pwrite" and call.at == 0 and call.size <= MARK
+
+
+def writes_page(call: calls_between.Event) -> bool:
+    """Checks whether one write is the whole change."""
+    return call.kind == "pwrite" and call.at == 0 and call.size > MARK
 
 
 class Faults:
@@ -276,15 +282,18 @@ class Faults:
 
     def try_short(self, number: int, call: calls_between.Event, what: str, faults: set[str]) -> None:
         half, most = max(call.size // 2, 1), max(call.size - 1, 1)
-        # The one write of a file of one page is taken back, and not made again.
-        is_page = call.kind == "pwrite" and call.at == 0 and not writes_mark(call)
         for count in sorted({1, half, most}):
-            self.run(f"{what} moves {count} bytes", faults, must_be_whole=not is_page, CALL=number, MOVES=[count])
+            self.run(f"{what} moves {count} bytes", faults, must_be_whole=not writes_page(call), CALL=number,
+                     MOVES=[count])
             self.check.count("short calls")
-        # No system writes a part of a mark twice.
-        for moves in [] if writes_mark(call) else ([half, 1], [1, half], [most, half], [half, -1], [half, 1, -1],
-                                                   [1, half, -1]):
-            self.run(f"{what} moves {moves} bytes, one call after the other", faults, CALL=number, MOVES=moves)
+        # If a write of a mark fails after one part of the bytes was written, which no system does, the only requirement
+        # is that no mixture is read.
+        is_mark = writes_mark(call)
+        if self.writes_front(call):
+            return
+        for moves in ([half, 1], [1, half], [most, half], [half, -1], [half, 1, -1], [1, half, -1]):
+            self.run(f"{what} moves {moves} bytes, one call after the other", faults, may_be_either=is_mark,
+                     may_be_refused=is_mark, CALL=number, MOVES=moves)
             self.check.count("short calls")
         if call.kind == "pwrite" and call.at >= FIRST:
             self.try_short_and_killed(number, call, what)
@@ -310,15 +319,20 @@ class Faults:
                      INTERRUPTS=times)
             self.check.count("interrupted calls")
 
+    def writes_front(self, call: calls_between.Event) -> bool:
+        """Checks whether a write puts the first bytes of the new database in place of the mark that commits it. The
+        definitions say that such a write has all of the bytes or none: a part of them could be another database."""
+        return self.is_committed and writes_mark(call) and call.size == FIRST
+
     def try_cuts(self, number: int, call: calls_between.Event, what: str) -> None:
-        """Tries a full disk: bytes that the file had can be written, but no bytes after some offset. The file has those of
-        a mark before they are written."""
-        if writes_mark(call):
+        """Tries a full disk: bytes that the file had can be written, but no bytes after some offset."""
+        if self.writes_front(call):
             return
         lengths = range(1, call.size) if call.size <= 16 else sorted({1, 2, 3, call.size // 3, call.size // 2,
                                                                       call.size - 1})
         for length in lengths:
-            is_behind = call.at + length >= len(self.place.begun(self.task, self.old) or b"")
+            is_behind = (call.at + length >= len(self.place.begun(self.task, self.old) or b"")
+                         and not writes_mark(call))
             self.run(f"{what} ends for good after {length} bytes", {"cannot write"}, may_be_either=not is_behind,
                      may_be_refused=not is_behind, CALL=number, CUT=length)
             self.check.count("writes cut for good")

@@ -19,8 +19,8 @@ from support.cuts import AFTER_KILL, AFTER_SYNC, CUTS, LONG, SECOND, SHORT, Cuts
 from support.program import KILLED, Answer, Program, held, put
 
 KILLS, NEXT_KILLS = "kills", "kills and failing calls of the next command"
-LEAST = {KILLS: 580, NEXT_KILLS: 6_500, CUTS: 1_200, SECOND: 140, AFTER_KILL: 500, AFTER_SYNC: 1_000}
-LEAST_LONG = {NEXT_KILLS: 8_000, CUTS: 1_800, SECOND: 800, AFTER_KILL: 3_000, AFTER_SYNC: 20_000}
+LEAST = {KILLS: 600, NEXT_KILLS: 9_300, CUTS: 3_000, SECOND: 320, AFTER_KILL: 850, AFTER_SYNC: 3_300}
+LEAST_LONG = {NEXT_KILLS: 11_000, CUTS: 4_500, SECOND: 1_800, AFTER_KILL: 5_500, AFTER_SYNC: 40_000}
 # The commands of which one follows a kill, beside `last`.
 NEXT = [("update", FILE, "1000000:7"), ("create", FILE, *create(3).split()[1:]), ("tune", FILE, "-a", "g:1000"),
         ("batch", FILE), ("revert", FILE)]
