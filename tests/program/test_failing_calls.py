@@ -3,8 +3,8 @@
 
 For each call that opens, locks, queries, truncates, syncs, reads or writes:
 
-- The call fails, alone, and with each later call that changes a file. A failed sync of a change must be reported, unless
-  it comes when a file is closed that stayed open.
+- The call fails, alone, and with each later call that changes a file. A failed sync of a change must be reported, but
+  not one that comes when a file is closed that stayed open.
 - A signal interrupts the call once, and 1,000 times in succession. 1,001 times may be a fault.
 - The call moves only some of its bytes. The next call of the same kind on that file moves another number, or fails. The
   one write of a small file may be a fault then; every other call is made again.
