@@ -3,8 +3,8 @@
 
 For each call that opens, locks, queries, truncates, syncs, reads or writes:
 
-- The call fails, alone, and with each later call that changes a file. A failed sync of a change must be reported, but
-  not one that comes when a file is closed that stayed open.
+- The call fails, alone, and with each later call that changes a file. A failed sync of a change must be reported,
+  unless it comes when a file is closed that stayed open.
 - A signal interrupts the call once, and 1,000 times in succession. 1,001 times may be a fault.
 - The call moves only some of its bytes. The next call of the same kind on that file moves another number, or fails. The
   one write of a small file may be a fault then; every other call is made again.
@@ -39,7 +39,7 @@ from support.program import KILLED, WITH_REASON, Answer, Program, error, parted,
 
 FAILED = "calls that failed"
 # The least numbers of tries, in the short mode and with --long.
-LEAST = {FAILED: 1_080, "runs": 11_900, "short calls": 1_900, "interrupted calls": 680, "writes cut for good": 1_050}
+LEAST = {FAILED: 1_080, "runs": 10_600, "short calls": 1_900, "interrupted calls": 680, "writes cut for good": 440}
 LEAST_LONG = {FAILED: 5_500, "runs": 62_000}
 # The faults that may be reported if a call of this kind fails.
 FAULTS = {
@@ -325,14 +325,14 @@ class Faults:
         return self.is_committed and writes_mark(call) and call.size == FIRST
 
     def try_cuts(self, number: int, call: calls_between.Event, what: str) -> None:
-        """Tries a full disk: bytes that the file had can be written, but no bytes after some offset."""
-        if self.writes_front(call):
+        """Tries a full disk: bytes that the file had can be written, but no bytes after some offset. The file has those of
+        a mark before they are written."""
+        if writes_mark(call):
             return
         lengths = range(1, call.size) if call.size <= 16 else sorted({1, 2, 3, call.size // 3, call.size // 2,
                                                                       call.size - 1})
         for length in lengths:
-            is_behind = (call.at + length >= len(self.place.begun(self.task, self.old) or b"")
-                         and not writes_mark(call))
+            is_behind = call.at + length >= len(self.place.begun(self.task, self.old) or b"")
             self.run(f"{what} ends for good after {length} bytes", {"cannot write"}, may_be_either=not is_behind,
                      may_be_refused=not is_behind, CALL=number, CUT=length)
             self.check.count("writes cut for good")

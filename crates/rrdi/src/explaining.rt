@@ -3,7 +3,7 @@ use rrd_base::Database;
 use rrd_explain::{Explanation, Request, explain, needs_database, other_program};
 use rrd_file::FileFault;
 use rrd_store::{Task, TaskFault, decoded, parse_task};
-use rrd_tool::{Fault, read_command};
+use rrd_tool::{Command, Fault, read_command};
 use std::alloc::Global;
 use std::fs::{self, File};
 use std::io::Read;
@@ -43,6 +43,24 @@ fn explain_file(rt: &HostRuntime, path: &str) -> Option<Explanation> {
     other_program(rt.alloc(), path, mark.get(..count)?)
 }
 
+// Explains the fault of these words, without FILE.
+fn explained<'a>(
+    alloc: Global,
+    words: &'a [&'a str],
+    command: Option<&'a Command>,
+    database: Option<&'a Database>,
+    fault: Fault,
+    now: u64,
+) -> Option<Explanation> {
+    let request = Request {
+        words,
+        command,
+        database,
+        now,
+    };
+    explain(alloc, &request, fault)
+}
+
 // Explains the fault of a command, which the arguments of the program have.
 fn explain_command(
     rt: &HostRuntime,
@@ -64,13 +82,14 @@ fn explain_command(
     if texts.len() > 1 {
         let _file = texts.remove(1);
     }
-    let request = Request {
-        words: &texts,
-        command: command.as_ref(),
-        database: database.as_ref(),
+    explained(
+        alloc,
+        &texts,
+        command.as_ref(),
+        database.as_ref(),
+        fault,
         now,
-    };
-    explain(alloc, &request, fault)
+    )
 }
 
 /// Explains the fault of a run at the time `now` on the file at `path`. `arguments` are all arguments of the program.

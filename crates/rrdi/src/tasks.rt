@@ -48,11 +48,10 @@ pub(crate) fn misuse(rt: &HostRuntime, arguments: &[String]) -> u8
 {
     let _reported = write_error(&mut rt.stderr(), "usage");
     let usage = report_misuse(rt, arguments);
-    let text = match &usage {
-        Some(usage) => usage.as_str(),
-        None => USAGE,
+    let _written = match &usage {
+        Some(usage) => write_bytes(&mut rt.stderr(), usage.as_str().as_bytes()),
+        None => write_bytes(&mut rt.stderr(), USAGE.as_bytes()),
     };
-    let _written = write_bytes(&mut rt.stderr(), text.as_bytes());
     MISUSED
 }
 
