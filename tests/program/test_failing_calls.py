@@ -40,7 +40,7 @@ from support.program import KILLED, WITH_REASON, Answer, Program, error, parted,
 FAILED = "calls that failed"
 # The least numbers of tries, in the short mode and with --long.
 LEAST = {FAILED: 1_080, "runs": 10_600, "short calls": 1_900, "interrupted calls": 680, "writes cut for good": 440}
-LEAST_LONG = {FAILED: 5_500, "runs": 62_000}
+LEAST_LONG = {FAILED: 5_500, "runs": 50_000}
 # The faults that may be reported if a call of this kind fails.
 FAULTS = {
     "open": {"cannot open", "cannot write"}, "fcntl": {"cannot open", "cannot write"},
@@ -325,8 +325,8 @@ class Faults:
         return self.is_committed and writes_mark(call) and call.size == FIRST
 
     def try_cuts(self, number: int, call: calls_between.Event, what: str) -> None:
-        """Tries a full disk: bytes that the file had can be written, but no bytes after some offset. The file has those of
-        a mark before they are written."""
+        """Tries a full disk: bytes that the file had can be written, but no bytes after some offset. The file has those
+        of a mark before they are written."""
         if writes_mark(call):
             return
         lengths = range(1, call.size) if call.size <= 16 else sorted({1, 2, 3, call.size // 3, call.size // 2,
