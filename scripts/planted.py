@@ -18,7 +18,7 @@ REFUSED = re.compile(r"(?m)^refused: (\S+) (\S+)$")
 # The line of a function in what a check says: its name, and the verdict if the function is refused.
 LINE = re.compile(r"(?m)^fn (\S+): (.*)$")
 OPEN = re.compile(r"did not prove ((?:`[^`]+`(?:, | and )?)+)")
-NOTE = re.compile(r"(?m)^note: \S+?:\d+:\d+: it is not proved that .*?\(`([^`]+)`\)")
+NOTE = re.compile(r"(?m)^note: \S+?:\d+:\d+: (?:it is not proved that .*?|`search` found no proof )\(`([^`]+)`\)")
 # What an answer by hand says of a goal if a tactic in it finds no proof. Other errors of answers are of their shape.
 NO_PROOF = re.compile(r"(?m)^\./proofs/(\S+)/\w+\.antt:\S+ error: `([^`]+)`: `\w+`: (?:no proof of|the goal does not follow)")
 ERROR = re.compile(r"(?m)^(\S+?:\d+:\d+: error: .*)$")
