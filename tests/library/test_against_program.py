@@ -246,7 +246,8 @@ class Growths:
 
     def __init__(self, program: Program, by_library: Program, preload: str, folder: Path, task: Growth,
                  way: str) -> None:
-        self.by_library, self.preload, self.folder, self.task, self.way = by_library, preload, folder, task, way
+        self.program, self.by_library, self.preload = program, by_library, preload
+        self.folder, self.task, self.way = folder, task, way
         self.old = make(program, folder, task.made)
         self.shorter = without_lines(program, folder, task, self.old) if task.words[0] == "batch" else []
 
