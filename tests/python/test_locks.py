@@ -13,7 +13,7 @@ import unittest
 import warnings
 from contextlib import ExitStack
 from pathlib import Path
-from typing import Callable, ContextManager, Dict, List, Optional
+from typing import Callable, ContextManager, Dict, List, Optional, Tuple
 from unittest import mock
 
 import graphite_doubles as graphite
@@ -31,6 +31,7 @@ from rrdi.reader.selected import OpenFile
 from rrdi.tools import record
 
 DATA = graphite.file_bytes(130)
+READERS: Tuple[Callable[[str], object], ...] = (reader.read_file, read_bytes, OpenFile)
 
 
 class LockCase(DataCase):
@@ -256,7 +257,7 @@ class Pipes(LockCase):
     def test_other_errors(self) -> None:
         """What the system does not open is told as the system tells it: no error says that there is no file."""
         for number in (errno.EACCES, errno.EIO, errno.ESTALE, errno.ENOMEM):
-            for read in (reader.read_file, read_bytes, OpenFile):
+            for read in READERS:
                 with mock.patch("os.stat", side_effect=OSError(number, "why")), self.assertRaises(OSError) as raised:
                     read(self.path)
                 self.assertEqual(raised.exception.errno, number)
@@ -266,7 +267,7 @@ class Pipes(LockCase):
             self.assertEqual(said, f"file: trailing at 9, and the file cannot be renamed: "
                              f"{error if isinstance(error, rrdi.Error) else 'why'}")
         numbers = open_numbers()
-        for read in (reader.read_file, OpenFile):
+        for read in (READERS[0], READERS[-1]):
             with self.assertRaises(IsADirectoryError):
                 read(str(self.folder))
         self.assertEqual(open_numbers(), numbers)
