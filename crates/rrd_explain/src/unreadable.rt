@@ -1,5 +1,4 @@
 //! Why a part of a command cannot be read.
-use crate::Request;
 use crate::arguments::Arguments;
 use crate::hints::{time_for, with_hint, with_time_hint, written_for};
 use crate::numbers::written_out;
@@ -97,21 +96,22 @@ fn unreadable_sample(alloc: Global, sample: &str, now: u64) -> Option<String> {
 /// Says why a part cannot be read, and what to write instead.
 pub(crate) fn unreadable(
     alloc: Global,
-    request: &Request<'_>,
+    words: &[&str],
     part: Part,
     number: u64,
+    now: u64,
 ) -> Option<String> {
-    let [command, arguments @ ..] = request.words else {
+    let [command, arguments @ ..] = words else {
         return None;
     };
     let text = text_of(alloc, command, arguments, part, number)?;
     if part == Part::Sample {
-        return unreadable_sample(alloc, text, request.now);
+        return unreadable_sample(alloc, text, now);
     }
     let form = form_of(part, *command == "tune");
     let says = format!(in alloc; "it is {}, not {form}", Quoted(text)).ok()?;
     match part {
-        Part::Start | Part::End => with_time_hint(alloc, says, text, request.now),
+        Part::Start | Part::End => with_time_hint(alloc, says, text, now),
         _ => with_hint(alloc, says, written_for(alloc, part, text)),
     }
 }

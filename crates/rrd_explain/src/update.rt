@@ -1,5 +1,4 @@
 //! What of an update is not allowed, or not by its file.
-use crate::Request;
 use crate::file::{Names, no_source, source_named};
 use crate::numbers::decimal_text;
 use crate::ranges::late;
@@ -101,7 +100,7 @@ fn not_later(alloc: Global, update: &Update, last: u64, now: u64) -> Option<Stri
 // Says that the sample with this number, counted from 1, has too few or too many values.
 fn count_text(
     alloc: Global,
-    request: &Request<'_>,
+    database: Option<&Database>,
     update: &Update,
     number: usize,
     count: usize,
@@ -114,22 +113,22 @@ fn count_text(
     ).ok()?;
     match template_of(update) {
         Some(names) => format!(in alloc; "{says}: {}", Listed(names)).ok(),
-        None => format!(in alloc; "{says}: {}", Names(request.database?)).ok(),
+        None => format!(in alloc; "{says}: {}", Names(database?)).ok(),
     }
 }
 
 // Says which sample has another number of values than the template has names or, without a template, than the database has
 // data sources.
-fn wrong_count(alloc: Global, request: &Request<'_>, update: &Update) -> Option<String> {
+fn wrong_count(alloc: Global, database: Option<&Database>, update: &Update) -> Option<String> {
     let wanted = match template_of(update) {
         Some(names) => names.len(),
-        None => request.database?.sources() as usize,
+        None => database?.sources() as usize,
     };
     for (index, sample) in update.samples.as_slice().iter().enumerate() {
         let count = sample.values.len();
         if count != wanted {
             let number = index.saturating_add(1);
-            return count_text(alloc, request, update, number, count, wanted);
+            return count_text(alloc, database, update, number, count, wanted);
         }
     }
     None
@@ -210,17 +209,18 @@ fn bad_value(alloc: Global, database: &Database, update: &Update) -> Option<Stri
 /// Says what of an update is not allowed.
 pub(crate) fn of_update(
     alloc: Global,
-    request: &Request<'_>,
+    database: Option<&Database>,
     update: &Update,
     refusal: Refusal,
+    now: u64,
 ) -> Option<String> {
     match refusal {
-        Refusal::NoSuchSource => no_source_in(alloc, request.database?, update),
+        Refusal::NoSuchSource => no_source_in(alloc, database?, update),
         Refusal::DoubleName => double_name(alloc, update),
         Refusal::BadTime => late_sample(alloc, update),
-        Refusal::NotLater { last } => not_later(alloc, update, last, request.now),
-        Refusal::WrongCount => wrong_count(alloc, request, update),
-        Refusal::BadValue => bad_value(alloc, request.database?, update),
+        Refusal::NotLater { last } => not_later(alloc, update, last, now),
+        Refusal::WrongCount => wrong_count(alloc, database, update),
+        Refusal::BadValue => bad_value(alloc, database?, update),
         _ => None,
     }
 }

@@ -1,9 +1,9 @@
 //! Explains the fault of a run. Only a run that failed looks at its words and its file again.
 use rrd_base::Database;
-use rrd_explain::{Explanation, Request, explain, needs_database, other_program};
+use rrd_explain::{Explanation, explain, needs_database, other_program};
 use rrd_file::FileFault;
 use rrd_store::{Task, TaskFault, decoded, parse_task};
-use rrd_tool::{Command, Fault, read_command};
+use rrd_tool::{Fault, read_command};
 use std::alloc::Global;
 use std::fs::{self, File};
 use std::io::Read;
@@ -43,24 +43,6 @@ fn explain_file(rt: &HostRuntime, path: &str) -> Option<Explanation> {
     other_program(rt.alloc(), path, mark.get(..count)?)
 }
 
-// Explains the fault of these words, without FILE.
-fn explained<'a>(
-    alloc: Global,
-    words: &'a [&'a str],
-    command: Option<&'a Command>,
-    database: Option<&'a Database>,
-    fault: Fault,
-    now: u64,
-) -> Option<Explanation> {
-    let request = Request {
-        words,
-        command,
-        database,
-        now,
-    };
-    explain(alloc, &request, fault)
-}
-
 // Explains the fault of a command, which the arguments of the program have.
 fn explain_command(
     rt: &HostRuntime,
@@ -72,8 +54,8 @@ fn explain_command(
     let Task::Single { file, words } = parse_task(alloc, arguments).ok()? else {
         return None;
     };
-    let command = read_command(alloc, &words, now).ok();
-    let database = if needs_database(fault) {
+    let parsed = read_command(alloc, &words, now).ok();
+    let stored = if needs_database(fault) {
         stored_database(rt, file)
     } else {
         None
@@ -82,14 +64,7 @@ fn explain_command(
     if texts.len() > 1 {
         let _file = texts.remove(1);
     }
-    explained(
-        alloc,
-        &texts,
-        command.as_ref(),
-        database.as_ref(),
-        fault,
-        now,
-    )
+    explain(alloc, &texts, parsed.as_ref(), stored.as_ref(), fault, now)
 }
 
 /// Explains the fault of a run at the time `now` on the file at `path`. `arguments` are all arguments of the program.

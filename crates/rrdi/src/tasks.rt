@@ -49,7 +49,7 @@ pub(crate) fn misuse(rt: &HostRuntime, arguments: &[String]) -> u8
     let _reported = write_error(&mut rt.stderr(), "usage");
     let usage = report_misuse(rt, arguments);
     let _written = match &usage {
-        Some(usage) => write_bytes(&mut rt.stderr(), usage.as_str().as_bytes()),
+        Some(usage) => write_bytes(&mut rt.stderr(), usage.as_bytes()),
         None => write_bytes(&mut rt.stderr(), USAGE.as_bytes()),
     };
     MISUSED

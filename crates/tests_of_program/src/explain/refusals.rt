@@ -1,6 +1,6 @@
 //! The table of refusals: the words of commands, and what is said of them.
 use rrd_base::Database;
-use rrd_explain::{Explanation, Request, explain, needs_database};
+use rrd_explain::{Explanation, explain, needs_database};
 use rrd_tool::{Command, Fault, Outcome, execute, read_command};
 use std::alloc::Global;
 use std::test::Fail;
@@ -504,20 +504,14 @@ fn refused(alloc: Global, holder: &str, line: &str) -> Result<(Fault, Option<Com
 
 // Explains the refusal of a line of words. The database is given only if it is needed.
 fn explained(alloc: Global, holder: &str, line: &str) -> Result<Option<Explanation>, Fail> {
-    let (fault, command) = refused(alloc, holder, line)?;
-    let words: Vec<&str> = line.split(' ').collect(alloc)?;
-    let database = if needs_database(fault) {
+    let (fault, parsed) = refused(alloc, holder, line)?;
+    let stored = if needs_database(fault) {
         Some(created(alloc, holder)?)
     } else {
         None
     };
-    let request = Request {
-        words: &words,
-        command: command.as_ref(),
-        database: database.as_ref(),
-        now: NOW,
-    };
-    Ok(explain(alloc, &request, fault))
+    let texts: Vec<&str> = line.split(' ').collect(alloc)?;
+    Ok(explain(alloc, &texts, parsed.as_ref(), stored.as_ref(), fault, NOW))
 }
 
 #[test]

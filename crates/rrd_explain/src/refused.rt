@@ -10,19 +10,6 @@ use rrd_base::{Database, Refusal};
 use rrd_tool::{Command, Fault, LineFault};
 use std::alloc::Global;
 
-/// A refused command, and what is known of its database.
-#[derive(Clone, Copy)]
-pub struct Request<'a> {
-    /// The words of the command: its name and its arguments, without FILE. There are none if it was not read from words.
-    pub words: &'a [&'a str],
-    /// The command, if it could be read.
-    pub command: Option<&'a Command>,
-    /// The database on which the command was refused, if it is at hand.
-    pub database: Option<&'a Database>,
-    /// The time at which the command was read, in seconds since 1970.
-    pub now: u64,
-}
-
 /// Checks whether an explanation of a fault names what the database has.
 pub fn needs_database(fault: Fault) -> bool {
     matches!(
@@ -55,16 +42,22 @@ fn plain(alloc: Global, refusal: Refusal) -> Option<String> {
 }
 
 // Says why a command is refused that could be read.
-fn refused(alloc: Global, request: &Request<'_>, refusal: Refusal) -> Option<String> {
-    let database = request.database;
-    let found = match request.command? {
-        Command::Create(spec) => of_create(alloc, request.words, spec, refusal),
-        Command::Update(update) => of_update(alloc, request, update, refusal),
+fn refused(
+    alloc: Global,
+    words: &[&str],
+    command: &Command,
+    database: Option<&Database>,
+    refusal: Refusal,
+    now: u64,
+) -> Option<String> {
+    let found = match command {
+        Command::Create(spec) => of_create(alloc, words, spec, refusal),
+        Command::Update(update) => of_update(alloc, database, update, refusal, now),
         Command::Tune(tuning) => of_tune(alloc, database, tuning, refusal),
         Command::Resize { archive, rows, .. } => of_resize(
             alloc, database, *archive, *rows, refusal,
         ),
-        Command::Fetch(fetch) => of_fetch(alloc, database, fetch, refusal, request.now),
+        Command::Fetch(fetch) => of_fetch(alloc, database, fetch, refusal, now),
         Command::First { .. } => of_first(alloc, database, refusal),
         Command::Last | Command::LastUpdate | Command::Info | Command::Revert => None,
     };
@@ -76,14 +69,25 @@ fn refused(alloc: Global, request: &Request<'_>, refusal: Refusal) -> Option<Str
 
 /// Explains a fault of a command: which word was wrong, what would do, or what the database has.
 ///
+/// `words` are the command's name and its arguments, without FILE; there are none if the command was not read from words.
+/// `command` is what was read, if that could be read, and `database` that on which it was refused, if it is at hand. `now` is
+/// the time at which the command was read, in seconds since 1970.
+///
 /// Returns `None` if nothing is to be added to the fault's own text, or memory runs out.
-pub fn explain(alloc: Global, request: &Request<'_>, fault: Fault) -> Option<Explanation> {
+pub fn explain(
+    alloc: Global,
+    words: &[&str],
+    command: Option<&Command>,
+    database: Option<&Database>,
+    fault: Fault,
+    now: u64,
+) -> Option<Explanation> {
     let text = match fault {
-        Fault::Line(LineFault::Usage) => wrong_option(alloc, request.words, request.now)?,
+        Fault::Line(LineFault::Usage) => wrong_option(alloc, words, now)?,
         Fault::Line(LineFault::BadWord { part, number }) => unreadable(
-            alloc, request, part, number,
+            alloc, words, part, number, now,
         )?,
-        Fault::Refused(refusal) => refused(alloc, request, refusal)?,
+        Fault::Refused(refusal) => refused(alloc, words, command?, database, refusal, now)?,
         Fault::Line(LineFault::OutOfMemory) | Fault::NoDatabase | Fault::Output => return None,
     };
     Explanation::new(alloc, &text).ok()
