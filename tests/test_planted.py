@@ -421,7 +421,7 @@ def test_each_judgement_of_runs(folder: Path, planted: Check) -> None:
             (True, (1, "", error("usage")), same, ""), (False, (1, "", error("usage")), same, 'printf x >>"$2"'),
             (False, (0, "10\n", ""), clock, ""), (True, (0, "", ""), clock, "date +%s"),
             (False, (0, "", ""), clock, "date -d '1 hour' +%s"),
-            (False, (0, "", ""), clock, "date -d '1 second ago' +%s"),
+            (False, (0, "", ""), clock, "date -d '1 minute ago' +%s"),
             (True, (2, "", MISUSE + " WORD.."), misuse, ""), (False, (2, "", error("no usage")), misuse, ""),
             (True, not_ours, others, ""), (False, (0, "", ""), others, ""),
             (False, not_ours, others, 'printf RRDI | dd of="$2" conv=notrunc status=none')]:

@@ -3,24 +3,15 @@ use rrd_base::Database;
 use rrd_explain::{Explanation, explain, needs_database};
 use rrd_tool::{Command, Fault, Outcome, execute, read_command};
 use std::alloc::Global;
+use std::process::Abort;
 use std::test::Fail;
 use test_data::words_of;
 
 /// The time at which the commands run.
 const NOW: u64 = 1_000_000;
 
-// Databases, each with the words of refused commands and what is said of them. The words stand between single spaces.
-const TABLE: &[(&str, &[(&str, &str)])] = &[
-    (GAUGE_AND_COUNTER, UNREADABLE),
-    (GAUGE_AND_COUNTER, OF_RRDTOOL),
-    (GAUGE_AND_COUNTER, OPTIONS),
-    (GAUGE_AND_COUNTER, CREATES),
-    (GAUGE_AND_COUNTER, UPDATES),
-    (GAUGE_AND_COUNTER, TUNES),
-    (GAUGE_AND_COUNTER, READINGS),
-    (NINE_SOURCES, MANY),
-    (FAR_AHEAD, AHEAD),
-];
+// The words of a refused command, between single spaces, and what is said of them.
+type Row = (&'static str, &'static str);
 
 const GAUGE_AND_COUNTER: &str =
     "create --step 10 --start 0 DS:a:GAUGE:100:U:U DS:b:COUNTER:100:U:U RRA:LAST:0.5:1:4";
@@ -30,7 +21,7 @@ const NINE_SOURCES: &str =
 
 const FAR_AHEAD: &str = "create --start 1003600 DS:a:GAUGE:100:U:U RRA:LAST:0.5:1:1";
 
-const UNREADABLE: &[(&str, &str)] = &[
+const UNREADABLE: &[Row] = &[
     ("update 10", "'10' has no value; write TIME:VALUE"),
     (
         "update 10:1:2 x:1:2",
@@ -108,7 +99,7 @@ const UNREADABLE: &[(&str, &str)] = &[
     ),
 ];
 
-const OF_RRDTOOL: &[(&str, &str)] = &[
+const OF_RRDTOOL: &[Row] = &[
     (
         "fetch LAST -s now",
         "it is 'now', not whole seconds since 1970; write 1000000, or run rrdi-rrdtool --rrdi",
@@ -199,7 +190,7 @@ const OF_RRDTOOL: &[(&str, &str)] = &[
     ),
 ];
 
-const OPTIONS: &[(&str, &str)] = &[
+const OPTIONS: &[Row] = &[
     (
         "create --stpe 5",
         "there is no option --stpe; did you mean --step?",
@@ -218,7 +209,7 @@ const OPTIONS: &[(&str, &str)] = &[
     ("nothing", ""),
 ];
 
-const CREATES: &[(&str, &str)] = &[
+const CREATES: &[Row] = &[
     (
         "create",
         "a data source is missing, such as DS:temp:GAUGE:600:U:U",
@@ -289,7 +280,7 @@ const CREATES: &[(&str, &str)] = &[
     ),
 ];
 
-const UPDATES: &[(&str, &str)] = &[
+const UPDATES: &[Row] = &[
     ("update", "a sample is missing, such as N:21.5"),
     (
         "update 1700000000000:1:2",
@@ -349,7 +340,7 @@ const UPDATES: &[(&str, &str)] = &[
     ),
 ];
 
-const TUNES: &[(&str, &str)] = &[
+const TUNES: &[Row] = &[
     ("tune", "an option, or RRA: or DELRRA:, is missing"),
     (
         "tune --heartbeat c:5",
@@ -399,7 +390,7 @@ const TUNES: &[(&str, &str)] = &[
     ),
 ];
 
-const READINGS: &[(&str, &str)] = &[
+const READINGS: &[Row] = &[
     ("resize 1 GROW 1", "the file has one archive, 0"),
     (
         "resize 0 GROW 0",
@@ -442,7 +433,7 @@ const READINGS: &[(&str, &str)] = &[
     ("revert", ""),
 ];
 
-const MANY: &[(&str, &str)] = &[
+const MANY: &[Row] = &[
     (
         "update 10:1",
         "sample 1 has 1 value, 9 are wanted: traffic, s1, s2, s3, s4, s5, s6, s7, ..",
@@ -467,7 +458,7 @@ const MANY: &[(&str, &str)] = &[
     ),
 ];
 
-const AHEAD: &[(&str, &str)] = &[
+const AHEAD: &[Row] = &[
     (
         "update N:1",
         "1003600 is 3600 seconds ahead of the clock; if a sample has this wrong time, rrdi revert takes it back",
@@ -514,19 +505,59 @@ fn explained(alloc: Global, holder: &str, line: &str) -> Result<Option<Explanati
     Ok(explain(alloc, &texts, parsed.as_ref(), stored.as_ref(), fault, NOW))
 }
 
-#[test]
-fn what_is_said_of_refusals(rt: HostRuntime) -> Result<(), Fail> {
-    let alloc = rt.alloc();
-    for (holder, rows) in TABLE {
-        for (line, wanted) in *rows {
-            let explanation = explained(alloc, holder, line)?;
-            let said = match &explanation {
-                Some(explanation) => explanation.as_bytes(),
-                None => b"",
-            };
-            let text = str::from_utf8(said).unwrap_or("no text");
-            assert_eq!(&rt; text, *wanted, "{line}");
-        }
+// Explains each of these refusals by a database that is made by the words `holder`.
+fn assert_said(rt: &impl Abort, alloc: Global, holder: &str, rows: &[Row]) -> Result<(), Fail> {
+    for (line, wanted) in rows {
+        let is_said = match explained(alloc, holder, line)? {
+            Some(explanation) => explanation.as_bytes() == wanted.as_bytes(),
+            None => wanted.is_empty(),
+        };
+        assert!(rt; is_said, "{line}");
     }
     Ok(())
+}
+
+#[test]
+fn unreadable_words(rt: HostRuntime) -> Result<(), Fail> {
+    assert_said(&rt, rt.alloc(), GAUGE_AND_COUNTER, UNREADABLE)
+}
+
+#[test]
+fn words_of_rrdtool(rt: HostRuntime) -> Result<(), Fail> {
+    assert_said(&rt, rt.alloc(), GAUGE_AND_COUNTER, OF_RRDTOOL)
+}
+
+#[test]
+fn options(rt: HostRuntime) -> Result<(), Fail> {
+    assert_said(&rt, rt.alloc(), GAUGE_AND_COUNTER, OPTIONS)
+}
+
+#[test]
+fn creates(rt: HostRuntime) -> Result<(), Fail> {
+    assert_said(&rt, rt.alloc(), GAUGE_AND_COUNTER, CREATES)
+}
+
+#[test]
+fn updates(rt: HostRuntime) -> Result<(), Fail> {
+    assert_said(&rt, rt.alloc(), GAUGE_AND_COUNTER, UPDATES)
+}
+
+#[test]
+fn tunes(rt: HostRuntime) -> Result<(), Fail> {
+    assert_said(&rt, rt.alloc(), GAUGE_AND_COUNTER, TUNES)
+}
+
+#[test]
+fn readings(rt: HostRuntime) -> Result<(), Fail> {
+    assert_said(&rt, rt.alloc(), GAUGE_AND_COUNTER, READINGS)
+}
+
+#[test]
+fn many_sources(rt: HostRuntime) -> Result<(), Fail> {
+    assert_said(&rt, rt.alloc(), NINE_SOURCES, MANY)
+}
+
+#[test]
+fn a_last_sample_far_ahead(rt: HostRuntime) -> Result<(), Fail> {
+    assert_said(&rt, rt.alloc(), FAR_AHEAD, AHEAD)
 }
