@@ -1,21 +1,9 @@
 -- Seconds up to a time: the rest of a step, whole steps, and the begin of the next.
-use Rattle.std.proofs.Common.{◌≡◌, sym, ◌∙◌, ap, subst, ℕ, ◌+◌, ◌-◌, ◌*◌, ◌/◌, ◌%◌, ◌<◌, ◌≤◌, List, [], ◌∷◌, length, replicate, sum, map, arith}
-use Rattle.std.proofs.lemmas.List.{replicate-append-replicate}
-use Rattle.std.proofs.lemmas.Nat.{div-add-mod', div-mul-add, mod_below, mul-le}
-use Rattle.rrd_fixed.specs.declared.cell.Cell.{Cell}
-use Rattle.rrd_spec.specs.declared.settings.RraDef.{RraDef}
-use Rattle.rrd_fixed.specs.declared.raw.Raw.{Raw}
-use Rattle.rrd_spec.specs.declared.requests.update.Sample.{Sample}
-use Rattle.rrd_spec.specs.History.{Content, Reading, Sampled, IsBase, rates, definitions}
-use Rattle.rrd_spec.specs.Laws.ListedContent.{content_listed}
-use Rattle.rrd_spec.specs.Laws.Passing.{passed, PassesInPieces, SampledPasses}
-use Rattle.rrd_spec.specs.Commands.Turns.{rows_shown, in_all, least_of_sample, most_of_sample}
-use Rattle.rrd_spec.specs.Validity.{AreAccepted, IsRow, IsValid}
-use Rattle.rrd_base.specs.Walk.Turns.{least_of_ends, least_to, most_of_ends, most_to, most_of_steps}
-use Rattle.rrd_base.proofs.PushedRows.{next_ahead}
+use Rattle.std.specs.Prelude.{◌≡◌, ℕ, ◌+◌, ◌-◌, ◌*◌, ◌/◌, ◌%◌, ◌<◌, ◌≤◌, List, [], ◌∷◌, length, replicate, sum, map}
+use Rattle.rrd_base.proofs.Names.{sym, ◌∙◌, ap, subst, arith, replicate-append-replicate, div-add-mod', div-mul-add, mod_below, mul-le, Cell, RraDef, Raw, Sample, Content, Reading, Sampled, IsBase, rates, definitions, content_listed, passed, PassesInPieces, SampledPasses, rows_shown, in_all, least_of_sample, most_of_sample, AreAccepted, IsRow, IsValid, least_of_ends, least_to, most_of_ends, most_to, most_of_steps, base_of_valid}
 use Rattle.rrd_base.proofs.Passing.{ended_div, within_div}
-use Rattle.rrd_spec.specs.Lemmas.Validity.{base_of_valid}
 use Rattle.rrd_base.proofs.TurnLemmas.{Leaves, leaves_of, passed_leaves, least_by_steps, most_by_steps, least_of_none}
+use Rattle.rrd_spec.proofs.GroupLemmas.{next_ahead}
 
 end_ahead : (last step : ℕ) → 0 < step → last + ((last / step + 1) * step - last) ≡ (last / step + 1) * step
 end_ahead last step some = omega (arith, next_ahead last step some)
@@ -47,8 +35,6 @@ at_last base now time row is row_is h e =
     let left = (time - end_of_step base) % s in
     let same = leaves_of base now (seconds_to_steps base time) row e in
     let fills = end_ahead base.last s is.some_step in
-    let split = div-add-mod' (time - end_of_step base) s in
-    let below = mod_below (time - end_of_step base) s is.some_step in
     let number : now.last / now.step ≡ base.last / s + (1 + k) = ap (λ n. n / now.step) same.last ∙ ap (λ m. (base.last + (f + k * s)) / m) same.step ∙ ended_div base.last f k s is.some_step fills in
     record {
       within = subst (λ q. now.last + left < (q + 1) * now.step) (sym number) (subst (λ m. now.last + left < (base.last / s + (1 + k) + 1) * m) (sym same.step) (subst (λ n. n + left < (base.last / s + (1 + k) + 1) * s) (sym same.last) (omega arith)));
@@ -65,18 +51,13 @@ caught_up pieces base late now time row is h e g =
     let n = seconds_to_steps base time in
     let fills = end_ahead base.last s is.some_step in
     let split = div-add-mod' (time - end_of_step base) s in
-    g
-    ∙ ap (λ x. passed x (replicate left row)) e
-    ∙ sym (pieces base (replicate n row) (replicate left row) (base_of_valid base is))
-    ∙ ap (passed base) (replicate-append-replicate n left row)
-    ∙ ap (λ m. passed base (replicate m row)) {x = n + left} {y = time - base.last} (omega arith)
+    cc (g, e, pieces base (replicate n row) (replicate left row) (base_of_valid base is), replicate-append-replicate n left row, ap (λ m. passed base (replicate m row)) {x = n + left} {y = time - base.last} (omega arith))
 
 -- ---- their turns
 
 number_at : (last step time : ℕ) → 0 < step → (last / step + 1) * step ≤ time → time / step ≡ last / step + (1 + (time - (last / step + 1) * step) / step)
 number_at last step time some h =
     let more = time - (last / step + 1) * step in
-    let split = div-add-mod' more step in
     ap (λ n. n / step) {x = time} {y = (last / step + (1 + more / step)) * step + more % step} (omega arith) ∙ div-mul-add (last / step + (1 + more / step)) step (more % step) (mod_below more step some)
 
 pub least_caught : (base : Content) (time : ℕ) → IsValid base → end_of_step base ≤ time → least_to base time ≡ least_of_ends base (steps_after base time)
@@ -101,32 +82,13 @@ least_within base time is later h =
 
 pub most_within : (base : Content) (time : ℕ) → length base.sources ≤ most_to base time
 most_within base time =
-    let n = length base.sources in
-    let y = sum (map (λ (def : RraDef). 8 + rows_shown base.step base.last time def) (definitions base.archives)) in
-    let m = mul-le n 1 n (3 + y) (omega arith) (omega arith) in
     omega arith
 
 -- ---- a sample, and the samples of an update
 
 -- other raw values, which the sources accept
 pub with_raws : (base : Content) (raws : List Raw) → IsValid base → AreAccepted base.sources raws → IsValid (record base { raws = raws })
-with_raws base raws is accepted = record {
-  some_step = is.some_step;
-  small_step = is.small_step;
-  good_time = is.good_time;
-  some_depth = is.some_depth;
-  small_depth = is.small_depth;
-  some_source = is.some_source;
-  few_sources = is.few_sources;
-  some_archive = is.some_archive;
-  few_archives = is.few_archives;
-  few_cells = is.few_cells;
-  sources_are = is.sources_are;
-  names_differ = is.names_differ;
-  raws_are = accepted;
-  parts_are = is.parts_are;
-  archives_are = is.archives_are;
-}
+with_raws base raws is accepted = assumption (is, accepted)
 
 -- a sample leaves the steps and the archives' settings, by the law of samples
 pub record SameShape (base now : Content) : Type 0 where
@@ -136,8 +98,7 @@ pub record SameShape (base now : Content) : Type 0 where
 pub sample_leaves : (passes : (base : Content) (reading : Reading) → SampledPasses base reading) (base now : Content) (reading : Reading) → IsBase base → base.last < reading.time → now ≡ content_listed base (Sampled reading ∷ []) → SameShape base now
 sample_leaves passes base now reading is later e =
     let n = reading.time - base.last in
-    let row = rates base.sources n base.raws reading.raws in
-    let left = passed_leaves base n row in
+    let left = passed_leaves base n (rates base.sources n base.raws reading.raws) in
     let whole = e ∙ passes base reading is later in
     record {
       step = ap (λ (x : Content). x.step) whole ∙ left.step;
@@ -149,13 +110,7 @@ pub turns_next : (turns : ℕ → ℕ → ℕ) (last next : ℕ) (left rest : Li
 turns_next turns last next left rest sample h e = ap (in_all turns last) h ∙ ap (λ m. turns last sample.time + in_all turns m rest) (sym e)
 
 pub same_least : (base now : Content) (from to : ℕ) → now.sources ≡ base.sources → SameShape base now → least_of_sample (length now.sources) now.step (definitions now.archives) from to ≡ least_of_sample (length base.sources) base.step (definitions base.archives) from to
-same_least base now from to s is =
-    ap (λ ss. least_of_sample (length ss) now.step (definitions now.archives) from to) s
-    ∙ ap (λ m. least_of_sample (length base.sources) m (definitions now.archives) from to) is.step
-    ∙ ap (λ defs. least_of_sample (length base.sources) base.step defs from to) is.defs
+same_least base now from to s is = cc (s, is.step, is.defs)
 
 pub same_most : (base now : Content) (from to : ℕ) → now.sources ≡ base.sources → SameShape base now → most_of_sample (length now.sources) now.step (definitions now.archives) from to ≡ most_of_sample (length base.sources) base.step (definitions base.archives) from to
-same_most base now from to s is =
-    ap (λ ss. most_of_sample (length ss) now.step (definitions now.archives) from to) s
-    ∙ ap (λ m. most_of_sample (length base.sources) m (definitions now.archives) from to) is.step
-    ∙ ap (λ defs. most_of_sample (length base.sources) base.step defs from to) is.defs
+same_most base now from to s is = cc (s, is.step, is.defs)

@@ -1,35 +1,7 @@
 -- Cells come, one or many at once: they go into their places, and the cursor goes on.
-use Rattle.std.proofs.Common.{◌≡◌, ◌∙◌, ◌+◌, ◌-◌, ◌*◌, ◌/◌, ◌%◌, ◌<◌, ◌≤◌, ℕ, zero, suc, List, [], ◌∷◌, ◌++◌, Some, None, Option, sym, ap, subst, arith, length, map, take, drop, inl, inr, refl, get_or, set, append_assoc, append-nil, length-set, length-append, length-drop, take_at, add-one}
-use Rattle.std.specs.Prelude.{sum, ◌⊎◌}
-use Rattle.std.specs.List.{AllByRecursion, flat_map, fold}
-use Rattle.std.proofs.lemmas.Bool.{cases_lt}
-use Rattle.std.proofs.lemmas.List.Concat.{flat_map-cons}
-use Rattle.std.proofs.lemmas.List.{length-take-le, take-append-le}
-use Rattle.std.proofs.Math.Nat.{add-mul-mod_self_right, mod-add-div'}
-use Rattle.rrd_fixed.specs.declared.cell.Cell.{Cell}
-use Rattle.rrd_fixed.specs.Rate.{IsBounded}
-use Rattle.rrd_spec.specs.declared.due.Due.{Due}
-use Rattle.rrd_spec.specs.declared.due.Due.TheVariants.{SourceDue, HeadDue, CellDue, EntryDue, NothingDue}
-use Rattle.rrd_spec.specs.declared.outline.Outline.{Outline}
-use Rattle.rrd_spec.specs.declared.settings.RraDef.{RraDef}
-use Rattle.rrd_spec.specs.Commands.{rows_of_archives}
-use Rattle.rrd_spec.specs.Files.Filed.{Filed, Head, Source, head_of, sources_of}
-use Rattle.rrd_spec.specs.History.{Rra}
-use Rattle.rrd_spec.specs.Limits.{limits_of, present}
-use Rattle.rrd_spec.specs.Lemmas.Lists.{All-at, All-drop, drop_here}
-use Rattle.rrd_spec.specs.Journal.Outlines.{outline_undone}
-use Rattle.rrd_spec.specs.Laws.Slots.{PutsCell, SlotHasPlace}
-use Rattle.rrd_spec.specs.Files.Rebuilding.{IsArchiveDef, IsRowPart, after_heads, due, prep_or, unprepared}
-use Rattle.rrd_spec.specs.Settings.{resolution}
-use Rattle.rrd_spec.specs.Files.Slots.{by_slot, cells_by_slot}
-use Rattle.rrd_spec.specs.Files.Places.{place_in}
-use Rattle.rrd_spec.specs.Validity.{IsRow, IsValidJournalWithin}
-use Rattle.rrd_base.specs.declared.journal.Entry.{Entry}
-use Rattle.rrd_base.specs.declared.rebuild.cursor.Cursor.{Cursor}
-use Rattle.rrd_base.specs.Rebuild.Validators.{EntryValidator}
-use Rattle.rrd_base.specs.Rebuild.Cursors.{Advances, AreFewer, KnowsPlace, KnowsPlaceIn, filled_by}
-use Rattle.rrd_base.specs.Journal.{journal_of}
-use Rattle.rrd_base.specs.Rebuild.{ArePrepared, Coming, HeadsCame, IsArchiveSoFar, IsCursor, IsRebuilding, content_so_far, filed_in}
+use Rattle.std.specs.Prelude.{◌≡◌, ◌+◌, ◌-◌, ◌*◌, ◌/◌, ◌%◌, ◌<◌, ◌≤◌, ℕ, zero, suc, List, [], ◌∷◌, ◌++◌, Some, None, Option, length, map, take, drop, sum, ◌⊎◌}
+use Rattle.rrd_base.proofs.Names.{◌∙◌, sym, ap, subst, arith, inl, inr, refl, get_or, set, append_assoc, append-nil, length-set, length-append, length-drop, take_at, add-one, AllByRecursion, flat_map, fold, cases_lt, flat_map-cons, length-take-le, take-append-le, add-mul-mod_self_right, mod-add-div', Cell, IsBounded, Due, SourceDue, HeadDue, CellDue, EntryDue, NothingDue, Outline, RraDef, rows_of_archives, Filed, Head, Source, head_of, Rra, limits_of, present, All-at, All-drop, drop_here, outline_undone, PutsCell, SlotHasPlace, IsArchiveDef, IsRowPart, after_heads, due, prep_or, unprepared, resolution, by_slot, cells_by_slot, place_in, IsRow, IsValidJournalWithin, Entry, Cursor, EntryValidator, Advances, AreFewer, KnowsPlace, KnowsPlaceIn, filled_by, journal_of, ArePrepared, Coming, HeadsCame, IsArchiveSoFar, IsCursor, IsRebuilding, content_so_far, filed_in}
+use Rattle.rrd_spec.specs.Files.Filed.{sources_of}
 use Rattle.rrd_base.proofs.Comes.{knows_nothing, rows_same}
 use Rattle.rrd_base.proofs.Dues.{AllAsMany, archive_wide, due_entry, due_head, due_nothing, due_source, due_then, none_there, one_each}
 use native.Mathlib.Nat as nat
@@ -104,9 +76,7 @@ take_put_more xs ys n cells h =
     let front = take n xs in
     let rest = drop (length cells) (drop n xs) in
     let long : length (front ++ cells) ≡ n + length cells = omega (arith, length-append front cells, length-take-le n xs (omega arith)) in
-    ap (take (n + length cells)) (ap (λ (zs : List Cell). zs ++ ys) (sym (append_assoc front cells rest)) ∙ append_assoc (front ++ cells) rest ys)
-    ∙ take_at (front ++ cells) (rest ++ ys) (n + length cells) long
-    ∙ ap (λ (zs : List Cell). zs ++ cells) (sym (take-append-le n xs ys (omega arith)))
+    cc (ap (λ (zs : List Cell). zs ++ ys) (sym (append_assoc front cells rest)) ∙ append_assoc (front ++ cells) rest ys, take_at (front ++ cells) (rest ++ ys) (n + length cells) long, take-append-le n xs ys (omega arith))
 
 take_front : {A : Type 0} (xs ys : List A) → take (length xs) (xs ++ ys) ≡ xs
 take_front [] ys = refl
@@ -127,12 +97,7 @@ cells_more f (x ∷ xs) (suc i) n a b cells h e few is =
     let s = set xs i b in
     let t = take (n + length cells) (flat_map f (drop i s)) in
     let u = take n (flat_map f (drop i xs)) in
-    ap (λ (cs : List Cell). cs ++ t) (flat_map-cons f x (take i s))
-    ∙ (append_assoc (f x) (flat_map f (take i s)) t
-    ∙ (ap (λ (cs : List Cell). f x ++ cs) rest
-    ∙ (sym (append_assoc (f x) (flat_map f (take i xs) ++ u) cells)
-    ∙ (ap (λ (cs : List Cell). cs ++ cells) (sym (append_assoc (f x) (flat_map f (take i xs)) u))
-    ∙ ap (λ (cs : List Cell). (cs ++ u) ++ cells) (sym (flat_map-cons f x (take i xs)))))))
+    cc (flat_map-cons f x (take i s), append_assoc (f x) (flat_map f (take i s)) t, rest, append_assoc (f x) (flat_map f (take i xs) ++ u) cells, append_assoc (f x) (flat_map f (take i xs)) u, flat_map-cons f x (take i xs))
 
 -- those of a whole archive
 cells_over : (f : Rra → List Cell) (xs : List Rra) (i n : ℕ) (a : Rra) → i < length xs → a ≡ get_or xs i a → n ≡ length (f a)
@@ -146,11 +111,7 @@ cells_over f (x ∷ xs) zero n a h e is =
 cells_over f (x ∷ xs) (suc i) n a h e is =
     let rest = cells_over f xs i n a (omega arith) e is in
     let u = take n (flat_map f (drop i xs)) in
-    ap (λ (cs : List Cell). cs ++ []) (flat_map-cons f x (take (suc i) xs))
-    ∙ (append_assoc (f x) (flat_map f (take (suc i) xs)) []
-    ∙ (ap (λ (cs : List Cell). f x ++ cs) rest
-    ∙ (sym (append_assoc (f x) (flat_map f (take i xs)) u)
-    ∙ ap (λ (cs : List Cell). cs ++ u) (sym (flat_map-cons f x (take i xs))))))
+    cc (flat_map-cons f x (take (suc i) xs), append_assoc (f x) (flat_map f (take (suc i) xs)) [], rest, append_assoc (f x) (flat_map f (take i xs)) u, flat_map-cons f x (take i xs))
 
 -- ---- the archives with one of them written to
 
@@ -162,12 +123,11 @@ heads_set (x ∷ xs) zero a b h e def parts =
 heads_set (x ∷ xs) (suc i) a b h e def parts = ap (λ (heads : List Head). head_of x ∷ heads) (heads_set xs i a b (omega arith) e def parts)
 
 prepared_set : (sources : ℕ) (xs : List Rra) (i : ℕ) (a b : Rra) → i < length xs → a ≡ get_or xs i a → b.parts ≡ a.parts → ArePrepared sources xs → ArePrepared sources (set xs i b)
-prepared_set sources [] i a b h e parts is = absurd (omega arith)
 prepared_set sources (x ∷ []) zero a b h e parts is = tt
-prepared_set sources (x ∷ []) (suc i) a b h e parts is = absurd (omega arith)
 prepared_set sources (x ∷ y ∷ xs) zero a b h e parts is = (ap length parts ∙ (ap (λ (z : Rra). length z.parts) e ∙ is.0), is.1)
 prepared_set sources (x ∷ y ∷ xs) (suc zero) a b h e parts is = (is.0, prepared_set sources (y ∷ xs) zero a b (omega arith) e parts is.1)
 prepared_set sources (x ∷ y ∷ xs) (suc (suc i)) a b h e parts is = (is.0, prepared_set sources (y ∷ xs) (suc i) a b (omega arith) e parts is.1)
+prepared_set sources x i a b h e parts is = absurd (omega arith)
 
 fewer_none : (sources step last : ℕ) (xs : List Rra) → 0 < sources → AllByRecursion (IsArchiveSoFar sources step last) xs → AreFewer sources xs 0
 fewer_none sources step last [] some all = refl

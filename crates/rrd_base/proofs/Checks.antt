@@ -1,7 +1,6 @@
 -- Checks one after another: what the first of them refuse, and where the later ones decide.
-use Rattle.std.proofs.Common.{◌≡◌, List, [], ◌∷◌, ◌++◌, Option, Some, None, Bool, cond, true, false, refl}
-use Rattle.rrd_spec.specs.declared.refusal.Refusal.{Refusal}
-use Rattle.rrd_spec.specs.Commands.Verdict.{Check, first_refusal}
+use Rattle.std.specs.Prelude.{◌≡◌, List, [], ◌∷◌, ◌++◌, Option, Some, None, Bool, cond, true, false}
+use Rattle.rrd_base.proofs.Names.{refl, Refusal, Check, first_refusal}
 
 by_case : (b : Bool) (refusal : Refusal) (first second : Option Refusal) (e : Option Refusal) → e ≡ cond b (Some refusal) first → (e ≡ first → e ≡ second) → e ≡ cond b (Some refusal) second
 by_case true refusal first second e h k = h

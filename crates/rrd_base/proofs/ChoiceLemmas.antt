@@ -1,21 +1,6 @@
 -- The archive that is taken, archive by archive.
-use Rattle.std.proofs.Common.{◌≡◌, refl, sym, ◌∙◌, ap, ℕ, ◌+◌, Bool, true, false, not, ◌&&◌, ◌||◌, cond, ltb, List, [], ◌∷◌, ◌++◌, length, map, Option, Some, None, ⊎_elim, arith, append_assoc, append-nil, ℤ}
-use Rattle.std.specs.Prelude.{int_lt, int_le}
-use Rattle.std.specs.Int.{abs_diff}
-use Rattle.std.specs.List.{find, filter, list_any, enumerate_from}
-use Rattle.std.specs.Option.{option_or, option_map_or}
-use Rattle.std.proofs.lemmas.Bool.{cases_Bool, cond-false, cond-true, or_parts, or_from, both_ways, not-true, not-false, le-ltb, lt-ltb, ltb-true, ltb-false}
-use Rattle.std.proofs.lemmas.Bool.Decides.{nat_tests}
-use Rattle.std.proofs.lemmas.Int.{ints}
-use Rattle.std.proofs.lemmas.List.{map-append}
-use Rattle.std.proofs.lemmas.List.Elements.{filter-append}
-use Rattle.std.proofs.lemmas.List.Folds.{find-append, list_any-append}
-use Rattle.rrd_fold.specs.declared.function.Function.{Function}
-use Rattle.rrd_spec.specs.declared.settings.RraDef.{RraDef}
-use Rattle.rrd_spec.specs.declared.requests.fetch.Candidate.{Candidate}
-use Rattle.rrd_spec.specs.declared.requests.fetch.FetchRequest.{FetchRequest}
-use Rattle.rrd_base.specs.Fetch.{Searched, searched, is_preferred}
-use Rattle.rrd_spec.specs.Choice.{same_function, candidate, candidates, best, covers, is_nearer, is_farther, taken}
+use Rattle.std.specs.Prelude.{◌≡◌, ℕ, ◌+◌, Bool, true, false, not, ◌&&◌, ◌||◌, cond, List, [], ◌∷◌, ◌++◌, length, map, Option, Some, None, ℤ, int_lt, int_le}
+use Rattle.rrd_base.proofs.Names.{refl, sym, ◌∙◌, ap, ltb, ⊎_elim, arith, append_assoc, append-nil, abs_diff, find, filter, list_any, enumerate_from, option_or, option_map_or, cases_Bool, cond-false, cond-true, or_parts, or_from, both_ways, not-true, not-false, le-ltb, lt-ltb, ltb-true, ltb-false, nat_tests, ints, map-append, filter-append, find-append, list_any-append, Function, RraDef, Candidate, FetchRequest, Searched, searched, is_preferred, same_function, candidate, candidates, best, covers, is_nearer, is_farther, taken}
 
 -- ---- the best of a list
 
@@ -79,7 +64,7 @@ or_true : (b : Bool) → (b || true) ≡ true
 or_true true = refl
 or_true false = refl
 
-or_false : (b : Bool) → (b || false) ≡ b
+pub or_false : (b : Bool) → (b || false) ≡ b
 or_false true = refl
 or_false false = refl
 
@@ -96,8 +81,7 @@ all_beaten : {A : Type 0} (lt : A → A → Bool) → IsOrder lt → (items xs :
 all_beaten lt order items [] b c h k = refl
 all_beaten lt order items (x ∷ xs) b c h k =
     let parts = or_parts (lt x b) (list_any (λ other. lt other b) xs) h in
-    cond-false (unbeaten lt (items ++ c ∷ []) x) (Some x) (find (unbeaten lt (items ++ c ∷ [])) xs) (beaten_by_last lt items c x (order.between c b x k parts.0))
-    ∙ all_beaten lt order items xs b c parts.1 k
+    cc (cond-false (unbeaten lt (items ++ c ∷ []) x) (Some x) (find (unbeaten lt (items ++ c ∷ [])) xs) (beaten_by_last lt items c x (order.between c b x k parts.0)), all_beaten lt order items xs b c parts.1 k)
 
 -- and is beaten by none
 none_beats : {A : Type 0} (lt : A → A → Bool) → IsOrder lt → (xs : List A) (b c : A) → list_any (λ other. lt other b) xs ≡ false → lt c b ≡ true → list_any (λ other. lt other c) xs ≡ false
@@ -208,9 +192,7 @@ other_more asked start list (first ∷ some) c e h =
     let found = best_some (is_nearer asked) (nearer_order asked) (first ∷ []) some first (best_one (is_nearer asked) (nearer_order asked) first) in
     let b = found.0 in
     let covers_b = found_among (unbeaten (is_nearer asked) (first ∷ some)) (covers start) list b (ap (find (unbeaten (is_nearer asked) (first ∷ some))) e ∙ found.1) in
-    ap (λ o. option_or o (best (is_farther asked) (list ++ c ∷ []))) found.1
-    ∙ sym (ap (λ t. Some (cond t c b)) (cond-false (covers start c) (cond (covers start b) (is_nearer asked c b) true) (cond (covers start b) false (is_farther asked c b)) h ∙ cond-true (covers start b) false (is_farther asked c b) covers_b))
-    ∙ sym (ap (λ o. instead asked start (option_or o (best (is_farther asked) list)) c) found.1)
+    cc (found.1, cond-false (covers start c) (cond (covers start b) (is_nearer asked c b) true) (cond (covers start b) false (is_farther asked c b)) h ∙ cond-true (covers start b) false (is_farther asked c b) covers_b)
 
 pub taken_more : (asked start : ℕ) (list : List Candidate) (c : Candidate) → taken asked start (list ++ c ∷ []) ≡ instead asked start (taken asked start list) c
 taken_more asked start list c =
@@ -268,10 +250,7 @@ one_compared old number step last request defs def count is same =
     let yes : same_function def.function request.function ≡ true = sym (ap (λ (s : Searched). same_function def.function s.request.function) is) ∙ same in
     let next = candidate step last (length defs, def) in
     let all : candidates step last request.function (defs ++ def ∷ []) ≡ candidates step last request.function defs ++ next ∷ [] = candidates_more step last request.function defs def ∙ ap (λ zs. candidates step last request.function defs ++ zs) (cond-true (same_function def.function request.function) (next ∷ []) [] yes) in
-    ap (λ (s : Searched). compared s number def) is
-    ∙ ap (λ n. compared (searched step last request defs) n def) count
-    ∙ ap (with_best step last request) (sym (taken_more request.asked request.start (candidates step last request.function defs) next))
-    ∙ sym (ap (λ zs. with_best step last request (taken request.asked request.start zs)) all)
+    cc (is, count, taken_more request.asked request.start (candidates step last request.function defs) next, all)
 
 pub first_taken : (asked start : ℕ) (found : Option Candidate) (next c : Candidate) → found ≡ None → next ≡ c → Some next ≡ instead asked start found c
 first_taken asked start found next c none e = ap Some e ∙ ap (λ o. instead asked start o c) (sym none)

@@ -1,40 +1,10 @@
 -- What each piece keeps of a database that comes piece by piece.
-use Rattle.rrd_base.specs.declared.rebuild.cursor.Cursor.{Cursor}
-use Rattle.rrd_spec.specs.Limits.{limits_of, newest, present}
+use Rattle.std.specs.Prelude.{◌≡◌, ◌+◌, ◌*◌, ◌%◌, ◌<◌, ◌≤◌, ℕ, zero, suc, List, [], ◌∷◌, ◌++◌, Some, None, Option, length, map, take, drop, false, replicate, sum, nat_lt, not, true, ◌⊎◌}
+use Rattle.rrd_base.proofs.Names.{Cursor, limits_of, newest, present, outline_undone, rows_of, AreRemovedSettings, IsArchiveDef, IsRowPart, MayHead, heads_with_part, MaySource, after_heads, due, prep_or, rows_in_all, unprepared, with_head, with_prep, names, has_source, is_double, Due, HeadDue, PrepDue, SourceDue, ◌∙◌, sym, ap, subst, arith, inl, inr, refl, get_or, set, length-append, AllByRecursion, list_any, fold, cases_lt, le-ltb, lt-ltb, or_parts, or_from, Cell, Name, Raw, same_name, IsAccepted, IsBounded, Part, Average, DsDef, RraDef, Outline, Entry, rows_of_archives, Filed, Head, Source, head_of, Rra, ArePrepared, Coming, IsArchiveSoFar, IsRebuilding, cells_before, content_so_far, filed_in, IsCursor, IsOutline, EntryValidator, validator, AreFewer, KnowsPlaceIn, filled_by, journal_of, AreAccepted, IsPart, IsRow, IsSourceWithin, IsValidJournalWithin, All-append, All-replicate, length-map, length-replicate}
 use Rattle.rrd_base.proofs.Versions.{archive_def_in, few_cells}
-use Rattle.rrd_spec.specs.Journal.Outlines.{outline_undone, rows_of}
-use Rattle.rrd_spec.specs.Journal.Fitting.{AreRemovedSettings}
-use Rattle.rrd_spec.specs.Files.Rebuilding.{IsArchiveDef, IsRowPart, MayHead, heads_with_part, MaySource, after_heads, due, prep_or, rows_in_all, unprepared, with_head, with_prep, with_source}
-use Rattle.rrd_spec.specs.Settings.{names, has_source, is_double}
-use Rattle.rrd_spec.specs.declared.due.Due.{Due}
-use Rattle.rrd_spec.specs.declared.due.Due.TheVariants.{HeadDue, PrepDue, SourceDue}
-use Rattle.std.proofs.Common.{◌≡◌, ◌∙◌, ◌+◌, ◌*◌, ◌%◌, ◌<◌, ◌≤◌, ℕ, zero, suc, List, [], ◌∷◌, ◌++◌, Some, None, Option, sym, ap, subst, arith, length, map, take, drop, inl, inr, false, refl, get_or, set, replicate, length-append}
-use Rattle.std.specs.Prelude.{sum, nat_lt, not, true, ◌⊎◌}
-use Rattle.std.specs.List.{AllByRecursion, list_any, fold}
-use Rattle.std.proofs.lemmas.Bool.{cases_lt, le-ltb, lt-ltb, or_parts, or_from}
-use Rattle.rrd_fixed.specs.declared.cell.Cell.{Cell}
-use Rattle.rrd_fixed.specs.declared.name.Name.{Name}
-use Rattle.rrd_fixed.specs.declared.raw.Raw.{Raw}
-use Rattle.rrd_fixed.specs.Names.{same_name}
-use Rattle.rrd_fixed.specs.Rate.{IsAccepted, IsBounded}
-use Rattle.rrd_fold.specs.Parts.{Part}
-use Rattle.rrd_fold.specs.declared.function.Function.TheVariants.{Average}
-use Rattle.rrd_spec.specs.declared.settings.DsDef.{DsDef}
-use Rattle.rrd_spec.specs.declared.settings.RraDef.{RraDef}
-use Rattle.rrd_spec.specs.declared.outline.Outline.{Outline}
-use Rattle.rrd_base.specs.declared.journal.Entry.{Entry}
-use Rattle.rrd_spec.specs.Commands.{rows_of_archives}
-use Rattle.rrd_spec.specs.Files.Filed.{Filed, Head, Source, head_of, sources_of}
-use Rattle.rrd_spec.specs.History.{Rra}
-use Rattle.rrd_base.specs.Rebuild.{ArePrepared, Coming, IsArchiveSoFar, IsRebuilding, cells_before, content_so_far, filed_in, IsCursor}
-use Rattle.rrd_base.specs.Rebuild.EntryChecks.{IsOutline}
-use Rattle.rrd_base.specs.Rebuild.Validators.{EntryValidator, validator}
-use Rattle.rrd_base.specs.Rebuild.Cursors.{AreFewer, KnowsPlaceIn, filled_by}
-use Rattle.rrd_base.specs.Journal.{journal_of}
-use Rattle.rrd_spec.specs.Validity.{AreAccepted, IsPart, IsRow, IsSourceWithin, IsValidJournalWithin}
+use Rattle.rrd_spec.specs.Files.Rebuilding.{with_source}
+use Rattle.rrd_spec.specs.Files.Filed.{sources_of}
 use Rattle.rrd_base.proofs.Dues.{due_source, due_then, lengths_same, none_there, split_at, unprepared_is}
-use Rattle.rrd_spec.specs.Lemmas.Lists.{All-append, All-replicate}
-use Rattle.std.proofs.lemmas.List.{length-map, length-replicate}
 use native.Mathlib.Nat as nat
 
 -- ---- lists
@@ -54,9 +24,8 @@ double_more (m ∷ ns) n a b =
 
 pub accepted_more : (defs : List DsDef) (raws : List Raw) (def : DsDef) (raw : Raw) → AreAccepted defs raws → IsAccepted def.kind raw → AreAccepted (defs ++ def ∷ []) (raws ++ raw ∷ [])
 accepted_more [] [] def raw is one = (one, tt)
-accepted_more [] (r ∷ raws) def raw is one = absurd is
-accepted_more (d ∷ defs) [] def raw is one = absurd is
 accepted_more (d ∷ defs) (r ∷ raws) def raw is one = (is.0, accepted_more defs raws def raw is.1 one)
+accepted_more x y def raw is one = absurd is
 
 names_more : (defs : List DsDef) (def : DsDef) → names (defs ++ def ∷ []) ≡ names defs ++ def.name ∷ []
 names_more [] def = refl
@@ -68,11 +37,8 @@ any_name (d ∷ defs) name h = let p = or_parts (same_name d.name name) (has_sou
 
 sources_more : (defs : List DsDef) (raws : List Raw) (parts : List Part) (def : DsDef) (raw : Raw) (part : Part) → length raws ≡ length defs → length parts ≡ length defs → sources_of (defs ++ def ∷ []) (raws ++ raw ∷ []) (parts ++ part ∷ []) ≡ sources_of defs raws parts ++ record { def = def; raw = raw; part = part } ∷ []
 sources_more [] [] [] def raw part a b = refl
-sources_more [] (r ∷ raws) parts def raw part a b = absurd (omega arith)
-sources_more [] [] (p ∷ parts) def raw part a b = absurd (omega arith)
-sources_more (d ∷ defs) [] parts def raw part a b = absurd (omega arith)
-sources_more (d ∷ defs) (r ∷ raws) [] def raw part a b = absurd (omega arith)
 sources_more (d ∷ defs) (r ∷ raws) (p ∷ parts) def raw part a b = ap (λ (xs : List Source). record { def = d; raw = r; part = p } ∷ xs) (sources_more defs raws parts def raw part (omega arith) (omega arith))
+sources_more x y parts def raw part a b = absurd (omega arith)
 
 pub defs_of : (defs : List DsDef) (raws : List Raw) (parts : List Part) → length raws ≡ length defs → length parts ≡ length defs → map (λ (source : Source). source.def) (sources_of defs raws parts) ≡ defs
 defs_of [] raws parts a b = refl
@@ -109,9 +75,7 @@ plain d defs heads = record {
 plain_validator : (d : Coming) → IsRebuilding d → d.journal ≡ [] → d.validator ≡ plain d d.sources (map head_of d.archives)
 plain_validator d is none =
     let base = λ (defs : List DsDef). plain d defs (map head_of d.archives) in
-    is.validator_is
-    ∙ ap (λ (j : List Entry). validator (filed_in (record d { journal = j }))) none
-    ∙ ap base (defs_of d.sources d.raws d.preps (lengths_same d.sources d.raws is.raws_are) is.one_part_each)
+    cc (is.validator_is, none, defs_of d.sources d.raws d.preps (lengths_same d.sources d.raws is.raws_are) is.one_part_each)
 
 -- while no entry has come it has the archives that came
 pub outlines_lengths : (d : Coming) → IsRebuilding d → d.journal ≡ [] → length d.validator.outline.archives ≡ length d.archives
@@ -173,7 +137,6 @@ pub source_keeps : (d : Coming) (def : DsDef) (raw : Raw) (part : Part) → IsRe
 source_keeps d def raw part is may =
     let few : length d.sources < d.sources_due = few_sources d is may.is_due in
     let new = source_came d def raw part in
-    let archives : d.archives ≡ [] = none_there d.archives (no_archives d is few) in
     let archive : d.archive ≡ 0 = omega (arith, is.archive_there, no_archives d is few) in
     let journal : d.journal ≡ [] = no_entries d is archive in
     let lengths = lengths_same d.sources d.raws is.raws_are in
@@ -303,8 +266,7 @@ fewer_one sources filled (s ∷ archives) a none some few rows = few
 
 pub head_is : (d : Coming) (a : Rra) → IsRebuilding d → a.parts ≡ [] → due (filed_in d) ≡ HeadDue → filed_in (archive_came d a) ≡ with_head (filed_in d) a.def
 head_is d a is none e =
-    let at = at_head d is e in
-    let later = none_later d is at.few in
+    let later = none_later d is (at_head d is e).few in
     let head : head_of a ≡ record { def = a.def; parts = [] } = ap (λ (ps : List Part). let h : Head = record { def = a.def; parts = ps } in h) none in
     let heads : map head_of (d.archives ++ a ∷ []) ≡ map head_of d.archives ++ record { def = a.def; parts = [] } ∷ [] = heads_more d.archives a ∙ ap (λ (h : Head). map head_of d.archives ++ h ∷ []) head in
     let cells : cells_before d.step d.last (d.archives ++ a ∷ []) d.archive d.filled ≡ cells_before d.step d.last d.archives d.archive d.filled = cells_none d.step d.last (d.archives ++ a ∷ []) d.archive d.filled later.archive later.filled ∙ sym (cells_none d.step d.last d.archives d.archive d.filled later.archive later.filled) in
@@ -477,10 +439,9 @@ pub last_prep : (d : Coming) (x : Rra) (i : ℕ) (def : RraDef) → IsRebuilding
 last_prep d x i def is n e o = one_unprepared d.sources_due x def (sym (unprepared_is d x i is n e) ∙ o)
 
 set_last : (xs : List Rra) (i : ℕ) (x : Rra) → length xs ≡ suc i → set xs i x ≡ take i xs ++ x ∷ []
-set_last [] i x n = absurd (omega arith)
 set_last (y ∷ []) zero x n = refl
-set_last (y ∷ z ∷ xs) zero x n = absurd (omega arith)
 set_last (y ∷ xs) (suc i) x n = ap (λ (r : List Rra). y ∷ r) (set_last xs i x (omega arith))
+set_last y i x n = absurd (omega arith)
 
 All_last : (P : Rra → Type 0) (front : List Rra) (x y : Rra) → AllByRecursion P (front ++ x ∷ []) → (P x → P y) → AllByRecursion P (front ++ y ∷ [])
 All_last P [] x y all f = (f all.0, tt)
@@ -496,9 +457,8 @@ fewer_front sources filled [] x y e few = subst (λ (def : RraDef). filled < sou
 fewer_front sources filled (a ∷ front) x y e few = few
 
 heads_part : (front : List Rra) (x : Rra) (part : Part) → map head_of (front ++ record x { parts = x.parts ++ part ∷ [] } ∷ []) ≡ heads_with_part (map head_of (front ++ x ∷ [])) part
-heads_part [] x part = refl
-heads_part (a ∷ []) x part = refl
 heads_part (a ∷ b ∷ front) x part = ap (λ (heads : List Head). head_of a ∷ heads) (heads_part (b ∷ front) x part)
+heads_part y x part = refl
 
 part_more : (P : Part → Type 0) (parts : List Part) (part : Part) → AllByRecursion P parts → P part → AllByRecursion P (parts ++ part ∷ [])
 part_more P parts part all one = All-append P parts (part ∷ []) all (one, tt)

@@ -1,13 +1,6 @@
 -- How many cells an entry holds.
-use Rattle.std.proofs.Common.{◌≡◌, ◌∙◌, ap, ℕ, zero, suc, ◌+◌, ◌*◌, ◌<◌, List, [], ◌∷◌, length, map, min, take, get_or, arith}
-use Rattle.std.specs.List.{AllByRecursion}
-use Rattle.rrd_fixed.specs.declared.cell.Cell.{Cell}
-use Rattle.rrd_ring.specs.Rows.{HasWidth}
-use Rattle.rrd_spec.specs.History.{Rra}
-use Rattle.rrd_spec.specs.Journal.Entries.{SavedArchive, cells_in, cells_saved, saved, rows_between}
-use Rattle.rrd_spec.specs.Validity.{IsValidArchive}
-use Rattle.rrd_spec.specs.Lemmas.Validity.{rows_wide}
-use Rattle.rrd_spec.specs.Lemmas.Lists.{All-take}
+use Rattle.std.specs.Prelude.{◌≡◌, ℕ, zero, suc, ◌+◌, ◌*◌, ◌<◌, List, [], ◌∷◌, length, map, min, take}
+use Rattle.rrd_base.proofs.Names.{◌∙◌, ap, get_or, arith, AllByRecursion, Cell, HasWidth, Rra, SavedArchive, cells_in, cells_saved, saved, rows_between, IsValidArchive, rows_wide, All-take}
 
 -- rows of as many cells each
 pub cells_wide : (sources : ℕ) (rows : List (List Cell)) → HasWidth sources rows → cells_in rows ≡ length rows * sources

@@ -1,16 +1,6 @@
 -- What a database's journal needs, and keeps.
-use Rattle.std.proofs.Common.{◌≡◌, refl, ◌∙◌, ap, suc, ◌-◌, ◌<◌, List, [], ◌∷◌, length, map, get_or, arith, None, false}
-use Rattle.std.specs.List.{fold}
-use Rattle.rrd_spec.specs.declared.requests.update.Sample.{Sample}
-use Rattle.rrd_spec.specs.declared.requests.update.Update.{Update}
-use Rattle.rrd_spec.specs.declared.settings.DsDef.{DsDef}
-use Rattle.rrd_fixed.specs.declared.name.Name.{Name}
-use Rattle.rrd_spec.specs.History.{Content, Reading, Sampled, Moment, moment_of, moment_after}
-use Rattle.rrd_spec.specs.Laws.ListedContent.{KeepsArchives}
-use Rattle.rrd_spec.specs.Commands.{Updating, sample_of, moved, DatabaseChange}
-use Rattle.rrd_base.specs.Update.{last_time, template_of}
-use Rattle.rrd_spec.specs.Laws.Commands.{PassesAll}
-use Rattle.rrd_spec.specs.Commands.Verdict.{verdict, no_sample}
+use Rattle.std.specs.Prelude.{◌≡◌, suc, ◌-◌, ◌<◌, List, [], ◌∷◌, length, map, None, false}
+use Rattle.rrd_base.proofs.Names.{refl, ◌∙◌, ap, get_or, arith, fold, Sample, Update, DsDef, Name, Content, Reading, Sampled, Moment, moment_of, moment_after, KeepsArchives, Updating, sample_of, moved, DatabaseChange, last_time, template_of, PassesAll, verdict, no_sample}
 
 -- ---- the last time
 

@@ -1,26 +1,7 @@
 -- Which piece is due, by what the fields hold.
-use Rattle.rrd_spec.specs.Settings.{resolution}
-use Rattle.rrd_spec.specs.declared.due.Due.TheVariants.{SourceDue, HeadDue, PrepDue, CellDue, EntryDue, NothingDue}
-use Rattle.std.proofs.Common.{◌≡◌, ◌∙◌, ◌+◌, ◌*◌, ◌<◌, ◌≤◌, ℕ, zero, suc, List, [], ◌∷◌, ◌++◌, Some, None, sym, ap, subst, arith, length, map, take, drop, refl, min, get_or, length-append, length-take, length-drop}
-use Rattle.std.specs.Prelude.{sum, nat_lt, if◌then◌else◌}
-use Rattle.std.specs.List.{AllByRecursion, flat_map}
-use Rattle.std.proofs.lemmas.Bool.{lt-ltb, le-ltb}
-use Rattle.std.proofs.lemmas.List.{length-map}
-use Rattle.std.proofs.lemmas.List.Concat.{flat_map-cons}
-use Rattle.rrd_fixed.specs.declared.cell.Cell.{Cell}
-use Rattle.rrd_spec.specs.Files.Filed.{Head, head_of, sources_of}
-use Rattle.rrd_spec.specs.History.{Rra}
-use Rattle.rrd_spec.specs.Files.Rebuilding.{after_heads, due, prep_or, rows_in_all, unprepared}
-use Rattle.rrd_base.specs.Rebuild.{ArePrepared, Coming, IsArchiveSoFar, IsRebuilding, filed_in}
-use Rattle.rrd_base.specs.Rebuild.Cursors.{AreFewer}
-use Rattle.rrd_spec.specs.Files.Slots.{cells_by_slot}
-use Rattle.rrd_spec.specs.Validity.{AreAccepted, IsRow}
-use Rattle.rrd_spec.specs.declared.settings.DsDef.{DsDef}
-use Rattle.rrd_spec.specs.declared.settings.RraDef.{RraDef}
-use Rattle.rrd_fixed.specs.declared.raw.Raw.{Raw}
-use Rattle.rrd_fold.specs.Parts.{Part}
-use Rattle.rrd_spec.specs.Lemmas.Lists.{All-take, All-drop, All-weaker}
-use Rattle.rrd_spec.specs.Laws.Slots.{AsManyCells, HasOneEach}
+use Rattle.std.specs.Prelude.{◌≡◌, ◌+◌, ◌*◌, ◌<◌, ◌≤◌, ℕ, zero, suc, List, [], ◌∷◌, ◌++◌, Some, None, length, map, take, drop, min, sum, nat_lt, if◌then◌else◌}
+use Rattle.rrd_base.proofs.Names.{resolution, SourceDue, HeadDue, PrepDue, CellDue, EntryDue, NothingDue, ◌∙◌, sym, ap, subst, arith, refl, get_or, length-append, length-take, length-drop, AllByRecursion, flat_map, lt-ltb, le-ltb, length-map, flat_map-cons, Cell, Head, head_of, Rra, after_heads, due, prep_or, rows_in_all, unprepared, ArePrepared, Coming, IsArchiveSoFar, IsRebuilding, filed_in, AreFewer, cells_by_slot, AreAccepted, IsRow, DsDef, RraDef, Raw, Part, All-take, All-drop, All-weaker, AsManyCells, HasOneEach}
+use Rattle.rrd_spec.specs.Files.Filed.{sources_of}
 use Rattle.rrd_base.proofs.Rebuilt.{fold_sum, journal_length}
 use native.Mathlib.Nat as nat
 
@@ -62,18 +43,16 @@ none_there [] n = refl
 none_there (x ∷ xs) n = absurd (omega arith)
 
 pub split_at : {A : Type 0} (xs : List A) (i : ℕ) (x : A) → length xs ≡ suc i → x ≡ get_or xs i x → xs ≡ take i xs ++ x ∷ []
-split_at [] i x n e = absurd (omega arith)
 split_at (y ∷ []) zero x n e = ap (λ z. z ∷ []) (sym e)
-split_at (y ∷ z ∷ xs) zero x n e = absurd (omega arith)
 split_at (y ∷ xs) (suc i) x n e = ap (λ r. y ∷ r) (split_at xs i x (omega arith) e)
+split_at y i x n e = absurd (omega arith)
 
 -- ---- what is due
 
 pub lengths_same : (defs : List DsDef) (raws : List Raw) → AreAccepted defs raws → length raws ≡ length defs
 lengths_same [] [] is = refl
-lengths_same [] (raw ∷ raws) is = absurd is
-lengths_same (def ∷ defs) [] is = absurd is
 lengths_same (def ∷ defs) (raw ∷ raws) is = ap suc (lengths_same defs raws is.1)
+lengths_same x y is = absurd is
 
 sources_many : (defs : List DsDef) (raws : List Raw) (parts : List Part) → length raws ≡ length defs → length parts ≡ length defs → length (sources_of defs raws parts) ≡ length defs
 sources_many [] raws parts a b = refl

@@ -1,11 +1,6 @@
 -- What is left where an entry is due: the outline of a valid content.
-use Rattle.std.proofs.Common.{◌≡◌, ◌∙◌, ◌<◌, ap, subst, sym, length}
-use Rattle.rrd_spec.specs.declared.due.Due.TheVariants.{EntryDue}
-use Rattle.rrd_spec.specs.declared.outline.Outline.{Outline}
-use Rattle.rrd_spec.specs.Files.Filed.{Filed}
-use Rattle.rrd_spec.specs.Files.Rebuilding.{due}
-use Rattle.rrd_base.specs.Rebuild.{Coming, IsRebuilding, filed_in}
-use Rattle.rrd_base.specs.Rebuild.EntryChecks.{IsValidOutline}
+use Rattle.std.specs.Prelude.{◌≡◌, ◌<◌, length}
+use Rattle.rrd_base.proofs.Names.{◌∙◌, ap, subst, sym, EntryDue, Outline, Filed, due, Coming, IsRebuilding, filed_in, IsValidOutline}
 use Rattle.rrd_base.proofs.Dues.{AllAsMany}
 use Rattle.rrd_base.proofs.EntryComes.{AllFiled, AllFollow, AllLeave, at_entry, left_valid}
 

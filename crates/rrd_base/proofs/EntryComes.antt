@@ -1,37 +1,12 @@
 -- An entry comes: the outline that is left judges it, and it is undone there.
-use Rattle.std.proofs.Common.{◌≡◌, ◌∙◌, ◌<◌, ◌≤◌, ℕ, List, [], ◌∷◌, ◌++◌, Some, None, Option, sym, ap, subst, arith, length, map, inl, inr, refl}
-use Rattle.std.specs.Prelude.{sum, ◌/◌}
-use Rattle.std.specs.List.{AllByRecursion, fold}
-use Rattle.std.proofs.lemmas.Bool.{cases_lt}
-use Rattle.std.proofs.lemmas.List.{reverse-append}
-use Rattle.std.proofs.lemmas.List.Sums.{fold-append}
-use Rattle.rrd_spec.specs.declared.due.Due.{Due}
-use Rattle.rrd_spec.specs.declared.due.Due.TheVariants.{SourceDue, HeadDue, CellDue, EntryDue, NothingDue}
-use Rattle.rrd_spec.specs.declared.outline.Outline.{Outline}
-use Rattle.rrd_spec.specs.declared.settings.RraDef.{RraDef}
-use Rattle.rrd_spec.specs.Commands.{rows_of_archives}
+use Rattle.std.specs.Prelude.{◌≡◌, ◌<◌, ◌≤◌, ℕ, List, [], ◌∷◌, ◌++◌, Some, None, Option, length, map, sum, ◌/◌}
+use Rattle.rrd_base.proofs.Names.{◌∙◌, sym, ap, subst, arith, inl, inr, refl, AllByRecursion, fold, cases_lt, reverse-append, fold-append, Due, SourceDue, HeadDue, CellDue, EntryDue, NothingDue, Outline, RraDef, rows_of_archives, undone, Filed, head_of, Rra, Content, definitions, JournalLeavesValid, FiledOutline, JournalTakes, OutlineFollows, Limits, limits_of, present, Version, outline_of, outline_undone, rows_of, IsArchiveDef, MayUndo, after_heads, due, outline_filed, prep_or, unprepared, with_entry, Stored, IsValidArchiveWithin, IsValidJournalWithin, IsValidWithin, Entry, IsOutline, IsValidOutline, EntryValidator, entry_of, journal_of, Coming, HeadsCame, IsRebuilding, content_so_far, filed_in}
 use Rattle.rrd_spec.specs.Journal.Entries as entries
-use Rattle.rrd_spec.specs.Journal.Entries.{undone}
-use Rattle.rrd_spec.specs.Files.Filed.{Filed, head_of}
-use Rattle.rrd_spec.specs.History.{Rra, Content, definitions}
-use Rattle.rrd_spec.specs.Laws.Journal.{JournalLeavesValid}
-use Rattle.rrd_spec.specs.Laws.Outlines.{FiledOutline, JournalTakes, OutlineFollows}
-use Rattle.rrd_spec.specs.Limits.{Limits, limits_of, present}
-use Rattle.rrd_spec.specs.declared.version.Version.{Version}
-use Rattle.rrd_spec.specs.Journal.Outlines.{outline_of, outline_undone, rows_of}
-use Rattle.rrd_spec.specs.Journal.Fitting.{IsArchiveDef, MayUndo}
-use Rattle.rrd_spec.specs.Files.Rebuilding.{after_heads, due, outline_filed, prep_or, unprepared, with_entry}
-use Rattle.rrd_spec.specs.Journal.Survivors.{Stored}
-use Rattle.rrd_spec.specs.Validity.{IsValidArchiveWithin, IsValidJournalWithin, IsValidWithin}
-use Rattle.rrd_base.specs.declared.journal.Entry.{Entry}
-use Rattle.rrd_base.specs.Rebuild.EntryChecks.{IsOutline, IsValidOutline}
-use Rattle.rrd_base.specs.Rebuild.Validators.{EntryValidator}
-use Rattle.rrd_base.specs.Journal.{entry_of, journal_of}
-use Rattle.rrd_base.specs.Rebuild.{Coming, HeadsCame, IsRebuilding, content_so_far, filed_in}
 use Rattle.rrd_base.proofs.Comes.{few_less}
 use Rattle.rrd_base.proofs.Versions.{few_cells}
 use Rattle.rrd_base.proofs.Dues.{AllAsMany, due_cell, due_head, due_nothing, due_source, due_then, lengths_same}
 use Rattle.rrd_base.proofs.Rebuilt.{content_is_valid}
+use Rattle.rrd_spec.proofs.Outlined.{rows_by_settings}
 
 -- ---- when it is due
 
@@ -96,15 +71,11 @@ defs_valid version sources steps [] all = tt
 defs_valid version sources steps (a ∷ archives) all =
     (record { some_steps = all.0.some_steps; few_steps = all.0.few_steps; some_rows = all.0.some_rows; few_rows = all.0.few_rows; xff_low = all.0.xff_low; xff_high = all.0.xff_high }, defs_valid version sources steps archives all.1)
 
-rows_by_def : (archives : List Rra) → rows_of (definitions archives) ≡ rows_of_archives archives
-rows_by_def [] = refl
-rows_by_def (a ∷ archives) = ap (λ (rows : List ℕ). a.def.rows ∷ rows) (rows_by_def archives)
-
 outline_valid : (version : Version) (now : Content) → IsValidWithin (limits_of version) now → IsOutline (outline_of now)
 outline_valid version now is = record {
   few_sources = is.few_sources;
   archives_are = defs_valid version (length now.sources) (now.last / now.step) now.archives is.archives_are;
-  few_rows = subst (λ (rows : List ℕ). sum rows ≤ present.max_cells) (sym (rows_by_def now.archives)) (omega (arith, few_less (length now.sources) (sum (rows_of_archives now.archives)) (limits_of version).max_cells is.some_source is.few_cells, few_cells version));
+  few_rows = subst (λ (rows : List ℕ). sum rows ≤ present.max_cells) (sym (rows_by_settings now.archives)) (omega (arith, few_less (length now.sources) (sum (rows_of_archives now.archives)) (limits_of version).max_cells is.some_source is.few_cells, few_cells version));
 }
 
 -- where all pieces before the entries came, it is that of a valid content
@@ -112,11 +83,7 @@ pub left_valid : AllFollow → AllFiled → AllLeave → (d : Coming) → IsRebu
 left_valid follow filed leave d is sources heads =
     let now = content_so_far d in
     let journal = journal_of d.journal in
-    record {
-      content = fold undone now journal;
-      valid = leave (limits_of d.version) now journal (content_is_valid d is sources heads.all heads.prepared) is.journal_is;
-      outline_is = outline_by filed d is ∙ sym (follow now journal).outline_is;
-    }
+    grind (arith, fold undone now journal, leave (limits_of d.version) now journal (content_is_valid d is sources heads.all heads.prepared) is.journal_is, outline_by filed d is ∙ sym (follow now journal).outline_is)
 
 pub fits : (version : Version) (outline : Outline) → IsValidOutline version outline → IsOutline outline
 fits version outline left = subst IsOutline (sym left.outline_is) (outline_valid version left.content left.valid)
@@ -133,7 +100,6 @@ pub entry_keeps : AllTake → AllFiled → (d : Coming) (e : Entry) → IsRebuil
 entry_keeps take filed d e is at fits =
     let now = content_so_far d in
     let journal = journal_of d.journal in
-    let new = entry_came d e (outline_undone d.validator.outline (entry_of e)) in
     let more = journal_more e d.journal in
     let valid : IsValidJournalWithin (limits_of d.version) now (journal ++ entry_of e ∷ []) = take (limits_of d.version) now journal (entry_of e) (at_entry_valid d is at) is.journal_is (subst (λ (o : Outline). MayUndo (limits_of d.version) d.step o (entry_of e)) (outline_by filed d is) fits) in
     record {

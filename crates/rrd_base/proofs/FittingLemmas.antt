@@ -1,41 +1,9 @@
 -- What tests of an entry find out, item by item.
-use Rattle.std.proofs.Common.{◌≡◌, ◌∙◌, ◌+◌, ◌<◌, ◌≤◌, ℕ, zero, suc, List, [], ◌∷◌, Some, sym, ap, subst, arith, length, map, take, drop, refl, get_or, set, take_all, add-one, length-set, append-nil, ◌-◌, ◌^◌, min}
-use Rattle.std.specs.Prelude.{sum, slice_get, slice_index_or, slice_set}
-use Rattle.std.specs.List.{AllByRecursion, refill}
-use Rattle.std.proofs.lemmas.List.{drop_all, map-set}
-use Rattle.rrd_fixed.specs.declared.name.Name.{Name}
-use Rattle.rrd_fold.specs.Bounds.{Consolidating}
-use Rattle.rrd_fold.specs.Parts.{Part}
-use Rattle.rrd_spec.specs.Preparations.{parts_in}
-use Rattle.rrd_spec.specs.declared.entry.SavedSource.{SavedSource}
-use Rattle.rrd_spec.specs.declared.settings.DsDef.{DsDef}
-use Rattle.rrd_spec.specs.declared.settings.RraDef.{RraDef}
-use Rattle.rrd_spec.specs.Journal.Entries.{SavedArchive}
-use Rattle.rrd_spec.specs.Limits.{present}
-use Rattle.rrd_spec.specs.Lemmas.Lists.{All-at, drop_here}
-use Rattle.rrd_spec.specs.Journal.Outlines.{rows_of, with_row_number, with_sources}
-use Rattle.rrd_spec.specs.Journal.Fitting.{MaySave, MaySaveEach}
-use Rattle.rrd_spec.specs.Settings.{names}
-use Rattle.rrd_spec.specs.Validity.{Rise}
-use Rattle.rrd_base.specs.Rebuild.EntryChecks.{with_names}
-use Rattle.rrd_base.specs.Tune.{with_kept}
+use Rattle.std.specs.Prelude.{◌≡◌, ◌+◌, ◌<◌, ◌≤◌, ℕ, zero, suc, List, [], ◌∷◌, Some, length, take, ◌-◌, ◌^◌, min, sum, slice_get, slice_index_or, slice_set}
+use Rattle.rrd_base.proofs.Names.{◌∙◌, sym, ap, subst, arith, refl, get_or, set, take_all, add-one, length-set, append-nil, AllByRecursion, refill, drop_all, map-set, Name, Consolidating, Part, parts_in, SavedSource, DsDef, RraDef, SavedArchive, present, rows_of, with_row_number, with_sources, MaySave, MaySaveEach, names, Rise, with_names, with_kept}
 use Rattle.rrd_base.proofs.Rebuilt.{fold_sum}
 
 -- ---- of each item
-
-All_suc : {A : Type 0} (P : A → Type 0) (xs : List A) (i : ℕ) (x : A) → i < length xs → x ≡ get_or xs i x → AllByRecursion P (take i xs) → P x → AllByRecursion P (take (suc i) xs)
-All_suc P [] i x h e all one = absurd (omega arith)
-All_suc P (y ∷ xs) zero x h e all one = (subst P e one, tt)
-All_suc P (y ∷ xs) (suc i) x h e all one = (all.0, All_suc P xs i x (omega arith) e all.1 one)
-
-pub All_more : {A : Type 0} (P : A → Type 0) (xs : List A) (i : ℕ) (x : A) → i < length xs → x ≡ get_or xs i x → AllByRecursion P (take i xs) → P x → AllByRecursion P (take (i + 1) xs)
-All_more P xs i x h e all one = subst (λ n. AllByRecursion P (take n xs)) (sym (add-one i)) (All_suc P xs i x h e all one)
-
-pub All_whole : {A : Type 0} (P : A → Type 0) (xs : List A) (i : ℕ) → length xs ≤ i → AllByRecursion P (take i xs) → AllByRecursion P xs
-All_whole P xs i h all = subst (AllByRecursion P) (take_all i xs h) all
-
-pub All_here : {A : Type 0} (P : A → Type 0) (xs : List A) (i : ℕ) (x : A) → i < length xs → x ≡ get_or xs i x → AllByRecursion P xs → P x
-All_here P xs i x h e all = subst P (sym e) (All-at P xs i x all h)
 
 -- of the part of each preparation
 pub All_here_part : (P : Part → Type 0) (preps : List Consolidating) (i : ℕ) (prep : Consolidating) → i < length preps → prep ≡ get_or preps i prep → AllByRecursion P (parts_in preps) → P prep.part
@@ -52,16 +20,14 @@ item_there (y ∷ xs) (suc i) x e = item_there xs i x e
 
 pub saves_lengths : (step from to sources : ℕ) (defs : List RraDef) (olds : List SavedArchive) → MaySaveEach step from to sources defs olds → length olds ≡ length defs
 saves_lengths step from to sources [] [] is = refl
-saves_lengths step from to sources [] (old ∷ olds) is = absurd is
-saves_lengths step from to sources (def ∷ defs) [] is = absurd is
 saves_lengths step from to sources (def ∷ defs) (old ∷ olds) is = ap suc (saves_lengths step from to sources defs olds is.1)
+saves_lengths step from to sources x y is = absurd is
 
 saves_suc : (step from to sources : ℕ) (defs : List RraDef) (olds : List SavedArchive) (i : ℕ) (def : RraDef) (old : SavedArchive) → i < length defs → i < length olds → def ≡ get_or defs i def → old ≡ get_or olds i old
     → MaySaveEach step from to sources (take i defs) (take i olds) → MaySave step from to sources def old → MaySaveEach step from to sources (take (suc i) defs) (take (suc i) olds)
-saves_suc step from to sources [] olds i def old h k d o all one = absurd (omega arith)
-saves_suc step from to sources (x ∷ defs) [] i def old h k d o all one = absurd (omega arith)
 saves_suc step from to sources (x ∷ defs) (y ∷ olds) zero def old h k d o all one = (subst (λ (z : RraDef). MaySave step from to sources z y) d (subst (MaySave step from to sources def) o one), tt)
 saves_suc step from to sources (x ∷ defs) (y ∷ olds) (suc i) def old h k d o all one = (all.0, saves_suc step from to sources defs olds i def old (omega arith) (omega arith) d o all.1 one)
+saves_suc step from to sources x olds i def old h k d o all one = absurd (omega arith)
 
 pub saves_more : (step from to sources : ℕ) (defs : List RraDef) (olds : List SavedArchive) (i : ℕ) (def : RraDef) (old : SavedArchive) → i < length defs → i < length olds → def ≡ get_or defs i def → old ≡ get_or olds i old
     → MaySaveEach step from to sources (take i defs) (take i olds) → MaySave step from to sources def old → MaySaveEach step from to sources (take (i + 1) defs) (take (i + 1) olds)
@@ -69,14 +35,9 @@ saves_more step from to sources defs olds i def old h k d o all one = subst (λ 
 
 pub saves_here : (step from to sources : ℕ) (defs : List RraDef) (olds : List SavedArchive) (i : ℕ) (def : RraDef) (old : SavedArchive) → i < length defs → i < length olds → def ≡ get_or defs i def → old ≡ get_or olds i old
     → MaySaveEach step from to sources defs olds → MaySave step from to sources def old
-saves_here step from to sources [] olds i def old h k d o all = absurd (omega arith)
-saves_here step from to sources (x ∷ defs) [] i def old h k d o all = absurd (omega arith)
 saves_here step from to sources (x ∷ defs) (y ∷ olds) zero def old h k d o all = subst (λ (z : RraDef). MaySave step from to sources z old) (sym d) (subst (MaySave step from to sources x) (sym o) all.0)
 saves_here step from to sources (x ∷ defs) (y ∷ olds) (suc i) def old h k d o all = saves_here step from to sources defs olds i def old (omega arith) (omega arith) d o all.1
-
-pub saves_whole : (step from to sources : ℕ) (defs : List RraDef) (olds : List SavedArchive) (i : ℕ) → length defs ≤ i → length olds ≤ i → MaySaveEach step from to sources (take i defs) (take i olds) → MaySaveEach step from to sources defs olds
-saves_whole step from to sources defs olds i h k all =
-    subst (λ (os : List SavedArchive). MaySaveEach step from to sources defs os) (take_all i olds k) (subst (λ (ds : List RraDef). MaySaveEach step from to sources ds (take i olds)) (take_all i defs h) all)
+saves_here step from to sources x olds i def old h k d o all = absurd (omega arith)
 
 -- ---- numbers that rise
 
@@ -85,40 +46,12 @@ pub record RiseLeft (from limit to : ℕ) (all left : List SavedSource) : Type 0
   pub back : Rise to limit left → Rise from limit all
   pub forth : Rise from limit all → Rise to limit left
 
-pub rise_start : (from limit : ℕ) (all : List SavedSource) → RiseLeft from limit from all (drop 0 all)
-rise_start from limit all = record { back = λ h. h; forth = λ h. h }
-
-pub rise_on : (from limit to i : ℕ) (all : List SavedSource) (old : SavedSource) → i < length all → old ≡ get_or all i old → to ≤ old.number → old.number < limit → RiseLeft from limit to all (drop i all)
-    → RiseLeft from limit (old.number + 1) all (drop (i + 1) all)
-rise_on from limit to i all old h e low high left =
-    let here = drop_here all i old h e in
-    record {
-      back = λ rest. left.back (subst (Rise to limit) (sym here) (low, high, rest));
-      forth = λ whole. let now = subst (Rise to limit) here (left.forth whole) in now.2;
-    }
-
-pub rise_here : (from limit to i : ℕ) (all : List SavedSource) (old : SavedSource) → i < length all → old ≡ get_or all i old → RiseLeft from limit to all (drop i all) → Rise from limit all → (to ≤ old.number) × (old.number < limit)
-rise_here from limit to i all old h e left whole = let now = subst (Rise to limit) (drop_here all i old h e) (left.forth whole) in (now.0, now.1)
-
-none_left : {A : Type 0} (xs : List A) (i : ℕ) → length xs ≤ i → drop i xs ≡ []
-none_left [] zero h = refl
-none_left [] (suc i) h = refl
-none_left (x ∷ xs) zero h = absurd (omega arith)
-none_left (x ∷ xs) (suc i) h = none_left xs i (omega arith)
-
-pub rise_whole : (from limit to i : ℕ) (all : List SavedSource) → length all ≤ i → RiseLeft from limit to all (drop i all) → Rise from limit all
-rise_whole from limit to i all h left = left.back (subst (Rise to limit) (sym (none_left all i h)) tt)
-
 -- ---- names
 
 pub names_put : (sources : List DsDef) (olds : List SavedSource) → with_names (names sources) olds ≡ names (with_sources sources olds)
 names_put sources [] = refl
 names_put sources (old ∷ olds) =
     ap (λ (ns : List Name). with_names ns olds) (sym (map-set (λ (source : DsDef). source.name) sources old.number old.source)) ∙ names_put (slice_set sources old.number old.source) olds
-
-pub map_same : {A : Type 0} (xs : List A) → map (λ (x : A). x) xs ≡ xs
-map_same [] = refl
-map_same (x ∷ xs) = ap (λ ys. x ∷ ys) (map_same xs)
 
 kept_length : {A : Type 0} (kept : SavedSource → A) (items : List A) (olds : List SavedSource) → length (with_kept kept items olds) ≡ length items
 kept_length kept items [] = refl

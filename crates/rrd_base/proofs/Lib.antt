@@ -1,3 +1,5 @@
+pub mod Names
+pub mod Common
 pub mod Versions
 pub mod PushedRows
 pub mod TurnLemmas

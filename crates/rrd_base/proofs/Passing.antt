@@ -1,19 +1,6 @@
 -- Seconds that pass within a step, and what they leave of a valid content.
-use Rattle.std.proofs.Common.{◌≡◌, sym, ◌∙◌, ap, subst, ℕ, zero, suc, ◌+◌, ◌*◌, ◌/◌, ◌%◌, ◌<◌, ◌≤◌, List, [], ◌∷◌, length, map, replicate, arith}
-use Rattle.std.proofs.lemmas.List.{length-replicate}
-use Rattle.std.proofs.lemmas.Nat.{div-mul-add, div-add-mod'}
-use Rattle.std.specs.List.{fold, AllByRecursion}
-use Rattle.rrd_fixed.specs.declared.cell.Cell.{Cell}
-use Rattle.rrd_fold.specs.declared.function.Function.{Function}
-use Rattle.rrd_fold.specs.declared.function.Function.TheVariants.{Average}
-use Rattle.rrd_fold.specs.Parts.{Part, nothing, with_each, step_cell}
-use Rattle.rrd_spec.specs.Laws.Validity.{PartsGrow, StaysValidFor}
-use Rattle.rrd_spec.specs.Laws.Passing.{PassesWithin, archive_passed, passed}
-use Rattle.rrd_spec.specs.Laws.EqualSteps.{SecondsOver}
-use Rattle.rrd_spec.specs.History.{Content, Rra}
-use Rattle.rrd_spec.specs.Lemmas.Lists.{All-replicate}
-use Rattle.rrd_spec.specs.Validity.{IsPart, AreParts, IsRow, IsValid}
-use Rattle.rrd_spec.specs.Lemmas.Validity.{base_of_valid}
+use Rattle.std.specs.Prelude.{◌≡◌, ℕ, zero, suc, ◌+◌, ◌*◌, ◌/◌, ◌%◌, ◌<◌, ◌≤◌, List, [], ◌∷◌, length, map, replicate}
+use Rattle.rrd_base.proofs.Names.{sym, ◌∙◌, ap, subst, arith, length-replicate, div-mul-add, div-add-mod', fold, AllByRecursion, Cell, Function, Average, Part, nothing, with_each, step_cell, PartsGrow, StaysValidFor, PassesWithin, archive_passed, passed, SecondsOver, Content, Rra, All-replicate, IsPart, AreParts, IsRow, IsValid, base_of_valid}
 
 -- parts with so many seconds more, by the law of parts
 pub parts_more : (grow : (function : Function) (sources n : ℕ) (parts : List Part) (row : List Cell) → PartsGrow function sources n parts row) (function : Function) (sources k n : ℕ) (parts : List Part) (row : List Cell) → AreParts function sources k parts → IsRow sources row → AreParts function sources (k + n) (fold (with_each function) parts (replicate n row))
@@ -34,7 +21,6 @@ still_fit function k n limit (part ∷ parts) h is = let few = is.0.few in (omeg
 -- where a step ends
 pub within_div : (last n step : ℕ) → 0 < step → last + n < (last / step + 1) * step → (last + n) / step ≡ last / step
 within_div last n step some h =
-    let split = div-add-mod' last step in
     ap (λ m. m / step) {x = last + n} {y = last / step * step + (last % step + n)} (omega arith) ∙ div-mul-add (last / step) step (last % step + n) (omega arith)
 
 -- the seconds up to the end of the step are no more than the step
@@ -61,10 +47,7 @@ unfolding with_filled
 ends over base n k row cells parts archives is row_is h e p a =
     let last = base.last + (n + k * base.step) in
     let c = length base.sources in
-    ap (λ z. with_filled base last z archives) p
-    ∙ ap (with_filled base last (replicate c nothing)) a
-    ∙ ap (λ zs. with_filled base last (replicate c nothing) (map (archive_passed c (base.last / base.step) (zs ∷ replicate k row)) base.archives)) e
-    ∙ sym (over base n k row (base_of_valid base is) h row_is.one_each)
+    cc (p, a, e, over base n k row (base_of_valid base is) h row_is.one_each)
 
 -- by the law of seconds, what they leave is valid
 pub stays : (content_stays : (base : Content) (seconds : List (List Cell)) → StaysValidFor base seconds) (base now : Content) (n : ℕ) (row : List Cell) → IsValid base → IsRow (length base.sources) row → base.last + n ≤ 9999999999 → now ≡ passed base (replicate n row) → IsValid now

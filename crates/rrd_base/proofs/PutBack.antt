@@ -1,12 +1,6 @@
 -- What was kept of many archives is put back, the last archive first.
-use Rattle.std.proofs.Common.{◌≡◌, refl, sym, ◌∙◌, ap, ℕ, zero, suc, ◌+◌, ◌-◌, ◌<◌, ◌≤◌, List, [], ◌∷◌, ◌++◌, length, take, drop, get_or, set, arith}
-use Rattle.std.proofs.lemmas.List.{append-nil, drop_all, length-take, take_all}
-use Rattle.std.specs.List.{AllByRecursion}
-use Rattle.rrd_ring.specs.Rows.{width}
-use Rattle.rrd_spec.specs.History.{Rra}
-use Rattle.rrd_spec.specs.Journal.Entries.{SavedArchive, put_back, put_back_each}
-use Rattle.rrd_spec.specs.Validity.{IsValidArchive, FitsArchive, FitEach}
-use Rattle.rrd_base.specs.Rra.{CanPutBack, CanPutBackEach, IsStepped}
+use Rattle.std.specs.Prelude.{◌≡◌, ℕ, zero, suc, ◌+◌, ◌-◌, ◌<◌, ◌≤◌, List, [], ◌∷◌, ◌++◌, length, take, drop}
+use Rattle.rrd_base.proofs.Names.{refl, sym, ◌∙◌, ap, get_or, set, arith, append-nil, drop_all, length-take, take_all, AllByRecursion, width, Rra, SavedArchive, put_back, put_back_each, IsValidArchive, FitsArchive, FitEach, CanPutBack, CanPutBackEach}
 use Rattle.rrd_base.proofs.RraLemmas.{width_is}
 
 -- the last one of a front, and what is before it
@@ -25,10 +19,7 @@ front_short {A = A} n xs ys e h = omega (arith, ap length e, length-take {A = A}
 
 -- the last one that was popped of a front
 pub popped : {A : Type 0} (n k : ℕ) (xs ys : List A) (x : A) → ys ≡ take n xs → n ≡ k + 1 → x ≡ get_or ys (n - 1) x → x ≡ get_or xs k x
-popped n k xs ys x e count last =
-    last ∙ ap (λ zs. get_or zs (n - 1) x) e
-    ∙ ap (λ m. get_or (take m xs) (m - 1) x) {x = n} {y = suc k} (omega arith)
-    ∙ ap (λ m. get_or (take (suc k) xs) m x) {x = suc k - 1} {y = k} (omega arith) ∙ last_at k xs x
+popped n k xs ys x e count last = cc (last, e, ap (λ m. get_or (take m xs) (m - 1) x) {x = n} {y = suc k} (omega arith), ap (λ m. get_or (take (suc k) xs) m x) {x = suc k - 1} {y = k} (omega arith), last_at k xs x)
 
 -- the archive whose turn it is
 pub put_back_next : (k : ℕ) (archives : List Rra) (olds : List SavedArchive) (d : Rra) → k < length archives → get_or (take (suc k) archives ++ put_back_each (drop (suc k) archives) (drop (suc k) olds)) k d ≡ get_or archives k d
@@ -39,10 +30,9 @@ put_back_next (suc k) (archive ∷ archives) (old ∷ olds) d h = put_back_next 
 
 -- one archive more
 pub put_back_more : (k : ℕ) (archives : List Rra) (saved : List SavedArchive) (d new : Rra) (s : SavedArchive) → k < length archives → k < length saved → new ≡ put_back (get_or archives k d) (get_or saved k s) → set (take (suc k) archives ++ put_back_each (drop (suc k) archives) (drop (suc k) saved)) k new ≡ take k archives ++ put_back_each (drop k archives) (drop k saved)
-put_back_more k [] saved d new s h m e = absurd (omega arith)
-put_back_more k (archive ∷ archives) [] d new s h m e = absurd (omega arith)
 put_back_more zero (archive ∷ archives) (old ∷ saved) d new s h m e = ap (λ first. first ∷ put_back_each archives saved) e
 put_back_more (suc k) (archive ∷ archives) (old ∷ saved) d new s h m e = ap (λ rest. archive ∷ rest) (put_back_more k archives saved d new s (omega arith) (omega arith) e)
+put_back_more k x saved d new s h m e = absurd (omega arith)
 
 -- nothing is back yet
 pub none_back : (n : ℕ) (archives : List Rra) (saved : List SavedArchive) → length archives ≤ n → archives ≡ take n archives ++ put_back_each (drop n archives) (drop n saved)
@@ -52,9 +42,8 @@ none_back n archives saved h =
 -- what is asked, at a place
 pub as_many : (archives : List Rra) (saved : List SavedArchive) → CanPutBackEach archives saved → length saved ≡ length archives
 as_many [] [] can = refl
-as_many [] (old ∷ saved) can = absurd can
-as_many (archive ∷ archives) [] can = absurd can
 as_many (archive ∷ archives) (old ∷ saved) can = ap suc (as_many archives saved can.1)
+as_many x y can = absurd can
 
 pub can_at : (k : ℕ) (archives : List Rra) (saved : List SavedArchive) (d : Rra) (s : SavedArchive) → CanPutBackEach archives saved → k < length archives → CanPutBack (get_or archives k d) (get_or saved k s)
 can_at k [] saved d s can h = absurd (omega arith)
@@ -63,11 +52,6 @@ can_at zero (archive ∷ archives) (old ∷ saved) d s can h = can.0
 can_at (suc k) (archive ∷ archives) (old ∷ saved) d s can h = can_at k archives saved d s can.1 (omega arith)
 
 -- ---- what callers know
-
--- valid archives have a small resolution
-pub are_stepped : (sources steps : ℕ) (archives : List Rra) → AllByRecursion (IsValidArchive sources steps) archives → AllByRecursion IsStepped archives
-are_stepped sources steps [] is = tt
-are_stepped sources steps (archive ∷ archives) is = (record { some_steps = is.0.some_steps; few_steps = is.0.few_steps }, are_stepped sources steps archives is.1)
 
 -- what a journal holds of valid archives can be put back
 can_put_back : (step sources steps from to : ℕ) (archive : Rra) (old : SavedArchive) → IsValidArchive sources steps archive → FitsArchive step sources from to archive old → CanPutBack archive old

@@ -1,31 +1,7 @@
 -- A database of which all pieces came is whole and valid.
-use Rattle.rrd_spec.specs.Limits.{limits_of}
-use Rattle.rrd_spec.specs.declared.version.Version.{Version}
-use Rattle.rrd_spec.specs.Settings.{resolution}
-use Rattle.rrd_spec.specs.declared.due.Due.{Due}
-use Rattle.rrd_spec.specs.declared.due.Due.TheVariants.{HeadDue, NothingDue}
-use Rattle.std.proofs.Common.{◌≡◌, ◌∙◌, ◌+◌, ◌*◌, ◌/◌, ◌≤◌, ℕ, suc, List, [], ◌∷◌, Some, None, Option, sym, ap, subst, arith, length, map, inl, inr, true, false, refl, length-append, length-take, take, drop, take_all, ◌++◌, ◌⊎◌, Bool, min}
-use Rattle.std.specs.Prelude.{sum}
-use Rattle.std.specs.List.{AllByRecursion, fold, find, flat_map, enumerate_from, range_with_len}
-use Rattle.std.proofs.lemmas.Bool.{cases_lt, lt-ltb, le-ltb}
-use Rattle.std.proofs.lemmas.List.{length-map, length-reverse, take-append-drop}
-use Rattle.rrd_spec.specs.declared.settings.DsDef.{DsDef}
-use Rattle.rrd_spec.specs.declared.settings.RraDef.{RraDef}
-use Rattle.rrd_fixed.specs.declared.raw.Raw.{Raw}
-use Rattle.rrd_fold.specs.Parts.{Part}
-use Rattle.rrd_spec.specs.Commands.{rows_of_archives}
-use Rattle.rrd_spec.specs.Files.Filed.{Filed, Head, filed, head_of, sources_of}
-use Rattle.rrd_spec.specs.History.{Rra}
-use Rattle.rrd_spec.specs.Files.Rebuilding.{after_heads, due, prep_or, rows_in_all, unprepared}
-use Rattle.rrd_base.specs.Rebuild.{Coming, IsArchiveSoFar, IsRebuilding, cells_before, content_so_far, filed_in}
-use Rattle.rrd_spec.specs.Files.Slots.{cells_by_slot, row_in, stands_in}
-use Rattle.rrd_base.specs.Journal.{entry_of, journal_of}
-use Rattle.rrd_spec.specs.Validity.{IsRow, IsValidArchiveWithin, IsValidDatabaseWithin, IsValidWithin}
-use Rattle.rrd_fixed.specs.declared.cell.Cell.{Cell}
-use Rattle.std.specs.Option.{option_map_or}
-use Rattle.std.proofs.lemmas.Grind.{flat_map-append}
-use Rattle.std.proofs.lemmas.List.Concat.{flat_map-cons}
-use Rattle.std.proofs.lemmas.List.FromFn.{length-range_with_len}
+use Rattle.std.specs.Prelude.{◌≡◌, ◌+◌, ◌*◌, ◌/◌, ◌≤◌, ℕ, suc, List, [], ◌∷◌, Some, None, Option, length, map, true, false, take, drop, ◌++◌, ◌⊎◌, Bool, min, sum}
+use Rattle.rrd_base.proofs.Names.{limits_of, Version, resolution, Due, HeadDue, NothingDue, ◌∙◌, sym, ap, subst, arith, inl, inr, refl, length-append, length-take, take_all, AllByRecursion, fold, find, flat_map, enumerate_from, range_with_len, cases_lt, lt-ltb, le-ltb, length-map, length-reverse, take-append-drop, DsDef, RraDef, Raw, Part, rows_of_archives, Filed, Head, filed, head_of, Rra, after_heads, due, prep_or, rows_in_all, unprepared, Coming, IsArchiveSoFar, IsRebuilding, cells_before, content_so_far, filed_in, cells_by_slot, row_in, stands_in, entry_of, journal_of, IsRow, IsValidArchiveWithin, IsValidDatabaseWithin, IsValidWithin, Cell, option_map_or, flat_map-append, flat_map-cons, length-range_with_len}
+use Rattle.rrd_spec.specs.Files.Filed.{sources_of}
 use native.Mathlib.Nat as nat
 
 bool_cases : (b : Bool) → (b ≡ true) ⊎ (b ≡ false)
@@ -154,11 +130,10 @@ rows_few : (size last sources : ℕ) (rows : List (List Cell)) (slots : List ℕ
 rows_few size last sources rows [] all = omega arith
 rows_few size last sources rows (slot ∷ slots) all =
     let here : length (row_in size last rows slot) ≤ sources = found_few (stands_in size (length rows) last slot) sources 0 rows all in
-    let later = rows_few size last sources rows slots all in
     let more : length (flat_map (row_in size last rows) (slot ∷ slots)) ≡ length (row_in size last rows slot) + length (flat_map (row_in size last rows) slots) =
     ap length (flat_map-cons (row_in size last rows) slot slots) ∙ length-append (row_in size last rows slot) (flat_map (row_in size last rows) slots) in
     let product : suc (length slots) * sources ≡ length slots * sources + sources = nat.suc-mul (length slots) sources in
-    omega (arith, here, later, more, product)
+    omega (arith, here, (rows_few size last sources rows slots all), more, product)
 
 fold_from : (n : ℕ) (xs : List ℕ) → fold ◌+◌ n xs ≡ n + fold ◌+◌ 0 xs
 fold_from n [] = omega arith
@@ -190,11 +165,10 @@ cells_all d is came =
     let front = flat_map f (take d.archive xs) in
     let back = flat_map f (drop d.archive xs) in
     let whole : front ++ back ≡ flat_map f xs = sym (flat_map-append f (take d.archive xs) (drop d.archive xs)) ∙ ap (flat_map f) (take-append-drop d.archive xs) in
-    let few = cells_few d.sources_due d.step d.last xs is.archives_are in
     let all : length (front ++ take d.filled back) ≡ length front + length (take d.filled back) = length-append front (take d.filled back) in
     let sum : length (flat_map f xs) ≡ length front + length back = ap length (sym whole) ∙ length-append front back in
     let taken : length (take d.filled back) ≡ min d.filled (length back) = length-take d.filled back in
-    let enough : length back ≤ d.filled = omega (arith, came.cells, few, all, sum, taken) in
+    let enough : length back ≤ d.filled = omega (arith, came.cells, (cells_few d.sources_due d.step d.last xs is.archives_are), all, sum, taken) in
     ap (λ l. front ++ l) (take_all d.filled back enough) ∙ whole
 
 pub filed_whole : (d : Coming) → IsRebuilding d → AllCame (filed_in d) → filed d.version (record { content = content_so_far d; journal = journal_of d.journal }) ≡ filed_in d

@@ -1,18 +1,6 @@
 -- An archive with another number of rows.
-use Rattle.std.proofs.Common.{◌≡◌, refl, sym, ◌∙◌, ap, ℕ, zero, suc, ◌+◌, ◌-◌, ◌*◌, ◌/◌, ◌<◌, ◌≤◌, List, [], ◌∷◌, ◌++◌, length, drop, replicate, get_or, set, sum, arith, None}
-use Rattle.std.proofs.lemmas.List.{length-drop}
-use Rattle.std.specs.List.{fold, AllByRecursion}
-use Rattle.rrd_fixed.specs.declared.cell.Cell.{Cell}
-use Rattle.rrd_ring.specs.Rows.{newest_rows, width}
-use Rattle.rrd_spec.specs.History.{Rra, Content}
-use Rattle.rrd_spec.specs.declared.requests.resize.Change.{Change}
-use Rattle.rrd_spec.specs.declared.requests.resize.Change.TheVariants.{Grow, Shrink}
-use Rattle.rrd_spec.specs.Commands.{Resizing, moved, rows_changed, rows_of_archives}
-use Rattle.rrd_spec.specs.Journal.Entries.{rows_at, with_rows_at}
-use Rattle.rrd_base.specs.Resize.{HasFewRows}
-use Rattle.rrd_spec.specs.Validity.{IsValid, IsValidArchive}
-use Rattle.rrd_spec.specs.Commands.Verdict.{verdict}
-use Rattle.rrd_spec.specs.Laws.Commands.{ResizeChanges, newest_of, rows_then}
+use Rattle.std.specs.Prelude.{◌≡◌, ℕ, zero, suc, ◌+◌, ◌-◌, ◌*◌, ◌/◌, ◌<◌, ◌≤◌, List, [], ◌∷◌, ◌++◌, length, drop, replicate, sum, None}
+use Rattle.rrd_base.proofs.Names.{refl, sym, ◌∙◌, ap, get_or, set, arith, length-drop, fold, AllByRecursion, Cell, newest_rows, width, Rra, Content, Change, Grow, Shrink, Resizing, moved, rows_changed, rows_of_archives, rows_at, with_rows_at, HasFewRows, IsValid, IsValidArchive, verdict, ResizeChanges, newest_of, rows_then}
 use Rattle.rrd_base.proofs.RraLemmas.{width_is}
 
 -- ---- the number of all rows
@@ -86,6 +74,4 @@ newest_is base k n is there =
 
 -- so an archive that is given them makes the content of the resize
 pub resized_is : (changes : (base : Content) (archive : ℕ) (change : Change) (rows : ℕ) → ResizeChanges base archive change rows) (now : Content) (k : ℕ) (change : Change) (rows : ℕ) (new : List (List Cell)) → IsValid now → verdict now (Resizing k change rows) ≡ None → k < length now.archives → new ≡ newest_rows (rows_then now k change rows) (rows_at now.archives k) → record now { archives = with_rows_at now.archives k new } ≡ moved now (Resizing k change rows)
-resized_is changes now k change rows new is h there e =
-    ap (λ rs. let x : Content = record now { archives = with_rows_at now.archives k rs } in x) (e ∙ newest_is now k (rows_then now k change rows) is there)
-    ∙ sym (changes now k change rows is h)
+resized_is changes now k change rows new is h there e = cc (e ∙ newest_is now k (rows_then now k change rows) is there, changes now k change rows is h)

@@ -1,29 +1,8 @@
 -- Whole rows of cells come at once.
-use Rattle.std.proofs.Common.{◌≡◌, ◌∙◌, ◌+◌, ◌*◌, ◌/◌, ◌%◌, ◌<◌, ◌≤◌, ℕ, zero, suc, List, [], ◌∷◌, ◌++◌, None, sym, ap, subst, arith, length, map, take, drop, inl, inr, refl, min, get_or, set, append_assoc, append-nil, length-set, length-append, length-drop, take_at, drop_at}
-use Rattle.std.specs.Prelude.{◌⊎◌, sum}
-use Rattle.std.specs.List.{AllByRecursion}
-use Rattle.std.proofs.Math.Nat.{add-mul}
-use Rattle.std.proofs.Math.Seq.{take-add}
-use Rattle.std.proofs.lemmas.Bool.{cases_lt, le-ltb, lt-ltb}
-use Rattle.std.proofs.lemmas.List.{length-map, length-take-le, take-append-drop, take_all, drop-drop}
-use Rattle.std.proofs.lemmas.Nat.{mul-le}
-use Rattle.rrd_fixed.specs.declared.cell.Cell.{Cell}
-use Rattle.rrd_fixed.specs.Rate.{IsBounded}
-use Rattle.rrd_ring.specs.Rows.{width, with_rows}
-use Rattle.rrd_spec.specs.declared.due.Due.TheVariants.{CellDue}
-use Rattle.rrd_spec.specs.Files.Filed.{Filed, Head, head_of}
-use Rattle.rrd_spec.specs.History.{Rra}
-use Rattle.rrd_spec.specs.Lemmas.Lists.{All-drop, All-take, drop_here}
-use Rattle.rrd_spec.specs.Laws.Slots.{PutsBlock}
-use Rattle.rrd_spec.specs.Files.Rebuilding.{due, rows_in_all, unprepared, with_cell}
-use Rattle.rrd_spec.specs.Settings.{resolution}
-use Rattle.rrd_spec.specs.Files.Slots.{by_slot, cells_by_slot}
-use Rattle.rrd_spec.specs.Files.Places.{place_in}
-use Rattle.rrd_spec.specs.Validity.{IsRow}
-use Rattle.rrd_base.specs.declared.rebuild.cursor.Cursor.{Cursor}
-use Rattle.rrd_base.specs.Rebuild.Cursors.{Passes, filled_by}
-use Rattle.rrd_base.specs.Rebuild.{Coming, IsRebuilding, filed_in}
-use Rattle.rrd_base.specs.Rebuild.Runs.{MayCells, with_cells}
+use Rattle.std.specs.Prelude.{◌≡◌, ◌+◌, ◌*◌, ◌/◌, ◌%◌, ◌<◌, ◌≤◌, ℕ, zero, suc, List, [], ◌∷◌, ◌++◌, None, length, map, take, drop, min, ◌⊎◌, sum}
+use Rattle.rrd_base.proofs.Names.{◌∙◌, sym, ap, subst, arith, inl, inr, refl, get_or, set, append_assoc, append-nil, length-set, length-append, length-drop, take_at, drop_at, AllByRecursion, add-mul, take-add, cases_lt, le-ltb, lt-ltb, length-map, length-take-le, take-append-drop, take_all, drop-drop, mul-le, Cell, IsBounded, width, with_rows, CellDue, Filed, Head, head_of, Rra, All-drop, All-take, drop_here, PutsBlock, due, rows_in_all, unprepared, resolution, by_slot, cells_by_slot, place_in, IsRow, Cursor, filled_by, Coming, IsRebuilding, filed_in, MayCells, with_cells}
+use Rattle.rrd_spec.specs.Files.Rebuilding.{with_cell}
+use Rattle.rrd_base.specs.Rebuild.Cursors.{Passes}
 use Rattle.rrd_base.proofs.CellComes.{All_set, AtCell, CellHere, GoesOn, IsPut, StaysIn, place_on, put_in, slots_apart, with_more}
 use Rattle.rrd_base.proofs.Dues.{AllAsMany, archive_wide, cells_count, one_each, sources_count, total}
 use Rattle.rrd_base.proofs.Rebuilt.{fold_sum}
@@ -58,9 +37,8 @@ lacks_in d is at = record {
 first_fewer : (sources : ℕ) (a : Rra) (archives : List Rra) → sources * a.def.rows ≤ sources * rows_in_all (map head_of (a ∷ archives))
 first_fewer sources a archives =
     let rows = map (λ (head : Head). head.def.rows) (map head_of archives) in
-    let one = fold_sum a.def.rows rows in
     let two : sources * (a.def.rows + sum rows) ≡ sources * a.def.rows + sources * sum rows = nat.mul-add sources a.def.rows (sum rows) in
-    subst (λ n. sources * a.def.rows ≤ sources * n) (sym one) (omega (arith, two))
+    subst (λ n. sources * a.def.rows ≤ sources * n) (sym (fold_sum a.def.rows rows)) (omega (arith, two))
 
 -- as many as the archive lacks
 pub may_come : AllAsMany → (d : Coming) (a : Rra) (cells : List Cell) → IsRebuilding d → AtCell d → a ≡ get_or d.archives d.archive a → AllByRecursion IsBounded cells → d.filled + length cells ≤ d.sources_due * a.def.rows → MayCells (filed_in d) cells
@@ -113,12 +91,7 @@ row_behind xs k w part row fits e =
     let long : length (front ++ part) ≡ m = omega (arith, length-append front part, length-take-le k xs (omega arith)) in
     let same : put_in xs k part ≡ (front ++ part) ++ rest = sym (append_assoc front part rest) in
     let later : drop w rest ≡ drop (length (part ++ row)) back = drop-drop w (length part) back ∙ ap (λ n. drop n back) (let sum : length part + w ≡ length (part ++ row) = omega (arith, length-append part row) in sum) in
-    ap (λ (ys : List Cell). take m ys ++ (row ++ drop (m + w) ys)) same
-    ∙ ap (λ (ys : List Cell). ys ++ (row ++ drop (m + w) ((front ++ part) ++ rest))) (take_at (front ++ part) rest m long)
-    ∙ ap (λ (ys : List Cell). (front ++ part) ++ (row ++ ys)) (sym (drop-drop w m ((front ++ part) ++ rest)) ∙ ap (drop w) (drop_at (front ++ part) rest m long))
-    ∙ append_assoc front part (row ++ drop w rest)
-    ∙ ap (λ (ys : List Cell). front ++ ys) (sym (append_assoc part row (drop w rest)))
-    ∙ ap (λ (ys : List Cell). front ++ ((part ++ row) ++ ys)) later
+    cc (same, take_at (front ++ part) rest m long, sym (drop-drop w m ((front ++ part) ++ rest)) ∙ ap (drop w) (drop_at (front ++ part) rest m long), append_assoc front part (row ++ drop w rest), append_assoc part row (drop w rest), later)
 
 pub rows_in_slots : AllAsMany → AllBlocks → (size last sources : ℕ) (rows : List (List Cell)) (slot n place : ℕ) (cells : List Cell) → 0 < size → AllByRecursion (IsRow sources) rows → AllByRecursion IsBounded cells → slot + n ≤ length rows → n * sources ≤ length cells
     → place ≡ place_in size last (length rows) slot → by_slot size last (with_rows n sources rows place cells) ≡ put_in (by_slot size last rows) (slot * sources) (take (n * sources) cells)
@@ -146,13 +119,7 @@ rows_in_slots as_many blocks size last sources rows slot (suc n) place cells som
     let next : (slot + n + 1) * sources ≡ k + length part + sources = add-mul (slot + n) 1 sources ∙ (let one : (slot + n) * sources + 1 * sources ≡ k + length part + sources = omega (arith, sum) in one) in
     let top : (slot + n + 1) * sources ≤ length rows * sources = mul-le (slot + n + 1) sources (length rows) sources (omega (arith, fits)) (omega arith) in
     let both : part ++ row ≡ take (suc n * sources) cells = sym (ap (λ m. take m cells) more ∙ take-add (n * sources) sources cells) in
-    ap (λ p. by_slot size last (set before p row)) (sym at)
-    ∙ put
-    ∙ ap (λ (ys : List Cell). take ((slot + n) * sources) ys ++ (row ++ drop ((slot + n + 1) * sources) ys)) was
-    ∙ ap (λ m. take m (put_in xs k part) ++ (row ++ drop ((slot + n + 1) * sources) (put_in xs k part))) sum
-    ∙ ap (λ m. take (k + length part) (put_in xs k part) ++ (row ++ drop m (put_in xs k part))) next
-    ∙ row_behind xs k sources part row (omega (arith, wide, next, top)) (part_wide n sources cells has)
-    ∙ ap (put_in xs k) both
+    cc (at, put, was, sum, next, row_behind xs k sources part row (omega (arith, wide, next, top)) (part_wide n sources cells has), both)
 
 -- ---- the rows of an archive
 

@@ -1,20 +1,6 @@
 -- A step, for the archive of many sources.
-use Rattle.std.proofs.Common.{◌≡◌, refl, sym, ◌∙◌, ap, subst, ℕ, zero, suc, ◌+◌, ◌<◌, ◌≤◌, ℤ, List, [], ◌∷◌, length, map, replicate, arith}
-use Rattle.std.proofs.lemmas.List.{length-replicate}
-use Rattle.std.specs.List.{AllByRecursion, fold}
-use Rattle.rrd_fixed.specs.declared.cell.Cell.{Cell}
-use Rattle.rrd_fold.specs.declared.function.Function.{Function}
-use Rattle.rrd_fold.specs.Parts.{Part, nothing, with_each, row_cell}
-use Rattle.rrd_fold.specs.Bounds.{Consolidating}
-use Rattle.rrd_ring.specs.Rows.{width}
-use Rattle.rrd_spec.specs.declared.settings.RraDef.{RraDef}
-use Rattle.rrd_spec.specs.Laws.Validity.{ArchiveStaysValid}
-use Rattle.rrd_spec.specs.History.{Rra}
-use Rattle.rrd_spec.specs.Laws.Passing.{archive_passed}
-use Rattle.rrd_spec.specs.Validity.{IsRow, IsValidArchive}
-use Rattle.rrd_spec.specs.Preparations.{map_each, with_steps, anew, row_of, parts_in, AllOf}
-use Rattle.rrd_spec.specs.Lemmas.Lists.{All-replicate}
-use Rattle.rrd_spec.specs.Lemmas.Preparations.{parts_in-with_steps, parts_in-anew}
+use Rattle.std.specs.Prelude.{◌≡◌, ℕ, zero, suc, ◌+◌, ◌<◌, ◌≤◌, ℤ, List, [], ◌∷◌, length, map, replicate}
+use Rattle.rrd_base.proofs.Names.{refl, sym, ◌∙◌, ap, subst, arith, length-replicate, AllByRecursion, fold, Cell, Function, Part, nothing, with_each, row_cell, Consolidating, width, RraDef, ArchiveStaysValid, Rra, archive_passed, IsRow, IsValidArchive, map_each, with_steps, anew, row_of, parts_in, AllOf, All-replicate, parts_in-with_steps, parts_in-anew}
 
 -- an archive of these preparations
 abbrev pub shown : RraDef → List Consolidating → List (List Cell) → Rra
@@ -31,11 +17,6 @@ row_of_parts function xff steps (prep ∷ preps) of =
 -- steps that leave the row unfinished
 pub goes_on : (def : RraDef) (preps : List Consolidating) (rows : List (List Cell)) (step : List Cell) (count : ℕ) → AllOf def.function preps → shown def (map_each (with_steps count) preps step) rows ≡ record (shown def preps rows) { parts = fold (with_each def.function) (parts_in preps) (replicate count step) }
 goes_on def preps rows step count of = ap (λ ps. let a : Rra = record { def = def; parts = ps; rows = rows } in a) (parts_in-with_steps def.function count preps step of)
-
-pub length-map_each : {P A : Type 0} (f : P → A → P) (ps : List P) (xs : List A) → length (map_each f ps xs) ≡ length ps
-length-map_each f [] xs = refl
-length-map_each f (p ∷ ps) [] = refl
-length-map_each f (p ∷ ps) (x ∷ xs) = ap suc (length-map_each f ps xs)
 
 -- the next row's, once the row is closed
 pub closes : (def : RraDef) (sources : ℕ) (preps : List Consolidating) (rows : List (List Cell)) → length preps ≡ sources → shown def (map anew preps) rows ≡ record (shown def preps rows) { parts = replicate sources nothing }

@@ -1,22 +1,7 @@
 -- An update, sample by sample.
-use Rattle.std.proofs.Common.{◌≡◌, refl, sym, ◌∙◌, ap, subst, ℕ, ◌<◌, List, [], ◌∷◌, map, arith}
-use Rattle.std.proofs.lemmas.Bool.Decides.{nat_tests}
-use Rattle.std.specs.List.{AllByRecursion}
-use Rattle.rrd_fixed.specs.declared.raw.Raw.{Raw}
-use Rattle.rrd_fixed.specs.declared.name.Name.{Name}
-use Rattle.rrd_spec.specs.declared.settings.DsDef.{DsDef}
-use Rattle.rrd_spec.specs.declared.requests.update.Sample.{Sample}
-use Rattle.rrd_spec.specs.declared.requests.update.Given.{Given}
-use Rattle.rrd_spec.specs.History.{Content, Event, Moment, Sampled, moment_of, moment_at_end}
-use Rattle.rrd_spec.specs.Laws.ListedContent.{content_listed}
-use Rattle.rrd_spec.specs.Commands.{raw_of, value_for, sample_of}
-use Rattle.rrd_spec.specs.Commands.Verdict.{sample_checks}
-use Rattle.rrd_spec.specs.Validity.{IsValid, AreAccepted}
-use Rattle.rrd_spec.specs.Laws.Commands.{AreKept, Passes}
-use Rattle.rrd_spec.specs.Laws.History.{GoesOnListed}
-use Rattle.rrd_spec.specs.Lemmas.Commands.{readings_rise}
-use Rattle.rrd_spec.specs.Lemmas.Validity.{base_of_valid}
-use Rattle.rrd_spec.specs.Limits.{present}
+use Rattle.std.specs.Prelude.{◌≡◌, ℕ, ◌<◌, List, [], ◌∷◌, map}
+use Rattle.rrd_base.proofs.Names.{refl, sym, ◌∙◌, ap, subst, arith, nat_tests, AllByRecursion, Raw, Name, DsDef, Sample, Given, Content, Event, Moment, Sampled, moment_of, moment_at_end, content_listed, raw_of, value_for, sample_of, sample_checks, IsValid, AreAccepted, AreKept, GoesOnListed, readings_rise, base_of_valid, present}
+use Rattle.rrd_spec.specs.Laws.Commands.{Passes}
 
 -- the content after a sample, and those that are left
 pub record Taken (now next : Content) (sources : List DsDef) (template : List Name) (sample : Sample) (rest : List Sample) : Type 0 where

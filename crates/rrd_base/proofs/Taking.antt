@@ -1,13 +1,6 @@
 -- An archive that takes a step and many of another: what holds between the calls.
-use Rattle.std.proofs.Common.{◌≡◌, refl, sym, ◌∙◌, ap, subst, ℕ, ◌+◌, ◌-◌, ◌*◌, ◌/◌, ◌%◌, ◌≤◌, List, length, replicate, arith}
-use Rattle.std.specs.List.{fold, AllByRecursion}
-use Rattle.rrd_fixed.specs.declared.cell.Cell.{Cell}
-use Rattle.rrd_fold.specs.declared.function.Function.{Function}
-use Rattle.rrd_fold.specs.Parts.{Part, with_each}
-use Rattle.rrd_spec.specs.declared.settings.RraDef.{RraDef}
-use Rattle.rrd_spec.specs.Laws.Validity.{PartsGrow}
-use Rattle.rrd_spec.specs.History.{Rra}
-use Rattle.rrd_spec.specs.Validity.{IsRow, IsValidArchive}
+use Rattle.std.specs.Prelude.{◌≡◌, ℕ, ◌+◌, ◌-◌, ◌*◌, ◌/◌, ◌%◌, ◌≤◌, List, length, replicate}
+use Rattle.rrd_base.proofs.Names.{refl, sym, ◌∙◌, ap, subst, arith, fold, AllByRecursion, Cell, Function, Part, with_each, RraDef, PartsGrow, Rra, IsRow, IsValidArchive}
 use Rattle.rrd_base.proofs.PushedRows.{row_fits}
 use Rattle.rrd_base.proofs.Passing.{few_known, parts_more, still_fit}
 
@@ -22,11 +15,9 @@ pub record Begun (before : ℕ) (now : Rra) (def : RraDef) (then : List Cell) : 
 
 pub begun : (grow : (function : Function) (sources n : ℕ) (parts : List Part) (row : List Cell) → PartsGrow function sources n parts row) (before : ℕ) (archive now : Rra) (first then : List Cell) → IsValidArchive (length first) before archive → IsRow (length first) first → IsRow (length first) then → now ≡ record archive { parts = fold (with_each archive.def.function) archive.parts (replicate 1 first) } → Begun before now archive.def then
 begun grow before archive now first then is one many e =
-    let n = length first in
     let f = archive.def.function in
     let j = before % archive.def.steps in
-    let parts = parts_more grow f n j 1 archive.parts first is.parts_are one in
-    let few = is.few_steps in
+    let parts = parts_more grow f (length first) j 1 archive.parts first is.parts_are one in
     subst (λ (x : Rra). Begun before x archive.def then) (sym e)
     (record {
       row = subst (λ k. IsRow k then) (sym parts.one_each) many;

@@ -1,30 +1,13 @@
 -- A tune, source by source.
-use Rattle.std.proofs.Common.{◌≡◌, refl, ◌∙◌, ap, ℕ, zero, suc, ◌+◌, ◌<◌, ◌≤◌, Bool, true, false, cond, List, [], ◌∷◌, ◌++◌, append-nil, drop, length, length-append, length-drop, take, take_all, map, set, get_or, arith, None, Some}
-use Rattle.std.proofs.lemmas.List.{drop_all, length-take}
-use Rattle.std.specs.List.{AllByRecursion, fold, insert, refill}
-use Rattle.rrd_fixed.specs.declared.raw.Raw.{Raw}
-use Rattle.rrd_spec.specs.declared.settings.DsDef.{DsDef}
-use Rattle.rrd_spec.specs.declared.entry.SavedSource.{SavedSource}
-use Rattle.rrd_spec.specs.declared.requests.tune.Tuning.{Tuning}
-use Rattle.rrd_fixed.specs.declared.cell.Cell.{Cell}
-use Rattle.rrd_spec.specs.History.{Rra, Content, raws_under}
-use Rattle.rrd_spec.specs.Commands.{TuningBy, moved, raw_under}
-use Rattle.rrd_spec.specs.Journal.Entries.{saved_sources, is_named, with_source, with_rows_at}
-use Rattle.rrd_base.specs.Tune.{IsThere, with_archive_tuned, with_raws}
-use Rattle.rrd_spec.specs.declared.requests.tune.ArchiveTune.{ArchiveTune}
-use Rattle.rrd_spec.specs.declared.requests.tune.ArchiveTune.TheVariants.{Add, Remove}
-use Rattle.rrd_spec.specs.declared.settings.RraDef.{RraDef}
-use Rattle.rrd_spec.specs.Commands.Verdict.{verdict}
-use Rattle.rrd_spec.specs.Laws.Commands.{TuneAdds, TuneRemoves}
-use Rattle.rrd_spec.specs.Validity.{IsValid}
-use Rattle.rrd_spec.specs.Journal.Outlines.{with_sources}
+use Rattle.std.specs.Prelude.{◌≡◌, ℕ, zero, suc, ◌+◌, ◌<◌, ◌≤◌, Bool, true, false, cond, List, [], ◌∷◌, ◌++◌, drop, length, take, map, None, Some}
+use Rattle.rrd_base.proofs.Names.{refl, ◌∙◌, ap, append-nil, length-append, length-drop, take_all, set, get_or, arith, drop_all, length-take, AllByRecursion, fold, insert, refill, Raw, DsDef, SavedSource, Tuning, Cell, Rra, Content, raws_under, TuningBy, moved, raw_under, saved_sources, is_named, with_rows_at, IsThere, with_archive_tuned, with_raws, ArchiveTune, Add, Remove, RraDef, verdict, TuneAdds, TuneRemoves, IsValid, with_sources}
+use Rattle.rrd_spec.specs.Journal.Entries.{with_source}
 
 -- one raw value more
 pub raws_more : (f : DsDef → DsDef) (sources : List DsDef) (raws : List Raw) (i : ℕ) (d : DsDef) (r e : Raw) → i < length sources → length raws ≡ length sources → e ≡ raw_under (get_or sources i d).kind (f (get_or sources i d)).kind (get_or raws i r) → set (raws_under (take i sources) (map f (take i sources)) raws) i e ≡ raws_under (take (suc i) sources) (map f (take (suc i) sources)) raws
-raws_more f [] raws i d r e h k is = absurd (omega arith)
-raws_more f (s ∷ ss) [] i d r e h k is = absurd (omega arith)
 raws_more f (s ∷ ss) (x ∷ xs) zero d r e h k is = ap (λ z. z ∷ xs) is
 raws_more f (s ∷ ss) (x ∷ xs) (suc i) d r e h k is = ap (λ zs. raw_under s.kind (f s).kind x ∷ zs) (raws_more f ss xs i d r e (omega arith) (omega arith) is)
+raws_more f x raws i d r e h k is = absurd (omega arith)
 
 -- the one that comes next is as it was
 pub raws_next : (f : DsDef → DsDef) (sources : List DsDef) (raws : List Raw) (i : ℕ) (r : Raw) → get_or (raws_under (take i sources) (map f (take i sources)) raws) i r ≡ get_or raws i r
@@ -34,13 +17,6 @@ raws_next f (s ∷ ss) raws zero r = refl
 raws_next f (s ∷ ss) [] (suc i) r = refl
 raws_next f (s ∷ ss) (x ∷ xs) (suc i) r = raws_next f ss xs i r
 
-pub raws_all : (f : DsDef → DsDef) (sources : List DsDef) (raws : List Raw) (i : ℕ) → length sources ≤ i → raws_under (take i sources) (map f (take i sources)) raws ≡ raws_under sources (map f sources) raws
-raws_all f [] raws zero h = refl
-raws_all f [] raws (suc i) h = refl
-raws_all f (s ∷ ss) raws zero h = absurd (omega arith)
-raws_all f (s ∷ ss) [] (suc i) h = refl
-raws_all f (s ∷ ss) (x ∷ xs) (suc i) h = ap (λ zs. raw_under s.kind (f s).kind x ∷ zs) (raws_all f ss xs i (omega arith))
-
 -- ---- what is kept of the sources
 
 before_rest : (b : Bool) (h : SavedSource) (xs ys : List SavedSource) → cond b (h ∷ (xs ++ ys)) (xs ++ ys) ≡ cond b (h ∷ xs) xs ++ ys
@@ -49,13 +25,11 @@ before_rest false h xs ys = refl
 
 -- one source more
 pub before_more : (tuning : Tuning) (n i m : ℕ) (sources : List DsDef) (raws : List Raw) (d : DsDef) (r : Raw) → i < length sources → length raws ≡ length sources → m ≡ n + i → saved_sources tuning n (take (suc i) sources) (take (suc i) raws) ≡ saved_sources tuning n (take i sources) (take i raws) ++ (let h : SavedSource = record { number = m; source = get_or sources i d; raw = get_or raws i r } in cond (is_named tuning (get_or sources i d)) (h ∷ []) [])
-before_more tuning n i m [] raws d r h k e = absurd (omega arith)
-before_more tuning n i m (s ∷ ss) [] d r h k e = absurd (omega arith)
 before_more tuning n zero m (s ∷ ss) (x ∷ xs) d r h k e = ap (λ z. let w : SavedSource = record { number = z; source = s; raw = x } in cond (is_named tuning s) (w ∷ []) []) {x = n} {y = m} (omega arith)
 before_more tuning n (suc i) m (s ∷ ss) (x ∷ xs) d r h k e =
     let w : SavedSource = record { number = n; source = s; raw = x } in
-    ap (λ zs. cond (is_named tuning s) (w ∷ zs) zs) (before_more tuning (n + 1) i m ss xs d r (omega arith) (omega arith) (omega arith))
-    ∙ before_rest (is_named tuning s) w (saved_sources tuning (n + 1) (take i ss) (take i xs)) _
+    cc (before_more tuning (n + 1) i m ss xs d r (omega arith) (omega arith) (omega arith), before_rest (is_named tuning s) w (saved_sources tuning (n + 1) (take i ss) (take i xs)) _)
+before_more tuning n i m x raws d r h k e = absurd (omega arith)
 
 shorter : (b : Bool) (h : SavedSource) (xs ys : List SavedSource) → length xs ≤ length ys → length (cond b (h ∷ xs) xs) ≤ length (cond b (h ∷ ys) ys)
 shorter true h xs ys k = omega arith
@@ -95,9 +69,6 @@ settings_are now sources raws ss rs e f = ap (λ s. with_settings now s raws) e 
 -- a content with other archives
 unfoldable pub with_archives : Content → List Rra → Content
 with_archives now archives = record now { archives = archives }
-
-pub length-insert : {A : Type 0} (xs : List A) (n : ℕ) (x : A) → n ≤ length xs → length (insert xs n x) ≡ length xs + 1
-length-insert xs n x h = omega (arith, length-append (take n xs) (x ∷ drop n xs), length-take n xs, length-drop n xs)
 
 -- an item that is there, whatever would stand for one that isn't
 pub any_default : {A : Type 0} (xs : List A) (n : ℕ) (x y : A) → n < length xs → get_or xs n x ≡ get_or xs n y

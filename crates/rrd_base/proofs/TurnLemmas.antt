@@ -1,17 +1,6 @@
 -- How many turns there are.
-use Rattle.std.proofs.Common.{◌≡◌, refl, sym, ◌∙◌, ap, subst, ℕ, zero, suc, ◌+◌, ◌-◌, ◌*◌, ◌/◌, ◌<◌, ◌≤◌, min, List, [], ◌∷◌, length, take, map, replicate, get_or, sum, arith}
-use Rattle.std.proofs.Math.Nat.{div-div-eq-div-mul}
-use Rattle.std.proofs.lemmas.List.{length-replicate}
-use Rattle.std.proofs.lemmas.Nat.{mul-le}
-use Rattle.std.specs.List.{fold}
-use Rattle.rrd_fixed.specs.declared.cell.Cell.{Cell}
-use Rattle.rrd_spec.specs.declared.settings.RraDef.{RraDef}
-use Rattle.rrd_spec.specs.History.{Rra, Content, definitions}
-use Rattle.rrd_spec.specs.Commands.{rows_of_archives}
-use Rattle.rrd_spec.specs.Validity.{IsValid}
-use Rattle.rrd_spec.specs.Laws.Passing.{archive_passed, passed}
-use Rattle.rrd_spec.specs.Commands.Turns.{rows_shown, most_of_sample}
-use Rattle.rrd_base.specs.Walk.Turns.{rows_ended, rows_pushed, least_of_steps, most_of_steps}
+use Rattle.std.specs.Prelude.{◌≡◌, ℕ, zero, suc, ◌+◌, ◌-◌, ◌*◌, ◌/◌, ◌<◌, ◌≤◌, min, List, [], ◌∷◌, length, take, map, replicate, sum}
+use Rattle.rrd_base.proofs.Names.{refl, sym, ◌∙◌, ap, subst, get_or, arith, div-div-eq-div-mul, length-replicate, mul-le, fold, Cell, RraDef, Rra, Content, definitions, rows_of_archives, IsValid, archive_passed, passed, rows_shown, most_of_sample, rows_ended, rows_pushed, least_of_steps, most_of_steps}
 
 -- ---- archive by archive
 
@@ -28,7 +17,6 @@ sum_next f (a ∷ rest) zero d h = let one = sum_first (f a.def) [] in omega ari
 sum_next f (a ∷ rest) (suc i) d h =
     let far : sum (map f (definitions (take (suc (suc i)) (a ∷ rest)))) ≡ f a.def + sum (map f (definitions (take (suc i) rest))) = sum_first (f a.def) (map f (definitions (take (suc i) rest))) in
     let near : sum (map f (definitions (take (suc i) (a ∷ rest)))) ≡ f a.def + sum (map f (definitions (take i rest))) = sum_first (f a.def) (map f (definitions (take i rest))) in
-    let same : (get_or (a ∷ rest) (suc i) d).def ≡ (get_or rest i d).def = refl in
     far ∙ ap (λ n. f a.def + n) (sum_next f rest i d (omega arith)) ∙ omega (arith, near)
 
 pub sum_more : (f : RraDef → ℕ) (archives : List Rra) (i : ℕ) (d : Rra) → i < length archives → sum (map f (definitions (take (i + 1) archives))) ≡ sum (map f (definitions (take i archives))) + f (get_or archives i d).def
@@ -67,10 +55,7 @@ few_turns base from to is =
 -- ---- a sample, by the steps that end in its interval
 
 rows_by_steps : (step last time k : ℕ) (def : RraDef) → time / step ≡ last / step + k → rows_shown step last time def ≡ rows_pushed (last / step) k def
-rows_by_steps step last time k def at =
-    ap (λ n. min n def.rows) (ap (λ n. n - last / (step * def.steps)) (sym (div-div-eq-div-mul time step def.steps))
-    ∙ ap (λ n. time / step / def.steps - n) (sym (div-div-eq-div-mul last step def.steps))
-    ∙ ap (λ n. n / def.steps - last / step / def.steps) at)
+rows_by_steps step last time k def at = cc (ap (λ n. n - last / (step * def.steps)) (sym (div-div-eq-div-mul time step def.steps)) ∙ ap (λ n. time / step / def.steps - n) (sym (div-div-eq-div-mul last step def.steps)) ∙ ap (λ n. n / def.steps - last / step / def.steps) at)
 
 pub least_by_steps : (step last time k : ℕ) (archives : List Rra) → time / step ≡ last / step + k → sum (map (rows_shown step last time) (definitions archives)) ≡ least_of_steps (last / step) k (definitions archives)
 least_by_steps step last time k [] at = refl

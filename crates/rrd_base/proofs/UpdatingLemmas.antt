@@ -1,14 +1,7 @@
 -- An update's values, name by name.
-use Rattle.std.proofs.Common.{◌≡◌, refl, sym, ◌∙◌, ap, ℕ, zero, suc, ◌+◌, ◌<◌, ◌≤◌, Bool, true, false, cond, List, [], ◌∷◌, length, drop, get_or, arith}
-use Rattle.std.proofs.lemmas.Bool.{or_parts}
-use Rattle.std.specs.List.{list_any}
-use Rattle.rrd_fixed.specs.declared.name.Name.{Name}
-use Rattle.rrd_fixed.specs.Names.{same_name}
-use Rattle.rrd_spec.specs.declared.settings.DsDef.{DsDef}
-use Rattle.rrd_spec.specs.declared.requests.update.Given.{Given}
-use Rattle.rrd_spec.specs.Settings.{names, is_double}
-use Rattle.rrd_spec.specs.Commands.{value_for}
-use Rattle.std.proofs.lemmas.Slice.Eq.{bytes_eq-Decides}
+use Rattle.std.specs.Prelude.{◌≡◌, ℕ, zero, suc, ◌+◌, ◌<◌, ◌≤◌, Bool, true, false, cond, List, [], ◌∷◌, length, drop}
+use Rattle.rrd_base.proofs.Names.{refl, sym, ◌∙◌, ap, get_or, arith, or_parts, list_any, Name, same_name, DsDef, Given, names, is_double, value_for, bytes_eq-Decides}
+use Rattle.rrd_spec.proofs.NameLemmas.{same_itself}
 
 -- a sample without values
 no_value : (names : List Name) (source : DsDef) → value_for names [] source ≡ Given.Unknown
@@ -29,10 +22,7 @@ value_here (n ∷ ns) (v ∷ vs) (suc i) d source h = value_here ns vs i d sourc
 
 -- the same where the name at this place is the source's or not
 pub value_at : (names : List Name) (values : List Given) (i : ℕ) (name : Name) (source : DsDef) (found : Bool) → i < length names → name ≡ get_or names i name → same_name name source.name ≡ found → value_for (drop i names) (drop i values) source ≡ cond found (get_or values i Given.Unknown) (value_for (drop (i + 1) names) (drop (i + 1) values) source)
-value_at names values i name source found h is same =
-    value_here names values i name source h
-    ∙ ap (λ b. cond b (get_or values i Given.Unknown) (value_for (drop (suc i) names) (drop (suc i) values) source)) (ap (λ n. same_name n source.name) (sym is) ∙ same)
-    ∙ ap (λ n. cond found (get_or values i Given.Unknown) (value_for (drop n names) (drop n values) source)) {x = suc i} {y = i + 1} (omega arith)
+value_at names values i name source found h is same = cc (value_here names values i name source h, ap (λ n. same_name n source.name) (sym is) ∙ same, ap (λ n. cond found (get_or values i Given.Unknown) (value_for (drop n names) (drop n values) source)) {x = suc i} {y = i + 1} (omega arith))
 
 -- none is left
 pub value_at_end : (names : List Name) (values : List Given) (i : ℕ) (source : DsDef) → length names ≤ i → value_for (drop i names) (drop i values) source ≡ Given.Unknown
@@ -43,9 +33,6 @@ value_at_end (n ∷ ns) [] (suc i) source h = no_value (drop i ns) source
 value_at_end (n ∷ ns) (v ∷ vs) (suc i) source h = value_at_end ns vs i source (omega arith)
 
 -- ---- without a template
-
-same_itself : (a b : Name) → a ≡ b → same_name a b ≡ true
-same_itself a b e = (bytes_eq-Decides a b).1 e
 
 another : (name : Name) (sources : List DsDef) (i : ℕ) (d : DsDef) → list_any (same_name name) (names sources) ≡ false → i < length sources → same_name name (get_or sources i d).name ≡ false
 another name [] i d none h = absurd (omega arith)
@@ -59,5 +46,4 @@ own_value (s ∷ ss) [] i d differ h = refl
 own_value (s ∷ ss) (v ∷ vs) zero d differ h = sym (ap (λ b. cond b v (value_for (names ss) vs s)) (same_itself s.name s.name refl))
 own_value (s ∷ ss) (v ∷ vs) (suc i) d differ h =
     let parts = or_parts (list_any (same_name s.name) (names ss)) (is_double (names ss)) differ in
-    own_value ss vs i d parts.1 (omega arith)
-    ∙ sym (ap (λ b. cond b v (value_for (names ss) vs (get_or ss i d))) (another s.name ss i d parts.0 (omega arith)))
+    cc (own_value ss vs i d parts.1 (omega arith), another s.name ss i d parts.0 (omega arith))

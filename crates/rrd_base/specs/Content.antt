@@ -1,6 +1,5 @@
 -- Glue: the content that the fields of a database have.
-use Rattle.rrd_spec.specs.History.{Content}
-use Rattle.rrd_spec.specs.Validity.{IsValid}
+use Rattle.rrd_base.specs.Names.{Content, IsValid}
 use Rattle.rrd_base.specs.declared.content.Content.TheInside.{Inside}
 
 abbrev pub content_of : Inside → Content

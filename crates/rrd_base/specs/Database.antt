@@ -1,8 +1,7 @@
 -- Glue: the database and the journal that the fields have.
 use Rattle.std.specs.Prelude.{◌≡◌}
-use Rattle.rrd_spec.specs.Journal.Survivors.{Stored}
+use Rattle.rrd_base.specs.Names.{Stored, IsValidDatabase}
 use Rattle.rrd_base.specs.Journal.{journal_of}
-use Rattle.rrd_spec.specs.Validity.{IsValidDatabase}
 use Rattle.rrd_base.specs.declared.database.Database.TheInside.{Inside}
 
 abbrev pub stored_of : Inside → Stored

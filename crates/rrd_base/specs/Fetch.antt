@@ -1,10 +1,6 @@
 -- Glue: the search for the archive that a fetch reads, archive by archive.
 use Rattle.std.specs.Prelude.{ℕ, ◌^◌, ◌<◌, ◌≤◌, IfSome, Bool, true, false, if◌then◌else◌, Option, List}
-use Rattle.rrd_spec.specs.declared.requests.fetch.Candidate.{Candidate}
-use Rattle.rrd_spec.specs.declared.requests.fetch.FetchRequest.{FetchRequest}
-use Rattle.rrd_spec.specs.declared.settings.RraDef.{RraDef}
-use Rattle.rrd_spec.specs.Choice.{candidates, covers, is_farther, is_nearer, taken}
-use Rattle.rrd_spec.specs.Limits.{present}
+use Rattle.rrd_base.specs.Names.{Candidate, FetchRequest, RraDef, candidates, covers, is_farther, is_nearer, taken, present}
 
 -- the request, and the best archive so far
 pub record Searched : Type 0 where

@@ -1,6 +1,6 @@
 -- Definition: the entry that an entry of the program represents; and, as glue, the journal that the fields have.
 use Rattle.std.specs.Prelude.{◌<◌, ◌≤◌, List, length, map, reverse}
-use Rattle.rrd_spec.specs.History.{Rra}
+use Rattle.rrd_base.specs.Names.{Rra}
 use Rattle.rrd_spec.specs.Journal.Entries as entries
 pub use Rattle.rrd_spec.specs.Journal.Entries.{before}
 use Rattle.rrd_base.specs.Rra.{CanPutBackEach}

@@ -1,20 +1,6 @@
 -- Glue: the values of the fields while a database is read record by record.
 use Rattle.std.specs.Prelude.{◌≡◌, ℕ, ◌+◌, ◌*◌, ◌%◌, ◌<◌, ◌≤◌, List, [], ◌∷◌, ◌++◌, length, map, take, drop, sum, false, None}
-use Rattle.std.specs.List.{AllByRecursion, flat_map}
-use Rattle.rrd_fixed.specs.declared.cell.Cell.{Cell}
-use Rattle.rrd_fixed.specs.declared.raw.Raw.{Raw}
-use Rattle.rrd_fold.specs.Parts.{Part}
-use Rattle.rrd_fold.specs.declared.function.Function.TheVariants.{Average}
-use Rattle.rrd_spec.specs.declared.settings.DsDef.{DsDef}
-use Rattle.rrd_spec.specs.Commands.{rows_of_archives}
-use Rattle.rrd_spec.specs.Files.Filed.{Filed, head_of, sources_of}
-use Rattle.rrd_spec.specs.History.{Rra, Content}
-use Rattle.rrd_spec.specs.Limits.{limits_of, present}
-use Rattle.rrd_spec.specs.declared.version.Version.{Version}
-use Rattle.rrd_spec.specs.Files.Rebuilding.{IsArchiveDef, IsHeader, IsRowPart, unprepared}
-use Rattle.rrd_spec.specs.Settings.{is_double, names}
-use Rattle.rrd_spec.specs.Files.Slots.{cells_by_slot}
-use Rattle.rrd_spec.specs.Validity.{AreAccepted, IsPart, IsRow, IsSourceWithin, IsValidJournalWithin}
+use Rattle.rrd_base.specs.Names.{AllByRecursion, flat_map, Cell, Raw, Part, Average, DsDef, rows_of_archives, Filed, head_of, sources_of, Rra, Content, limits_of, present, Version, IsArchiveDef, IsHeader, IsRowPart, unprepared, is_double, names, cells_by_slot, AreAccepted, IsPart, IsRow, IsSourceWithin, IsValidJournalWithin}
 use Rattle.rrd_base.specs.Rebuild.Cursors.{AreFewer, KnowsPlaceIn, filled_by}
 use Rattle.rrd_base.specs.Rebuild.Validators.{EntryValidator, validator}
 use Rattle.rrd_base.specs.Journal.{journal_of}

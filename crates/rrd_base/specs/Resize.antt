@@ -1,10 +1,6 @@
 -- Glue: the number of rows of an archive, and of all archives.
 use Rattle.std.specs.Prelude.{◌≤◌, List}
-use Rattle.rrd_spec.specs.declared.settings.DsDef.{DsDef}
-use Rattle.rrd_spec.specs.History.{Rra}
-use Rattle.rrd_spec.specs.Limits.{present}
-use Rattle.rrd_spec.specs.Settings.{Settings}
-use Rattle.rrd_spec.specs.Commands.{rows_of_archives}
+use Rattle.rrd_base.specs.Names.{DsDef, Rra, present, Settings, rows_of_archives}
 
 -- the settings of these data sources and archives
 abbrev pub settings : List DsDef → List Rra → Settings

@@ -1,9 +1,6 @@
 -- Glue: an archive of a database, and the values that can be put back into one.
 use Rattle.std.specs.Prelude.{◌≡◌, ◌<◌, ◌≤◌, List, [], ◌∷◌, length}
-use Rattle.rrd_ring.specs.Rows.{HasWidth, width}
-use Rattle.rrd_spec.specs.Limits.{present}
-use Rattle.rrd_spec.specs.History.{Rra}
-use Rattle.rrd_spec.specs.Journal.Entries.{SavedArchive}
+use Rattle.rrd_base.specs.Names.{HasWidth, width, present, Rra, SavedArchive}
 
 -- the steps in a row, and so the resolution, are within the limits
 pub record IsStepped (archive : Rra) : Type 0 where

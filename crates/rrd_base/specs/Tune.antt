@@ -1,12 +1,6 @@
 -- Glue: what a tune's entry restores of data sources, and the archives that a tune leaves.
 use Rattle.std.specs.Prelude.{◌<◌, List, [], ◌∷◌, ◌++◌, length, slice_set}
-use Rattle.std.specs.List.{fold, remove}
-use Rattle.rrd_fixed.specs.declared.raw.Raw.{Raw}
-use Rattle.rrd_spec.specs.declared.entry.SavedSource.{SavedSource}
-use Rattle.rrd_spec.specs.declared.requests.tune.ArchiveTune.{ArchiveTune}
-use Rattle.rrd_spec.specs.declared.requests.tune.ArchiveTune.TheVariants.{Add, Remove}
-use Rattle.rrd_spec.specs.History.{Content}
-use Rattle.rrd_spec.specs.History.Lives.{new_archive}
+use Rattle.rrd_base.specs.Names.{fold, remove, Raw, SavedSource, ArchiveTune, Add, Remove, Content, new_archive}
 
 -- what is kept of each data source, after that of the entry is restored
 abbrev pub with_kept : {A : Type 0} → (SavedSource → A) → List A → List SavedSource → List A

@@ -1,10 +1,6 @@
 -- Glue: the template of an update, and its last time.
 use Rattle.std.specs.Prelude.{◌≡◌, ◌<◌, ℕ, List, [], ◌∷◌, Option, Some, None, length, slice_index_or}
-use Rattle.rrd_spec.specs.declared.requests.update.Given.{Given}
-use Rattle.rrd_spec.specs.declared.requests.update.Sample.{Sample}
-use Rattle.rrd_spec.specs.declared.requests.update.Update.{Update}
-use Rattle.rrd_spec.specs.declared.settings.DsDef.{DsDef}
-use Rattle.rrd_spec.specs.Commands.{value_for}
+use Rattle.rrd_base.specs.Names.{Given, Sample, Update, DsDef, value_for}
 use Rattle.rrd_base.specs.declared.columns.Columns.{Columns}
 pub use Rattle.rrd_spec.specs.Commands.Verdict.{template_of, template_checks}
 

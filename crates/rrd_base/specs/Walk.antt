@@ -1,8 +1,6 @@
 -- Glue: the buffers of a walk, and the steps that it adds at once.
 use Rattle.std.specs.Prelude.{◌≡◌, ◌≤◌, ℕ, ◌+◌, List, ◌∷◌, length, replicate, vec_len}
-use Rattle.rrd_fixed.specs.declared.cell.Cell.{Cell}
-use Rattle.rrd_spec.specs.Limits.{present}
-use Rattle.rrd_spec.specs.Validity.{IsRow}
+use Rattle.rrd_base.specs.Names.{Cell, present, IsRow}
 use Rattle.rrd_base.specs.declared.walk.Steps.{Steps}
 use Rattle.rrd_base.specs.declared.walk.Walk.{Walk}
 pub mod Turns

@@ -1,14 +1,8 @@
 //! The archives of a content: adding and removing one, undoing this, and the functions on all archives.
-ghost use Rattle.std.specs.Prelude.{◌≡◌, ◌+◌, ◌^◌, ◌<◌, ◌≤◌, ◌++◌, ◌∷◌, [], length, map, remove, IfOk, OnErr, OnOk};
-ghost use Rattle.std.specs.List.{AllByRecursion};
-ghost use Rattle.rrd_base.specs.Rra.{CanPutBackEach, IsStepped};
-ghost use Rattle.rrd_base.specs.Walk.{AreSteps, cells_of, count_of, sources_of};
-ghost use Rattle.rrd_base.specs.Walk.Turns.{least_of_all, most_of_all};
+ghost use Rattle.std.specs.Prelude.{◌≡◌, ◌+◌, ◌^◌, ◌<◌, ◌≤◌, ◌++◌, ◌∷◌, [], length, map, IfOk, OnErr, OnOk};
+ghost use Rattle.rrd_base.specs.Names.{remove, AllByRecursion, AddedEntry, RemovedEntry, archive_at, put_back_each, saved, undone, archive_passed, present, IsValid, IsValidArchive};
+ghost use Rattle.rrd_base.specs.Words.{CanPutBackEach, IsStepped, AreSteps, cells_of, count_of, sources_of, least_of_all, most_of_all};
 ghost use Rattle.rrd_spec.specs.Commands.Creating.{new_archive};
-ghost use Rattle.rrd_spec.specs.Journal.Entries.{AddedEntry, RemovedEntry, archive_at, put_back_each, saved, undone};
-ghost use Rattle.rrd_spec.specs.Laws.Passing.{archive_passed};
-ghost use Rattle.rrd_spec.specs.Limits.{present};
-ghost use Rattle.rrd_spec.specs.Validity.{IsValid, IsValidArchive};
 
 use crate::content::Content;
 use crate::rra::Rra;

@@ -1,6 +1,6 @@
 //! Runs of consecutive cells.
 ghost use Rattle.std.specs.Prelude.{◌≡◌, ◌≤◌, length, take};
-ghost use Rattle.rrd_base.specs.Rebuild.CellRun.{run_cells};
+ghost use Rattle.rrd_base.specs.Words.{run_cells};
 
 use rrd_fixed::Cell;
 

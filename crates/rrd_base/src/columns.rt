@@ -1,11 +1,7 @@
 //! The index in a sample of each data source's value.
 ghost use Rattle.std.specs.Prelude.{◌≡◌, List, ◌<◌, ◌≤◌, false, length, slice_index_or, None as NoIndex};
-ghost use Rattle.rrd_spec.specs.declared.requests.update.Given.{Given};
-ghost use Rattle.rrd_spec.specs.declared.settings.DsDef.{DsDef};
-ghost use Rattle.rrd_spec.specs.Commands.{value_for};
-ghost use Rattle.rrd_spec.specs.Limits.{present};
-ghost use Rattle.rrd_spec.specs.Settings.{is_double, names};
-ghost use Rattle.rrd_base.specs.Update.{AreColumns, template_of, value_in};
+ghost use Rattle.rrd_base.specs.Names.{Given, DsDef, value_for, present, is_double, names};
+ghost use Rattle.rrd_base.specs.Words.{AreColumns, template_of, value_in};
 
 use crate::{DsDef, Given, List};
 use arrayvec::ArrayVec;

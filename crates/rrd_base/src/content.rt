@@ -1,6 +1,6 @@
 //! The content of a database: everything except its journal.
 ghost use Rattle.std.specs.Prelude.{◌≡◌, IfOk, None};
-ghost use Rattle.rrd_spec.specs.Commands.Creating.{create_verdict, created};
+ghost use Rattle.rrd_base.specs.Names.{create_verdict, created};
 
 use crate::archives::new_all;
 use crate::rra::Rra;

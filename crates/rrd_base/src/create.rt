@@ -1,10 +1,7 @@
 //! The checks of a new database.
 ghost use Rattle.std.specs.Prelude.{◌≡◌, ◌*◌, ◌≤◌, ◌||◌, nat_lt, not};
-ghost use Rattle.std.specs.List.{list_any};
-ghost use Rattle.std.specs.Result.{result_err};
-ghost use Rattle.rrd_fixed.specs.Names.{is_good};
+ghost use Rattle.rrd_base.specs.Names.{list_any, result_err, is_good, present};
 ghost use Rattle.rrd_spec.specs.Commands.Creating as creating;
-ghost use Rattle.rrd_spec.specs.Limits.{present};
 ghost use Rattle.rrd_spec.specs.Commands.Verdict as verdict;
 
 use crate::named::has_double_name;
@@ -15,12 +12,12 @@ use rrd_spec::limits::{
     MAX_STEP_SECONDS, MAX_STEPS_PER_ROW, MAX_TIME, MAX_XFF,
 };
 
-/// Checks whether a database can be created. A caller of `rrd_spec::slow::rows` must have checked this.
+/// Checks whether a database can be created.
 ///
 /// # Errors
 /// The first check that fails, each over all data sources or archives before the next, in the order of
 /// `Database::create`; memory is not checked.
-pub fn check_create(spec: &CreateSpec) -> Result<(), Refusal>
+pub(crate) fn check_create(spec: &CreateSpec) -> Result<(), Refusal>
     ensures { result_err result ≡ creating.create_verdict spec.now }
 {
     check_first(spec)?;

@@ -1,18 +1,9 @@
 //! The selection of the archive and the rows that a fetch reads, and the cells of rows (rrdfetch; the order of the
 //! archives is this project's rule).
 ghost use Rattle.std.specs.Prelude.{◌≡◌, ◌-◌, ◌-ℤ◌, ◌/◌, ◌^◌, ◌<◌, ◌≤◌, ℕ, List, [], ◌∷◌, ◌++◌, length, pos, slice_index_or, IfNone, IfSome, MatchResult, Err};
-ghost use Rattle.std.specs.Int.{int_div_euclid};
-ghost use Rattle.std.specs.Result.{result_err};
-ghost use Rattle.rrd_fixed.specs.declared.cell.Cell.TheVariants.{Unknown};
-ghost use Rattle.rrd_fold.specs.declared.function.Function.{Function};
-ghost use Rattle.rrd_spec.specs.declared.requests.fetch.FetchRequest.{FetchRequest};
-ghost use Rattle.rrd_spec.specs.declared.settings.RraDef.{RraDef};
-ghost use Rattle.rrd_base.specs.Fetch.{is_preferred, searched};
+ghost use Rattle.rrd_base.specs.Names.{int_div_euclid, result_err, Unknown, Function, FetchRequest, RraDef, definitions, cell_at, oldest, oldest_time, present, first_refusal};
+ghost use Rattle.rrd_base.specs.Words.{is_preferred, searched};
 ghost use Rattle.rrd_spec.specs.Choice as choice;
-ghost use Rattle.rrd_spec.specs.History.{definitions};
-ghost use Rattle.rrd_spec.specs.History.Cells.{cell_at, oldest, oldest_time};
-ghost use Rattle.rrd_spec.specs.Limits.{present};
-ghost use Rattle.rrd_spec.specs.Commands.Verdict.{first_refusal};
 
 use crate::content::Content;
 use crate::{Chosen, Refusal, RraDef};

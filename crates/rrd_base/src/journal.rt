@@ -1,11 +1,8 @@
 //! The journal: the entry of each change, and how it undoes the change.
 ghost use Rattle.std.specs.Prelude.{◌≡◌, ◌≤◌, length};
-ghost use Rattle.std.specs.List.{AllByRecursion};
-ghost use Rattle.rrd_base.specs.Journal.{CanUndo, entry_of};
-ghost use Rattle.rrd_ring.specs.Rows.{HasWidth};
+ghost use Rattle.rrd_base.specs.Names.{AllByRecursion, HasWidth, present, IsValid};
+ghost use Rattle.rrd_base.specs.Words.{CanUndo, entry_of};
 ghost use Rattle.rrd_spec.specs.Journal.Entries.{SavedArchive as Saved, cells_saved, undone};
-ghost use Rattle.rrd_spec.specs.Limits.{present};
-ghost use Rattle.rrd_spec.specs.Validity.{IsValid};
 
 use crate::SavedSource;
 use crate::content::Content;

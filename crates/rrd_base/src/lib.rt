@@ -20,7 +20,6 @@ mod tune;
 mod update;
 mod walk;
 
-pub use create::check_create;
 pub use database::{Database, database_is_valid};
 pub use journal::{BeforeUpdate, EachSource, Entry, SavedArchive};
 pub use rebuild::{EntryValidator, Header, PieceFault, Rebuild, is_bounded};

@@ -1,9 +1,6 @@
 //! Names, and the types that have one.
 ghost use Rattle.std.specs.Prelude.{◌≡◌, map};
-ghost use Rattle.std.specs.List.{list_any};
-ghost use Rattle.rrd_fixed.specs.declared.name.Name.{Name};
-ghost use Rattle.rrd_fixed.specs.Names.{same_name};
-ghost use Rattle.rrd_spec.specs.Settings.{has_source, is_double};
+ghost use Rattle.rrd_base.specs.Names.{list_any, Name, same_name, has_source, is_double};
 
 use crate::DsDef;
 use rrd_fixed::Name;

@@ -19,21 +19,9 @@
 //! - Rows come by slot, not by time: only `Cursor` knows which row is next, and where it goes.
 //! - `whole_rows` takes whole rows at once, and must have the same effect as `cell` for one cell after another.
 ghost use Rattle.std.specs.Prelude.{◌≡◌, ◌++◌, ◌∷◌, [], ◌<◌, ◌≤◌, length, replicate, take, true, IfErr, IfSome, None, OnOk, OnErr};
-ghost use Rattle.std.specs.List.{AllByRecursion};
-ghost use Rattle.rrd_fixed.specs.Rate.{IsBounded};
+ghost use Rattle.rrd_base.specs.Names.{AllByRecursion, IsBounded, Part, EntryDue, NothingDue, Source, filed, MayCell, MayEntry, MayHead, MayPrep, MaySource, due, limits, outline_left, unprepared, with_cell, with_entry, with_head, with_prep, with_source, present, IsValidDatabaseWithin};
+ghost use Rattle.rrd_base.specs.Words.{Begins, header_said, run_cells, MayCells, with_cells, entry_of, Bad, OutOfMemory, validator};
 ghost use Rattle.rrd_fixed.specs.declared.cell.Cell.TheVariants.{Unknown as CellUnknown};
-ghost use Rattle.rrd_base.specs.Rebuild.Begins.{Begins, header_said};
-ghost use Rattle.rrd_base.specs.Rebuild.CellRun.{run_cells};
-ghost use Rattle.rrd_base.specs.Rebuild.Runs.{MayCells, with_cells};
-ghost use Rattle.rrd_base.specs.Journal.{entry_of};
-ghost use Rattle.rrd_fold.specs.Parts.{Part};
-ghost use Rattle.rrd_base.specs.declared.rebuild.PieceFault.TheVariants.{Bad, OutOfMemory};
-ghost use Rattle.rrd_spec.specs.declared.due.Due.TheVariants.{EntryDue, NothingDue};
-ghost use Rattle.rrd_base.specs.Rebuild.Validators.{validator};
-ghost use Rattle.rrd_spec.specs.Files.Filed.{Header as FiledHeader, Source, filed};
-ghost use Rattle.rrd_spec.specs.Files.Rebuilding.{MayCell, MayEntry, MayHead, MayPrep, MaySource, due, limits, outline_left, unprepared, with_cell, with_entry, with_head, with_prep, with_source};
-ghost use Rattle.rrd_spec.specs.Limits.{present};
-ghost use Rattle.rrd_spec.specs.Validity.{IsValidDatabaseWithin};
 
 use crate::cell_run::CellRun;
 use crate::content::Content;
@@ -46,7 +34,7 @@ use cursor::Cursor;
 use piece_checks::is_source;
 use rrd_fixed::{Cell, Raw};
 use rrd_fold::{RowPrep, StepPrep};
-use rrd_spec::{Version, first_slot_row, laws};
+use rrd_spec::{first_slot_row, laws};
 use std::alloc::{AllocError, Global};
 use std::marker::Model;
 
@@ -105,45 +93,6 @@ impl Model for Rebuild {
 }
 
 impl Rebuild {
-    /// Starts a database with the values of a header, as `with_header` does.
-    ///
-    /// For other callers and readers of the contracts; the program uses [`Rebuild::with_header`].
-    ///
-    /// # Errors
-    /// - `Bad`: a value is outside its range, which `Header` says.
-    /// - `OutOfMemory`: memory runs out.
-    pub fn begin(
-        alloc: Global,
-        version: Version,
-        step: u64,
-        last: u64,
-        depth: u64,
-        sources: u64,
-        archives: u64,
-        entries: u64,
-    ) -> Result<Rebuild, PieceFault>
-        ensures { let header : FiledHeader = record {
-          version = version;
-          step = step;
-          last = last;
-          depth = depth;
-          sources = sources;
-          archives = archives;
-          entries = entries;
-        } in Begins header result }
-    {
-        let header = Header {
-            version,
-            step,
-            last,
-            depth,
-            sources,
-            archives,
-            entries,
-        };
-        Rebuild::with_header(alloc, header)
-    }
-
     /// Starts a database with a header.
     ///
     /// Allocates the journal's places, which are not touched before they are used, and the lists of archives.

@@ -1,15 +1,8 @@
 //! The resize of an archive: the checks, the new rows, and how a resize is undone.
 ghost use Rattle.std.specs.Prelude.{◌≡◌, ◌<◌, ◌≤◌, IfOk, None, length, slice_index_or, sum};
-ghost use Rattle.std.specs.List.{AllByRecursion};
-ghost use Rattle.std.specs.Result.{result_err};
-ghost use Rattle.rrd_ring.specs.Rows.{newest_rows};
-ghost use Rattle.rrd_spec.specs.Commands.{Resizing, all_rows_after, rows_changed, rows_of_archives};
-ghost use Rattle.rrd_spec.specs.History.{Resized};
-ghost use Rattle.rrd_spec.specs.Journal.Entries.{ResizeEntry, rows_at, undone, with_rows_at};
-ghost use Rattle.rrd_spec.specs.Limits.{present};
-ghost use Rattle.rrd_base.specs.Resize.{HasFewRows, settings};
+ghost use Rattle.rrd_base.specs.Names.{AllByRecursion, result_err, newest_rows, Resizing, all_rows_after, rows_changed, rows_of_archives, Resized, ResizeEntry, rows_at, undone, with_rows_at, present, IsValid};
+ghost use Rattle.rrd_base.specs.Words.{HasFewRows, settings};
 ghost use Rattle.rrd_spec.specs.Commands.Verdict as verdict;
-ghost use Rattle.rrd_spec.specs.Validity.{IsValid};
 
 use crate::content::Content;
 use crate::create::{has_too_many_cells, is_bad_rows};

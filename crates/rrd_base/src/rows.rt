@@ -1,7 +1,6 @@
 //! Numbers of rows: those of all archives, and those that end between two times.
 ghost use Rattle.std.specs.Prelude.{◌≡◌, ℕ, ◌-◌, ◌<◌, ◌^◌, ◌≤◌, map, min, sum};
-ghost use Rattle.rrd_spec.specs.Journal.Entries.{rows_between};
-ghost use Rattle.rrd_spec.specs.Limits.{present};
+ghost use Rattle.rrd_base.specs.Names.{rows_between, present};
 
 use crate::RraDef;
 

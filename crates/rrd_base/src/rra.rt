@@ -1,22 +1,8 @@
 //! The archives of a database: the settings, the partial row of each data source, and the rows.
 ghost use Rattle.std.specs.Prelude.{◌≡◌, List, ◌+◌, ◌*◌, ◌^◌, ◌<◌, ◌≤◌, ◌∷◌, ◌++◌, [], length, map, min, replicate, slice_index_or, slice_set, take as first, IfNone, IfOk, IfSome, OnErr, OnOk, pos, ◌≤ℤ◌};
-ghost use Rattle.std.specs.List.{AllByRecursion, fold};
-ghost use Rattle.rrd_fixed.specs.declared.cell.Cell.{Cell};
-ghost use Rattle.rrd_fixed.specs.declared.cell.Cell.TheVariants.{Unknown};
-ghost use Rattle.rrd_fold.specs.Bounds.{most_known};
-ghost use Rattle.rrd_fold.specs.Parts.{Part, nothing, row_cell, with_each};
-ghost use Rattle.rrd_ring.specs.Rows.{HasWidth, newest_rows, nth_row, unknown_rows, width, with_rows};
+ghost use Rattle.rrd_base.specs.Names.{AllByRecursion, fold, Cell, Unknown, most_known, Part, nothing, row_cell, with_each, HasWidth, newest_rows, nth_row, unknown_rows, width, with_rows, present, AllOf, parts_in, keep_last, archive_passed, row_of_age, IsRow, IsValidArchive};
+ghost use Rattle.rrd_base.specs.Words.{CanPutBack, IsStepped, run_cells, AreSteps, cells_of, count_of, sources_of, least_of_one, most_of_one};
 ghost use Rattle.rrd_spec.specs.Journal.Entries.{put_back as after_put_back, saved};
-ghost use Rattle.rrd_spec.specs.Limits.{present};
-ghost use Rattle.rrd_spec.specs.Preparations.{AllOf, parts_in};
-ghost use Rattle.rrd_spec.specs.Laws.ListedContent.{keep_last};
-ghost use Rattle.rrd_spec.specs.Laws.Passing.{archive_passed};
-ghost use Rattle.rrd_spec.specs.History.Cells.{row_of_age};
-ghost use Rattle.rrd_base.specs.Rra.{CanPutBack, IsStepped};
-ghost use Rattle.rrd_base.specs.Rebuild.CellRun.{run_cells};
-ghost use Rattle.rrd_base.specs.Walk.{AreSteps, cells_of, count_of, sources_of};
-ghost use Rattle.rrd_base.specs.Walk.Turns.{least_of_one, most_of_one};
-ghost use Rattle.rrd_spec.specs.Validity.{IsRow, IsValidArchive};
 
 use crate::cell_run::CellRun;
 use crate::rows::{HasRows, rows_between};

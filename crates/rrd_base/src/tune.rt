@@ -1,21 +1,11 @@
 //! The tune of data sources or archives: the checks, the new settings, the journal entry, and how data sources are
 //! restored.
 ghost use Rattle.std.specs.Prelude.{◌≡◌, ◌≤◌, ◌*◌, ◌++◌, ◌∷◌, [], ◌||◌, List, None, Some, IfOk, OnErr, OnOk, length, map, nat_lt, sum, true};
-ghost use Rattle.std.specs.List.{AllByRecursion, list_any};
-ghost use Rattle.std.specs.Result.{result_err};
+ghost use Rattle.rrd_base.specs.Names.{AllByRecursion, list_any, result_err, rows_of_archives, Settings, DsDef, Add, Remove, raws_under, max_tuned, present, IsValid};
+ghost use Rattle.rrd_base.specs.Words.{entry_of, HasFewRows, settings, IsThere, with_archive_tuned};
 ghost use Rattle.rrd_spec.specs.Commands as commands;
-ghost use Rattle.rrd_spec.specs.Commands.{rows_of_archives};
-ghost use Rattle.rrd_spec.specs.Settings.{Settings};
-ghost use Rattle.rrd_spec.specs.declared.settings.DsDef.{DsDef};
-ghost use Rattle.rrd_spec.specs.declared.requests.tune.ArchiveTune.TheVariants.{Add, Remove};
-ghost use Rattle.rrd_base.specs.Journal.{entry_of};
-ghost use Rattle.rrd_base.specs.Resize.{HasFewRows, settings};
 ghost use Rattle.rrd_spec.specs.Journal.Entries as entries;
-ghost use Rattle.rrd_spec.specs.History.{raws_under};
-ghost use Rattle.rrd_base.specs.Tune.{IsThere, with_archive_tuned};
-ghost use Rattle.rrd_spec.specs.Limits.{max_tuned, present};
 ghost use Rattle.rrd_spec.specs.Commands.Verdict as verdict;
-ghost use Rattle.rrd_spec.specs.Validity.{IsValid};
 
 use crate::content::Content;
 use crate::create::{check_archives, has_bad_bounds, is_bad_heartbeat, is_beyond_limits};

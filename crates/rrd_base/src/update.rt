@@ -1,18 +1,7 @@
 //! The samples of an update: the checks, the journal entry, and how it is undone.
 ghost use Rattle.std.specs.Prelude.{◌≡◌, ◌<◌, ◌≤◌, ◌∷◌, [], IfOk, false, length, map, not};
-ghost use Rattle.rrd_spec.specs.declared.settings.DsDef.{DsDef};
-ghost use Rattle.std.specs.List.{list_any, list_all};
-ghost use Rattle.std.specs.Result.{result_err};
-ghost use Rattle.rrd_spec.specs.Settings.{names, has_source, is_double};
-ghost use Rattle.rrd_spec.specs.Commands.{Updating, raw_of, value_for};
-ghost use Rattle.rrd_spec.specs.Limits.{present};
-ghost use Rattle.rrd_spec.specs.Commands.Verdict.{first_refusal, is_admitted, sample_checks, update_checks, verdict};
-ghost use Rattle.rrd_spec.specs.Journal.Entries.{UpdateEntry, undone};
-ghost use Rattle.rrd_spec.specs.Validity.{IsValid};
-ghost use Rattle.rrd_base.specs.Journal.{before, update_of};
-ghost use Rattle.rrd_base.specs.Rra.{CanPutBackEach};
-ghost use Rattle.rrd_base.specs.Update.{AreColumns, end_time, template_checks, template_of};
-ghost use Rattle.rrd_fixed.specs.Rate.{IsAccepted};
+ghost use Rattle.rrd_base.specs.Names.{DsDef, list_any, list_all, result_err, names, has_source, is_double, Updating, raw_of, value_for, present, first_refusal, is_admitted, sample_checks, update_checks, verdict, UpdateEntry, undone, IsValid, IsAccepted};
+ghost use Rattle.rrd_base.specs.Words.{before, update_of, CanPutBackEach, AreColumns, end_time, template_checks, template_of};
 
 use crate::archives::{put_back_all, save_all};
 use crate::columns::Columns;

@@ -17,15 +17,8 @@
 //! - Each loop over data sources or cells counts one unit of work in the meter for each turn of the loop. The bounds
 //!   `least_` and `most_` are bounds of these units; no contract would bound a loop without them.
 ghost use Rattle.std.specs.Prelude.{◌≡◌, ◌+◌, ◌-◌, ◌*◌, ◌/◌, ◌^◌, ◌<◌, ◌≤◌, [], ◌∷◌, length, replicate, IfOk, None};
-ghost use Rattle.rrd_spec.specs.Commands.{Updating};
-ghost use Rattle.rrd_spec.specs.Laws.ListedContent.{moved_listed, content_listed};
-ghost use Rattle.rrd_spec.specs.History.{Sampled};
+ghost use Rattle.rrd_base.specs.Names.{Updating, moved_listed, content_listed, Sampled, present, passed, AreTurns, AreAccepted, IsRow, IsValid, verdict};
 ghost use Rattle.rrd_spec.specs.History as history;
-ghost use Rattle.rrd_spec.specs.Limits.{present};
-ghost use Rattle.rrd_spec.specs.Laws.Passing.{passed};
-ghost use Rattle.rrd_spec.specs.Commands.Turns.{AreTurns};
-ghost use Rattle.rrd_spec.specs.Validity.{AreAccepted, IsRow, IsValid};
-ghost use Rattle.rrd_spec.specs.Commands.Verdict.{verdict};
 
 pub(crate) mod preparations;
 

@@ -1,11 +1,5 @@
 -- Where a text is cut at its first point.
-use Rattle.std.proofs.Common.{◌≡◌, refl, ℕ, ◌+◌, ◌≤◌, List, Bool, true, false, Some, None, cond, nat_lt, length, take, drop, arith}
-use Rattle.std.proofs.lemmas.Bool.{ltb-false}
-use Rattle.std.proofs.lemmas.List.Folds.{list_any_at, list_any_none}
-use Rattle.std.proofs.lemmas.List.Quantifiers.{position-Some}
-use Rattle.std.proofs.lemmas.List.Sums.{fails_before_first}
-use Rattle.std.specs.List.{position, position_or_len}
-use Rattle.rrd_fixed.specs.Reading.{is_point, plain_of, pointed_of, unsigned_of}
+use Rattle.rrd_fixed.proofs.Names.{◌≡◌, refl, ℕ, ◌+◌, ◌≤◌, List, Bool, true, false, Some, None, cond, nat_lt, length, take, drop, arith, ltb-false, list_any_at, list_any_none, position-Some, fails_before_first, position, position_or_len, is_point, plain_of, pointed_of, unsigned_of}
 
 place : (b : Bool) (q i : ℕ) → cond b (Some q) None ≡ Some i → q ≡ i
 place true q i e = cc

@@ -1,12 +1,5 @@
 -- The value of digits.
-use Rattle.std.proofs.Common.{◌≡◌, ◌∙◌, sym, ap, ℕ, suc, ◌+◌, ◌-◌, ◌*◌, ◌^◌, ◌<◌, ◌≤◌, List, [], ◌∷◌, ◌++◌, true, length, arith, lit<, take, get_or}
-use Rattle.std.proofs.Math.Nat.{pow-suc, pow-le-pow_right, mul-le-mul_right, mul-lt-mul_of_pos_right, one-le-pow}
-use Rattle.std.proofs.lemmas.Nat.{pow-add}
-use Rattle.std.proofs.lemmas.List.{take_more, take_all}
-use Rattle.std.proofs.lemmas.Grind.{common_steps}
-use Rattle.std.specs.Char.{is_ascii_digit}
-use Rattle.std.specs.List.{list_all}
-use Rattle.rrd_fixed.specs.Reading.{value_of}
+use Rattle.rrd_fixed.proofs.Names.{◌≡◌, ◌∙◌, sym, ap, ℕ, suc, ◌+◌, ◌-◌, ◌*◌, ◌^◌, ◌<◌, ◌≤◌, List, [], ◌∷◌, ◌++◌, true, length, arith, lit<, take, get_or, pow-suc, pow-le-pow_right, mul-le-mul_right, mul-lt-mul_of_pos_right, one-le-pow, pow-add, take_more, take_all, common_steps, is_ascii_digit, list_all, value_of}
 
 times_ten : (digit power value more all : ℕ) → all ≡ 10 * value + more → digit * (power * 10) + all ≡ 10 * (digit * power + value) + more
 times_ten digit power value more all e = rw e (omega arith)

@@ -1,13 +1,5 @@
 -- A text by the digits that it begins with.
-use Rattle.std.proofs.Common.{◌≡◌, ◌∙◌, sym, ap, refl, ℕ, suc, ◌+◌, ◌*◌, ◌^◌, ◌<◌, ◌≤◌, ◌&&◌, ◌++◌, ◌∷◌, [], pos, List, Bool, Option, if◌then◌else◌, true, false, Some, None, nat_lt, nat_le, length, take, drop, slice_index, option_map, arith, inl, inr}
-use Rattle.std.proofs.lemmas.Bool.{cases_Bool, eqb-true}
-use Rattle.std.proofs.lemmas.Grind.{common_steps}
-use Rattle.std.proofs.lemmas.List.{drop_more, length-take-le, take-append-drop}
-use Rattle.std.proofs.lemmas.List.Folds.{list_all-append}
-use Rattle.std.specs.Char.{is_ascii_digit}
-use Rattle.std.specs.List.{list_all, list_any, position_or_len, before_first, after_first}
-use Rattle.rrd_fixed.specs.Reading.{are_digits, fraction_of, is_point, plain_of, pointed_of, unsigned_of, value_of}
-use Rattle.rrd_fixed.specs.declared.number.Number.{Number}
+use Rattle.rrd_fixed.proofs.Names.{◌≡◌, ◌∙◌, sym, ap, refl, ℕ, suc, ◌+◌, ◌*◌, ◌^◌, ◌<◌, ◌≤◌, ◌&&◌, ◌++◌, ◌∷◌, [], pos, List, Bool, Option, if◌then◌else◌, true, false, Some, None, nat_lt, nat_le, length, take, drop, slice_index, option_map, arith, inl, inr, cases_Bool, eqb-true, common_steps, drop_more, length-take-le, take-append-drop, list_all-append, is_ascii_digit, list_all, list_any, position_or_len, before_first, after_first, are_digits, fraction_of, is_point, plain_of, pointed_of, unsigned_of, value_of, Number}
 use Rattle.rrd_fixed.proofs.ReadBack.{cut_before, cut_behind, fit_digits, has_point, no_point}
 
 and_false : (x : Bool) → (x && false) ≡ false

@@ -1,18 +1,5 @@
 -- Texts that are put before an index.
-use Rattle.std.proofs.Common.{◌≡◌, ◌∙◌, sym, ap, refl, ℕ, zero, suc, ◌+◌, ◌-◌, ◌<◌, ◌≤◌, ◌^◌, ◌/◌, ◌%◌, List, [], ◌∷◌, ◌++◌, length, take, drop, set, replicate, codes, arith, append_assoc, append-nil, length-append, lit<, ℤ, pos, negsuc, unsigned_abs, FitsSigned, w64, int_le, false, true≢false, add-one}
-use Rattle.std.specs.Int.{w128}
-use lib.Dec.{leb-zero}
-use Rattle.std.proofs.lemmas.Fmt.{IsAscii-decimal_wide, decimal_step_wide, length-decimal-le, length-decimal-le_wide}
-use Rattle.std.proofs.lemmas.List.{drop-drop, drop-set, drop-take, drop_all, take-append-drop, take-append-le, take-replicate, take_all}
-use Rattle.std.proofs.lemmas.Str.{IsAscii-append, IsUtf8-from_ascii}
-use Rattle.std.proofs.lemmas.Str.Ascii.{IsAscii-cons}
-use Rattle.std.specs.Str.{IsAscii, IsUtf8}
-use Rattle.std.proofs.lemmas.Slice.{between-put_mid, drop-put_mid}
-use Rattle.std.specs.Fmt.{decimal}
-use Rattle.std.specs.List.{repeat}
-use Rattle.rrd_fixed.specs.Puts.{Puts}
-use Rattle.rrd_fixed.specs.Text.{millionths_text, signed_text, six_digits, whole_text}
-use borrow.Rule.Slice.PartMut.{put_mid}
+use Rattle.rrd_fixed.proofs.Names.{◌≡◌, ◌∙◌, sym, ap, refl, ℕ, zero, suc, ◌+◌, ◌-◌, ◌<◌, ◌≤◌, ◌^◌, ◌/◌, ◌%◌, List, [], ◌∷◌, ◌++◌, length, take, drop, set, replicate, codes, arith, append_assoc, append-nil, length-append, lit<, ℤ, pos, negsuc, unsigned_abs, FitsSigned, int_le, false, true≢false, add-one, w128, leb-zero, IsAscii-decimal_wide, decimal_step_wide, length-decimal-le, length-decimal-le_wide, drop-drop, drop-set, drop-take, drop_all, take-append-drop, take-append-le, take-replicate, take_all, IsAscii-append, IsUtf8-from_ascii, IsAscii-cons, IsAscii, IsUtf8, between-put_mid, drop-put_mid, decimal, repeat, Puts, millionths_text, signed_text, six_digits, whole_text, put_mid}
 
 -- one text before another
 pub puts_before : (a b c : List ℕ) (end mid start : ℕ) (text before : List ℕ) → Puts a b end text mid → Puts b c mid before start → Puts a c end (before ++ text) start
@@ -105,14 +92,6 @@ millionths_short n small =
     let units = few_digits (n / 1000000) (omega arith) in
     let rest = six_wide (n % 1000000) (omega arith) in
     omega (arith, units, rest, length-append (decimal (n / 1000000) ++ codes ".") (six_digits (n % 1000000)), length-append (decimal (n / 1000000)) (codes "."))
-
-pub signed_short : (z : ℤ) → FitsSigned w128 z → length (signed_text z) ≤ 47
-signed_short (pos n) h = let fits = h.sfits in let short = millionths_short n (omega arith) in omega (arith, short)
-signed_short (negsuc n) h = let fits = h.sfits in let short = millionths_short (n + 1) (omega arith) in omega (arith, short)
-
-pub time_short : (z : ℤ) → FitsSigned w64 z → length (whole_text z) ≤ 20
-time_short (pos n) h = let fits = h.sfits in let short = length-decimal-le 19 n (lit< tt) (omega arith) (omega arith) in omega (arith, short)
-time_short (negsuc n) h = let fits = h.sfits in let short = length-decimal-le 19 (n + 1) (lit< tt) (omega arith) (omega arith) in omega (arith, short)
 
 -- ---- the sign
 

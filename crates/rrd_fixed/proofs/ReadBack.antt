@@ -1,16 +1,5 @@
 -- What is written is read back.
-use Rattle.std.proofs.Common.{◌≡◌, ◌∙◌, refl, ap, ℕ, zero, suc, ◌+◌, ◌-◌, ◌*◌, ◌/◌, ◌%◌, ◌^◌, ◌<◌, ◌≤◌, ℤ, pos, negsuc, ◌*ℤ◌, unsigned_abs, List, [], ◌∷◌, ◌++◌, Bool, true, false, Some, nat_lt, nat_le, length, decimal, codes, arith, lit<, length-append, append_assoc, append-nil, add-one, neg_ℤ, option_map, ◌==◌}
-use Rattle.std.proofs.Math.Bool.{or-true}
-use Rattle.std.proofs.Math.Seq.{take-append_seam, drop-append-add}
-use Rattle.std.proofs.lemmas.Bool.{lt-ltb}
-use Rattle.std.proofs.lemmas.Fmt.{decimal_by_steps_wide, length-decimal-le_wide}
-use Rattle.std.proofs.lemmas.Grind.{common_steps}
-use Rattle.std.proofs.lemmas.List.Folds.{list_all-append, list_any-append}
-use Rattle.std.specs.Char.{is_ascii_digit}
-use Rattle.std.specs.List.{list_all, list_any, position_or_len, before_first, after_first, repeat}
-use Rattle.rrd_fixed.specs.Reading.{are_digits, fraction_of, is_point, negated, number_of, unsigned_of, value_of, whole_of}
-use Rattle.rrd_fixed.specs.Text.{millionths_text, signed_text, six_digits, whole_text}
-use Rattle.rrd_fixed.specs.declared.number.Number.{Number}
+use Rattle.rrd_fixed.proofs.Names.{◌≡◌, ◌∙◌, refl, ap, ℕ, zero, suc, ◌+◌, ◌-◌, ◌*◌, ◌/◌, ◌%◌, ◌^◌, ◌<◌, ◌≤◌, ℤ, pos, negsuc, ◌*ℤ◌, unsigned_abs, List, [], ◌∷◌, ◌++◌, Bool, true, false, Some, nat_lt, nat_le, length, decimal, codes, arith, lit<, length-append, append_assoc, append-nil, add-one, neg_ℤ, option_map, ◌==◌, or-true, take-append_seam, drop-append-add, lt-ltb, decimal_by_steps_wide, length-decimal-le_wide, common_steps, list_all-append, list_any-append, is_ascii_digit, list_all, list_any, position_or_len, before_first, after_first, repeat, are_digits, fraction_of, is_point, negated, number_of, unsigned_of, value_of, whole_of, millionths_text, signed_text, six_digits, whole_text, Number}
 use Rattle.rrd_fixed.proofs.Digits.{value-push}
 
 -- some digits of the value n

@@ -1,10 +1,5 @@
 -- A write in several calls.
-use Rattle.std.proofs.Common.{◌≡◌, ◌∙◌, ◌++◌, ℕ, List, Option, sym, ap, take, drop, length, length-drop, get_or, arith, ◌-◌, ◌<◌, suc}
-use Rattle.std.specs.Io.KnownBytes.{Appends, Keeps}
-use Rattle.std.proofs.lemmas.List.{take-append-drop, take_all}
-use Rattle.std.proofs.Math.Seq.{drop-cons}
-use Rattle.rrd_fixed.specs.Written.{AppendsFront}
-use Rattle.rrd_fixed.specs.Writing.{Appends-kept}
+use Rattle.rrd_fixed.proofs.Names.{◌≡◌, ◌∙◌, ◌++◌, ℕ, List, Option, sym, ap, take, drop, length, length-drop, get_or, arith, ◌-◌, ◌<◌, suc, Appends, Keeps, take-append-drop, take_all, drop-cons, AppendsFront, Appends-kept}
 
 -- a fault after k bytes, before the last, leaves a front
 pub front_kept : (a b c : Option (List ℕ)) (bs : List ℕ) (k : ℕ) → k < length bs → Appends a b (take k bs) → Keeps b c → AppendsFront a c bs

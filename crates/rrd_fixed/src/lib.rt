@@ -23,11 +23,8 @@ pub use meter::Meter;
 pub use name::Name;
 pub use number::{Number, admit, read_number, read_whole};
 pub use puts::{put_cell, put_time};
-pub use rates::{rate, rise};
+pub use rates::rate;
 pub use raw::Raw;
 pub use rounding::near;
 pub use streams::{ReadFault, TRIES, WriteFault, flush, read_some, write_bytes};
-pub use text::{
-    MILLIONTHS, cell_string, message, numbered_message, raw_string, time_string, write_cell,
-    write_raw, write_time,
-};
+pub use text::{MILLIONTHS, cell_string, message, numbered_message, raw_string, time_string};

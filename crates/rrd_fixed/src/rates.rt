@@ -5,10 +5,10 @@ ghost use Rattle.rrd_fixed.specs.Rounding.{near as nearest};
 
 use crate::{Cell, Kind, MILLIONTHS, Raw, near};
 
-/// Returns the increase of a counter from `old` to `new`, in units.
-///
-/// If the counter fell, it has wrapped: at 2^32 if adding 2^32 makes the increase positive or 0, otherwise at 2^64.
-pub fn rise(old: u64, new: u64) -> u64
+// Returns the increase of a counter from `old` to `new`, in units.
+//
+// If the counter fell, it has wrapped: at 2^32 if adding 2^32 makes the increase positive or 0, otherwise at 2^64.
+fn rise(old: u64, new: u64) -> u64
     ensures { pos result ≡ spec.rise (pos old) (pos new) }
 {
     if old <= new {

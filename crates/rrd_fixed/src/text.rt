@@ -1,13 +1,11 @@
 //! Times, cells and raw values as text.
 ghost use Rattle.std.specs.Prelude.{◌≡◌, ◌+◌, ◌-◌, ◌++◌, ◌∷◌, [], ◌≤◌, decimal, length};
 ghost use Rattle.rrd_fixed.specs.Text.{cell_text, millionths_text, raw_text, signed_text, time_text, whole_text};
-ghost use Rattle.rrd_fixed.specs.Written.{Writes};
 
 use crate::puts::put_signed;
-use crate::{Cell, Kind, Raw, WriteFault, write_bytes};
+use crate::{Cell, Kind, Raw};
 use arrayvec::ArrayString;
 use itoa::Buffer;
-use std::io::Write;
 
 /// The number of millionths in a unit.
 pub const MILLIONTHS: u64 = 1_000_000;
@@ -84,36 +82,6 @@ pub fn time_string(seconds: i64) -> ArrayString<20>
     let mut text = ArrayString::new();
     text.push_str(buffer.format(seconds));
     text
-}
-
-/// Writes the text of a cell, as in `cell_string`, for other callers: the program uses `cell_string`.
-///
-/// # Errors
-/// - `WriteFault`: as in `write_bytes`.
-pub fn write_cell<W: Write>(out: &mut W, cell: Cell) -> Result<(), WriteFault>
-    ensures { Writes (W.contents out.old) (W.contents out.new) (cell_text cell) result }
-{
-    write_bytes(out, cell_string(cell).as_str().as_bytes())
-}
-
-/// Writes the text of a raw value, as in `raw_string`, for other callers: the program uses `raw_string`.
-///
-/// # Errors
-/// - `WriteFault`: as in `write_bytes`.
-pub fn write_raw<W: Write>(out: &mut W, kind: Kind, raw: Raw) -> Result<(), WriteFault>
-    ensures { Writes (W.contents out.old) (W.contents out.new) (raw_text kind raw) result }
-{
-    write_bytes(out, raw_string(kind, raw).as_str().as_bytes())
-}
-
-/// Writes the text of a time, as in `time_string`, for other callers: the program uses `time_string`.
-///
-/// # Errors
-/// - `WriteFault`: as in `write_bytes`.
-pub fn write_time<W: Write>(out: &mut W, seconds: i64) -> Result<(), WriteFault>
-    ensures { Writes (W.contents out.old) (W.contents out.new) (time_text seconds) result }
-{
-    write_bytes(out, time_string(seconds).as_str().as_bytes())
 }
 
 /// Returns a text of at most 40 bytes as a string. Does not allocate.

@@ -1,17 +1,5 @@
 -- Counts and values made by at most two additions.
-use Rattle.std.proofs.Common.{◌≡◌, refl, sym, ◌∙◌, ap, ℕ, zero, suc, ◌+◌, ◌-◌, ◌*◌, ◌/◌, ◌<◌, ◌≤◌, ℤ, pos, negsuc, ◌+ℤ◌, ◌*ℤ◌, unsigned_abs, Bool, true, false, cond, eqb, replicate, arith, ⊎_elim}
-use Rattle.std.proofs.lemmas.Int.{ints}
-use Rattle.std.proofs.lemmas.Bool.{cases_lt, ne_eqb}
-use Rattle.std.proofs.lemmas.Nat.{div-add-mod', div_below, mod_below, mul-le}
-use Rattle.std.specs.List.{fold}
-use Rattle.rrd_fixed.specs.Rate.{top}
-use Rattle.rrd_fixed.specs.Rounding.{floor_of}
-use Rattle.rrd_fixed.specs.declared.cell.Cell.TheVariants.{Known}
-use Rattle.rrd_fold.specs.declared.function.Function.{Function}
-use Rattle.rrd_fold.specs.declared.function.Function.TheVariants.{Average, Min, Max, Last}
-use Rattle.rrd_fold.specs.Additions.{MadeByTwo, left_over, higher}
-use Rattle.rrd_fold.specs.Bounds.{weight}
-use Rattle.rrd_fold.specs.Parts.{nothing, with_value, with_cell}
+use Rattle.rrd_fold.proofs.Names.{◌≡◌, refl, sym, ◌∙◌, ap, ℕ, zero, suc, ◌+◌, ◌-◌, ◌*◌, ◌/◌, ◌<◌, ◌≤◌, ℤ, pos, negsuc, ◌+ℤ◌, ◌*ℤ◌, unsigned_abs, Bool, true, false, cond, eqb, replicate, arith, ⊎_elim, ints, cases_lt, ne_eqb, div-add-mod', div_below, mod_below, mul-le, fold, top, floor_of, Known, Function, Average, Min, Max, Last, MadeByTwo, left_over, higher, weight, nothing, with_value, with_cell}
 use Rattle.rrd_fold.proofs.PartLemmas.{first, goes_in}
 use Rattle.rrd_fold.proofs.Sums.{part, fold_sum}
 

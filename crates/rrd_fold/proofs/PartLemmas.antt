@@ -1,18 +1,5 @@
 -- Cells added one by one, and the whole list.
-use Rattle.std.proofs.Common.{◌≡◌, refl, sym, ◌∙◌, ap, ℕ, zero, suc, ◌+◌, ◌-◌, ◌*◌, ◌<◌, ◌≤◌, ℤ, pos, ◌+ℤ◌, List, [], ◌∷◌, ◌++◌, length, true, false, cond, eqb, nat_lt, if◌then◌else◌, arith}
-use Rattle.std.proofs.lemmas.Int.{ints}
-use Rattle.std.proofs.lemmas.Bool.{ne_eqb}
-use Rattle.std.proofs.lemmas.Bool.Decides.{nat_tests}
-use Rattle.std.proofs.lemmas.Nat.{mul-le}
-use Rattle.std.proofs.lemmas.List.Sums.{fold-append}
-use Rattle.std.specs.List.{fold}
-use Rattle.std.specs.Int.{int_min, int_max}
-use Rattle.rrd_fixed.specs.declared.cell.Cell.{Cell}
-use Rattle.rrd_fixed.specs.declared.cell.Cell.TheVariants.{Unknown, Known}
-use Rattle.rrd_fold.specs.declared.function.Function.{Function}
-use Rattle.rrd_fold.specs.declared.function.Function.TheVariants.{Average, Min, Max, Last}
-use Rattle.rrd_fold.specs.Parts.{nothing, with_value, with_cell, values, summary, part_of, consolidated, row_cell}
-use Rattle.rrd_fold.specs.Bounds.{finished_cell}
+use Rattle.rrd_fold.proofs.Names.{◌≡◌, refl, sym, ◌∙◌, ap, ℕ, zero, suc, ◌+◌, ◌-◌, ◌*◌, ◌<◌, ◌≤◌, ℤ, pos, ◌+ℤ◌, List, [], ◌∷◌, ◌++◌, length, true, false, cond, eqb, nat_lt, if◌then◌else◌, arith, ints, ne_eqb, nat_tests, mul-le, fold-append, fold, int_min, int_max, Cell, Unknown, Known, Function, Average, Min, Max, Last, nothing, with_value, with_cell, values, summary, part_of, consolidated, row_cell, finished_cell}
 use Rattle.rrd_fold.proofs.Sums.{part}
 
 -- how one more value goes into those that there are

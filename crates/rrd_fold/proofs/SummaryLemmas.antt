@@ -1,13 +1,5 @@
 -- What the value of a list of known cells is.
-use Rattle.std.proofs.Common.{◌≡◌, refl, sym, ◌∙◌, ap, suc, ℤ, ◌+ℤ◌, ◌≤ℤ◌, List, [], ◌∷◌, ◌++◌, arith, ⊎_elim}
-use Rattle.std.proofs.lemmas.Int.{ints, fold-int_max_bounds, fold-int_max_reached, fold-int_min_bounds, fold-int_min_reached}
-use Rattle.std.proofs.lemmas.List.Elements.{All-cons}
-use Rattle.std.proofs.lemmas.List.Sums.{fold-append}
-use Rattle.std.specs.List.{fold, Contains}
-use Rattle.std.specs.Int.{int_min, int_max}
-use Rattle.rrd_fold.specs.declared.function.Function.TheVariants.{Average, Min, Max, Last}
-use Rattle.rrd_fold.specs.Parts.{summary}
-use Rattle.rrd_fold.specs.Summaries.{IsLeast, IsGreatest}
+use Rattle.rrd_fold.proofs.Names.{◌≡◌, refl, sym, ◌∙◌, ap, suc, ℤ, ◌+ℤ◌, ◌≤ℤ◌, List, [], ◌∷◌, ◌++◌, arith, ⊎_elim, ints, fold-int_max_bounds, fold-int_max_reached, fold-int_min_bounds, fold-int_min_reached, All-cons, fold-append, fold, Contains, int_min, int_max, Average, Min, Max, Last, summary, IsLeast, IsGreatest}
 
 from_sum : (v w : ℤ) (xs : List ℤ) → fold ◌+ℤ◌ (v +ℤ w) xs ≡ v +ℤ fold ◌+ℤ◌ w xs
 from_sum v w [] = refl

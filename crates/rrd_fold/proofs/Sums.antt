@@ -1,14 +1,5 @@
 -- A rate added many times.
-use Rattle.std.proofs.Common.{◌≡◌, refl, sym, ◌∙◌, ap, ℕ, zero, suc, ◌+◌, ◌*◌, ◌≤◌, ℤ, pos, ◌+ℤ◌, ◌*ℤ◌, unsigned_abs, replicate, arith}
-use Rattle.std.proofs.lemmas.Int.{ints}
-use Rattle.std.specs.List.{fold}
-use Rattle.rrd_fixed.specs.Rate.{top}
-use Rattle.rrd_fixed.specs.declared.cell.Cell.{Cell}
-use Rattle.rrd_fixed.specs.declared.cell.Cell.TheVariants.{Unknown, Known}
-use Rattle.rrd_fold.specs.Parts.{Part, with_cell}
-use Rattle.rrd_fold.specs.declared.function.Function.{Function}
-use Rattle.rrd_fold.specs.declared.function.Function.TheVariants.{Average}
-use Rattle.rrd_fold.specs.Bounds.{IsSum, most_known}
+use Rattle.rrd_fold.proofs.Names.{◌≡◌, refl, sym, ◌∙◌, ap, ℕ, zero, suc, ◌+◌, ◌*◌, ◌≤◌, ℤ, pos, ◌+ℤ◌, ◌*ℤ◌, unsigned_abs, replicate, arith, ints, fold, top, Cell, Unknown, Known, Part, with_cell, Function, Average, IsSum, most_known}
 
 unfoldable pub part : ℕ → ℤ → Part
 part known value = record { known = known; value = value }

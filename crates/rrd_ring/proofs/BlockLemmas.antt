@@ -1,16 +1,5 @@
 -- Rows that come as one list of cells are written into a ring.
-use Rattle.std.proofs.Common.{Vec, Global, ◌≡◌, ⊎_elim, refl, sym, ◌∙◌, ap, subst, ℕ, zero, suc, ◌+◌, ◌-◌, ◌*◌, ◌/◌, ◌%◌, ◌<◌, ◌≤◌, List, ◌++◌, length, min, replicate, set, take, drop, slice_range, arith, length-append, length-drop, length-set, vec_capacity}
-use Rattle.std.proofs.Math.Nat.{add-mul, add-mul-mod_self_right, mod-add-div', mod-eq_of_lt, mod_self}
-use Rattle.std.proofs.Math.Seq.{take-add}
-use Rattle.std.proofs.lemmas.Bool.{cases_lt}
-use Rattle.std.proofs.lemmas.Nat.{mod_below}
-use Rattle.std.proofs.lemmas.List.{append_assoc, length-take-le, take-append-drop, drop-drop, take_all, take_at, drop_at, length-replicate, take-replicate, drop-replicate}
-use Rattle.rrd_fixed.specs.declared.cell.Cell.{Cell}
-use Rattle.rrd_fixed.specs.declared.cell.Cell.TheVariants.{Unknown}
-use Rattle.rrd_ring.specs.Rows.{nth_row, width, with_row, with_rows}
-use Rattle.rrd_ring.specs.Ring.{row_of, ring_rows, with_unwritten, AreParts, AreWhole, IsRing, IsPartlyWritten}
-use Rattle.std.specs.List.{refill, length_refill}
-use Rattle.std.specs.Vec.{with_items_from}
+use Rattle.rrd_ring.proofs.Names.{Vec, Global, ◌≡◌, ⊎_elim, refl, sym, ◌∙◌, ap, subst, ℕ, zero, suc, ◌+◌, ◌-◌, ◌*◌, ◌/◌, ◌%◌, ◌<◌, ◌≤◌, List, ◌++◌, length, min, replicate, set, take, drop, slice_range, arith, length-append, length-drop, length-set, vec_capacity, add-mul, add-mul-mod_self_right, mod-add-div', mod-eq_of_lt, mod_self, take-add, cases_lt, mod_below, append_assoc, length-take-le, take-append-drop, drop-drop, take_all, take_at, drop_at, length-replicate, take-replicate, drop-replicate, Cell, Unknown, nth_row, width, with_row, with_rows, row_of, ring_rows, with_unwritten, AreParts, AreWhole, IsRing, IsPartlyWritten, refill, length_refill, with_items_from}
 use Rattle.rrd_ring.proofs.RingLemmas.{cells_le, length-row_of, length-ring_rows, length-with_cells, nth_row-ring_rows, parts_all, ring_fits, ring_written, vec_written, with_cells}
 use Rattle.rrd_ring.proofs.WrittenLemmas.{IsFilled, same_ring, filled_further, filled_long, length-put, ring_le, row_count, row_width, row_written, still_ring, whole_filled, written_over}
 

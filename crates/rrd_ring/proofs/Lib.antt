@@ -1,3 +1,5 @@
+pub mod Names
+pub mod Common
 pub mod RowLemmas
 pub mod RingLemmas
 pub mod WrittenLemmas

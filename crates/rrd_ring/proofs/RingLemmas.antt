@@ -1,17 +1,5 @@
 -- Rows of cells in one vector, and rings of them.
-use Rattle.std.proofs.Common.{Vec, Global, ◌≡◌, ◌⊎◌, inl, inr, set, refl, sym, ◌∙◌, ap, subst, ℕ, zero, suc, ◌+◌, ◌-◌, ◌*◌, ◌%◌, ◌<◌, ◌≤◌, List, [], ◌∷◌, ◌++◌, length, min, get_or, take, drop, replicate, ⊎_elim, arith, length-append, length-drop}
-use Rattle.std.proofs.Math.Seq.{take-append-add}
-use Rattle.std.proofs.Math.Nat.{add-mul, mod-eq_of_lt, mod-eq-sub-mod}
-use Rattle.std.proofs.lemmas.Bool.{cases_lt}
-use Rattle.std.proofs.lemmas.Nat.{row_fits, mul-le, mod_below}
-use Rattle.std.proofs.lemmas.List.{append_assoc, append-nil, length-take-le, length-replicate, take-append-drop, take-append-le, take-take, drop-append-le, drop-drop, take_at, drop_at, take_all, drop_all, get_or_append_left, get_or-append_right, get_or-replicate, get_or-set_same, get_or-set_other, length-set, with_items_is, replicate-append-replicate, take-replicate, drop-replicate}
-use Rattle.std.proofs.lemmas.List.FromFn.{length-map-range_with_len, get_or-map-range_with_len, fill_by_all}
-use Rattle.std.specs.Vec.{with_items_from}
-use Rattle.rrd_fixed.specs.declared.cell.Cell.{Cell}
-use Rattle.rrd_fixed.specs.declared.cell.Cell.TheVariants.{Unknown}
-use Rattle.rrd_ring.specs.Rows.{nth_row, row_cells, width, HasWidth, unknown_rows, AreDropped, max_rows}
-use Rattle.rrd_ring.specs.Ring.{row_of, rows_of, ring_rows, cells_in, from_index, AreParts, IsRing, AreRows}
-use Rattle.rrd_ring.specs.Widths.{width_is}
+use Rattle.rrd_ring.proofs.Names.{Vec, Global, ◌≡◌, ◌⊎◌, inl, inr, set, refl, sym, ◌∙◌, ap, subst, ℕ, zero, suc, ◌+◌, ◌-◌, ◌*◌, ◌%◌, ◌<◌, ◌≤◌, List, [], ◌∷◌, ◌++◌, length, min, get_or, take, drop, replicate, ⊎_elim, arith, length-append, length-drop, take-append-add, add-mul, mod-eq_of_lt, mod-eq-sub-mod, cases_lt, row_fits, mul-le, mod_below, append_assoc, append-nil, length-take-le, length-replicate, take-append-drop, take-append-le, take-take, drop-append-le, drop-drop, take_at, drop_at, take_all, drop_all, get_or_append_left, get_or-append_right, get_or-replicate, get_or-set_same, get_or-set_other, length-set, with_items_is, replicate-append-replicate, take-replicate, drop-replicate, length-map-range_with_len, get_or-map-range_with_len, fill_by_all, with_items_from, Cell, Unknown, nth_row, row_cells, width, HasWidth, unknown_rows, AreDropped, max_rows, row_of, rows_of, ring_rows, cells_in, from_index, AreParts, IsRing, AreRows, width_is}
 use Rattle.rrd_ring.proofs.RowLemmas.{AreDropped-from_width}
 
 -- ---- places

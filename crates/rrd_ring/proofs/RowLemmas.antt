@@ -1,9 +1,5 @@
 -- Lists of rows: their width, and a row that is written.
-use Rattle.std.proofs.Common.{◌≡◌, sym, ap, subst, ℕ, ◌+◌, ◌<◌, ◌≤◌, List, [], ◌∷◌, ◌++◌, length, get_or, set, take, drop, arith}
-use Rattle.std.proofs.lemmas.List.{append_assoc, set_at, length-take-le, take_all, drop_all, append-nil, take_more, drop_more}
-use Rattle.std.specs.List.{refill}
-use Rattle.rrd_fixed.specs.declared.cell.Cell.{Cell}
-use Rattle.rrd_ring.specs.Rows.{nth_row, with_row, HasWidth, AreDropped, max_rows}
+use Rattle.rrd_ring.proofs.Names.{◌≡◌, sym, ap, subst, ℕ, ◌+◌, ◌<◌, ◌≤◌, List, [], ◌∷◌, ◌++◌, length, get_or, set, take, drop, arith, append_assoc, set_at, length-take-le, take_all, drop_all, append-nil, take_more, drop_more, refill, Cell, nth_row, with_row, HasWidth, AreDropped, max_rows}
 
 -- ---- the width of rows
 

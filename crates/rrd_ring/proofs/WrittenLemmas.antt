@@ -1,15 +1,6 @@
 -- Rings of which a front is written, and the rest unknown.
-use Rattle.std.proofs.Common.{Vec, Global, ◌≡◌, ◌⊎◌, inl, inr, min, refl, sym, ◌∙◌, ap, subst, ℕ, zero, suc, ◌+◌, ◌-◌, ◌*◌, ◌/◌, ◌%◌, ◌<◌, ◌≤◌, List, [], ◌∷◌, ◌++◌, length, take, drop, replicate, ⊎_elim, arith, length-append, length-drop, vec_len, vec_capacity}
-use Rattle.std.proofs.Math.Nat.{add-mul, mul-div_cancel}
-use Rattle.std.proofs.lemmas.Bool.{cases_lt}
-use Rattle.std.proofs.lemmas.Nat.{row_fits, mod_below}
-use Rattle.std.proofs.lemmas.List.{append_assoc, append-nil, take-append-drop, replicate-append-replicate, length-take-le, length-replicate, take-append-le, take_min, drop-append-le, drop-drop, take_at, drop_at, take_all, drop_all, take-replicate, drop-replicate, with_items_is}
-use Rattle.rrd_fixed.specs.declared.cell.Cell.{Cell}
-use Rattle.rrd_fixed.specs.declared.cell.Cell.TheVariants.{Unknown}
-use Rattle.rrd_ring.specs.Rows.{HasWidth, width, max_rows, newest_rows, unknown_rows}
-use Rattle.rrd_ring.specs.Ring.{cells_in, from_index, ring_rows, rows_of, with_unwritten, AreParts, AreRows, AreWhole, AreWritten, IsRing, IsPartlyWritten}
+use Rattle.rrd_ring.proofs.Names.{Vec, Global, ◌≡◌, ◌⊎◌, inl, inr, min, refl, sym, ◌∙◌, ap, subst, ℕ, zero, suc, ◌+◌, ◌-◌, ◌*◌, ◌/◌, ◌%◌, ◌<◌, ◌≤◌, List, [], ◌∷◌, ◌++◌, length, take, drop, replicate, ⊎_elim, arith, length-append, length-drop, vec_len, vec_capacity, add-mul, mul-div_cancel, cases_lt, row_fits, mod_below, append_assoc, append-nil, take-append-drop, replicate-append-replicate, length-take-le, length-replicate, take-append-le, take_min, drop-append-le, drop-drop, take_at, drop_at, take_all, drop_all, take-replicate, drop-replicate, with_items_is, Cell, Unknown, HasWidth, width, max_rows, newest_rows, unknown_rows, cells_in, from_index, ring_rows, rows_of, with_unwritten, AreParts, AreRows, AreWhole, AreWritten, IsRing, IsPartlyWritten, with_items}
 use Rattle.rrd_ring.proofs.RingLemmas.{cells_le, with_cells, length-parts, length-ring_rows, length-rows_of, length-with_cells, ring_at_front, ring_fits, ring_len, ring_push, ring_put_back, ring_take, ring_unknown, ring_width, rows_len, rows_of-append, rows_of-parts, rows_of_unknown, same_cells, same_rows}
-use Rattle.std.specs.Vec.{with_items}
 
 -- ---- the cells
 

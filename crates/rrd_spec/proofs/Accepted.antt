@@ -1,28 +1,6 @@
 -- What an accepted command is known to be.
-use Rattle.std.proofs.Common.{◌≡◌, refl, sym, ◌∙◌, ap, subst, ℕ, suc, ◌<◌, Bool, true, false, cond, ltb, eqb, ◌||◌, List, [], ◌∷◌, length, map, Option, Some, None, arith, get_or}
-use Rattle.std.proofs.lemmas.Bool.{leb-false, eqb-false, or_parts}
-use Rattle.std.proofs.lemmas.List.{length-map}
-use Rattle.std.specs.List.{fold, AllByRecursion}
-use Rattle.std.specs.Option.{unwrap_or}
-use Rattle.rrd_fixed.specs.declared.raw.Raw.{Raw}
-use Rattle.rrd_fixed.specs.declared.name.Name.{Name}
-use Rattle.rrd_spec.specs.declared.settings.DsDef.{DsDef}
-use Rattle.rrd_spec.specs.History.{Content, Sampled, Tuned, Moment, moment_after, moment_of, moment_at_end, raws_under, IsHistory}
-use Rattle.rrd_spec.specs.Commands.{DatabaseChange, Updating, TuningBy, Resizing, archive_event, settings_of, sample_of, tuned, rows_changed, events}
-use Rattle.rrd_spec.specs.Settings.{Settings, names}
-use Rattle.std.specs.Option.{option_map_or}
-use Rattle.rrd_spec.specs.declared.settings.RraDef.{RraDef}
-use Rattle.rrd_spec.specs.declared.requests.tune.Tuning.{Tuning}
-use Rattle.rrd_spec.specs.declared.requests.tune.ArchiveTune.{ArchiveTune}
-use Rattle.rrd_spec.specs.declared.requests.tune.ArchiveTune.TheVariants.{Add, Remove}
-use Rattle.rrd_spec.specs.Commands.Verdict.{Check, archive_tune_checks, first_refusal, is_bad_rows, grows_too_far, shrinks_too_far, checks, verdict, verdict_within}
-use Rattle.rrd_spec.specs.Lemmas.Commands.{readings_rise}
-use Rattle.rrd_spec.specs.Laws.Commands.{Passes}
-use Rattle.rrd_spec.specs.declared.requests.update.Sample.{Sample}
-use Rattle.rrd_spec.specs.declared.requests.resize.Change.{Change}
-use Rattle.rrd_spec.specs.declared.requests.resize.Change.TheVariants.{Grow, Shrink}
-use Rattle.rrd_spec.specs.declared.refusal.Refusal.{Refusal}
-use Rattle.rrd_spec.specs.Limits.{present}
+use Rattle.std.specs.Prelude.{◌≡◌, ℕ, suc, ◌<◌, Bool, true, false, cond, ◌||◌, List, [], ◌∷◌, length, map, Option, Some, None}
+use Rattle.rrd_spec.proofs.Names.{refl, sym, ◌∙◌, ap, subst, ltb, eqb, arith, get_or, leb-false, eqb-false, or_parts, length-map, fold, AllByRecursion, unwrap_or, Raw, Name, DsDef, Content, Sampled, Tuned, Moment, moment_after, moment_of, moment_at_end, raws_under, IsHistory, DatabaseChange, Updating, TuningBy, Resizing, archive_event, settings_of, sample_of, tuned, rows_changed, events, Settings, names, option_map_or, RraDef, Tuning, ArchiveTune, Add, Remove, Check, archive_tune_checks, first_refusal, is_bad_rows, grows_too_far, shrinks_too_far, checks, verdict, verdict_within, readings_rise, Passes, Sample, Change, Grow, Shrink, Refusal, present}
 
 -- ---- every check passes
 

@@ -1,22 +1,6 @@
 -- Archives that a tune adds and removes: what is left, and the lists of archives.
-use Rattle.std.proofs.Common.{◌≡◌, refl, sym, ◌∙◌, ap, ℕ, zero, suc, ◌+◌, ◌-◌, ◌*◌, ◌/◌, ◌<◌, ◌≤◌, List, [], ◌∷◌, ◌++◌, length, map, take, drop, get_or, arith, length-append, Option, Some, None}
-use Rattle.std.specs.Prelude.{sum}
-use Rattle.std.proofs.lemmas.List.{drop-map, length-drop, length-take, length_push, map-append, take-map, take_at}
-use Rattle.std.proofs.lemmas.List.Sums.{sum_by-cons, sum_by-take-le}
-use Rattle.std.proofs.lemmas.Nat.{mul-le}
-use Rattle.std.specs.List.{insert, remove, AllByRecursion}
-use Rattle.std.specs.Option.{option_map_or}
-use Rattle.rrd_spec.specs.declared.settings.RraDef.{RraDef}
-use Rattle.rrd_spec.specs.declared.requests.tune.Tuning.{Tuning}
-use Rattle.rrd_spec.specs.declared.requests.tune.ArchiveTune.{ArchiveTune}
-use Rattle.rrd_spec.specs.declared.requests.tune.ArchiveTune.TheVariants.{Add, Remove}
-use Rattle.rrd_spec.specs.Limits.{Limits}
-use Rattle.rrd_spec.specs.History.{Rra, Content, Tuned, IsBase}
-use Rattle.rrd_spec.specs.History.Cells.{content}
-use Rattle.rrd_spec.specs.History.Lives.{new_archive}
-use Rattle.rrd_spec.specs.Commands.{TuningBy, archive_event, moved, rows_of_archives, settings_of, tuned}
-use Rattle.rrd_spec.specs.Commands.Verdict.{verdict}
-use Rattle.rrd_spec.specs.Validity.{IsValidArchiveWithin, IsValidWithin}
+use Rattle.std.specs.Prelude.{◌≡◌, ℕ, zero, suc, ◌+◌, ◌-◌, ◌*◌, ◌/◌, ◌<◌, ◌≤◌, List, [], ◌∷◌, ◌++◌, length, map, take, drop, Option, Some, None, sum}
+use Rattle.rrd_spec.proofs.Names.{refl, sym, ◌∙◌, ap, get_or, arith, length-append, drop-map, length-drop, length-take, length_push, map-append, take-map, take_at, sum_by-cons, sum_by-take-le, mul-le, insert, remove, AllByRecursion, option_map_or, RraDef, Tuning, ArchiveTune, Add, Remove, Limits, Rra, Content, Tuned, IsBase, content, new_archive, TuningBy, archive_event, moved, rows_of_archives, settings_of, tuned, verdict, IsValidArchiveWithin, IsValidWithin}
 use Rattle.rrd_spec.proofs.Accepted.{some_of_archive, tune_passes}
 use Rattle.rrd_spec.proofs.LivesPlain.{add_changes, remove_changes}
 
@@ -33,19 +17,15 @@ put_in_again (x ∷ xs) zero d h = refl
 put_in_again (x ∷ xs) (suc n) d h = ap (λ ys. x ∷ ys) (put_in_again xs n d (omega arith))
 
 pub inserted : {A : Type 0} (P : A → Type 0) (xs : List A) (n : ℕ) (x : A) → n ≤ length xs → AllByRecursion P (insert xs n x) → P x
-inserted P [] zero x h is = is.0
 inserted P [] (suc n) x h is = absurd (omega arith)
-inserted P (y ∷ xs) zero x h is = is.0
 inserted P (y ∷ xs) (suc n) x h is = inserted P xs n x (omega arith) is.1
+inserted P y zero x h is = is.0
 
 pub length-insert : {A : Type 0} (xs : List A) (n : ℕ) (x : A) → n ≤ length xs → length (insert xs n x) ≡ length xs + 1
 length-insert xs n x h = omega (arith, length-append (take n xs) (x ∷ drop n xs), length-take n xs, length-drop n xs)
 
 pub map-insert : {A B : Type 0} (g : A → B) (xs : List A) (n : ℕ) (x : A) → map g (insert xs n x) ≡ insert (map g xs) n (g x)
-map-insert g xs n x =
-    map-append g (take n xs) (x ∷ drop n xs)
-    ∙ ap (λ ys. ys ++ g x ∷ map g (drop n xs)) (sym (take-map g n xs))
-    ∙ ap (λ ys. take n (map g xs) ++ g x ∷ ys) (sym (drop-map g n xs))
+map-insert g xs n x = cc (map-append g (take n xs) (x ∷ drop n xs), take-map g n xs, drop-map g n xs)
 
 sum-removed : (rows : List ℕ) (n : ℕ) → sum (remove rows n) ≤ sum rows
 sum-removed [] zero = omega arith
@@ -88,23 +68,7 @@ fewer_taken sources most archives n h =
 -- ---- a content with other archives
 
 pub valid_with : (limits : Limits) (now : Content) (archives : List Rra) → IsValidWithin limits now → 0 < length archives → length archives ≤ limits.max_archives → length now.sources * sum (rows_of_archives archives) ≤ limits.max_cells → AllByRecursion (IsValidArchiveWithin limits (length now.sources) (now.last / now.step)) archives → IsValidWithin limits (record now { archives = archives })
-valid_with limits now archives is some few cells each = record {
-  some_step = is.some_step;
-  small_step = is.small_step;
-  good_time = is.good_time;
-  some_depth = is.some_depth;
-  small_depth = is.small_depth;
-  some_source = is.some_source;
-  few_sources = is.few_sources;
-  some_archive = some;
-  few_archives = few;
-  few_cells = cells;
-  sources_are = is.sources_are;
-  names_differ = is.names_differ;
-  raws_are = is.raws_are;
-  parts_are = is.parts_are;
-  archives_are = each;
-}
+valid_with limits now archives is some few cells each = assumption (is, some, few, cells, each)
 
 -- ---- what a tune of archives makes
 

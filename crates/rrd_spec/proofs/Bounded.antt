@@ -1,26 +1,8 @@
 -- The parts of steps and rows, and the cells that they give, stay in their bounds.
-use Rattle.std.proofs.Common.{◌≡◌, refl, sym, ◌∙◌, ap, ℕ, suc, ◌+◌, ◌-◌, ◌*◌, ◌<◌, ◌≤◌, true, false, List, [], ◌∷◌, length, replicate, arith, ⊎_elim, ℤ, pos, negsuc, ◌*ℤ◌, ◌≤ℤ◌, unsigned_abs, ltb, eqb, ◌^◌}
-use Rattle.std.specs.Prelude.{int_lt}
-use Rattle.std.specs.Int.{int_min, int_max}
-use Rattle.std.proofs.lemmas.Int.{ints}
-use Rattle.std.proofs.lemmas.Bool.{cond_both, lt-ltb, ltb-false, eqb-true, eqb-false}
-use Rattle.std.proofs.lemmas.List.{length-replicate, length-map}
-use Rattle.std.proofs.lemmas.Nat.{mul-le}
-use Rattle.std.specs.List.{AllByRecursion}
-use Rattle.rrd_fixed.specs.declared.cell.Cell.{Cell}
-use Rattle.rrd_fixed.specs.declared.cell.Cell.TheVariants.{Unknown, Known}
-use Rattle.rrd_fixed.specs.Rate.{top, IsBounded}
-use Rattle.rrd_fixed.specs.Nearest.{near_limit}
-use Rattle.rrd_fold.specs.declared.function.Function.{Function}
-use Rattle.rrd_fold.specs.declared.function.Function.TheVariants.{Average, Min, Max, Last}
-use Rattle.rrd_spec.specs.declared.settings.RraDef.{RraDef}
-use Rattle.rrd_fold.specs.Parts.{Part, nothing, with_value, with_cell, with_each, step_cell, consolidated, row_cell}
-use Rattle.rrd_spec.specs.Lemmas.Lists.{All-map, All-replicate}
-use Rattle.rrd_spec.specs.Validity.{weight, IsPart, AreParts, IsRow}
+use Rattle.std.specs.Prelude.{◌≡◌, ℕ, suc, ◌+◌, ◌-◌, ◌*◌, ◌<◌, ◌≤◌, true, false, List, [], ◌∷◌, length, replicate, ℤ, pos, negsuc, ◌≤ℤ◌, unsigned_abs, ◌^◌, int_lt}
+use Rattle.rrd_spec.proofs.Names.{refl, sym, ◌∙◌, ap, arith, ⊎_elim, ◌*ℤ◌, ltb, eqb, int_min, int_max, ints, cond_both, lt-ltb, ltb-false, eqb-true, eqb-false, length-replicate, length-map, mul-le, AllByRecursion, Cell, Known, top, IsBounded, near_limit, Function, Average, Min, Max, Last, RraDef, Part, nothing, with_value, with_cell, with_each, step_cell, consolidated, row_cell, All-map, All-replicate, weight, IsPart, AreParts, IsRow, near, seconds_to_steps, steps_to_rows}
+use Rattle.rrd_fixed.specs.declared.cell.Cell.TheVariants.{Unknown}
 use Rattle.rrd_spec.proofs.Kept.{Keeps}
-use Rattle.rrd_fixed.specs.Rounding.{near}
-use Rattle.rrd_spec.specs.History.Steps.{seconds_to_steps}
-use Rattle.rrd_spec.specs.History.Rows.{steps_to_rows}
 
 -- ---- one source
 
@@ -46,11 +28,7 @@ value_bounded Last known value new h k = omega arith
 
 cell_more : (function : Function) (n : ℕ) (part : Part) (cell : Cell) → IsPart function n part → IsBounded cell → IsPart function (n + 1) (with_cell function part cell)
 cell_more function n part Unknown is h = record { few = omega (arith, is.few); bounded = is.bounded; empty = is.empty }
-cell_more function n part (Known new) is h = record {
-  few = omega (arith, is.few);
-  bounded = value_bounded function part.known part.value new is.bounded h;
-  empty = λ e. absurd (omega arith);
-}
+cell_more function n part (Known new) is h = grind (arith, value_bounded function part.known part.value new is.bounded h)
 
 step_bounded : (step : ℕ) (part : Part) → 0 < step → IsPart Average step part → IsBounded (step_cell step part)
 step_bounded step part some is =
@@ -59,9 +37,7 @@ step_bounded step part some is =
 
 consolidated_bounded : (function : Function) (n : ℕ) (part : Part) → 0 < part.known → IsPart function n part → unsigned_abs (consolidated function part) ≤ top
 consolidated_bounded Average n part some is = near_limit part.value part.known top some is.bounded
-consolidated_bounded Min n part some is = omega (arith, is.bounded)
-consolidated_bounded Max n part some is = omega (arith, is.bounded)
-consolidated_bounded Last n part some is = omega (arith, is.bounded)
+consolidated_bounded x n part some is = omega (arith, is.bounded)
 
 row_bounded : (def : RraDef) (part : Part) → 0 < def.steps → pos 0 ≤ℤ def.xff → def.xff ≤ℤ pos 999999 → IsPart def.function def.steps part → IsBounded (row_cell def.function def.xff def.steps part)
 row_bounded def part some low high is =

@@ -1,30 +1,11 @@
 -- What an archive shows at each time.
-use Rattle.std.proofs.Common.{◌≡◌, refl, sym, ◌∙◌, ap, subst, ℕ, zero, suc, ◌+◌, ◌-◌, ◌*◌, ◌/◌, ◌%◌, ◌<◌, ◌≤◌, Bool, true, false, cond, ltb, List, [], ◌∷◌, ◌++◌, length, map, replicate, get_or, arith, length-append, Some, ⊎_elim, ℤ, pos, negsuc, ◌+ℤ◌, ◌-ℤ◌, ◌<ℤ◌, ◌≤ℤ◌, unsigned_abs}
-use Rattle.std.specs.Prelude.{int_lt, int_le, slice_get}
-use Rattle.std.specs.Int.{int_max, int_div_euclid}
-use Rattle.std.specs.List.{fold, range_with_len, AllByRecursion}
-use Rattle.std.proofs.Math.Nat.{div-div-eq-div-mul}
-use Rattle.std.proofs.lemmas.Bool.{cases_lt, cases_Bool, cond-false, cond-true, cond_both, lt-ltb, le-ltb}
-use Rattle.std.proofs.lemmas.Int.{ints, clamps, int_rem_euclid_is}
-use Rattle.std.proofs.lemmas.List.{length-map, get_or_append_left, get_or-append_right, ext_get_or}
-use Rattle.std.proofs.lemmas.List.FromFn.{length-map-range_with_len, get_or-map-range_with_len}
-use Rattle.std.proofs.lemmas.Nat.{mul-le, mul-lt, div-mul-add, mod-mul-add}
-use Rattle.rrd_fixed.specs.declared.cell.Cell.{Cell}
-use Rattle.rrd_spec.specs.History.Steps.{seconds_to_steps, steps_of}
-use Rattle.rrd_spec.specs.History.Rows.{steps_to_rows, steps_before, steps_for, rows_of, row, row_ending}
-use Rattle.rrd_spec.specs.History.{Rra, Content, Event, Sampled, Tuned, Resized, Added, Removed, Moment, moment_after, moment_of, moment_at_end, seconds_of, rows_after, IsHistory, IsBase}
-use Rattle.rrd_spec.specs.Laws.ListedContent.{rows_never_lost, keep_last, filled_up}
-use Rattle.rrd_spec.specs.Laws.ListedLives.{archive_for, content_lived, kept_for, rows_for}
-use Rattle.rrd_spec.specs.History.Lives.{Life, lives}
+use Rattle.std.specs.Prelude.{◌≡◌, ℕ, zero, suc, ◌+◌, ◌-◌, ◌*◌, ◌/◌, ◌%◌, ◌<◌, ◌≤◌, Bool, true, false, cond, List, [], ◌∷◌, ◌++◌, length, map, replicate, Some, ℤ, pos, negsuc, ◌+ℤ◌, ◌-ℤ◌, ◌≤ℤ◌, unsigned_abs, int_lt, int_le, slice_get}
+use Rattle.rrd_spec.proofs.Names.{refl, sym, ◌∙◌, ap, subst, ltb, get_or, arith, length-append, ⊎_elim, ◌<ℤ◌, int_max, int_div_euclid, fold, range_with_len, AllByRecursion, div-div-eq-div-mul, cases_lt, cases_Bool, cond-false, cond-true, cond_both, lt-ltb, le-ltb, ints, clamps, int_rem_euclid_is, length-map, get_or_append_left, get_or-append_right, ext_get_or, length-map-range_with_len, get_or-map-range_with_len, mul-le, mul-lt, div-mul-add, mod-mul-add, Cell, seconds_to_steps, steps_of, steps_to_rows, steps_before, steps_for, rows_of, row, row_ending, Rra, Content, Event, Sampled, Tuned, Resized, Added, Removed, Moment, moment_after, moment_of, moment_at_end, seconds_of, rows_after, IsHistory, IsBase, rows_never_lost, keep_last, filled_up, archive_for, content_lived, kept_for, rows_for, Life, lives, Rule, group_part, finished, row_of_age, row_at, row_then, newest, reach, prefixes, greatest, reach_after, horizon, row_by_time, time_of, rows_by_time, archive_by_time, content, resolution, IsListed, IsMultiple, ShowsByTime, ListsByNumber, length-keep_last}
 use Rattle.rrd_spec.proofs.Lives.{LifeAt, length-kept_for, length-rows_for, lives_are}
-use Rattle.rrd_spec.specs.History.Groups.{Rule, group_part, finished}
 use Rattle.rrd_spec.proofs.GroupLemmas.{reached_before}
-use Rattle.rrd_spec.specs.History.Cells.{row_of_age, row_at, row_then, newest, reach, prefixes, greatest, reach_after, horizon, row_by_time, time_of, rows_by_time, archive_by_time, content}
-use Rattle.rrd_spec.specs.Settings.{resolution}
-use Rattle.rrd_spec.specs.Laws.Cells.{IsListed, IsMultiple, ShowsByTime, ListsByNumber}
 use Rattle.rrd_spec.proofs.HistoryLemmas.{last_rises, length-sources}
 use Rattle.rrd_spec.proofs.RowLemmas.{length-filled_up, room_first, room_last, row_by_age}
-use Rattle.rrd_spec.specs.Lemmas.Lists.{length-keep_last}
+use Rattle.rrd_spec.proofs.ContentLemmas.{div_rises}
 
 -- ---- tests
 
@@ -49,10 +30,8 @@ record IsAt (size : ℕ) (time : ℤ) (n m : ℕ) : Type 0 where
 
 multiple_at : (size : ℕ) (time : ℤ) → 0 < size → IsMultiple time size → (n : ℕ) × (m : ℕ) × IsAt size time n m
 multiple_at size (pos t) some h =
-    let none : t % size ≡ 0 = omega (arith, ints, h) in
     (t / size, 0, record { time_is = omega (arith, ints); count_is = omega (arith, ints) })
 multiple_at size (negsuc t) some h =
-    let last : t % size + 1 ≡ size = omega (arith, ints, h) in
     (0, t / size + 1, record { time_is = omega (arith, ints); count_is = omega (arith, ints) })
 
 less_rows : (a b size : ℕ) → 0 < size → a < b → a * size < b * size
@@ -88,15 +67,10 @@ all_under t a (x ∷ xs) h =
 
 -- ---- the room, and the horizon
 
-div_rises : (m n size : ℕ) → 0 < size → m ≤ n → m / size ≤ n / size
-div_rises m n size some h = omega (arith, reached_before m (n - m) size some, ap (λ k. k / size) {x = m + (n - m)} {y = n} (omega arith))
-
 rest_of_history : (now : Moment) (e : Event) (es : List Event) → IsHistory now (e ∷ es) → IsHistory (moment_after now e) es
-rest_of_history now (Sampled sample) es h = h.1
-rest_of_history now (Tuned sources) es h = h.1
-rest_of_history now (Resized archive rows) es h = h.1
 rest_of_history now (Added def) es h = h.2
 rest_of_history now (Removed archive) es h = h
+rest_of_history now x es h = h.1
 
 abbrev reach_from : ℕ → ℕ → ℕ → Moment → List Event → ℤ
 reach_from size index rows now events = reach size (fold (rows_after index) rows events) (fold moment_after now events).last
@@ -125,7 +99,6 @@ room_under size index end age n m time some at aged rows now (event ∷ es) h e 
 
 under_room : (size index end age n m : ℕ) (time : ℤ) → 0 < size → IsAt size time n m → age + n ≡ end / size + m → (rows : ℕ) (now : Moment) (es : List Event) → IsHistory now es → (fold moment_after now es).last ≡ end → AllByRecursion (λ x. x <ℤ time) (map (reach_from size index rows now) (prefixes es)) → age < rows_never_lost index (λ t. end / size - t / size) rows now es
 under_room size index end age n m time some at aged rows now [] h e k =
-    let below = div_rises now.last end size some (omega arith) in
     ⊎_elim
     (λ (in_it : now.last / size + m < n + rows). omega arith)
     (λ (out : n + rows ≤ now.last / size + m). absurd (omega (arith, ints, k.0, reach_over size (now.last / size) rows n m time at out)))
@@ -153,10 +126,9 @@ some_prefix (x ∷ xs) = omega arith
 
 in_sight : (step : ℕ) (life : Life) (end age n m : ℕ) (time : ℤ) → let size = resolution step life.begun.def in 0 < size → IsHistory life.birth life.since → (fold moment_after life.birth life.since).last ≡ end → IsAt size time n m → age + n ≡ end / size + m → age < rows_never_lost 0 (λ t. end / size - t / size) life.begun.def.rows life.birth life.since → int_le time (horizon step life) ≡ false
 in_sight step life end age n m time some h e at aged k =
-    let size = resolution step life.begun.def in
     after time (horizon step life)
     (greatest_under time (map (reach_after step life) (prefixes life.since)) (omega (arith, some_prefix life.since, length-map (prefixes life.since) (reach_after step life)))
-    (room_under size 0 end age n m time some at aged life.begun.def.rows life.birth life.since h e k))
+    (room_under (resolution step life.begun.def) 0 end age n m time some at aged life.begun.def.rows life.birth life.since h e k))
 
 out_of_sight : (step : ℕ) (life : Life) (end age n m : ℕ) (time : ℤ) → let size = resolution step life.begun.def in 0 < size → IsHistory life.birth life.since → (fold moment_after life.birth life.since).last ≡ end → IsAt size time n m → age + n ≡ end / size + m → rows_never_lost 0 (λ t. end / size - t / size) life.begun.def.rows life.birth life.since ≤ age → int_le time (horizon step life) ≡ true
 out_of_sight step life end age n m time some h e at aged k =
@@ -213,13 +185,12 @@ old_row size last rows news u age n m first end time at first_is rises aged olde
 
 recent_row : (base : Content) (life : Life) (es : List Event) (u : List Cell) (age n m first end : ℕ) (time : ℤ) → let size = resolution base.step life.begun.def in 0 < size → IsAt size time n m → life.birth.last / base.step / life.begun.def.steps ≡ first → length (rows_for base es life) ≡ end - first → age + n ≡ end + m → first + m < n → get_or (life.begun.rows ++ rows_for base es life) (length life.begun.rows + (end - first) - 1 - age) u ≡ row_ending base life es time
 recent_row base life es u age n m first end time some at first_step count aged newer =
-    let size = resolution base.step life.begun.def in
     let rows = life.begun.rows in
     let i = n - m - 1 - first in
     get_or-append_right rows (rows_for base es life) (length rows) (length rows + (end - first) - 1 - age) u refl (omega arith)
     ∙ ap (λ k. get_or (rows_for base es life) k u) {x = length rows + (end - first) - 1 - age - length rows} {y = i} (omega arith)
     ∙ new_row base life es i (n - m - 1) u (omega arith) (omega arith)
-    ∙ sym (ap (λ k. row base life es (k - 1)) (row_number size n m time some at (omega arith)))
+    ∙ sym (ap (λ k. row base life es (k - 1)) (row_number (resolution base.step life.begun.def) n m time some at (omega arith)))
 
 -- ---- an archive
 
@@ -297,15 +268,12 @@ unfolding content_lived
 row_shown base es life time some_step h alive multiple =
     let size = resolution base.step life.begun.def in
     let age = pos ((moment_at_end base es).last / size) -ℤ int_div_euclid time (pos size) in
-    ap (λ k. row_of_age (kept_for base es life) (replicate k Cell.Unknown) age) (length-sources (moment_of base) es h)
-    ∙ kept_by_time base es life time some_step h alive multiple
+    cc (length-sources (moment_of base) es h, kept_by_time base es life time some_step h alive multiple)
 
 -- ---- all rows of an archive
 
 multiple_of : (size n m : ℕ) (time : ℤ) → 0 < size → time ≡ pos (n * size) -ℤ pos (m * size) → IsMultiple time size
-multiple_of size n m time some is =
-    int_rem_euclid_is time (pos size) size m (n * size) some refl (omega (arith, ints, is))
-    ∙ ap pos (ap (λ k. k % size) {x = n * size} {y = n * size + 0} (omega arith) ∙ mod-mul-add n size 0 some)
+multiple_of size n m time some is = cc (int_rem_euclid_is time (pos size) size m (n * size) some refl (omega (arith, ints, is)), ap (λ k. k % size) {x = n * size} {y = n * size + 0} (omega arith) ∙ mod-mul-add n size 0 some)
 
 same_count : (size a b : ℕ) → 0 < size → a * size ≡ b * size → a ≡ b
 same_count size a b some e = ⊎_elim
@@ -332,7 +300,6 @@ rows_are_by_time : (base : Content) (es : List Event) (life : Life) → 0 < base
 rows_are_by_time base es life some_step h alive =
     let size = resolution base.step life.begun.def in
     let last = (moment_at_end base es).last in
-    let end = last / size in
     let some : 0 < size = omega (arith, mul-lt 0 0 base.step life.begun.def.steps some_step alive.archive_is.some_steps) in
     let u = replicate (length base.sources) Cell.Unknown in
     let rows = fold (rows_after 0) life.begun.def.rows life.since in
@@ -343,7 +310,7 @@ rows_are_by_time base es life some_step h alive =
     ext_get_or u kept (map one (range_with_len 0 rows)) (omega (arith, count, listed))
     (λ place within.
     let here : place < rows = omega (arith, count, within) in
-    let age = age_of size rows end place (time_of size rows last place) some here refl in
+    let age = age_of size rows (last / size) place (time_of size rows last place) some here refl in
     let by_age : row_of_age kept u (pos (rows - 1 - place)) ≡ get_or kept place u
     = cond-true (ltb (rows - 1 - place) (length kept)) (get_or kept (length kept - 1 - (rows - 1 - place)) u) u (lt-ltb (rows - 1 - place) (length kept) (omega (arith, count, here)))
     ∙ ap (λ k. get_or kept k u) {x = length kept - 1 - (rows - 1 - place)} {y = place} (omega (arith, count, here)) in
@@ -353,9 +320,7 @@ rows_are_by_time base es life some_step h alive =
 
 each_by_time : (base : Content) (es : List Event) (all : List Life) → 0 < base.step → IsHistory (moment_of base) es → AllByRecursion (LifeAt base (moment_at_end base es)) all → map (archive_for base es) all ≡ map (archive_by_time base es) all
 each_by_time base es [] some h is = refl
-each_by_time base es (life ∷ all) some h is =
-    ap (λ rows. let a : Rra = record (archive_for base es life) { rows = rows } in a ∷ map (archive_for base es) all) (rows_are_by_time base es life some h is.0)
-    ∙ ap (λ rest. archive_by_time base es life ∷ rest) (each_by_time base es all some h is.1)
+each_by_time base es (life ∷ all) some h is = cc (rows_are_by_time base es life some h is.0, each_by_time base es all some h is.1)
 
 pub is_lived : (base : Content) (es : List Event) → IsListed base es
 unfolding content_lived

@@ -1,19 +1,6 @@
 -- What an accepted tune or resize changes.
-use Rattle.std.proofs.Common.{◌≡◌, refl, sym, ◌∙◌, ap, ℕ, zero, suc, ◌+◌, ◌-◌, ◌*◌, ◌/◌, ◌<◌, min, cond, eqb, ltb, List, [], ◌∷◌, ◌++◌, length, drop, map, replicate, get_or, arith, append-nil, eq-eqb}
-use Rattle.std.proofs.lemmas.Bool.{leb-false, ltb-false, or_parts}
-use Rattle.std.proofs.lemmas.List.{length-drop, length-map}
-use Rattle.std.specs.List.{enumerate_from, AllByRecursion}
-use Rattle.rrd_fixed.specs.declared.cell.Cell.{Cell}
-use Rattle.rrd_spec.specs.declared.requests.resize.Change.{Change}
-use Rattle.rrd_spec.specs.declared.requests.tune.Tuning.{Tuning}
-use Rattle.rrd_spec.specs.Laws.Commands.{ResizeChanges, ResizeFits, TuneChanges, rows_then}
-use Rattle.rrd_spec.specs.Commands.{Resizing, rows_of_archives, tuned}
-use Rattle.rrd_spec.specs.Journal.Entries.{rows_at, with_rows_at}
-use Rattle.rrd_spec.specs.Lemmas.Validity.{base_of_valid, sound}
-use Rattle.rrd_spec.specs.History.{Rra, Content, Resized, Tuned, moment_of, IsArchive}
-use Rattle.rrd_spec.specs.History.Rows.{rows_of, row_parts_of}
-use Rattle.rrd_spec.specs.Laws.ListedContent.{rows_never_lost, keep_last, filled_up, kept_rows, archive_of}
-use Rattle.rrd_spec.specs.Commands.Verdict.{grows_too_far, is_bad_rows}
+use Rattle.std.specs.Prelude.{◌≡◌, ℕ, zero, suc, ◌+◌, ◌-◌, ◌*◌, ◌/◌, ◌<◌, min, cond, List, [], ◌∷◌, ◌++◌, length, drop, map, replicate}
+use Rattle.rrd_spec.proofs.Names.{refl, sym, ◌∙◌, ap, eqb, ltb, get_or, arith, append-nil, eq-eqb, leb-false, ltb-false, or_parts, length-drop, length-map, enumerate_from, AllByRecursion, Cell, Change, Tuning, ResizeChanges, ResizeFits, TuneChanges, rows_then, Resizing, rows_of_archives, tuned, rows_at, with_rows_at, base_of_valid, sound, Rra, Content, Resized, Tuned, moment_of, IsArchive, rows_of, row_parts_of, rows_never_lost, keep_last, filled_up, kept_rows, archive_of, grows_too_far, is_bad_rows, present}
 use Rattle.rrd_spec.proofs.Accepted.{accepted_passes, some_rows}
 use Rattle.rrd_spec.proofs.LivesPlain.{is_listed}
 use Rattle.rrd_spec.proofs.ArchiveTunes.{tune_alone}
@@ -21,7 +8,6 @@ use Rattle.rrd_spec.proofs.Moving.{moved_is}
 use Rattle.rrd_spec.proofs.Quiet.{content_resized, content_tuned, made, resized_elsewhere, resized_other, row_parts_same, rows_none}
 use Rattle.rrd_spec.proofs.RowLemmas.{length-filled_up}
 use Rattle.rrd_spec.proofs.Staying.{few_changed, few_rows_at}
-use Rattle.rrd_spec.specs.Limits.{present}
 
 -- ---- a tune
 
@@ -36,9 +22,8 @@ pub resize_fits : (base : Content) (archive : ℕ) (change : Change) (rows : ℕ
 resize_fits base archive change rows is h =
     let passes = accepted_passes base (Resizing archive change rows) h in
     let old = get_or (rows_of_archives base.archives) archive 0 in
-    let low = leb-false (length (rows_of_archives base.archives)) archive passes.0 in
     record {
-      there = omega (arith, low, length-map base.archives (λ (a : Rra). a.def.rows));
+      there = omega (arith, (leb-false (length (rows_of_archives base.archives)) archive passes.0), length-map base.archives (λ (a : Rra). a.def.rows));
       few_asked = ltb-false 1000000 rows (or_parts (eqb rows 0) (ltb 1000000 rows) (or_parts (is_bad_rows present rows) (grows_too_far present change old rows) passes.1.0).0).1;
       some_then = some_rows change old rows passes.1.0 passes.1.1.0;
       few_then = few_changed change old rows (few_rows_at (length base.sources) (base.last / base.step) archive base.archives is.archives_are) passes.1.0;
@@ -63,11 +48,7 @@ kept_resized base at n index archive e is =
     let after : cond (eqb at index) n archive.def.rows ≡ n = ap (λ b. cond b n archive.def.rows) (eq-eqb at index e) in
     let places : rows_never_lost index since archive.def.rows (moment_of base) es ≡ min (length rows) n = omega (arith, is.rows_are, after) in
     let cut : length rows - min (length rows) n ≡ length rows - n = omega arith in
-    ap (λ m. filled_up m nan (keep_last (rows_never_lost index since archive.def.rows (moment_of base) es) (rows ++ rows_of base archive es))) after
-    ∙ ap (λ m. filled_up n nan (keep_last m (rows ++ rows_of base archive es))) places
-    ∙ ap (λ zs. filled_up n nan (keep_last (min (length rows) n) (rows ++ zs))) (rows_none base es refl archive)
-    ∙ ap (λ zs. filled_up n nan (keep_last (min (length rows) n) zs)) (append-nil rows)
-    ∙ ap (λ m. filled_up n nan (drop m rows)) cut
+    cc (after, places, rows_none base es refl archive, append-nil rows, cut)
 
 -- the archive with these rows
 abbrev pub with_rows : Rra → List (List Cell) → Rra
@@ -77,11 +58,10 @@ resized_one : (base : Content) (at n index : ℕ) (archive : Rra) → at ≡ ind
 unfolding made
 resized_one base at n index archive e is =
     let es = Resized at n ∷ [] in
-    let new = newest base n archive.rows in
     ap (λ m. made archive m (row_parts_of base archive es) (kept_rows base index archive es)) {x = cond (eqb at index) n archive.def.rows} {y = n} (ap (λ b. cond b n archive.def.rows) (eq-eqb at index e))
     ∙ ap (λ ps. made archive n ps (kept_rows base index archive es)) (row_parts_same base es refl archive is.some_steps)
     ∙ ap (made archive n archive.parts) (kept_resized base at n index archive e is)
-    ∙ ap (λ m. made archive m archive.parts new) (sym (length-newest base n archive.rows))
+    ∙ ap (λ m. made archive m archive.parts (newest base n archive.rows)) (sym (length-newest base n archive.rows))
 
 resized_at : (base : Content) (at n first k : ℕ) (archives : List Rra) → at ≡ first + k → k < length archives → AllByRecursion IsArchive archives → map (archive_of base (Resized at n ∷ [])) (enumerate_from first archives) ≡ with_rows_at archives k (newest base n (rows_at archives k))
 resized_at base at n first k [] e h is = absurd (omega arith)
@@ -100,6 +80,4 @@ resize_changes base archive change rows is h =
     let n = rows_then base archive change rows in
     let there = (resize_fits base archive change rows is h).there in
     let base_is = base_of_valid base is in
-    sym (moved_is base (Resizing archive change rows) (sound base is) h tt)
-    ∙ content_resized base archive n base_is
-    ∙ ap (λ xs. let x : Content = record base { archives = xs } in x) (resized_at base archive n 0 archive base.archives (omega arith) there base_is.archives_are)
+    cc (moved_is base (Resizing archive change rows) (sound base is) h tt, content_resized base archive n base_is, resized_at base archive n 0 archive base.archives (omega arith) there base_is.archives_are)

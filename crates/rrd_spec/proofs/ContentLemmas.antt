@@ -1,19 +1,9 @@
 -- The content of a history in two pieces: the first piece's content is a base for the second one.
-use Rattle.std.proofs.Common.{◌≡◌, refl, sym, ◌∙◌, ap, ℕ, ◌+◌, ◌-◌, ◌*◌, ◌/◌, ◌<◌, ◌≤◌, List, [], ◌∷◌, ◌++◌, length, map, replicate, arith, length-append, append_assoc, Bool, true, false, cond, eqb}
-use Rattle.std.proofs.Math.Nat.{div-div-eq-div-mul}
-use Rattle.std.proofs.lemmas.List.Sums.{fold-append}
-use Rattle.std.proofs.lemmas.Nat.{mul-lt}
-use Rattle.std.specs.List.{fold, enumerate_from, AllByRecursion}
-use Rattle.rrd_fixed.specs.declared.cell.Cell.{Cell}
-use Rattle.rrd_fold.specs.Parts.{Part}
-use Rattle.rrd_spec.specs.History.Rows.{steps_to_rows, rows_of}
-use Rattle.rrd_spec.specs.History.{Rra, Content, Event, Sampled, Tuned, Resized, Added, Removed, Moment, moment_after, moment_of, moment_at_end, rows_after, IsHistory, IsArchive, IsBase}
-use Rattle.rrd_spec.specs.History.Steps.{steps_of, parts_of}
-use Rattle.rrd_spec.specs.Laws.ListedContent.{rows_never_lost, keep_last, filled_up, kept_rows, archive_of, content_listed}
+use Rattle.std.specs.Prelude.{◌≡◌, ℕ, ◌+◌, ◌-◌, ◌*◌, ◌/◌, ◌<◌, ◌≤◌, List, [], ◌∷◌, ◌++◌, length, map, replicate, Bool, true, false, cond}
+use Rattle.rrd_spec.proofs.Names.{refl, sym, ◌∙◌, ap, arith, length-append, append_assoc, eqb, div-div-eq-div-mul, fold-append, mul-lt, fold, enumerate_from, AllByRecursion, Cell, Part, steps_to_rows, rows_of, Rra, Content, Event, Sampled, Tuned, Resized, Added, Removed, Moment, moment_after, moment_of, moment_at_end, rows_after, IsHistory, IsArchive, IsBase, steps_of, parts_of, rows_never_lost, keep_last, filled_up, kept_rows, archive_of, content_listed, length-keep_last}
 use Rattle.rrd_spec.proofs.GroupLemmas.{length-finished, reached_before}
 use Rattle.rrd_spec.proofs.HistoryLemmas.{length-sources, length-steps_of, parts_of-append, rows_of-append, row_parts_of-append}
 use Rattle.rrd_spec.proofs.RowLemmas.{rows_again, room_first, room_last, room-append, length-filled_up}
-use Rattle.rrd_spec.specs.Lemmas.Lists.{length-keep_last}
 
 -- how many rows ended
 pub length-rows_of : (base : Content) (archive : Rra) (es : List Event) → 0 < base.step → 0 < archive.def.steps → IsHistory (moment_of base) es → base.last / (base.step * archive.def.steps) + length (rows_of base archive es) ≡ (moment_at_end base es).last / (base.step * archive.def.steps)
@@ -30,8 +20,7 @@ pub length-kept_rows : (base : Content) (index : ℕ) (archive : Rra) (es : List
 unfolding kept_rows
 length-kept_rows base index archive es pos is h =
     let res = base.step * archive.def.steps in
-    let end = (moment_at_end base es).last in
-    let since = λ (time : ℕ). end / res - time / res in
+    let since = λ (time : ℕ). ((moment_at_end base es).last) / res - time / res in
     let v = rows_never_lost index since archive.def.rows (moment_of base) es in
     let all = archive.rows ++ rows_of base archive es in
     let count_all = length-append archive.rows (rows_of base archive es) in
@@ -39,7 +28,7 @@ length-kept_rows base index archive es pos is h =
     let count : length (keep_last v all) ≡ v = length-keep_last v all (omega (arith, room_first index since archive.def.rows (moment_of base) es, is.rows_are)) in
     length-filled_up (fold (rows_after index) archive.def.rows es) (replicate (length base.sources) Cell.Unknown) (keep_last v all) (omega (arith, room_last index since archive.def.rows (moment_of base) es))
 
-mul_positive : (a b : ℕ) → 0 < a → 0 < b → 0 < a * b
+pub mul_positive : (a b : ℕ) → 0 < a → 0 < b → 0 < a * b
 mul_positive a b h k = omega (arith, mul-lt 0 0 a b h k)
 
 pub div_rises : (m n size : ℕ) → 0 < size → m ≤ n → m / size ≤ n / size
@@ -95,7 +84,7 @@ archives-append base es fs index (archive ∷ archives) pos is h k =
     let rest = archives-append base es fs (index + 1) archives pos is.1 h k in
     cc
 
-with_moment : Content → Moment → List Part → List Rra → Content
+unfoldable pub with_moment : Content → Moment → List Part → List Rra → Content
 with_moment base moment parts archives = record base { sources = moment.sources; last = moment.last; raws = moment.raws; parts = parts; archives = archives }
 
 pub listed-append : (base : Content) (es fs : List Event) → IsBase base → IsHistory (moment_of base) es → IsHistory (moment_at_end base es) fs → content_listed base (es ++ fs) ≡ content_listed (content_listed base es) fs
@@ -103,9 +92,7 @@ unfolding content_listed with_moment
 listed-append base es fs is h k =
     let end = fold moment_after (moment_at_end base es) fs in
     let archives = map (archive_of base (es ++ fs)) (enumerate_from 0 base.archives) in
-    ap (λ m. with_moment base m (parts_of base (es ++ fs)) archives) (fold-append moment_after (moment_of base) es fs)
-    ∙ ap (λ ps. with_moment base end ps archives) (parts_of-append base es fs is.some_step h k)
-    ∙ ap (with_moment base end (parts_of (content_listed base es) fs)) (archives-append base es fs 0 base.archives is.some_step is.archives_are h k)
+    cc (fold-append moment_after (moment_of base) es fs, parts_of-append base es fs is.some_step h k, archives-append base es fs 0 base.archives is.some_step is.archives_are h k)
 
 -- ---- the content is a base again
 pub rows_stay : (index rows : ℕ) (now : Moment) (es : List Event) → 0 < rows → IsHistory now es → 0 < fold (rows_after index) rows es

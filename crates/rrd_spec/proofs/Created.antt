@@ -1,26 +1,7 @@
 -- A new database is valid.
-use Rattle.std.proofs.Common.{◌≡◌, refl, ap, ℕ, ◌*◌, false, not, ◌||◌, ltb, eqb, List, [], ◌∷◌, length, map, replicate, None, arith, ℤ, pos, ◌≤ℤ◌}
-use Rattle.std.specs.Prelude.{int_lt, sum}
-use Rattle.std.proofs.lemmas.Int.{ints}
-use Rattle.std.proofs.lemmas.Bool.{ltb-false, eqb-false, or_parts, not-false}
-use Rattle.std.proofs.lemmas.List.{length-map, length-replicate}
-use Rattle.std.specs.List.{list_any, AllByRecursion}
-use Rattle.rrd_fixed.specs.declared.cell.Cell.{Cell}
-use Rattle.rrd_fixed.specs.declared.raw.Raw.{Raw}
-use Rattle.rrd_fixed.specs.Names.{is_good}
-use Rattle.rrd_fold.specs.declared.function.Function.{Function}
-use Rattle.rrd_fold.specs.declared.function.Function.TheVariants.{Average}
-use Rattle.rrd_fold.specs.Parts.{nothing}
-use Rattle.rrd_spec.specs.declared.requests.create.CreateSpec.{CreateSpec}
-use Rattle.rrd_spec.specs.declared.settings.DsDef.{DsDef}
-use Rattle.rrd_spec.specs.declared.settings.RraDef.{RraDef}
-use Rattle.rrd_spec.specs.Commands.{rows_of_archives}
-use Rattle.rrd_spec.specs.Commands.Verdict.{is_bad_heartbeat, is_bad_rows, has_bad_bounds}
-use Rattle.rrd_spec.specs.Commands.Creating.{is_bad_xff, is_bad_steps, create_checks, create_verdict, new_archive, created, create_verdict_within}
-use Rattle.rrd_spec.specs.Validity.{IsSource, AreAccepted, IsPart, AreParts, IsRow, IsValidArchive, IsValid}
+use Rattle.std.specs.Prelude.{◌≡◌, ℕ, ◌*◌, false, not, ◌||◌, List, [], ◌∷◌, length, map, replicate, None, ℤ, pos, ◌≤ℤ◌, int_lt, sum}
+use Rattle.rrd_spec.proofs.Names.{refl, ap, ltb, eqb, arith, ints, ltb-false, eqb-false, or_parts, not-false, length-map, length-replicate, list_any, AllByRecursion, Cell, Raw, is_good, Function, Average, nothing, CreateSpec, DsDef, RraDef, rows_of_archives, is_bad_heartbeat, is_bad_rows, has_bad_bounds, is_bad_xff, is_bad_steps, create_checks, create_verdict, new_archive, created, create_verdict_within, IsSource, AreAccepted, IsPart, AreParts, IsRow, IsValidArchive, IsValid, present, All-replicate}
 use Rattle.rrd_spec.proofs.Accepted.{all_pass}
-use Rattle.rrd_spec.specs.Limits.{present}
-use Rattle.rrd_spec.specs.Lemmas.Lists.{All-replicate}
 
 -- ---- the sources
 

@@ -1,51 +1,17 @@
 -- The entry of an accepted command fits, and the journal stays valid.
-use Rattle.std.proofs.Common.{◌≡◌, refl, sym, ◌∙◌, ap, subst, ℕ, zero, suc, ◌+◌, ◌-◌, ◌/◌, ◌<◌, ◌≤◌, min, Bool, true, false, cond, ◌||◌, eqb, List, [], ◌∷◌, length, map, take, get_or, arith, ⊎_elim, ◌⊎◌, inl, inr, ltb, Option, Some, None}
-use Rattle.std.specs.Prelude.{is_none}
-use Rattle.std.proofs.lemmas.Bool.{cases_Bool, cond_both, or_parts, not-false, both_ways, leb-false, eqb-false}
-use Rattle.std.proofs.lemmas.List.{length-map, length-take}
-use Rattle.std.specs.List.{fold, enumerate_from, list_any, AllByRecursion}
-use Rattle.rrd_fixed.specs.declared.raw.Raw.{Raw}
-use Rattle.rrd_fixed.specs.declared.name.Name.{Name}
-use Rattle.rrd_spec.specs.declared.settings.DsDef.{DsDef}
-use Rattle.rrd_spec.specs.declared.entry.SavedSource.{SavedSource}
-use Rattle.rrd_spec.specs.History.{Rra, Content, Reading, Sampled, Tuned, Moment, moment_after, moment_of, moment_at_end, IsHistory, IsArchive}
-use Rattle.rrd_spec.specs.Laws.ListedContent.{archive_of, content_listed, moved_listed}
+use Rattle.std.specs.Prelude.{◌≡◌, ℕ, zero, suc, ◌+◌, ◌-◌, ◌/◌, ◌<◌, ◌≤◌, min, Bool, true, false, cond, ◌||◌, List, [], ◌∷◌, length, map, take, ◌⊎◌, Option, Some, None, is_none, slice_set}
+use Rattle.rrd_spec.proofs.Names.{refl, sym, ◌∙◌, ap, subst, eqb, get_or, arith, ⊎_elim, inl, inr, ltb, cases_Bool, cond_both, or_parts, not-false, both_ways, leb-false, eqb-false, length-map, length-take, fold, enumerate_from, list_any, AllByRecursion, Raw, Name, DsDef, SavedSource, Rra, Content, Sampled, Tuned, Moment, moment_after, moment_of, moment_at_end, IsHistory, IsArchive, archive_of, content_listed, moved_listed, Asked, DatabaseChange, Updating, TuningBy, Resizing, settings_of, rows_of_archives, sample_of, samples_of, tuned, rows_changed, events, moved, Settings, names, has_source, is_double, is_bad_rows, grows_too_far, shrinks_too_far, no_sample, asks_nothing, names_no_source, verdict, is_accepted, Entry, AddedEntry, RemovedEntry, TuneEntry, archive_at, archive_entry, rows_between, saved, is_asked, is_named, saved_sources, rows_at, entry, undone, Action, Changed, Reverted, Stored, changed, reverted, stored_after, AllUndo, new_archive, ArchiveTune, Add, Remove, option_map_or, remove, length_push, length-remove, base_of_valid, length-accepted, rows_wide, sound, undone_depth, All-at, All-take, length-enumerate_from, IsRow, IsValidArchive, IsValid, FitsArchive, FitEach, FitsRemoved, FitsTune, Rise, Fits, IsValidJournal, IsValidDatabase, DatabaseStays, RevertTakesBack, RunsStay, Begins, Tuning, Update, Sample, Change, Grow, Shrink, same_name, present}
+use Rattle.rrd_spec.specs.History.{Reading}
 use Rattle.rrd_spec.proofs.HistoryLemmas.{last_rises, length-sources}
 use Rattle.rrd_spec.proofs.SampleLemmas.{rows_of_samples}
-use Rattle.rrd_spec.specs.Commands.{Asked, DatabaseChange, Updating, TuningBy, Resizing, settings_of, rows_of_archives, sample_of, samples_of, tuned, rows_changed, events, moved}
-use Rattle.rrd_spec.specs.Settings.{Settings, names, has_source, is_double}
-use Rattle.rrd_spec.specs.Commands.Verdict.{is_bad_rows, grows_too_far, shrinks_too_far, no_sample, asks_nothing, names_no_source, verdict, is_accepted}
-use Rattle.rrd_spec.specs.Journal.Entries.{Entry, AddedEntry, RemovedEntry, TuneEntry, archive_at, archive_entry, rows_between, saved, is_asked, is_named, saved_sources, rows_at, entry, undone}
-use Rattle.rrd_spec.specs.Journal.Survivors.{Action, Changed, Reverted, Stored, changed, reverted, stored_after, AllUndo}
 use Rattle.rrd_spec.proofs.Accepted.{accepted_passes, accepted_history, tune_passes}
 use Rattle.rrd_spec.proofs.ArchiveTunes.{tune_added, tune_alone, tune_removed}
 use Rattle.rrd_spec.proofs.LivesPlain.{is_listed}
-use Rattle.rrd_spec.specs.History.Lives.{new_archive}
-use Rattle.rrd_spec.specs.declared.requests.tune.ArchiveTune.{ArchiveTune}
-use Rattle.rrd_spec.specs.declared.requests.tune.ArchiveTune.TheVariants.{Add, Remove}
-use Rattle.std.specs.Option.{option_map_or}
-use Rattle.std.specs.List.{remove}
-use Rattle.std.specs.Prelude.{slice_set}
-use Rattle.std.proofs.lemmas.List.{length_push}
-use Rattle.std.proofs.lemmas.List.Edits.{length-remove}
 use Rattle.rrd_spec.proofs.Undoing.{comes_back}
-use Rattle.rrd_spec.specs.Lemmas.Validity.{base_of_valid, length-accepted, rows_wide, sound}
-use Rattle.rrd_spec.specs.Lemmas.Journal.{undone_depth}
-use Rattle.rrd_spec.specs.Lemmas.Lists.{All-at, All-take}
 use Rattle.rrd_spec.proofs.Runs.{runs_agree, is_none-true}
 use Rattle.rrd_spec.proofs.Moving.{listed_sound, moved_is, moved_depth, settings_by_time}
-use Rattle.std.proofs.lemmas.List.FromFn.{length-enumerate_from}
 use Rattle.rrd_spec.proofs.NameLemmas.{same_is, same_itself}
-use Rattle.rrd_spec.specs.Validity.{IsRow, IsValidArchive, IsValid, FitsArchive, FitEach, FitsRemoved, FitsTune, Rise, Fits, IsValidJournal, IsValidDatabase}
-use Rattle.rrd_spec.specs.Laws.Journal.{DatabaseStays, RevertTakesBack, RunsStay, Begins}
 use Rattle.rrd_spec.proofs.Staying.{sampled_keep, stays_valid}
-use Rattle.rrd_spec.specs.declared.requests.tune.Tuning.{Tuning}
-use Rattle.rrd_spec.specs.declared.requests.update.Update.{Update}
-use Rattle.rrd_spec.specs.declared.requests.update.Sample.{Sample}
-use Rattle.rrd_spec.specs.declared.requests.resize.Change.{Change}
-use Rattle.rrd_spec.specs.declared.requests.resize.Change.TheVariants.{Grow, Shrink}
-use Rattle.rrd_fixed.specs.Names.{same_name}
-use Rattle.rrd_spec.specs.Limits.{present}
 
 -- ---- an update's entry
 
@@ -73,12 +39,11 @@ unfolding content_listed
 update_fits base update is h =
     let list = samples_of base.sources update in
     let history = accepted_history base (Updating update) h in
-    let p = accepted_passes base (Updating update) h in
     let end = moment_at_end base (map Sampled list) in
     let as_many : length end.sources ≡ length base.sources = length-sources (moment_of base) (map Sampled list) history in
     let P : ℕ → Type 0 = λ n. FitEach base.step n base.last end.last (map (archive_of base (map Sampled list)) (enumerate_from 0 base.archives)) (map (saved base.step base.last end.last) base.archives) in
     record {
-      earlier = time_rises base.sources _ (moment_of base) update.samples p.1.1.0 history;
+      earlier = time_rises base.sources _ (moment_of base) update.samples (accepted_passes base (Updating update) h).1.1.0 history;
       one_raw_each = length-accepted base.sources base.raws is.raws_are ∙ sym as_many;
       one_part_each = is.parts_are.one_each ∙ sym as_many;
       archives_fit = subst P (sym as_many) (each_fits base (length base.sources) end.last list 0 base.archives is.archives_are);
@@ -90,7 +55,6 @@ before_rise : (tuning : Tuning) (lowest number : ℕ) (sources : List DsDef) (ra
 before_rise tuning lowest number [] raws h = tt
 before_rise tuning lowest number (source ∷ sources) [] h = tt
 before_rise tuning lowest number (source ∷ sources) (raw ∷ raws) h =
-    let P : ℕ → List SavedSource → Type 0 = λ limit olds. Rise lowest limit olds in
     let same : number + 1 + length sources ≡ number + suc (length sources) = omega arith in
     let rest : (low : ℕ) → low ≤ number + 1 → Rise low (number + suc (length sources)) (saved_sources tuning (number + 1) sources raws)
     = λ low k. subst (λ limit. Rise low limit (saved_sources tuning (number + 1) sources raws)) same (before_rise tuning low (number + 1) sources raws k) in
@@ -111,10 +75,9 @@ before_count : (tuning : Tuning) (number : ℕ) (sources : List DsDef) (raws : L
 before_count tuning number [] raws = omega arith
 before_count tuning number (source ∷ sources) [] = omega arith
 before_count tuning number (source ∷ sources) (raw ∷ raws) =
-    let rest = before_count tuning (number + 1) sources raws in
     let olds = saved_sources tuning (number + 1) sources raws in
     let here : SavedSource = record { number = number; source = source; raw = raw } in
-    each (is_named tuning source) here olds (how_many (is_named tuning) sources) rest
+    each (is_named tuning source) here olds (how_many (is_named tuning) sources) (before_count tuning (number + 1) sources raws)
   where
     each : (b : Bool) (here : SavedSource) (olds : List SavedSource) (n : ℕ) → length olds ≤ n → length (cond b (here ∷ olds) olds) ≤ cond b 1 0 + n
     each true here olds n h = omega arith
@@ -286,11 +249,7 @@ resize_fits base archive change rows is h =
     = length-rows_at archive archives (listed_sound base command (sound base is) h).is_base.archives_are
     ∙ ap (λ (s : Settings). get_or s.rows archive 0) (ap settings_of (is_listed base (events settings command) (base_of_valid base is) (accepted_history base command h) tt) ∙ settings_by_time base (events settings command))
     ∙ changed_there new archive settings.rows there in
-    record {
-      there = omega arith;
-      one_cell_each = rows_wide (length base.sources) (rows_at base.archives archive) (rows_at_all (length base.sources) (base.last / base.step) archive base.archives is.archives_are);
-      another = λ e. another change old rows p.1.0 p.1.1.0 (sym was ∙ e ∙ is_now);
-    }
+    grind (arith, rows_wide (length base.sources) (rows_at base.archives archive) (rows_at_all (length base.sources) (base.last / base.step) archive base.archives is.archives_are))
 
 pub fits : (base : Content) (command : DatabaseChange) → IsValid base → verdict base command ≡ None → Fits (moved base command) (entry base command)
 fits base (Updating update) is h =

@@ -1,14 +1,6 @@
 -- The groups of a list that grows.
-use Rattle.std.proofs.Common.{◌≡◌, refl, sym, ◌∙◌, ap, ℕ, zero, suc, ◌+◌, ◌-◌, ◌*◌, ◌/◌, ◌<◌, ◌≤◌, true, false, cond, eqb, List, [], ◌∷◌, ◌++◌, length, take, drop, map, replicate, arith, append-nil, append_assoc, length-append, if◌then◌else◌, ◌==◌, eq-eqb, take_all, ⊎_elim}
-use Rattle.std.proofs.lemmas.Bool.{cases_lt}
-use Rattle.std.proofs.lemmas.Bool.Decides.{nat_tests}
-use Rattle.std.proofs.lemmas.List.{take-append-le, drop-append-le, drop_all, length_push, length-take, length-replicate, replicate-append-replicate}
-use Rattle.std.proofs.lemmas.List.Sums.{fold-append}
-use Rattle.std.proofs.lemmas.Nat.{div-add-mod', div-mul-add, le-div, mod_below, mul-le}
-use Rattle.std.specs.List.{fold, range_with_len}
-use Rattle.std.proofs.lemmas.List.FromFn.{map-range_with_len_more, length-map-range_with_len}
-use Rattle.rrd_spec.specs.History.Groups.{Rule, group_items, group_part, finished, unfinished}
-use Rattle.rrd_spec.specs.Laws.History.{GoesOn}
+use Rattle.std.specs.Prelude.{◌≡◌, ℕ, zero, suc, ◌+◌, ◌-◌, ◌*◌, ◌/◌, ◌<◌, ◌≤◌, true, false, cond, List, [], ◌∷◌, ◌++◌, length, take, drop, map, replicate, if◌then◌else◌, ◌==◌}
+use Rattle.rrd_spec.proofs.Names.{refl, sym, ◌∙◌, ap, eqb, arith, append-nil, append_assoc, length-append, eq-eqb, take_all, ⊎_elim, cases_lt, nat_tests, take-append-le, drop-append-le, drop_all, length_push, length-take, length-replicate, replicate-append-replicate, fold-append, div-add-mod', div-mul-add, le-div, mod_below, mul-le, fold, range_with_len, map-range_with_len_more, length-map-range_with_len, Rule, group_items, group_part, finished, unfinished, GoesOn}
 
 -- an item that comes leaves the groups before its own as they are
 pub group_items_kept : {A : Type 0} (size before : ℕ) (xs ys : List A) (group : ℕ) → (group + 1) * size ≤ before + length xs → group_items size before (xs ++ ys) group ≡ group_items size before xs group
@@ -60,9 +52,7 @@ part_kept rule before begun xs ys group h =
 
 -- and the new items are added to the part of theirs
 part_more : {A P B : Type 0} (rule : Rule A P B) (before : ℕ) (begun : P) (xs ys : List A) (group : ℕ) → group * rule.size ≤ before + length xs → before + length xs + length ys ≤ (group + 1) * rule.size → group_part rule before begun (xs ++ ys) group ≡ fold rule.add (group_part rule before begun xs group) ys
-part_more rule before begun xs ys group low high =
-    ap (fold rule.add (if group == before / rule.size then begun else rule.empty)) (group_items_more rule.size before xs ys group low high)
-    ∙ fold-append rule.add (if group == before / rule.size then begun else rule.empty) (group_items rule.size before xs group) ys
+part_more rule before begun xs ys group low high = cc (group_items_more rule.size before xs ys group low high, fold-append rule.add (if group == before / rule.size then begun else rule.empty) (group_items rule.size before xs group) ys)
 
 nothing_taken : {A : Type 0} (size before group : ℕ) → group_items {A = A} size before [] group ≡ []
 nothing_taken {A = A} size before group =
@@ -81,8 +71,7 @@ finished_nil rule before begun =
 pub unfinished_nil : {A P B : Type 0} (rule : Rule A P B) (before : ℕ) (begun : P) → 0 < rule.size → unfinished rule before begun [] ≡ begun
 unfolding unfinished
 unfinished_nil {A = A} rule before begun pos =
-    let e = plus_zero before rule.size in
-    let test : eqb ((before + 0) / rule.size) (before / rule.size) ≡ true = eq-eqb _ _ e in
+    let test : eqb ((before + 0) / rule.size) (before / rule.size) ≡ true = eq-eqb _ _ (plus_zero before rule.size) in
     let none = nothing_taken {A = A} rule.size before ((before + 0) / rule.size) in
     ap (fold rule.add (cond (eqb ((before + 0) / rule.size) (before / rule.size)) begun rule.empty)) none ∙ ap (λ b. cond b begun rule.empty) test
 
@@ -93,7 +82,6 @@ finished_stays rule before begun xs ys pos h =
     let size = rule.size in
     let group = (before + length xs) / size in
     let in_group : (before + length (xs ++ ys)) / size ≡ group = same_group _ group size (omega (arith, length-append xs ys, reached (before + length xs) size)) (omega (arith, length-append xs ys)) in
-    let low = reached_before before (length xs) size pos in
     ap (λ n. map (λ g. rule.close (group_part rule before begun (xs ++ ys) g)) (range_with_len (before / size) (n - before / size))) in_group
     ∙ map_range_same _ _ (before / size) (group - before / size) (λ i a b. ap rule.close (part_kept rule before begun xs ys i (omega (arith, mul-le (i + 1) size group size (omega arith) (omega arith), reached (before + length xs) size))))
 
@@ -131,17 +119,14 @@ unfinished_fills rule before begun xs ys pos h =
     let next : (before + length (xs ++ ys)) / size ≡ group + 1 = same_group _ (group + 1) size (omega (arith, length-append xs ys)) (omega (arith, length-append xs ys)) in
     let low = reached_before before (length xs) size pos in
     let new : eqb (group + 1) (before / size) ≡ false = not_same (group + 1) (before / size) (omega arith) in
-    ap (group_part rule before begun (xs ++ ys)) next
-    ∙ ap (fold rule.add (cond (eqb (group + 1) (before / size)) begun rule.empty)) (group_items_none size before (xs ++ ys) (group + 1) (omega (arith, length-append xs ys)))
-    ∙ ap (λ b. cond b begun rule.empty) new
+    cc (next, group_items_none size before (xs ++ ys) (group + 1) (omega (arith, length-append xs ys)), new)
 
 -- one item more, as the group in progress takes it
 one_more : {A P B : Type 0} (rule : Rule A P B) (before : ℕ) (begun : P) (xs : List A) (y : A) → 0 < rule.size → GoesOn rule before begun xs (y ∷ [])
 one_more rule before begun xs y pos =
     let n = before + length xs in
     let part = unfinished rule before begun xs in
-    let e = plus_zero n rule.size in
-    let same : ((n + 0) / rule.size + 1) * rule.size ≡ (n / rule.size + 1) * rule.size = ap (λ q. (q + 1) * rule.size) e in
+    let same : ((n + 0) / rule.size + 1) * rule.size ≡ (n / rule.size + 1) * rule.size = ap (λ q. (q + 1) * rule.size) (plus_zero n rule.size) in
     let ahead = next_ahead n rule.size pos in
     ⊎_elim
     (λ (stays : n + 1 < (n / rule.size + 1) * rule.size). record {
@@ -204,9 +189,7 @@ unfinished_within rule before begun ys pos h =
 pub finished_filling : {A P B : Type 0} (rule : Rule A P B) (before : ℕ) (begun : P) (ys : List A) → 0 < rule.size → before + length ys ≡ (before / rule.size + 1) * rule.size → finished rule before begun ys ≡ rule.close (fold rule.add begun ys) ∷ []
 finished_filling rule before begun ys pos h =
     let same : ((before + 0) / rule.size + 1) * rule.size ≡ (before / rule.size + 1) * rule.size = ap (λ q. (q + 1) * rule.size) (plus_zero before rule.size) in
-    finished_fills rule before begun [] ys pos (omega arith)
-    ∙ ap (λ zs. zs ++ rule.close (fold rule.add (unfinished rule before begun []) ys) ∷ []) (finished_nil rule before begun)
-    ∙ ap (λ p. rule.close (fold rule.add p ys) ∷ []) (unfinished_nil rule before begun pos)
+    cc (finished_fills rule before begun [] ys pos (omega arith), finished_nil rule before begun, unfinished_nil rule before begun pos)
 
 pub unfinished_filling : {A P B : Type 0} (rule : Rule A P B) (before : ℕ) (begun : P) (ys : List A) → 0 < rule.size → before + length ys ≡ (before / rule.size + 1) * rule.size → unfinished rule before begun ys ≡ rule.empty
 unfinished_filling rule before begun ys pos h =

@@ -1,19 +1,8 @@
 -- What a history leaves of a valid content.
-use Rattle.std.proofs.Common.{subst, ℕ, ◌+◌, ◌-◌, ◌*◌, ◌/◌, ◌%◌, ◌<◌, ◌≤◌, List, [], ◌∷◌, ◌++◌, length, map, replicate}
-use Rattle.std.proofs.lemmas.List.{length-replicate}
-use Rattle.std.specs.List.{fold, enumerate_from, AllByRecursion}
-use Rattle.rrd_fixed.specs.declared.cell.Cell.{Cell}
-use Rattle.rrd_fixed.specs.Rate.{IsBounded}
-use Rattle.rrd_fold.specs.declared.function.Function.TheVariants.{Average}
-use Rattle.rrd_spec.specs.History.{Rra, Content, Event, moment_of, moment_at_end, seconds_of, rows_after, IsHistory}
-use Rattle.rrd_spec.specs.History.Steps.{steps_of, parts_of, seconds_to_steps}
-use Rattle.rrd_spec.specs.History.Rows.{rows_of, row_parts_of, steps_to_rows}
-use Rattle.rrd_spec.specs.Laws.ListedContent.{rows_never_lost, keep_last, kept_rows, archive_of}
+use Rattle.std.specs.Prelude.{ℕ, ◌+◌, ◌-◌, ◌*◌, ◌/◌, ◌%◌, ◌<◌, ◌≤◌, List, [], ◌∷◌, ◌++◌, length, map, replicate}
+use Rattle.rrd_spec.proofs.Names.{subst, length-replicate, fold, enumerate_from, AllByRecursion, Cell, IsBounded, Average, Rra, Content, Event, moment_of, moment_at_end, seconds_of, rows_after, IsHistory, steps_of, parts_of, seconds_to_steps, rows_of, row_parts_of, steps_to_rows, rows_never_lost, keep_last, kept_rows, archive_of, AreParts, IsRow, IsValidArchive, IsValid, is_archive, All-append, All-drop, All-replicate}
 use Rattle.rrd_spec.proofs.HistoryLemmas.{length-seconds_of, length-steps_of}
 use Rattle.rrd_spec.proofs.ContentLemmas.{length-kept_rows}
-use Rattle.rrd_spec.specs.Validity.{AreParts, IsRow, IsValidArchive, IsValid}
-use Rattle.rrd_spec.specs.Lemmas.Validity.{is_archive}
-use Rattle.rrd_spec.specs.Lemmas.Lists.{All-append, All-drop, All-replicate}
 use Rattle.rrd_spec.proofs.Kept.{Kept, kept}
 use Rattle.rrd_spec.proofs.Bounded.{steps_keep, rows_keep}
 
@@ -64,17 +53,7 @@ LeavesGoodRows es = (index rows : ℕ) → 0 < rows → rows ≤ 1000000 → (0 
 archive_valid : (base : Content) (es : List Event) (index : ℕ) (archive : Rra) → IsValid base → IsHistory (moment_of base) es → LeavesGoodRows es → AllByRecursion (IsRow (length base.sources)) (seconds_of base es) → IsValidArchive (length base.sources) (base.last / base.step) archive → IsValidArchive (length base.sources) ((moment_at_end base es).last / base.step) (archive_of base es (index, archive))
 archive_valid base es index archive is h good rows of =
     let size = good index archive.def.rows of.some_rows of.few_rows in
-    record {
-      some_steps = of.some_steps;
-      few_steps = of.few_steps;
-      some_rows = size.0;
-      few_rows = size.1;
-      xff_low = of.xff_low;
-      xff_high = of.xff_high;
-      parts_are = row_parts_valid base es archive is h of rows;
-      rows_are = length-kept_rows base index archive es is.some_step (is_archive archive of) h;
-      each_row = rows_valid base es index archive is of rows;
-    }
+    assumption (of, size, row_parts_valid base es archive is h of rows, length-kept_rows base index archive es is.some_step (is_archive archive of) h, rows_valid base es index archive is of rows)
 
 pub archives_valid : (base : Content) (es : List Event) (index : ℕ) (archives : List Rra) → IsValid base → IsHistory (moment_of base) es → LeavesGoodRows es → AllByRecursion (IsRow (length base.sources)) (seconds_of base es) → AllByRecursion (IsValidArchive (length base.sources) (base.last / base.step)) archives → AllByRecursion (IsValidArchive (length base.sources) ((moment_at_end base es).last / base.step)) (map (archive_of base es) (enumerate_from index archives))
 archives_valid base es index [] is h good rows of = tt

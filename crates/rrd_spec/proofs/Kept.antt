@@ -1,15 +1,10 @@
 -- What groups keep to.
-use Rattle.std.proofs.Common.{◌≡◌, ◌∙◌, ap, ℕ, suc, ◌+◌, ◌*◌, ◌/◌, ◌%◌, ◌<◌, ◌≤◌, List, [], ◌∷◌, length, arith, ⊎_elim}
-use Rattle.std.proofs.lemmas.Bool.{cases_lt}
-use Rattle.std.proofs.lemmas.Nat.{div-add-mod', mod_below, mod-mul-add}
-use Rattle.std.specs.List.{AllByRecursion}
-use Rattle.rrd_spec.specs.History.Groups.{Rule, finished, unfinished}
-use Rattle.rrd_spec.specs.Lemmas.Lists.{All-append}
+use Rattle.std.specs.Prelude.{◌≡◌, ℕ, suc, ◌+◌, ◌*◌, ◌/◌, ◌%◌, ◌<◌, ◌≤◌, List, [], ◌∷◌, length}
+use Rattle.rrd_spec.proofs.Names.{◌∙◌, ap, arith, ⊎_elim, cases_lt, div-add-mod', mod_below, mod-mul-add, AllByRecursion, Rule, finished, unfinished, All-append}
 use Rattle.rrd_spec.proofs.GroupLemmas.{goes_on, finished_nil, unfinished_nil, finished_within, unfinished_within, finished_filling, unfinished_filling, next_ahead}
 
 next_mod : (n size : ℕ) → 0 < size → n + 1 < (n / size + 1) * size → (n + 1) % size ≡ n % size + 1
 next_mod n size some h =
-    let split = div-add-mod' n size in
     ap (λ m. m % size) {x = n + 1} {y = n / size * size + (n % size + 1)} (omega arith) ∙ mod-mul-add (n / size) size (n % size + 1) (omega arith)
 
 full_mod : (n size : ℕ) → 0 < size → n + 1 ≡ (n / size + 1) * size → (n + 1) % size ≡ 0
@@ -28,22 +23,17 @@ pub record Kept {A P B : Type 0} (rule : Rule A P B) (Begun : ℕ → P → Type
 
 pub kept : {A P B : Type 0} (rule : Rule A P B) (Item : A → Type 0) (Begun : ℕ → P → Type 0) (Given : B → Type 0) → Keeps rule Item Begun Given → (before : ℕ) (begun : P) (items : List A) → Begun (before % rule.size) begun → AllByRecursion Item items → Kept rule Begun Given before begun items
 kept {A = A} {B = B} rule Item Begun Given keeps before begun [] h is =
-    let none = finished_nil rule before begun in
-    let part = unfinished_nil rule before begun keeps.some in
     let at : (before + 0) % rule.size ≡ before % rule.size = ap (λ n. n % rule.size) {x = before + 0} {y = before} (omega arith) in
     record {
-      begun_is = rw (at, part) h;
-      given_are = rw none tt;
+      begun_is = rw (at, (unfinished_nil rule before begun keeps.some)) h;
+      given_are = rw (finished_nil rule before begun) tt;
     }
 kept {A = A} {B = B} rule Item Begun Given keeps before begun (item ∷ items) h is =
     let size = rule.size in
     let one : List A = item ∷ [] in
     let part = unfinished rule before begun one in
     let on = goes_on rule before begun one items keeps.some in
-    let ahead = next_ahead before size keeps.some in
-    let split = div-add-mod' before size in
-    let low = mod_below before size keeps.some in
-    let added = keeps.adds (before % size) begun item low h is.0 in
+    let added = keeps.adds (before % size) begun item (mod_below before size keeps.some) h is.0 in
     let this : Kept rule Begun Given before begun one = ⊎_elim
     (λ (stays : before + 1 < (before / size + 1) * size). record {
       begun_is = rw (next_mod before size keeps.some stays, unfinished_within rule before begun one keeps.some stays) added;

@@ -1,3 +1,5 @@
+pub mod Names
+pub mod Common
 pub mod GroupLemmas
 pub mod HistoryLemmas
 pub mod RowLemmas
@@ -20,8 +22,6 @@ pub mod LivesCut
 pub mod CellLemmas
 pub mod LivesPlain
 pub mod ShownLemmas
-pub mod SlowLemmas
-pub mod SlowRows
 pub mod Changing
 pub mod Undoing
 pub mod Runs

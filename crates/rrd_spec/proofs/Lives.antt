@@ -1,18 +1,6 @@
 -- The archives of a history, each followed by itself.
-use Rattle.std.proofs.Common.{◌≡◌, refl, sym, ◌∙◌, ap, subst, ℕ, zero, suc, ◌+◌, ◌-◌, ◌*◌, ◌/◌, ◌<◌, ◌≤◌, List, [], ◌∷◌, ◌++◌, length, map, replicate, drop, take, arith, length-append}
-use Rattle.std.proofs.Math.Nat.{div-div-eq-div-mul}
-use Rattle.std.proofs.lemmas.List.{length-drop, length-replicate}
-use Rattle.std.proofs.lemmas.List.Sums.{fold-append}
-use Rattle.std.specs.List.{fold, AllByRecursion}
-use Rattle.rrd_fixed.specs.declared.cell.Cell.{Cell}
-use Rattle.rrd_spec.specs.declared.settings.RraDef.{RraDef}
-use Rattle.rrd_spec.specs.History.{Content, Event, Sampled, Tuned, Resized, Added, Removed, Moment, moment_after, moment_of, moment_at_end, rows_after, IsHistory, IsArchive, IsBase}
-use Rattle.rrd_spec.specs.History.Lives.{Life, life_of, life_added, with_event, change_at, lives_after, lives_from, lives}
-use Rattle.rrd_spec.specs.History.Rows.{steps_to_rows, steps_before, steps_for}
-use Rattle.rrd_spec.specs.History.Steps.{steps_of}
-use Rattle.rrd_spec.specs.Laws.ListedContent.{keep_last, rows_never_lost}
-use Rattle.rrd_spec.specs.Laws.ListedLives.{archive_for, content_lived, kept_for, rows_for}
-use Rattle.rrd_spec.specs.Lemmas.Lists.{All-append, All-drop, All-map, All-take, length-keep_last}
+use Rattle.std.specs.Prelude.{◌≡◌, ℕ, zero, suc, ◌+◌, ◌-◌, ◌*◌, ◌/◌, ◌<◌, ◌≤◌, List, [], ◌∷◌, ◌++◌, length, map, replicate, drop, take}
+use Rattle.rrd_spec.proofs.Names.{refl, sym, ◌∙◌, ap, subst, arith, length-append, div-div-eq-div-mul, length-drop, length-replicate, fold-append, fold, AllByRecursion, Cell, RraDef, Content, Event, Sampled, Tuned, Resized, Added, Removed, Moment, moment_after, moment_of, moment_at_end, rows_after, IsHistory, IsArchive, IsBase, Life, life_of, life_added, with_event, change_at, lives_after, lives_from, lives, steps_to_rows, steps_before, steps_for, steps_of, keep_last, rows_never_lost, archive_for, content_lived, kept_for, rows_for, All-append, All-drop, All-map, All-take, length-keep_last}
 use Rattle.rrd_spec.proofs.ContentLemmas.{div_rises, rows_stay}
 use Rattle.rrd_spec.proofs.RowLemmas.{length-filled_up, room_first, room_last}
 use Rattle.rrd_spec.proofs.GroupLemmas.{length-finished, reached_before}
@@ -32,13 +20,7 @@ All-change_at P f (x ∷ xs) zero h is = (h x is.0, is.1)
 All-change_at P f (x ∷ xs) (suc n) h is = (is.0, All-change_at P f xs n h is.1)
 
 event_at : (base : Content) (now : Moment) (e : Event) (life : Life) → IsHistory now (e ∷ []) → LifeAt base now life → LifeAt base (moment_after now e) (with_event e life)
-event_at base now e life h at = record {
-  archive_is = at.archive_is;
-  history = IsHistory-append life.birth life.since (e ∷ []) at.history (subst (λ m. IsHistory m (e ∷ [])) (sym at.now_is) h);
-  now_is = fold-append moment_after life.birth life.since (e ∷ []) ∙ ap (λ m. moment_after m e) at.now_is;
-  late = at.late;
-  missed_is = at.missed_is;
-}
+event_at base now e life h at = assumption (at, IsHistory-append life.birth life.since (e ∷ []) at.history (subst (λ m. IsHistory m (e ∷ [])) (sym at.now_is) h), fold-append moment_after life.birth life.since (e ∷ []) ∙ ap (λ m. moment_after m e) at.now_is)
 
 added_at : (base : Content) (now : Moment) (def : RraDef) → 0 < base.step → base.last ≤ now.last → 0 < def.steps → 0 < def.rows → LifeAt base now (life_added base now def)
 added_at base now def some late steps rows = record {
@@ -102,9 +84,8 @@ pub length-kept_for : (base : Content) (es : List Event) (life : Life) → 0 < b
 unfolding kept_for
 length-kept_for base es life some h at =
     let res = base.step * life.begun.def.steps in
-    let end = (moment_at_end base es).last in
     let rows = life.begun.def.rows in
-    let since = λ (time : ℕ). end / res - time / res in
+    let since = λ (time : ℕ). ((moment_at_end base es).last) / res - time / res in
     let v = rows_never_lost 0 since rows life.birth life.since in
     let all = life.begun.rows ++ rows_for base es life in
     let count_all = length-append life.begun.rows (rows_for base es life) in
@@ -114,11 +95,7 @@ length-kept_for base es life some h at =
     length-filled_up (fold (rows_after 0) rows life.since) (replicate (length base.sources) Cell.Unknown) (keep_last v all) (omega (arith, room_last 0 since rows life.birth life.since))
 
 pub archive_for_is : (base : Content) (es : List Event) (life : Life) → 0 < base.step → IsHistory (moment_of base) es → LifeAt base (moment_at_end base es) life → IsArchive (archive_for base es life)
-archive_for_is base es life some h at = record {
-  some_steps = at.archive_is.some_steps;
-  some_rows = rows_stay 0 life.begun.def.rows life.birth life.since at.archive_is.some_rows at.history;
-  rows_are = length-kept_for base es life some h at;
-}
+archive_for_is base es life some h at = assumption (at.archive_is, rows_stay 0 life.begun.def.rows life.birth life.since at.archive_is.some_rows at.history, length-kept_for base es life some h at)
 
 pub IsBase-lived : (base : Content) (es : List Event) → IsBase base → IsHistory (moment_of base) es → IsBase (content_lived base es)
 unfolding content_lived

@@ -1,27 +1,14 @@
 -- A history in which archives come and go, in two pieces.
-use Rattle.std.proofs.Common.{◌≡◌, refl, sym, ◌∙◌, ap, subst, ℕ, zero, suc, ◌+◌, ◌-◌, ◌*◌, ◌/◌, ◌<◌, ◌≤◌, List, [], ◌∷◌, ◌++◌, length, map, replicate, drop, take, arith, append_assoc, append-nil, length-append}
-use Rattle.std.proofs.lemmas.List.{drop-append-le, drop-map, take-map, map-append}
-use Rattle.std.proofs.lemmas.List.Sums.{fold-append}
-use Rattle.std.proofs.lemmas.Nat.{mul-lt}
-use Rattle.std.specs.Prelude.{min}
-use Rattle.std.specs.List.{fold, remove, AllByRecursion}
-use Rattle.rrd_fixed.specs.declared.cell.Cell.{Cell}
-use Rattle.rrd_fold.specs.Parts.{Part}
-use Rattle.rrd_spec.specs.declared.settings.RraDef.{RraDef}
-use Rattle.rrd_spec.specs.History.{Rra, Content, Event, Sampled, Tuned, Resized, Added, Removed, Moment, moment_after, moment_of, moment_at_end, rows_after, seconds_of, IsHistory, IsBase}
-use Rattle.rrd_spec.specs.History.Groups.{finished, unfinished}
-use Rattle.rrd_spec.specs.History.Lives.{Life, life_of, life_added, new_archive, with_event, change_at, lives_after, lives_from, lives}
-use Rattle.rrd_spec.specs.History.Rows.{row_parts, steps_to_rows, steps_before, steps_for}
-use Rattle.rrd_spec.specs.History.Steps.{parts_of, steps_of}
-use Rattle.rrd_spec.specs.Laws.ListedContent.{content_listed, filled_up, keep_last, rows_never_lost}
-use Rattle.rrd_spec.specs.Laws.Archives.{CutsLives}
-use Rattle.rrd_spec.specs.Laws.ListedLives.{archive_for, content_lived, kept_for, rows_for}
-use Rattle.rrd_spec.specs.Lemmas.Lists.{All-append, All-drop, All-map, All-take}
-use Rattle.rrd_spec.proofs.ContentLemmas.{div_rises}
+use Rattle.std.specs.Prelude.{◌≡◌, ℕ, zero, suc, ◌+◌, ◌-◌, ◌*◌, ◌/◌, ◌<◌, ◌≤◌, List, [], ◌∷◌, ◌++◌, length, map, replicate, drop, take, min}
+use Rattle.rrd_spec.proofs.Names.{refl, sym, ◌∙◌, ap, subst, arith, append_assoc, append-nil, length-append, drop-append-le, drop-map, take-map, map-append, fold-append, mul-lt, fold, remove, AllByRecursion, Cell, Part, RraDef, Rra, Content, Event, Sampled, Tuned, Resized, Added, Removed, Moment, moment_after, moment_of, moment_at_end, rows_after, seconds_of, IsHistory, IsBase, finished, unfinished, Life, life_of, life_added, new_archive, with_event, change_at, lives_after, lives_from, lives, row_parts, steps_to_rows, steps_before, steps_for, parts_of, steps_of, content_listed, filled_up, keep_last, rows_never_lost, CutsLives, archive_for, content_lived, kept_for, rows_for, All-append, All-drop, All-map, All-take}
+use Rattle.rrd_spec.proofs.ContentLemmas.{div_rises, mul_positive}
 use Rattle.rrd_spec.proofs.GroupLemmas.{goes_on}
 use Rattle.rrd_spec.proofs.HistoryLemmas.{length-sources, length-steps_of, parts_of-append, steps_of-append}
 use Rattle.rrd_spec.proofs.Lives.{LifeAt, All-change_at, IsBase-lived, few_missed, length-rows_for, lives_are, steps_until}
 use Rattle.rrd_spec.proofs.RowLemmas.{room-append, room_first, room_last, rows_again}
+unfoldable use Rattle.rrd_spec.proofs.ContentLemmas.{with_moment}
+unfoldable use Rattle.rrd_spec.proofs.LivesPlain.{still}
+unfoldable use Rattle.rrd_spec.proofs.Quiet.{made}
 
 -- ---- the steps of the second piece, after the content of the first
 
@@ -47,49 +34,32 @@ rest base es life more =
     record (life_of (content_lived base es) (archive_for base es life)) { since = more }
 
 steps_for-cut : (base : Content) (es fs : List Event) (life : Life) (more : List Event) → 0 < base.step → IsHistory (moment_of base) es → IsHistory (moment_at_end base es) fs → LifeAt base (moment_at_end base es) life → steps_for base (whole life more) (es ++ fs) ≡ steps_for base life es ++ steps_of (content_lived base es) fs
-steps_for-cut base es fs life more some h k at =
-    ap (drop life.missed) (steps-cut base es fs some h k)
-    ∙ drop-append-le life.missed (steps_of base es) (steps_of (content_lived base es) fs) (few_missed base es life some h at)
+steps_for-cut base es fs life more some h k at = cc (steps-cut base es fs some h k, drop-append-le life.missed (steps_of base es) (steps_of (content_lived base es) fs) (few_missed base es life some h at))
 
 rows_for-cut : (base : Content) (es fs : List Event) (life : Life) (more : List Event) → 0 < base.step → IsHistory (moment_of base) es → IsHistory (moment_at_end base es) fs → LifeAt base (moment_at_end base es) life → rows_for base (es ++ fs) (whole life more) ≡ rows_for base es life ++ rows_for (content_lived base es) fs (rest base es life more)
 unfolding rows_for row_parts content_lived
 rows_for-cut base es fs life more some h k at =
-    let n = length base.sources in
-    let def = life.begun.def in
-    let rule = steps_to_rows def n in
+    let rule = steps_to_rows life.begun.def (length base.sources) in
     let before = steps_before base life in
     let A = steps_for base life es in
-    let B = steps_of (content_lived base es) fs in
     let part = unfinished rule before life.begun.parts A in
-    let on = goes_on rule before life.begun.parts A B at.archive_is.some_steps in
-    ap (finished rule before life.begun.parts) (steps_for-cut base es fs life more some h k at)
-    ∙ on.finished_is
-    ∙ ap (λ m. finished rule before life.begun.parts A ++ finished rule m part B) (steps_until base es life some h at)
-    ∙ ap (λ m. finished rule before life.begun.parts A ++ finished (steps_to_rows def m) ((moment_at_end base es).last / base.step) part B) (sym (length-sources (moment_of base) es h))
+    let on = goes_on rule before life.begun.parts A (steps_of (content_lived base es) fs) at.archive_is.some_steps in
+    cc (steps_for-cut base es fs life more some h k at, on.finished_is, steps_until base es life some h at, length-sources (moment_of base) es h)
 
 row_parts-cut : (base : Content) (es fs : List Event) (life : Life) (more : List Event) → 0 < base.step → IsHistory (moment_of base) es → IsHistory (moment_at_end base es) fs → LifeAt base (moment_at_end base es) life → row_parts base (whole life more) (es ++ fs) ≡ row_parts (content_lived base es) (rest base es life more) fs
 unfolding row_parts content_lived
 row_parts-cut base es fs life more some h k at =
-    let n = length base.sources in
-    let def = life.begun.def in
-    let rule = steps_to_rows def n in
+    let rule = steps_to_rows life.begun.def (length base.sources) in
     let before = steps_before base life in
     let A = steps_for base life es in
-    let B = steps_of (content_lived base es) fs in
     let part = unfinished rule before life.begun.parts A in
-    let on = goes_on rule before life.begun.parts A B at.archive_is.some_steps in
-    ap (unfinished rule before life.begun.parts) (steps_for-cut base es fs life more some h k at)
-    ∙ on.unfinished_is
-    ∙ ap (λ m. unfinished rule m part B) (steps_until base es life some h at)
-    ∙ ap (λ m. unfinished (steps_to_rows def m) ((moment_at_end base es).last / base.step) part B) (sym (length-sources (moment_of base) es h))
+    let on = goes_on rule before life.begun.parts A (steps_of (content_lived base es) fs) at.archive_is.some_steps in
+    cc (steps_for-cut base es fs life more some h k at, on.unfinished_is, steps_until base es life some h at, length-sources (moment_of base) es h)
 
 -- without the first items, and as many of the second
 drop_past : {A : Type 0} (n : ℕ) (xs ys : List A) → drop (n + length xs) (xs ++ ys) ≡ drop n ys
 drop_past n [] ys = ap (λ m. drop m ys) {x = n + 0} {y = n} (omega arith)
 drop_past n (x ∷ xs) ys = ap (λ m. drop m (x ∷ xs ++ ys)) {x = n + suc (length xs)} {y = suc (n + length xs)} (omega arith) ∙ drop_past n xs ys
-
-mul_positive : (a b : ℕ) → 0 < a → 0 < b → 0 < a * b
-mul_positive a b h k = omega (arith, mul-lt 0 0 a b h k)
 
 kept_for-cut : (base : Content) (es fs : List Event) (life : Life) (more : List Event) → 0 < base.step → IsHistory (moment_of base) es → IsHistory (moment_at_end base es) fs → LifeAt base (moment_at_end base es) life → LifeAt (content_lived base es) (moment_at_end (content_lived base es) fs) (rest base es life more) → kept_for base (es ++ fs) (whole life more) ≡ kept_for (content_lived base es) fs (rest base es life more)
 unfolding kept_for content_lived
@@ -146,11 +116,7 @@ rows_for-later base es fs life some h k =
     let def = life.begun.def in
     let before = life.birth.last / base.step in
     let parts = life.begun.parts in
-    let A = steps_of base es in
-    let B = steps_of (content_lived base es) fs in
-    ap (λ zs. finished (steps_to_rows def (length base.sources)) before parts (drop (life.missed + length A) zs)) (steps-cut base es fs some h k)
-    ∙ ap (finished (steps_to_rows def (length base.sources)) before parts) (drop_past life.missed A B)
-    ∙ ap (λ m. finished (steps_to_rows def m) before parts (drop life.missed B)) (sym (length-sources (moment_of base) es h))
+    cc (steps-cut base es fs some h k, drop_past life.missed (steps_of base es) (steps_of (content_lived base es) fs), length-sources (moment_of base) es h)
 
 row_parts-later : (base : Content) (es fs : List Event) (life : Life) → 0 < base.step → IsHistory (moment_of base) es → IsHistory (moment_at_end base es) fs → row_parts base (later (length (steps_of base es)) life) (es ++ fs) ≡ row_parts (content_lived base es) life fs
 unfolding row_parts content_lived
@@ -158,11 +124,7 @@ row_parts-later base es fs life some h k =
     let def = life.begun.def in
     let before = life.birth.last / base.step in
     let parts = life.begun.parts in
-    let A = steps_of base es in
-    let B = steps_of (content_lived base es) fs in
-    ap (λ zs. unfinished (steps_to_rows def (length base.sources)) before parts (drop (life.missed + length A) zs)) (steps-cut base es fs some h k)
-    ∙ ap (unfinished (steps_to_rows def (length base.sources)) before parts) (drop_past life.missed A B)
-    ∙ ap (λ m. unfinished (steps_to_rows def m) before parts (drop life.missed B)) (sym (length-sources (moment_of base) es h))
+    cc (steps-cut base es fs some h k, drop_past life.missed (steps_of base es) (steps_of (content_lived base es) fs), length-sources (moment_of base) es h)
 
 kept_for-later : (base : Content) (es fs : List Event) (life : Life) → 0 < base.step → IsHistory (moment_of base) es → IsHistory (moment_at_end base es) fs → kept_for base (es ++ fs) (later (length (steps_of base es)) life) ≡ kept_for (content_lived base es) fs life
 unfolding kept_for content_lived
@@ -217,10 +179,7 @@ map-change_at g f f' (x ∷ xs) zero h = ap (λ y. y ∷ map g xs) (h x)
 map-change_at g f f' (x ∷ xs) (suc n) h = ap (λ ys. g x ∷ ys) (map-change_at g f f' xs n h)
 
 pub map-remove : {A B : Type 0} (g : A → B) (xs : List A) (n : ℕ) → map g (remove xs n) ≡ remove (map g xs) n
-map-remove g xs n =
-    map-append g (take n xs) (drop (suc n) xs)
-    ∙ ap (λ ys. ys ++ map g (drop (suc n) xs)) (sym (take-map g n xs))
-    ∙ ap (λ ys. take n (map g xs) ++ ys) (sym (drop-map g (suc n) xs))
+map-remove g xs n = cc (map-append g (take n xs) (drop (suc n) xs), take-map g n xs, drop-map g (suc n) xs)
 
 left-with : (steps : ℕ) (e : Event) (p : Pair) → left steps (pair_with e p) ≡ with_event e (left steps p)
 left-with steps e (Old life more) = ap (λ since. let x : Life = record life { since = since } in x) (sym (append_assoc life.since more (e ∷ [])))
@@ -230,29 +189,24 @@ right-with : (base : Content) (es : List Event) (e : Event) (p : Pair) → right
 right-with base es e (Old life more) = refl
 right-with base es e (New life) = refl
 
-made_life : Rra → Moment → ℕ → Life
-made_life begun birth missed = record { begun = begun; birth = birth; missed = missed; since = [] }
-
 left-added : (base : Content) (es : List Event) (now : Moment) (def : RraDef) → 0 < base.step → IsHistory (moment_of base) es → (moment_at_end base es).last ≤ now.last → left (length (steps_of base es)) (New (life_added (content_lived base es) now def)) ≡ life_added base now def
-unfolding content_lived made_life
+unfolding content_lived still
 left-added base es now def some h late =
     let mid = moment_at_end base es in
     let low = div_rises mid.last now.last base.step some late in
-    ap (λ n. made_life (new_archive n def) now (now.last / base.step - mid.last / base.step + length (steps_of base es))) (length-sources (moment_of base) es h)
-    ∙ ap (made_life (new_archive (length base.sources) def) now) {x = now.last / base.step - mid.last / base.step + length (steps_of base es)} {y = now.last / base.step - base.last / base.step} (omega (arith, length-steps_of base es some h))
+    ap (λ n. still (new_archive n def) now (now.last / base.step - mid.last / base.step + length (steps_of base es))) (length-sources (moment_of base) es h)
+    ∙ ap (still (new_archive (length base.sources) def) now) {x = now.last / base.step - mid.last / base.step + length (steps_of base es)} {y = now.last / base.step - base.last / base.step} (omega (arith, length-steps_of base es some h))
 
 left-from : (base : Content) (es : List Event) (now : Moment) (ps : List Pair) (fs : List Event) → 0 < base.step → IsHistory (moment_of base) es → (moment_at_end base es).last ≤ now.last → IsHistory now fs → map (left (length (steps_of base es))) (pairs_from (content_lived base es) now ps fs) ≡ lives_from base now (map (left (length (steps_of base es))) ps) fs
 left-from base es now ps [] some h late k = refl
 left-from base es now ps (Sampled sample ∷ fs) some h late k =
     let n = length (steps_of base es) in
     let next = moment_after now (Sampled sample) in
-    left-from base es next (pairs_after (content_lived base es) now ps (Sampled sample)) fs some h (omega (arith, k.0)) k.1
-    ∙ ap (λ all. lives_from base next all fs) (map-both (left n) (pair_with (Sampled sample)) (with_event (Sampled sample)) ps (left-with n (Sampled sample)))
+    cc (left-from base es next (pairs_after (content_lived base es) now ps (Sampled sample)) fs some h (omega (arith, k.0)) k.1, map-both (left n) (pair_with (Sampled sample)) (with_event (Sampled sample)) ps (left-with n (Sampled sample)))
 left-from base es now ps (Tuned sources ∷ fs) some h late k =
     let n = length (steps_of base es) in
     let next = moment_after now (Tuned sources) in
-    left-from base es next (pairs_after (content_lived base es) now ps (Tuned sources)) fs some h late k.1
-    ∙ ap (λ all. lives_from base next all fs) (map-both (left n) (pair_with (Tuned sources)) (with_event (Tuned sources)) ps (left-with n (Tuned sources)))
+    cc (left-from base es next (pairs_after (content_lived base es) now ps (Tuned sources)) fs some h late k.1, map-both (left n) (pair_with (Tuned sources)) (with_event (Tuned sources)) ps (left-with n (Tuned sources)))
 left-from base es now ps (Resized archive rows ∷ fs) some h late k =
     let n = length (steps_of base es) in
     left-from base es now (pairs_after (content_lived base es) now ps (Resized archive rows)) fs some h late k.1
@@ -260,32 +214,24 @@ left-from base es now ps (Resized archive rows ∷ fs) some h late k =
 left-from base es now ps (Added def ∷ fs) some h late k =
     let n = length (steps_of base es) in
     let new = New (life_added (content_lived base es) now def) in
-    left-from base es now (pairs_after (content_lived base es) now ps (Added def)) fs some h late k.2
-    ∙ ap (λ all. lives_from base now all fs) (map-append (left n) ps (new ∷ []) ∙ ap (λ life. map (left n) ps ++ life ∷ []) (left-added base es now def some h late))
+    cc (left-from base es now (pairs_after (content_lived base es) now ps (Added def)) fs some h late k.2, map-append (left n) ps (new ∷ []) ∙ ap (λ life. map (left n) ps ++ life ∷ []) (left-added base es now def some h late))
 left-from base es now ps (Removed archive ∷ fs) some h late k =
     let n = length (steps_of base es) in
-    left-from base es now (pairs_after (content_lived base es) now ps (Removed archive)) fs some h late k
-    ∙ ap (λ all. lives_from base now all fs) (map-remove (left n) ps archive)
+    cc (left-from base es now (pairs_after (content_lived base es) now ps (Removed archive)) fs some h late k, map-remove (left n) ps archive)
 
 right-from : (base : Content) (es : List Event) (now : Moment) (ps : List Pair) (fs : List Event) → map (right base es) (pairs_from (content_lived base es) now ps fs) ≡ lives_from (content_lived base es) now (map (right base es) ps) fs
 right-from base es now ps [] = refl
 right-from base es now ps (Sampled sample ∷ fs) =
     let next = moment_after now (Sampled sample) in
-    right-from base es next (pairs_after (content_lived base es) now ps (Sampled sample)) fs
-    ∙ ap (λ all. lives_from (content_lived base es) next all fs) (map-both (right base es) (pair_with (Sampled sample)) (with_event (Sampled sample)) ps (right-with base es (Sampled sample)))
+    cc (right-from base es next (pairs_after (content_lived base es) now ps (Sampled sample)) fs, map-both (right base es) (pair_with (Sampled sample)) (with_event (Sampled sample)) ps (right-with base es (Sampled sample)))
 right-from base es now ps (Tuned sources ∷ fs) =
     let next = moment_after now (Tuned sources) in
-    right-from base es next (pairs_after (content_lived base es) now ps (Tuned sources)) fs
-    ∙ ap (λ all. lives_from (content_lived base es) next all fs) (map-both (right base es) (pair_with (Tuned sources)) (with_event (Tuned sources)) ps (right-with base es (Tuned sources)))
+    cc (right-from base es next (pairs_after (content_lived base es) now ps (Tuned sources)) fs, map-both (right base es) (pair_with (Tuned sources)) (with_event (Tuned sources)) ps (right-with base es (Tuned sources)))
 right-from base es now ps (Resized archive rows ∷ fs) =
     right-from base es now (pairs_after (content_lived base es) now ps (Resized archive rows)) fs
     ∙ ap (λ all. lives_from (content_lived base es) now all fs) (map-change_at (right base es) (pair_with (Resized 0 rows)) (with_event (Resized 0 rows)) ps archive (right-with base es (Resized 0 rows)))
-right-from base es now ps (Added def ∷ fs) =
-    right-from base es now (pairs_after (content_lived base es) now ps (Added def)) fs
-    ∙ ap (λ all. lives_from (content_lived base es) now all fs) (map-append (right base es) ps (New (life_added (content_lived base es) now def) ∷ []))
-right-from base es now ps (Removed archive ∷ fs) =
-    right-from base es now (pairs_after (content_lived base es) now ps (Removed archive)) fs
-    ∙ ap (λ all. lives_from (content_lived base es) now all fs) (map-remove (right base es) ps archive)
+right-from base es now ps (Added def ∷ fs) = cc (right-from base es now (pairs_after (content_lived base es) now ps (Added def)) fs, map-append (right base es) ps (New (life_added (content_lived base es) now def) ∷ []))
+right-from base es now ps (Removed archive ∷ fs) = cc (right-from base es now (pairs_after (content_lived base es) now ps (Removed archive)) fs, map-remove (right base es) ps archive)
 
 -- what was there at the cut was an archive of the first piece
 abbrev OldIs : Content → List Event → Pair → Type 0
@@ -306,27 +252,19 @@ old-from base es middle now ps (Removed archive ∷ fs) is = old-from base es mi
 
 -- ---- both are the same
 
-made : Rra → ℕ → List Part → List (List Cell) → Rra
-made archive n parts rows = record { def = record archive.def { rows = n }; parts = parts; rows = rows }
-
 pair-same : (base : Content) (es fs : List Event) (p : Pair) → 0 < base.step → IsHistory (moment_of base) es → IsHistory (moment_at_end base es) fs → OldIs base es p → LifeAt (content_lived base es) (moment_at_end (content_lived base es) fs) (right base es p) → archive_for base (es ++ fs) (left (length (steps_of base es)) p) ≡ archive_for (content_lived base es) fs (right base es p)
 unfolding made
 pair-same base es fs (Old life more) some h k is at =
     let this = whole life more in
     let that = rest base es life more in
-    ap (λ n. made life.begun n (row_parts base this (es ++ fs)) (kept_for base (es ++ fs) this)) (fold-append (rows_after 0) life.begun.def.rows life.since more)
-    ∙ ap (λ ps. made life.begun (fold (rows_after 0) (fold (rows_after 0) life.begun.def.rows life.since) more) ps (kept_for base (es ++ fs) this)) (row_parts-cut base es fs life more some h k is)
-    ∙ ap (made life.begun (fold (rows_after 0) (fold (rows_after 0) life.begun.def.rows life.since) more) (row_parts (content_lived base es) that fs)) (kept_for-cut base es fs life more some h k is at)
+    cc (fold-append (rows_after 0) life.begun.def.rows life.since more, row_parts-cut base es fs life more some h k is, kept_for-cut base es fs life more some h k is at)
 pair-same base es fs (New life) some h k is at =
     let this = later (length (steps_of base es)) life in
-    ap (λ ps. made life.begun (fold (rows_after 0) life.begun.def.rows life.since) ps (kept_for base (es ++ fs) this)) (row_parts-later base es fs life some h k)
-    ∙ ap (made life.begun (fold (rows_after 0) life.begun.def.rows life.since) (row_parts (content_lived base es) life fs)) (kept_for-later base es fs life some h k)
+    cc (row_parts-later base es fs life some h k, kept_for-later base es fs life some h k)
 
 pairs-same : (base : Content) (es fs : List Event) (ps : List Pair) → 0 < base.step → IsHistory (moment_of base) es → IsHistory (moment_at_end base es) fs → AllByRecursion (OldIs base es) ps → AllByRecursion (LifeAt (content_lived base es) (moment_at_end (content_lived base es) fs)) (map (right base es) ps) → map (archive_for base (es ++ fs)) (map (left (length (steps_of base es))) ps) ≡ map (archive_for (content_lived base es) fs) (map (right base es) ps)
 pairs-same base es fs [] some h k is at = refl
-pairs-same base es fs (p ∷ ps) some h k is at =
-    ap (λ a. a ∷ map (archive_for base (es ++ fs)) (map (left (length (steps_of base es))) ps)) (pair-same base es fs p some h k is.0 at.0)
-    ∙ ap (λ all. archive_for (content_lived base es) fs (right base es p) ∷ all) (pairs-same base es fs ps some h k is.1 at.1)
+pairs-same base es fs (p ∷ ps) some h k is at = cc (pair-same base es fs p some h k is.0 at.0, pairs-same base es fs ps some h k is.1 at.1)
 
 -- ---- a content
 
@@ -355,9 +293,7 @@ at_cut-old base es all is = All-map (LifeAt base (moment_at_end base es)) (OldIs
 
 lives-right : (base : Content) (es fs : List Event) → map (right base es) (pairs_from (content_lived base es) (moment_at_end base es) (at_cut (lives base es)) fs) ≡ lives (content_lived base es) fs
 unfolding content_lived
-lives-right base es fs =
-    right-from base es (moment_at_end base es) (at_cut (lives base es)) fs
-    ∙ ap (λ all. lives_from (content_lived base es) (moment_at_end base es) all fs) (at_cut-right base es (lives base es))
+lives-right base es fs = cc (right-from base es (moment_at_end base es) (at_cut (lives base es)) fs, at_cut-right base es (lives base es))
 
 history-right : (base : Content) (es fs : List Event) → IsHistory (moment_at_end base es) fs → IsHistory (moment_of (content_lived base es)) fs
 unfolding content_lived
@@ -375,18 +311,11 @@ archives-cut base es fs is h k =
     ∙ sym (lives_from-append base (moment_of base) (map (life_of base) base.archives) es fs) in
     let old = old-from base es middle mid (at_cut (lives base es)) fs (at_cut-old base es (lives base es) (lives_are base es is h)) in
     let at = subst (AllByRecursion (LifeAt middle (moment_at_end middle fs))) (sym (lives-right base es fs)) (lives_are middle fs (IsBase-lived base es is h) (history-right base es fs k)) in
-    ap (map (archive_for base (es ++ fs))) (sym all_left)
-    ∙ pairs-same base es fs ps is.some_step h k old at
-    ∙ ap (map (archive_for middle fs)) (lives-right base es fs)
-
-with_moment : Content → Moment → List Part → List Rra → Content
-with_moment base moment parts archives = record base { sources = moment.sources; last = moment.last; raws = moment.raws; parts = parts; archives = archives }
+    cc (all_left, pairs-same base es fs ps is.some_step h k old at, lives-right base es fs)
 
 pub lived-cut : (base : Content) (es : List Event) → CutsLives base es
 unfolding content_lived with_moment
 lived-cut base es is h fs k =
     let end = fold moment_after (moment_at_end base es) fs in
     let archives = map (archive_for base (es ++ fs)) (lives base (es ++ fs)) in
-    ap (λ m. with_moment base m (parts_of base (es ++ fs)) archives) (fold-append moment_after (moment_of base) es fs)
-    ∙ ap (λ ps. with_moment base end ps archives) (parts_of-append base es fs is.some_step h k ∙ same_parts base es fs)
-    ∙ ap (with_moment base end (parts_of (content_lived base es) fs)) (archives-cut base es fs is h k)
+    cc (fold-append moment_after (moment_of base) es fs, parts_of-append base es fs is.some_step h k ∙ same_parts base es fs, archives-cut base es fs is h k)

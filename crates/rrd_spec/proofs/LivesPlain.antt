@@ -1,22 +1,7 @@
 -- A history in which no archive comes or goes, and one that is nothing but that.
-use Rattle.std.proofs.Common.{◌≡◌, refl, sym, ◌∙◌, ap, ℕ, zero, suc, ◌+◌, ◌-◌, ◌*◌, ◌/◌, ◌<◌, min, Bool, true, false, cond, eqb, get_or, ltb, ℤ, pos, negsuc, List, [], ◌∷◌, ◌++◌, length, map, replicate, drop, take, arith, append_assoc, append-nil, eq-eqb}
-use Rattle.std.proofs.lemmas.Bool.{ne_eqb}
-use Rattle.std.proofs.lemmas.List.{drop-map, length-replicate, map-append, take-map}
-use Rattle.std.specs.List.{fold, enumerate_from, remove, AllByRecursion}
-use Rattle.rrd_fixed.specs.declared.cell.Cell.{Cell}
-use Rattle.rrd_fold.specs.Parts.{Part}
-use Rattle.rrd_spec.specs.declared.settings.DsDef.{DsDef}
-use Rattle.rrd_spec.specs.declared.settings.RraDef.{RraDef}
-use Rattle.rrd_spec.specs.History.{Rra, Content, Event, Reading, Sampled, Tuned, Resized, Added, Removed, Moment, moment_after, moment_of, moment_at_end, rows_after, IsArchive}
-use Rattle.rrd_spec.specs.History.Cells.{row_of_age}
-use Rattle.rrd_spec.specs.History.Groups.{finished, unfinished}
-use Rattle.rrd_spec.specs.History.Lives.{Life, life_of, life_added, new_archive, with_event, change_at, lives_from}
-use Rattle.rrd_spec.specs.History.Rows.{row_parts, row_parts_of, rows_of, steps_for, steps_to_rows}
-use Rattle.rrd_spec.specs.Laws.Cells.{IsListedByNumber}
-use Rattle.rrd_spec.specs.Laws.ListedContent.{KeepsArchives, archive_of, content_listed, filled_up, keep_last, kept_rows, rows_never_lost}
-use Rattle.rrd_spec.specs.Laws.ListedLives.{archive_for, content_lived, kept_for, rows_for}
-use Rattle.rrd_spec.specs.Laws.Archives.{AddChanges, BlankAtFirst, RemoveChanges}
-use Rattle.rrd_spec.specs.Lemmas.Lists.{All-drop, All-take, keep_all}
+use Rattle.std.specs.Prelude.{◌≡◌, ℕ, zero, suc, ◌+◌, ◌-◌, ◌*◌, ◌/◌, ◌<◌, min, Bool, true, false, cond, ℤ, pos, negsuc, List, [], ◌∷◌, ◌++◌, length, map, replicate, drop, take}
+use Rattle.rrd_spec.proofs.Names.{refl, sym, ◌∙◌, ap, eqb, get_or, ltb, arith, append_assoc, append-nil, eq-eqb, ne_eqb, drop-map, length-replicate, map-append, take-map, fold, enumerate_from, remove, AllByRecursion, Cell, Part, DsDef, RraDef, Rra, Content, Event, Sampled, Tuned, Resized, Added, Removed, Moment, moment_after, moment_of, moment_at_end, rows_after, IsArchive, row_of_age, finished, unfinished, Life, life_of, life_added, new_archive, with_event, change_at, lives_from, row_parts, row_parts_of, rows_of, steps_for, steps_to_rows, IsListedByNumber, KeepsArchives, archive_of, content_listed, filled_up, keep_last, kept_rows, rows_never_lost, archive_for, content_lived, kept_for, rows_for, AddChanges, BlankAtFirst, RemoveChanges, All-drop, All-take, keep_all}
+use Rattle.rrd_spec.specs.History.{Reading}
 use Rattle.rrd_spec.proofs.CellLemmas.{is_lived}
 use Rattle.rrd_spec.proofs.GroupLemmas.{finished_nil, unfinished_nil}
 use Rattle.rrd_spec.proofs.Quiet.{parts_same, steps_none}
@@ -71,45 +56,36 @@ own-nil i (life ∷ all) = ap (λ since. since_put life since ∷ with_own (i + 
 own-sampled : (i : ℕ) (sample : Reading) (es : List Event) (all : List Life) → with_own i es (map (with_event (Sampled sample)) all) ≡ with_own i (Sampled sample ∷ es) all
 unfolding with_own own since_put
 own-sampled i sample es [] = refl
-own-sampled i sample es (life ∷ all) =
-    ap (λ since. since_put life since ∷ with_own (i + 1) es (map (with_event (Sampled sample)) all)) (append_assoc life.since (Sampled sample ∷ []) (own i es))
-    ∙ ap (λ rest. since_put life (life.since ++ Sampled sample ∷ own i es) ∷ rest) (own-sampled (i + 1) sample es all)
+own-sampled i sample es (life ∷ all) = cc (append_assoc life.since (Sampled sample ∷ []) (own i es), own-sampled (i + 1) sample es all)
 
 own-tuned : (i : ℕ) (sources : List DsDef) (es : List Event) (all : List Life) → with_own i es (map (with_event (Tuned sources)) all) ≡ with_own i (Tuned sources ∷ es) all
 unfolding with_own own since_put
 own-tuned i sources es [] = refl
-own-tuned i sources es (life ∷ all) =
-    ap (λ since. since_put life since ∷ with_own (i + 1) es (map (with_event (Tuned sources)) all)) (append_assoc life.since (Tuned sources ∷ []) (own i es))
-    ∙ ap (λ rest. since_put life (life.since ++ Tuned sources ∷ own i es) ∷ rest) (own-tuned (i + 1) sources es all)
+own-tuned i sources es (life ∷ all) = cc (append_assoc life.since (Tuned sources ∷ []) (own i es), own-tuned (i + 1) sources es all)
 
 own-elsewhere : (i archive n : ℕ) (es : List Event) (all : List Life) → archive < i → with_own i es all ≡ with_own i (Resized archive n ∷ es) all
 unfolding with_own own since_put
 own-elsewhere i archive n es [] h = refl
 own-elsewhere i archive n es (life ∷ all) h =
     let other : eqb archive i ≡ false = ne_eqb archive i (λ e. absurd (omega (arith, e))) in
-    ap (λ b. since_put life (life.since ++ cond b (Resized 0 n ∷ own i es) (own i es)) ∷ with_own (i + 1) es all) (sym other)
-    ∙ ap (λ rest. since_put life (life.since ++ cond (eqb archive i) (Resized 0 n ∷ own i es) (own i es)) ∷ rest) (own-elsewhere (i + 1) archive n es all (omega arith))
+    cc (other, own-elsewhere (i + 1) archive n es all (omega arith))
 
 own-resized : (i archive n k : ℕ) (es : List Event) (all : List Life) → archive ≡ i + k → with_own i es (change_at (with_event (Resized 0 n)) all k) ≡ with_own i (Resized archive n ∷ es) all
 unfolding with_own own since_put
 own-resized i archive n k es [] e = refl
 own-resized i archive n zero es (life ∷ all) e =
     let this : eqb archive i ≡ true = eq-eqb archive i (omega (arith, e)) in
-    ap (λ since. since_put life since ∷ with_own (i + 1) es all) (append_assoc life.since (Resized 0 n ∷ []) (own i es))
-    ∙ ap (λ b. since_put life (life.since ++ cond b (Resized 0 n ∷ own i es) (own i es)) ∷ with_own (i + 1) es all) (sym this)
-    ∙ ap (λ rest. since_put life (life.since ++ cond (eqb archive i) (Resized 0 n ∷ own i es) (own i es)) ∷ rest) (own-elsewhere (i + 1) archive n es all (omega (arith, e)))
+    cc (append_assoc life.since (Resized 0 n ∷ []) (own i es), this, own-elsewhere (i + 1) archive n es all (omega (arith, e)))
 own-resized i archive n (suc k) es (life ∷ all) e =
     let other : eqb archive i ≡ false = ne_eqb archive i (λ f. absurd (omega (arith, e, f))) in
-    ap (λ b. since_put life (life.since ++ cond b (Resized 0 n ∷ own i es) (own i es)) ∷ with_own (i + 1) es (change_at (with_event (Resized 0 n)) all k)) (sym other)
-    ∙ ap (λ rest. since_put life (life.since ++ cond (eqb archive i) (Resized 0 n ∷ own i es) (own i es)) ∷ rest) (own-resized (i + 1) archive n k es all (omega (arith, e)))
+    cc (other, own-resized (i + 1) archive n k es all (omega (arith, e)))
 
 lives_plain : (base : Content) (now : Moment) (all : List Life) (es : List Event) → KeepsArchives es → lives_from base now all es ≡ with_own 0 es all
 lives_plain base now all [] keeps = sym (own-nil 0 all)
 lives_plain base now all (Sampled sample ∷ es) keeps = lives_plain base (moment_after now (Sampled sample)) (map (with_event (Sampled sample)) all) es keeps ∙ own-sampled 0 sample es all
 lives_plain base now all (Tuned sources ∷ es) keeps = lives_plain base (moment_after now (Tuned sources)) (map (with_event (Tuned sources)) all) es keeps ∙ own-tuned 0 sources es all
 lives_plain base now all (Resized archive n ∷ es) keeps = lives_plain base now (change_at (with_event (Resized 0 n)) all archive) es keeps ∙ own-resized 0 archive n archive es all (omega arith)
-lives_plain base now all (Added def ∷ es) keeps = absurd keeps
-lives_plain base now all (Removed archive ∷ es) keeps = absurd keeps
+lives_plain base now all x keeps = absurd keeps
 
 -- ---- by number and by itself
 
@@ -125,27 +101,20 @@ archive_plain base es i archive =
     let since = λ (time : ℕ). (moment_at_end base es).last / size - time / size in
     let nan = replicate (length base.sources) Cell.Unknown in
     let all = archive.rows ++ rows_of base archive es in
-    ap (λ n. made archive n (row_parts base life es) (kept_for base es life)) (rows_own i rows es)
-    ∙ ap (λ n. made archive (fold (rows_after i) rows es) (row_parts base life es) (filled_up n nan (keep_last (rows_never_lost 0 since rows (moment_of base) (own i es)) all))) (rows_own i rows es)
-    ∙ ap (λ n. made archive (fold (rows_after i) rows es) (row_parts base life es) (filled_up (fold (rows_after i) rows es) nan (keep_last n all))) (room_own i since rows (moment_of base) es)
+    cc (rows_own i rows es, room_own i since rows (moment_of base) es)
 
 archives_plain : (base : Content) (es : List Event) (i : ℕ) (archives : List Rra) → map (archive_for base es) (with_own i es (map (life_of base) archives)) ≡ map (archive_of base es) (enumerate_from i archives)
 unfolding with_own since_put
 archives_plain base es i [] = refl
-archives_plain base es i (archive ∷ archives) =
-    ap (λ a. a ∷ map (archive_for base es) (with_own (i + 1) es (map (life_of base) archives))) (archive_plain base es i archive)
-    ∙ ap (λ rest. archive_of base es (i, archive) ∷ rest) (archives_plain base es (i + 1) archives)
+archives_plain base es i (archive ∷ archives) = cc (archive_plain base es i archive, archives_plain base es (i + 1) archives)
 
 pub is_listed : (base : Content) (es : List Event) → IsListedByNumber base es
 unfolding content_listed content_lived
-is_listed base es is h keeps =
-    ap (λ archives. let x : Content = record (content_lived base es) { archives = archives } in x)
-    (sym (archives_plain base es 0 base.archives) ∙ ap (map (archive_for base es)) (sym (lives_plain base (moment_of base) (map (life_of base) base.archives) es keeps)))
-    ∙ is_lived base es is h
+is_listed base es is h keeps = cc (sym (archives_plain base es 0 base.archives) ∙ ap (map (archive_for base es)) (sym (lives_plain base (moment_of base) (map (life_of base) base.archives) es keeps)), is_lived base es is h)
 
 -- ---- an archive in which nothing has happened
 
-still : Rra → Moment → ℕ → Life
+unfoldable pub still : Rra → Moment → ℕ → Life
 still begun birth missed = record { begun = begun; birth = birth; missed = missed; since = [] }
 
 drop-none : {A : Type 0} (n : ℕ) → let none : List A = [] in drop n none ≡ none
@@ -165,7 +134,6 @@ still_stays base es begun birth missed same born is =
     let none : steps_for base life es ≡ [] = ap (drop missed) (steps_none base es same) ∙ drop-none missed in
     let parts : row_parts base life es ≡ begun.parts = ap (unfinished rule (birth.last / base.step) begun.parts) none ∙ unfinished_nil rule (birth.last / base.step) begun.parts is.some_steps in
     let news : rows_for base es life ≡ [] = ap (finished rule (birth.last / base.step) begun.parts) none ∙ finished_nil rule (birth.last / base.step) begun.parts in
-    let here : (moment_at_end base es).last / size ≡ birth.last / size = ap (λ t. t / size) (same ∙ sym born) in
     let kept : kept_for base es life ≡ begun.rows
     = ap (λ zs. filled_up rows nan (keep_last (rows + since birth.last) (begun.rows ++ zs))) news
     ∙ ap (λ zs. filled_up rows nan (keep_last (rows + since birth.last) zs)) (append-nil begun.rows)
@@ -176,9 +144,7 @@ still_stays base es begun birth missed same born is =
 all_still : (base : Content) (es : List Event) (archives : List Rra) → (moment_at_end base es).last ≡ base.last → AllByRecursion IsArchive archives → map (archive_for base es) (map (life_of base) archives) ≡ archives
 unfolding still
 all_still base es [] same is = refl
-all_still base es (archive ∷ archives) same is =
-    ap (λ a. a ∷ map (archive_for base es) (map (life_of base) archives)) (still_stays base es archive (moment_of base) 0 same refl is.0)
-    ∙ ap (λ rest. archive ∷ rest) (all_still base es archives same is.1)
+all_still base es (archive ∷ archives) same is = cc (still_stays base es archive (moment_of base) 0 same refl is.0, all_still base es archives same is.1)
 
 with_all : Content → List Part → List Rra → Content
 with_all base parts archives = record base { parts = parts; archives = archives }

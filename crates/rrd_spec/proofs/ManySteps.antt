@@ -1,32 +1,14 @@
 -- Many equal seconds or steps at once.
-use Rattle.std.proofs.Common.{◌≡◌, refl, sym, ◌∙◌, ap, subst, ℕ, zero, suc, ◌+◌, ◌-◌, ◌*◌, ◌/◌, ◌%◌, ◌<◌, ◌≤◌, ℤ, pos, ◌≤ℤ◌, List, [], ◌∷◌, ◌++◌, length, drop, map, replicate, arith, length-append, append_assoc, append-nil}
-use Rattle.std.proofs.lemmas.List.{length-replicate, replicate-append-replicate, length-drop}
-use Rattle.std.proofs.lemmas.Nat.{div-add-mod', div-mul-add, mod_below}
-use Rattle.std.specs.List.{fold}
-use Rattle.rrd_fixed.specs.declared.cell.Cell.{Cell}
-use Rattle.rrd_fold.specs.declared.function.Function.{Function}
-use Rattle.rrd_fold.specs.declared.function.Function.TheVariants.{Average}
-use Rattle.rrd_fold.specs.Parts.{Part, nothing, with_cell, with_each, step_cell, row_cell}
-use Rattle.rrd_spec.specs.Preparations.{map_each}
-use Rattle.rrd_spec.specs.History.Groups.{finished, unfinished}
-use Rattle.rrd_spec.specs.History.{Rra, Content}
-use Rattle.rrd_spec.specs.Laws.ListedContent.{keep_last}
-use Rattle.rrd_spec.specs.Lemmas.Lists.{keep_all, keep_last-append}
-use Rattle.rrd_spec.specs.Laws.Passing.{archive_passed, passed}
-use Rattle.rrd_spec.specs.History.Steps.{seconds_to_steps}
-use Rattle.rrd_spec.specs.History.Rows.{steps_to_rows}
-use Rattle.rrd_spec.specs.Laws.EqualSteps.{SecondsOver, StepsInPieces, StepsOver, StepsWithin}
-use Rattle.rrd_spec.specs.Lemmas.Preparations.{fold-with_each}
+use Rattle.std.specs.Prelude.{◌≡◌, ℕ, zero, suc, ◌+◌, ◌-◌, ◌*◌, ◌/◌, ◌%◌, ◌<◌, ◌≤◌, ℤ, pos, ◌≤ℤ◌, List, [], ◌∷◌, ◌++◌, length, drop, map, replicate}
+use Rattle.rrd_spec.proofs.Names.{refl, sym, ◌∙◌, ap, subst, arith, length-append, append_assoc, append-nil, length-replicate, replicate-append-replicate, length-drop, div-add-mod', div-mul-add, mod_below, fold, Cell, Function, Average, Part, nothing, with_cell, with_each, step_cell, row_cell, map_each, finished, unfinished, Rra, Content, keep_last, keep_all, keep_last-append, archive_passed, passed, seconds_to_steps, steps_to_rows, SecondsOver, StepsInPieces, StepsOver, StepsWithin, fold-with_each}
 use Rattle.rrd_spec.proofs.GroupLemmas.{goes_on, finished_within, unfinished_within, finished_filling, unfinished_filling, finished-replicate, unfinished-replicate, next_ahead}
 use Rattle.rrd_spec.proofs.PassedLemmas.{archive_passed-append}
+unfoldable use Rattle.rrd_spec.proofs.PassedLemmas.{with_rows, with_passed}
 
 -- ---- an archive
 
 pub steps_in_pieces : (sources before : ℕ) (archive : Rra) (xs ys : List (List Cell)) → StepsInPieces sources before archive xs ys
 steps_in_pieces sources before archive xs ys some = archive_passed-append sources before (before + length xs) archive xs ys some refl
-
-with_rows : Rra → List Part → List (List Cell) → Rra
-with_rows archive parts rows = record archive { parts = parts; rows = rows }
 
 -- steps that leave the row unfinished
 archive_within : (sources before : ℕ) (archive : Rra) (steps : List (List Cell)) → 0 < archive.def.steps → before + length steps < (before / archive.def.steps + 1) * archive.def.steps → archive_passed sources before steps archive ≡ record archive { parts = fold (with_each archive.def.function) archive.parts steps }
@@ -34,9 +16,7 @@ unfolding archive_passed with_rows
 archive_within sources before archive steps some h =
     let rule = steps_to_rows archive.def sources in
     let r = length archive.rows in
-    ap (λ p. with_rows archive p (keep_last r (archive.rows ++ finished rule before archive.parts steps))) (unfinished_within rule before archive.parts steps some h)
-    ∙ ap (λ zs. with_rows archive (fold rule.add archive.parts steps) (keep_last r (archive.rows ++ zs))) (finished_within rule before archive.parts steps some h)
-    ∙ ap (with_rows archive (fold rule.add archive.parts steps)) (ap (keep_last r) (append-nil archive.rows) ∙ keep_all r archive.rows (omega arith))
+    cc (unfinished_within rule before archive.parts steps some h, finished_within rule before archive.parts steps some h, ap (keep_last r) (append-nil archive.rows) ∙ keep_all r archive.rows (omega arith))
 
 -- steps that fill it
 archive_filling : (sources before : ℕ) (archive : Rra) (steps : List (List Cell)) → 0 < archive.def.steps → before + length steps ≡ (before / archive.def.steps + 1) * archive.def.steps → archive_passed sources before steps archive ≡ record archive {
@@ -56,17 +36,14 @@ pub steps_within : (sources before : ℕ) (archive : Rra) (steps : List (List Ce
 steps_within sources before archive steps some h = archive_within sources before archive steps some h
 
 -- a row before others that are pushed
-push_before : {A : Type 0} (rows more : List A) (row : A) → let one = drop 1 (rows ++ row ∷ []) in keep_last (length one) (one ++ more) ≡ keep_last (length rows) (rows ++ row ∷ more)
+pub push_before : {A : Type 0} (rows more : List A) (row : A) → let one = drop 1 (rows ++ row ∷ []) in keep_last (length one) (one ++ more) ≡ keep_last (length rows) (rows ++ row ∷ more)
 push_before rows more row =
     let r = length rows in
     let whole = rows ++ row ∷ [] in
     let enough : r ≤ length whole = omega (arith, length-append rows (row ∷ [])) in
     let extra : 1 ≡ length whole - r = omega (arith, length-append rows (row ∷ [])) in
     let count : length (drop 1 whole) ≡ r = omega (arith, length-drop 1 whole, length-append rows (row ∷ [])) in
-    ap (λ n. keep_last n (drop 1 whole ++ more)) count
-    ∙ ap (λ n. keep_last r (drop n whole ++ more)) extra
-    ∙ sym (keep_last-append r whole more enough)
-    ∙ ap (keep_last r) (append_assoc rows (row ∷ []) more)
+    cc (count, extra, keep_last-append r whole more enough, append_assoc rows (row ∷ []) more)
 
 -- the row's end, and what goes past it
 row_end : (before m : ℕ) → 0 < m → before + 1 + ((before / m + 1) * m - (before + 1)) ≡ (before / m + 1) * m
@@ -84,9 +61,6 @@ each_stays give take (suc n) (cell ∷ row) same e =
     cc
 
 -- ---- a content
-
-with_passed : Content → ℕ → List Part → List Rra → Content
-with_passed base last parts archives = record base { last = last; parts = parts; archives = archives }
 
 -- by the law of full groups
 module _ (whole_step : (step : ℕ) (cell : Cell) → 0 < step → step_cell step (fold (with_cell Average) nothing (replicate step cell)) ≡ cell) (whole_row : (function : Function) (xff : ℤ) (steps : ℕ) (cell : Cell) → 0 < steps → pos 0 ≤ℤ xff → xff ≤ℤ pos 999999 → row_cell function xff steps (fold (with_cell function) nothing (replicate steps cell)) ≡ cell) where

@@ -1,13 +1,6 @@
 -- The rows that an update leaves in the archives.
-use Rattle.std.proofs.Common.{◌≡◌, ◌∙◌, ℕ, ◌-◌, ◌/◌, ◌++◌, List, [], ◌∷◌, sym, ap, subst, length, map, take, arith, length-take}
-use Rattle.std.specs.List.{AllByRecursion}
-use Rattle.rrd_spec.specs.declared.requests.update.Update.{Update}
-use Rattle.rrd_spec.specs.History.{Rra, Content}
-use Rattle.rrd_spec.specs.Commands.{Updating, moved}
-use Rattle.rrd_spec.specs.Journal.Entries.{put_back, put_back_each, saved}
-use Rattle.rrd_spec.specs.Laws.Updates.{MovesOn, MoveOn, UpdateIsLater, dropped}
-use Rattle.rrd_spec.specs.Lemmas.Validity.{sound}
-use Rattle.rrd_spec.specs.Validity.{IsValidArchive}
+use Rattle.std.specs.Prelude.{◌≡◌, ℕ, ◌-◌, ◌/◌, ◌++◌, List, [], ◌∷◌, length, map, take}
+use Rattle.rrd_spec.proofs.Names.{◌∙◌, sym, ap, subst, arith, length-take, AllByRecursion, Update, Rra, Content, Updating, moved, put_back, put_back_each, saved, MovesOn, MoveOn, UpdateIsLater, dropped, sound, IsValidArchive}
 use Rattle.rrd_spec.proofs.Fitting.{fits}
 use Rattle.rrd_spec.proofs.Staying.{stays_valid}
 use Rattle.rrd_spec.proofs.Undoing.{comes_back}

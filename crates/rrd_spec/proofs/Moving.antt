@@ -1,31 +1,12 @@
 -- A history of commands, one command at a time.
-use Rattle.std.proofs.Common.{◌≡◌, refl, sym, ◌∙◌, ap, subst, ℕ, zero, suc, List, [], ◌∷◌, ◌++◌, map, None, append-nil, append_assoc}
-use Rattle.std.specs.Prelude.{reverse}
-use Rattle.std.proofs.lemmas.List.{reverse-append}
-use Rattle.std.proofs.lemmas.List.Sums.{fold-append}
-use Rattle.std.specs.List.{fold}
-use Rattle.rrd_spec.specs.declared.settings.DsDef.{DsDef}
-use Rattle.rrd_spec.specs.History.{Rra, Content, Event, Sampled, Tuned, Resized, Added, Removed, Moment, moment_after, moment_of, moment_at_end, rows_after, IsHistory, IsBase}
+use Rattle.std.specs.Prelude.{◌≡◌, ℕ, zero, suc, List, [], ◌∷◌, ◌++◌, map, None, reverse, slice_set}
+use Rattle.rrd_spec.proofs.Names.{refl, sym, ◌∙◌, ap, subst, append-nil, append_assoc, reverse-append, fold-append, fold, DsDef, Rra, Content, Event, Sampled, Tuned, Resized, Added, Removed, Moment, moment_after, moment_of, moment_at_end, rows_after, IsHistory, IsBase, KeepsArchives, content_listed, moved_listed, GoesOnFromContent, StaysBase, archive_by_time, content, Life, change_at, life_added, life_of, lives, lives_from, with_event, content_lived, map-append, remove, DatabaseChange, settings_of, rows_of_archives, settings_after, events, events_of, moved, Settings, verdict, IsSound, survived, AllAccepted, Moves}
 use Rattle.rrd_spec.proofs.HistoryLemmas.{IsHistory-append}
-use Rattle.rrd_spec.specs.Laws.ListedContent.{KeepsArchives, content_listed, moved_listed}
-use Rattle.rrd_spec.specs.Laws.History.{GoesOnFromContent, StaysBase}
-use Rattle.rrd_spec.specs.History.Cells.{archive_by_time, content}
 use Rattle.rrd_spec.proofs.CellLemmas.{is_lived}
 use Rattle.rrd_spec.proofs.Lives.{IsBase-lived}
 use Rattle.rrd_spec.proofs.LivesCut.{lived-cut, map-remove}
 use Rattle.rrd_spec.proofs.LivesPlain.{is_listed}
-use Rattle.rrd_spec.specs.History.Lives.{Life, change_at, life_added, life_of, lives, lives_from, with_event}
-use Rattle.rrd_spec.specs.Laws.ListedLives.{content_lived}
-use Rattle.std.proofs.lemmas.List.{map-append}
-use Rattle.std.specs.List.{remove}
-use Rattle.std.specs.Prelude.{slice_set}
 use Rattle.rrd_spec.proofs.ContentLemmas.{IsBase-listed}
-use Rattle.rrd_spec.specs.Commands.{DatabaseChange, settings_of, rows_of_archives, settings_after, events, events_of, moved}
-use Rattle.rrd_spec.specs.Settings.{Settings}
-use Rattle.rrd_spec.specs.Commands.Verdict.{verdict}
-use Rattle.rrd_spec.specs.Journal.Entries.{IsSound}
-use Rattle.rrd_spec.specs.Journal.Survivors.{survived, AllAccepted}
-use Rattle.rrd_spec.specs.Laws.Commands.{Moves}
 use Rattle.rrd_spec.proofs.Accepted.{accepted_history, command_raws}
 
 -- ---- the settings of a content are those that its events leave
@@ -49,9 +30,7 @@ rows_now-with e life = fold-append (rows_after 0) life.begun.def.rows life.since
 
 map_rows-with : (e : Event) (all : List Life) → ((rows : ℕ) → rows_after 0 rows e ≡ rows) → map rows_now (map (with_event e) all) ≡ map rows_now all
 map_rows-with e [] h = refl
-map_rows-with e (life ∷ all) h =
-    ap (λ n. n ∷ map rows_now (map (with_event e) all)) (rows_now-with e life ∙ h (rows_now life))
-    ∙ ap (λ rest. rows_now life ∷ rest) (map_rows-with e all h)
+map_rows-with e (life ∷ all) h = cc (rows_now-with e life ∙ h (rows_now life), map_rows-with e all h)
 
 map_rows-resized : (n : ℕ) (all : List Life) (number : ℕ) → slice_set (map rows_now all) number n ≡ map rows_now (change_at (with_event (Resized 0 n)) all number)
 map_rows-resized n [] number = refl
@@ -99,15 +78,10 @@ events_of-push settings [] command = append-nil (events settings command)
 events_of-push settings (first ∷ commands) command =
     let here = events settings first in
     let next = fold settings_after settings here in
-    ap (λ es. here ++ es) (events_of-push next commands command)
-    ∙ sym (append_assoc here (events_of next commands) (events (fold settings_after next (events_of next commands)) command))
-    ∙ ap (λ (s : Settings). (here ++ events_of next commands) ++ events s command) (sym (fold-append settings_after settings here (events_of next commands)))
+    cc (events_of-push next commands command, append_assoc here (events_of next commands) (events (fold settings_after next (events_of next commands)) command), fold-append settings_after settings here (events_of next commands))
 
 pub events_of-more : (base : Content) (commands : List DatabaseChange) (command : DatabaseChange) → events_of (settings_of base) (reverse (command ∷ commands)) ≡ events_of (settings_of base) (reverse commands) ++ events (settings_of (survived base commands)) command
-events_of-more base commands command =
-    ap (events_of (settings_of base)) (reverse-append (command ∷ []) commands)
-    ∙ events_of-push (settings_of base) (reverse commands) command
-    ∙ ap (λ s. events_of (settings_of base) (reverse commands) ++ events s command) (sym (settings_by_time base (events_of (settings_of base) (reverse commands))))
+events_of-more base commands command = cc (reverse-append (command ∷ []) commands, events_of-push (settings_of base) (reverse commands) command, settings_by_time base (events_of (settings_of base) (reverse commands)))
 
 -- the events of what survives are a history
 next_history : (base : Content) (commands : List DatabaseChange) (command : DatabaseChange) → verdict (survived base commands) command ≡ None → IsHistory (moment_at_end base (events_of (settings_of base) (reverse commands))) (events (settings_of (survived base commands)) command)
@@ -127,11 +101,7 @@ pub stays_base : (base : Content) (events : List Event) → StaysBase base event
 stays_base base events is h = subst IsBase (is_lived base events is h) (IsBase-lived base events is h)
 
 pub goes_on : (base : Content) (first second : List Event) → GoesOnFromContent base first second
-goes_on base first second is h k =
-    sym (is_lived base (first ++ second) is (IsHistory-append (moment_of base) first second h k))
-    ∙ lived-cut base first is h second k
-    ∙ ap (λ now. content_lived now second) (is_lived base first is h)
-    ∙ is_lived (content base first) second (stays_base base first is h) k
+goes_on base first second is h k = cc (is_lived base (first ++ second) is (IsHistory-append (moment_of base) first second h k), lived-cut base first is h second k, is_lived base first is h, is_lived (content base first) second (stays_base base first is h) k)
 
 -- a content moved by an accepted command in which no archive comes or goes, by list and by time
 pub moved_is : (base : Content) (command : DatabaseChange) → IsSound base → verdict base command ≡ None → KeepsArchives (events (settings_of base) command) → moved_listed base command ≡ moved base command
@@ -141,8 +111,7 @@ pub moves : (base : Content) (commands : List DatabaseChange) (command : Databas
 moves base commands command sound h =
     let earlier = events_of (settings_of base) (reverse commands) in
     let next = events (settings_of (survived base commands)) command in
-    ap (content base) (events_of-more base commands command)
-    ∙ goes_on base earlier next sound.is_base (survivors_history base commands h.1) (next_history base commands command h.0)
+    cc (events_of-more base commands command, goes_on base earlier next sound.is_base (survivors_history base commands h.1) (next_history base commands command h.0))
 
 -- ---- what is sound stays sound
 

@@ -1,14 +1,6 @@
 -- Names differ after a tune, and what its options give.
-use Rattle.std.proofs.Common.{◌≡◌, refl, sym, ◌∙◌, ap, true, false, cond, not, ◌&&◌, ◌||◌, List, [], ◌∷◌, map, Option, Some, None, ⊎_elim}
-use Rattle.std.proofs.lemmas.Bool.{cond_both, cases_Bool, or_parts, or_from, and_cases, both_ways, not-false}
-use Rattle.std.proofs.lemmas.Slice.Eq.{bytes_eq-Decides}
-use Rattle.std.specs.List.{list_any}
-use Rattle.rrd_fixed.specs.declared.name.Name.{Name}
-use Rattle.rrd_spec.specs.declared.settings.DsDef.{DsDef}
-use Rattle.rrd_spec.specs.Commands.{Asked, asked, tuned}
-use Rattle.rrd_spec.specs.Settings.{names, has_source, is_double}
-use Rattle.rrd_spec.specs.declared.requests.tune.Tuning.{Tuning}
-use Rattle.rrd_fixed.specs.Names.{same_name}
+use Rattle.std.specs.Prelude.{◌≡◌, true, false, cond, not, ◌&&◌, ◌||◌, List, [], ◌∷◌, map, Option, Some, None}
+use Rattle.rrd_spec.proofs.Names.{refl, sym, ◌∙◌, ap, ⊎_elim, cond_both, cases_Bool, or_parts, or_from, and_cases, both_ways, not-false, bytes_eq-Decides, list_any, Name, DsDef, Asked, asked, tuned, names, has_source, is_double, Tuning, same_name}
 
 pub same_is : (a b : Name) → same_name a b ≡ true → a ≡ b
 same_is a b h = (bytes_eq-Decides a b).0 h

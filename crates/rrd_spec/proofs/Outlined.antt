@@ -1,34 +1,9 @@
 -- Which entry a valid content can undo, by its outline alone.
-use Rattle.std.proofs.Common.{◌≡◌, ◌∙◌, ◌+◌, ◌-◌, ◌*◌, ◌/◌, ◌%◌, ◌<◌, ◌≤◌, ℕ, zero, suc, List, [], ◌∷◌, ◌++◌, refl, sym, ap, subst, arith, length, map, take, get_or, set, sum, length-append, length-take}
-use Rattle.std.specs.List.{AllByRecursion, fold, insert}
-use Rattle.std.proofs.Common.{drop}
-use Rattle.std.proofs.lemmas.List.{take-map}
+use Rattle.std.specs.Prelude.{◌≡◌, ◌+◌, ◌-◌, ◌*◌, ◌/◌, ◌%◌, ◌<◌, ◌≤◌, ℕ, zero, suc, List, [], ◌∷◌, ◌++◌, length, map, take, sum, drop}
+use Rattle.rrd_spec.proofs.Names.{◌∙◌, refl, sym, ap, subst, arith, get_or, set, length-append, length-take, AllByRecursion, fold, insert, take-map, get_or-set_other, get_or-set_same, length-map, length-set, Cell, Raw, IsAccepted, Average, SavedSource, Outline, DsDef, RraDef, Limits, cells, rows_of_archives, settings_of, Rra, Content, definitions, AddedEntry, BeforeUpdate, Entry, RemovedEntry, ResizeEntry, SavedArchive, TuneEntry, UpdateEntry, put_back, put_back_each, rows_at, undone, with_rows_at, with_source, length-accepted, rows_wide, Version, Head, head_of, JournalLeavesValid, JournalParts, JournalsJoin, FiledOutline, JournalTakes, JournalTook, MayUndoEach, OutlineFollows, OutlineIsNeeded, OutlineSuffices, OutlinesAreNeeded, OutlinesSuffice, All-append, All-at, All-drop, All-take, outline_of, outline_undone, with_row_number, with_sources, IsSavedSource, MaySave, MaySaveEach, MayUndo, Stored, AreAccepted, AreParts, FitEach, FitsArchive, IsRow, IsSourceWithin, IsValidArchiveWithin, IsValidWithin, Rise}
 use Rattle.rrd_spec.proofs.ArchiveTunes.{fewer_taken, inserted, length-insert, map-insert, sum-insert, valid_with}
-use Rattle.std.proofs.lemmas.List.{get_or-set_other, get_or-set_same, length-map, length-set}
-use Rattle.rrd_fixed.specs.declared.cell.Cell.{Cell}
-use Rattle.rrd_fixed.specs.declared.raw.Raw.{Raw}
-use Rattle.rrd_fixed.specs.Rate.{IsAccepted}
-use Rattle.rrd_fold.specs.declared.function.Function.TheVariants.{Average}
-use Rattle.rrd_spec.specs.declared.entry.SavedSource.{SavedSource}
-use Rattle.rrd_spec.specs.declared.outline.Outline.{Outline}
-use Rattle.rrd_spec.specs.declared.settings.DsDef.{DsDef}
-use Rattle.rrd_spec.specs.declared.settings.RraDef.{RraDef}
-use Rattle.rrd_spec.specs.Limits.{Limits}
-use Rattle.rrd_spec.specs.Settings.{cells}
-use Rattle.rrd_spec.specs.Commands.{rows_of_archives, settings_of}
-use Rattle.rrd_spec.specs.History.{Rra, Content, definitions}
-use Rattle.rrd_spec.specs.Journal.Entries.{AddedEntry, BeforeUpdate, Entry, RemovedEntry, ResizeEntry, SavedArchive, TuneEntry, UpdateEntry, put_back, put_back_each, rows_at, undone, with_rows_at, with_source}
-use Rattle.rrd_spec.specs.Lemmas.Validity.{length-accepted, rows_wide}
-use Rattle.rrd_spec.specs.declared.version.Version.{Version}
-use Rattle.rrd_spec.specs.Files.Filed.{Head, head_of}
-use Rattle.rrd_spec.specs.Laws.Journal.{JournalLeavesValid, JournalParts, JournalsJoin}
-use Rattle.rrd_spec.specs.Laws.Outlines.{FiledOutline, JournalTakes, JournalTook, MayUndoEach, OutlineFollows, OutlineIsNeeded, OutlineSuffices, OutlinesAreNeeded, OutlinesSuffice}
-use Rattle.rrd_spec.specs.Lemmas.Lists.{All-append, All-at, All-drop, All-take}
-use Rattle.rrd_spec.specs.Journal.Outlines.{outline_of, outline_undone, rows_of, with_row_number, with_sources}
-use Rattle.rrd_spec.specs.Journal.Fitting.{IsSavedSource, MaySave, MaySaveEach, MayUndo}
-use Rattle.rrd_spec.specs.Journal.Survivors.{Stored}
+use Rattle.rrd_spec.specs.Journal.Outlines.{rows_of}
 use Rattle.rrd_spec.proofs.ReadBack.{gives_back}
-use Rattle.rrd_spec.specs.Validity.{AreAccepted, AreParts, FitEach, FitsArchive, IsRow, IsSourceWithin, IsValidArchiveWithin, IsValidWithin, Rise}
 
 -- ---- lists
 
@@ -42,7 +17,7 @@ All-set P (y ∷ xs) zero x all here = (here, all.1)
 All-set P (y ∷ xs) (suc i) x all here = (all.0, All-set P xs i x all.1 here)
 
 -- the numbers of rows, by the archives and by their settings
-rows_by_settings : (archives : List Rra) → rows_of (definitions archives) ≡ rows_of_archives archives
+pub rows_by_settings : (archives : List Rra) → rows_of (definitions archives) ≡ rows_of_archives archives
 rows_by_settings [] = refl
 rows_by_settings (archive ∷ archives) = ap (λ rows. archive.def.rows ∷ rows) (rows_by_settings archives)
 
@@ -64,12 +39,7 @@ put_back_rows (archive ∷ archives) [] = refl
 put_back_rows (archive ∷ archives) (old ∷ olds) = ap (λ rows. archive.def.rows ∷ rows) (put_back_rows archives olds)
 
 saved_fits : (step from to sources : ℕ) (archive : Rra) (old : SavedArchive) → MaySave step from to sources archive.def old → FitsArchive step sources from to archive old
-saved_fits step from to sources archive old may = record {
-  same_function = may.same_function;
-  one_part_each = may.parts_are.one_each;
-  as_many = may.as_many;
-  one_cell_each = rows_wide sources old.rows may.each_row;
-}
+saved_fits step from to sources archive old may = assumption (may, may.parts_are, rows_wide sources old.rows may.each_row)
 
 saved_valid : (limits : Limits) (step from to sources : ℕ) (archive : Rra) (old : SavedArchive) → IsValidArchiveWithin limits sources (to / step) archive → MaySave step from to sources archive.def old
     → IsValidArchiveWithin limits sources (from / step) (put_back archive old)
@@ -89,29 +59,22 @@ saved_valid limits step from to sources archive old is may =
 
 saved_may : (limits : Limits) (step from to sources : ℕ) (archive : Rra) (old : SavedArchive) → FitsArchive step sources from to archive old → IsValidArchiveWithin limits sources (from / step) (put_back archive old)
     → MaySave step from to sources archive.def old
-saved_may limits step from to sources archive old fits is = record {
-  same_function = fits.same_function;
-  parts_are = is.parts_are;
-  as_many = fits.as_many;
-  each_row = All-front (IsRow sources) old.rows (take (length archive.rows - length old.rows) archive.rows) is.each_row;
-}
+saved_may limits step from to sources archive old fits is = assumption (fits, is, All-front (IsRow sources) old.rows (take (length archive.rows - length old.rows) archive.rows) is.each_row)
 
 each_saved : (limits : Limits) (step from to sources : ℕ) (archives : List Rra) (olds : List SavedArchive) → AllByRecursion (IsValidArchiveWithin limits sources (to / step)) archives → MaySaveEach step from to sources (definitions archives) olds
     → FitEach step sources from to archives olds × AllByRecursion (IsValidArchiveWithin limits sources (from / step)) (put_back_each archives olds)
 each_saved limits step from to sources [] [] is may = (tt, tt)
-each_saved limits step from to sources [] (old ∷ olds) is may = absurd may
-each_saved limits step from to sources (archive ∷ archives) [] is may = absurd may
 each_saved limits step from to sources (archive ∷ archives) (old ∷ olds) is may =
     let rest = each_saved limits step from to sources archives olds is.1 may.1 in
     ((saved_fits step from to sources archive old may.0, rest.0), (saved_valid limits step from to sources archive old is.0 may.0, rest.1))
+each_saved limits step from to sources x y is may = absurd may
 
 each_may : (limits : Limits) (step from to sources : ℕ) (archives : List Rra) (olds : List SavedArchive) → FitEach step sources from to archives olds → AllByRecursion (IsValidArchiveWithin limits sources (from / step)) (put_back_each archives olds)
     → MaySaveEach step from to sources (definitions archives) olds
 each_may limits step from to sources [] [] fits is = tt
-each_may limits step from to sources [] (old ∷ olds) fits is = absurd fits
-each_may limits step from to sources (archive ∷ archives) [] fits is = absurd fits
 each_may limits step from to sources (archive ∷ archives) (old ∷ olds) fits is =
     (saved_may limits step from to sources archive old fits.0 is.0, each_may limits step from to sources archives olds fits.1 is.1)
+each_may limits step from to sources x y fits is = absurd fits
 
 update_suffices : (limits : Limits) (now : Content) (old : BeforeUpdate) → OutlineSuffices limits now (UpdateEntry old)
 update_suffices limits now old is may =
@@ -144,12 +107,7 @@ update_suffices limits now old is may =
     )
 
 update_needed : (limits : Limits) (now : Content) (old : BeforeUpdate) → OutlineIsNeeded limits now (UpdateEntry old)
-update_needed limits now old is fits then = record {
-  earlier = fits.earlier;
-  raws_are = then.raws_are;
-  parts_are = then.parts_are;
-  archives_are = each_may limits now.step old.last now.last (length now.sources) now.archives old.archives fits.archives_fit then.archives_are;
-}
+update_needed limits now old is fits then = assumption (fits, then, each_may limits now.step old.last now.last (length now.sources) now.archives old.archives fits.archives_fit then.archives_are)
 
 -- ---- a tune
 
@@ -164,16 +122,15 @@ unfolding with_raws with_both
 sources_undone now [] = refl
 sources_undone now (old ∷ olds) = sources_undone (with_source now old) olds
 
-sources_count : (sources : List DsDef) (olds : List SavedSource) → length (with_sources sources olds) ≡ length sources
+pub sources_count : (sources : List DsDef) (olds : List SavedSource) → length (with_sources sources olds) ≡ length sources
 sources_count sources [] = refl
 sources_count sources (old ∷ olds) = sources_count (set sources old.number old.source) olds ∙ length-set sources old.number old.source
 
 accepted_set : (sources : List DsDef) (raws : List Raw) (i : ℕ) (source : DsDef) (raw : Raw) → AreAccepted sources raws → IsAccepted source.kind raw → AreAccepted (set sources i source) (set raws i raw)
 accepted_set [] [] i source raw all here = tt
-accepted_set [] (r ∷ raws) i source raw all here = absurd all
-accepted_set (s ∷ sources) [] i source raw all here = absurd all
 accepted_set (s ∷ sources) (r ∷ raws) zero source raw all here = (here, all.1)
 accepted_set (s ∷ sources) (r ∷ raws) (suc i) source raw all here = (all.0, accepted_set sources raws i source raw all.1 here)
+accepted_set x y i source raw all here = absurd all
 
 accepted_at : (sources : List DsDef) (raws : List Raw) (i : ℕ) (source : DsDef) (raw : Raw) → AreAccepted sources raws → i < length sources → IsAccepted (get_or sources i source).kind (get_or raws i raw)
 accepted_at [] raws i source raw all inside = absurd (omega arith)
@@ -195,16 +152,12 @@ sources_then limits sources (old ∷ olds) all each =
 -- numbers rise, so those below the lowest keep their source and raw value
 source_below : (lowest limit i : ℕ) (sources : List DsDef) (olds : List SavedSource) (d : DsDef) → Rise lowest limit olds → i < lowest → get_or (with_sources sources olds) i d ≡ get_or sources i d
 source_below lowest limit i sources [] d rise below = refl
-source_below lowest limit i sources (old ∷ olds) d rise below =
-    source_below (old.number + 1) limit i (set sources old.number old.source) olds d rise.2 (omega (arith, rise.0, below))
-    ∙ get_or-set_other sources old.number i old.source d (λ e. omega (arith, rise.0, below, e))
+source_below lowest limit i sources (old ∷ olds) d rise below = cc (source_below (old.number + 1) limit i (set sources old.number old.source) olds d rise.2 (omega (arith, rise.0, below)), get_or-set_other sources old.number i old.source d (λ e. omega (arith, rise.0, below, e)))
 
 raw_below : (lowest limit i : ℕ) (raws : List Raw) (olds : List SavedSource) (d : Raw) → Rise lowest limit olds → i < lowest → get_or (with_raws raws olds) i d ≡ get_or raws i d
 unfolding with_raws
 raw_below lowest limit i raws [] d rise below = refl
-raw_below lowest limit i raws (old ∷ olds) d rise below =
-    raw_below (old.number + 1) limit i (set raws old.number old.raw) olds d rise.2 (omega (arith, rise.0, below))
-    ∙ get_or-set_other raws old.number i old.raw d (λ e. omega (arith, rise.0, below, e))
+raw_below lowest limit i raws (old ∷ olds) d rise below = cc (raw_below (old.number + 1) limit i (set raws old.number old.raw) olds d rise.2 (omega (arith, rise.0, below)), get_or-set_other raws old.number i old.raw d (λ e. omega (arith, rise.0, below, e)))
 
 -- each source that comes back stands among all in the end
 each_source : (limits : Limits) (lowest : ℕ) (sources : List DsDef) (raws : List Raw) (olds : List SavedSource) → length raws ≡ length sources → Rise lowest (length sources) olds
@@ -232,8 +185,7 @@ each_source limits lowest sources raws (old ∷ olds) same rise all accepted =
 tune_suffices : (limits : Limits) (now : Content) (olds : List SavedSource) → OutlineSuffices limits now (TuneEntry olds)
 unfolding with_both
 tune_suffices limits now olds is may =
-    let sources = with_sources now.sources olds in
-    let count : length sources ≡ length now.sources = sources_count now.sources olds in (
+    let count : length (with_sources now.sources olds) ≡ length now.sources = sources_count now.sources olds in (
       record { some = may.some; few = may.few; rise = may.rise },
       subst (IsValidWithin limits) (sym (sources_undone now olds)) (record {
         some_step = is.some_step;
@@ -258,13 +210,7 @@ tune_needed : (limits : Limits) (now : Content) (olds : List SavedSource) → Ou
 unfolding with_both
 tune_needed limits now olds is fits then =
     let valid : IsValidWithin limits (with_both now (with_sources now.sources olds) (with_raws now.raws olds)) = subst (IsValidWithin limits) (sources_undone now olds) then in
-    record {
-      some = fits.some;
-      few = fits.few;
-      rise = fits.rise;
-      each = each_source limits 0 now.sources now.raws olds (length-accepted now.sources now.raws is.raws_are) fits.rise valid.sources_are valid.raws_are;
-      names_differ = valid.names_differ;
-    }
+    assumption (fits, each_source limits 0 now.sources now.raws olds (length-accepted now.sources now.raws is.raws_are) fits.rise valid.sources_are valid.raws_are, valid)
 
 -- ---- a resize
 
@@ -350,14 +296,13 @@ resize_suffices limits now archive rows is may =
 resize_needed : (limits : Limits) (now : Content) (archive : ℕ) (rows : List (List Cell)) → OutlineIsNeeded limits now (ResizeEntry archive rows)
 resize_needed limits now archive rows is fits then =
     let defs : length (definitions now.archives) ≡ length now.archives = length-map now.archives (λ (a : Rra). a.def) in
-    let was = row_count limits (length now.sources) (now.last / now.step) now.archives archive is.archives_are in
     let here = resized_here limits (length now.sources) (now.last / now.step) now.archives archive rows fits.there then.archives_are in
     record {
       there = omega (arith, defs, fits.there);
       old_rows = record {
         some = here.some;
         few = here.few;
-        another = λ same. fits.another (same ∙ sym was);
+        another = λ same. fits.another (same ∙ sym (row_count limits (length now.sources) (now.last / now.step) now.archives archive is.archives_are));
         few_cells = subst (λ all. length now.sources * sum all ≤ limits.max_cells) (sym (resized_rows now.archives archive rows)) then.few_cells;
       };
       each_row = here.each;
@@ -379,10 +324,7 @@ added_needed limits now is fits then =
     (fits.0, omega (arith, fits.1, length-map now.archives (λ (a : Rra). a.def)))
 
 rows_inserted : (archives : List Rra) (number : ℕ) (archive : Rra) → sum (rows_of (definitions archives)) + archive.def.rows ≡ sum (rows_of_archives (insert archives number archive))
-rows_inserted archives number archive =
-    ap (λ rows. sum rows + archive.def.rows) (rows_by_settings archives)
-    ∙ sym (sum-insert (rows_of_archives archives) number archive.def.rows)
-    ∙ ap sum (sym (map-insert (λ (a : Rra). a.def.rows) archives number archive))
+rows_inserted archives number archive = cc (rows_by_settings archives, sum-insert (rows_of_archives archives) number archive.def.rows, map-insert (λ (a : Rra). a.def.rows) archives number archive)
 
 removed_suffices : (limits : Limits) (now : Content) (number : ℕ) (archive : Rra) → OutlineSuffices limits now (RemovedEntry number archive)
 removed_suffices limits now number archive is may =
@@ -413,14 +355,13 @@ removed_needed : (limits : Limits) (now : Content) (number : ℕ) (archive : Rra
 removed_needed limits now number archive is fits then =
     let defs : length (definitions now.archives) ≡ length now.archives = length-map now.archives (λ (a : Rra). a.def) in
     let n = length now.sources in
-    let count = length-insert now.archives number archive fits.1.there in
     let this = inserted (IsValidArchiveWithin limits n (now.last / now.step)) now.archives number archive fits.1.there then.archives_are in (
       fits.0,
       record {
         number_is =
             record {
               there = omega (arith, defs, fits.1.there);
-              few = omega (arith, count, defs, then.few_archives);
+              few = omega (arith, (length-insert now.archives number archive fits.1.there), defs, then.few_archives);
             };
         settings_are =
             record {
@@ -465,11 +406,8 @@ with_defs outline defs = record outline { archives = defs }
 
 step_stays : (now : Content) (entry : Entry) → (undone now entry).step ≡ now.step
 unfolding with_both
-step_stays now (UpdateEntry old) = refl
 step_stays now (TuneEntry olds) = ap (λ (content : Content). content.step) (sources_undone now olds)
-step_stays now (ResizeEntry archive rows) = refl
-step_stays now AddedEntry = refl
-step_stays now (RemovedEntry number archive) = refl
+step_stays now x = refl
 
 outline_stays : (now : Content) (entry : Entry) → outline_of (undone now entry) ≡ outline_undone (outline_of now) entry
 unfolding with_both with_defs

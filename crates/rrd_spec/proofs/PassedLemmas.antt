@@ -1,20 +1,9 @@
 -- Seconds that pass in pieces, and a sample's.
-use Rattle.std.proofs.Common.{◌≡◌, refl, sym, ◌∙◌, ap, ℕ, zero, suc, ◌+◌, ◌-◌, ◌*◌, ◌/◌, ◌<◌, ◌≤◌, min, List, [], ◌∷◌, ◌++◌, length, map, replicate, arith, length-append, append_assoc, append-nil}
-use Rattle.std.proofs.lemmas.Bool.{le-leb}
-use Rattle.std.proofs.lemmas.List.{length-replicate}
-use Rattle.std.specs.List.{fold, range_with_len, enumerate_from, AllByRecursion}
-use Rattle.rrd_fixed.specs.declared.cell.Cell.{Cell}
-use Rattle.rrd_fold.specs.declared.function.Function.TheVariants.{Average}
-use Rattle.rrd_spec.specs.History.Groups.{finished, unfinished}
-use Rattle.rrd_fold.specs.Parts.{Part, with_each}
-use Rattle.rrd_spec.specs.History.Steps.{seconds_to_steps, steps_of, parts_of}
-use Rattle.rrd_spec.specs.History.Rows.{steps_to_rows, rows_of, row_parts_of}
-use Rattle.rrd_spec.specs.History.{Rra, Content, Reading, Sampled, moment_of, rates, samples, second, seconds_of, IsArchive, IsBase}
-use Rattle.rrd_spec.specs.Laws.ListedContent.{keep_last, filled_up, kept_rows, archive_of, content_listed}
-use Rattle.rrd_spec.specs.Laws.Passing.{archive_passed, passed}
+use Rattle.std.specs.Prelude.{◌≡◌, ℕ, zero, suc, ◌+◌, ◌-◌, ◌*◌, ◌/◌, ◌<◌, ◌≤◌, min, List, [], ◌∷◌, ◌++◌, length, map, replicate}
+use Rattle.rrd_spec.proofs.Names.{refl, sym, ◌∙◌, ap, arith, length-append, append_assoc, append-nil, le-leb, length-replicate, fold, range_with_len, enumerate_from, AllByRecursion, Cell, Average, finished, unfinished, Part, with_each, seconds_to_steps, steps_of, parts_of, steps_to_rows, rows_of, row_parts_of, Rra, Content, Sampled, moment_of, rates, samples, second, seconds_of, IsArchive, IsBase, keep_last, filled_up, kept_rows, archive_of, content_listed, archive_passed, passed, keep_all, length-keep_last, keep_last-append}
+use Rattle.rrd_spec.specs.History.{Reading}
 use Rattle.rrd_spec.proofs.GroupLemmas.{finished_nil, unfinished_nil, finished_within, unfinished_within, goes_on, length-finished, reached_before}
 use Rattle.rrd_spec.proofs.RowLemmas.{filled_already}
-use Rattle.rrd_spec.specs.Lemmas.Lists.{keep_all, length-keep_last, keep_last-append}
 
 pub archive_passed-append : (sources before middle : ℕ) (archive : Rra) (xs ys : List (List Cell)) → 0 < archive.def.steps → before + length xs ≡ middle → archive_passed sources before (xs ++ ys) archive ≡ archive_passed sources middle ys (archive_passed sources before xs archive)
 unfolding archive_passed
@@ -42,7 +31,7 @@ archives_passed-append sources before middle (archive ∷ archives) xs ys is at 
     let rest = archives_passed-append sources before middle archives xs ys is.1 at in
     cc
 
-with_passed : Content → ℕ → List Part → List Rra → Content
+unfoldable pub with_passed : Content → ℕ → List Part → List Rra → Content
 with_passed base last parts archives = record base { last = last; parts = parts; archives = archives }
 
 pub passed-append : (base : Content) (xs ys : List (List Cell)) → IsBase base → passed base (xs ++ ys) ≡ passed (passed base xs) ys
@@ -108,7 +97,7 @@ content_of_sample base sample is h =
 
 -- ---- one step at a time
 
-with_rows : Rra → List Part → List (List Cell) → Rra
+unfoldable pub with_rows : Rra → List Part → List (List Cell) → Rra
 with_rows archive parts rows = record archive { parts = parts; rows = rows }
 
 archive_passed-nil : (sources before : ℕ) (archive : Rra) → 0 < archive.def.steps → archive_passed sources before [] archive ≡ archive
@@ -135,6 +124,4 @@ passed_within base ys is h =
     let n = length base.sources in
     let rule = seconds_to_steps base.step n in
     let last = base.last + length ys in
-    ap (λ p. with_passed base last p (map (archive_passed n (base.last / base.step) (finished rule base.last base.parts ys)) base.archives)) (unfinished_within rule base.last base.parts ys is.some_step h)
-    ∙ ap (λ s. with_passed base last (fold rule.add base.parts ys) (map (archive_passed n (base.last / base.step) s) base.archives)) (finished_within rule base.last base.parts ys is.some_step h)
-    ∙ ap (with_passed base last (fold rule.add base.parts ys)) (archives_passed-nil n (base.last / base.step) base.archives is.archives_are)
+    cc (unfinished_within rule base.last base.parts ys is.some_step h, finished_within rule base.last base.parts ys is.some_step h, archives_passed-nil n (base.last / base.step) base.archives is.archives_are)

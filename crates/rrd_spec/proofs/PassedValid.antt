@@ -1,19 +1,6 @@
 -- What seconds leave of a valid content is valid.
-use Rattle.std.proofs.Common.{◌≡◌, refl, sym, ◌∙◌, ap, subst, ℕ, ◌+◌, ◌-◌, ◌*◌, ◌/◌, ◌<◌, ◌≤◌, List, [], ◌∷◌, ◌++◌, length, map, sum, arith, length-append}
-use Rattle.std.proofs.lemmas.List.{length-map}
-use Rattle.std.specs.List.{AllByRecursion}
-use Rattle.rrd_fixed.specs.declared.cell.Cell.{Cell}
-use Rattle.rrd_fold.specs.declared.function.Function.TheVariants.{Average}
-use Rattle.rrd_spec.specs.Laws.Validity.{ArchiveStaysValid, StaysValidFor}
-use Rattle.rrd_spec.specs.Commands.{rows_of_archives}
-use Rattle.rrd_spec.specs.History.Groups.{finished}
-use Rattle.rrd_spec.specs.History.{Rra, Content}
-use Rattle.rrd_spec.specs.Lemmas.Lists.{All-append, All-drop, length-keep_last}
-use Rattle.rrd_spec.specs.Laws.Passing.{archive_passed, passed}
-use Rattle.rrd_spec.specs.History.Steps.{seconds_to_steps}
-use Rattle.rrd_spec.specs.History.Rows.{steps_to_rows}
-use Rattle.rrd_spec.specs.Limits.{present}
-use Rattle.rrd_spec.specs.Validity.{AreParts, IsRow, IsValidArchive}
+use Rattle.std.specs.Prelude.{◌≡◌, ℕ, ◌+◌, ◌-◌, ◌*◌, ◌/◌, ◌<◌, ◌≤◌, List, [], ◌∷◌, ◌++◌, length, map, sum}
+use Rattle.rrd_spec.proofs.Names.{refl, sym, ◌∙◌, ap, subst, arith, length-append, length-map, AllByRecursion, Cell, Average, ArchiveStaysValid, StaysValidFor, rows_of_archives, finished, Rra, Content, All-append, All-drop, length-keep_last, archive_passed, passed, seconds_to_steps, steps_to_rows, present, AreParts, IsRow, IsValidArchive}
 use Rattle.rrd_spec.proofs.Bounded.{rows_keep, steps_keep}
 use Rattle.rrd_spec.proofs.GroupLemmas.{length-finished, reached_before}
 use Rattle.rrd_spec.proofs.Kept.{kept}
@@ -26,17 +13,7 @@ archive_stays_valid sources before steps archive is rows =
     let keeps = kept rule (IsRow sources) (AreParts def.function sources) (IsRow sources) (rows_keep def sources is.some_steps is.xff_low is.xff_high) before archive.parts steps is.parts_are rows in
     let new = finished rule before archive.parts steps in
     let all = archive.rows ++ new in
-    record {
-      some_steps = is.some_steps;
-      few_steps = is.few_steps;
-      some_rows = is.some_rows;
-      few_rows = is.few_rows;
-      xff_low = is.xff_low;
-      xff_high = is.xff_high;
-      parts_are = keeps.begun_is;
-      rows_are = length-keep_last (length archive.rows) all (omega (arith, length-append archive.rows new)) ∙ is.rows_are;
-      each_row = All-drop (IsRow sources) (length all - length archive.rows) all (All-append (IsRow sources) archive.rows new is.each_row keeps.given_are);
-    }
+    assumption (is, keeps, length-keep_last (length archive.rows) all (omega (arith, length-append archive.rows new)) ∙ is.rows_are, All-drop (IsRow sources) (length all - length archive.rows) all (All-append (IsRow sources) archive.rows new is.each_row keeps.given_are))
 
 archives_stay_valid : (sources before after : ℕ) (steps : List (List Cell)) (archives : List Rra) → AllByRecursion (IsValidArchive sources before) archives → AllByRecursion (IsRow sources) steps → before + length steps ≡ after → AllByRecursion (IsValidArchive sources after) (map (archive_passed sources before steps) archives)
 archives_stay_valid sources before after steps [] is rows e = tt

@@ -1,19 +1,8 @@
 -- Events in which no time passes.
-use Rattle.std.proofs.Common.{◌≡◌, refl, ◌∙◌, ap, ℕ, ◌+◌, ◌-◌, ◌*◌, ◌/◌, ◌<◌, ◌≤◌, cond, List, [], ◌∷◌, ◌++◌, length, map, replicate, arith, append-nil}
-use Rattle.std.proofs.lemmas.Bool.{ne_eqb}
-use Rattle.std.specs.List.{fold, range_with_len, enumerate_from, AllByRecursion}
-use Rattle.rrd_fixed.specs.declared.cell.Cell.{Cell}
-use Rattle.rrd_fixed.specs.declared.raw.Raw.{Raw}
-use Rattle.rrd_spec.specs.declared.settings.DsDef.{DsDef}
-use Rattle.rrd_fold.specs.Parts.{Part}
-use Rattle.rrd_spec.specs.History.{Rra, Content, Event, Tuned, Resized, moment_of, moment_at_end, raws_under, samples, second, seconds_of, rows_after, IsArchive, IsBase}
-use Rattle.rrd_spec.specs.History.Steps.{steps_of, parts_of, seconds_to_steps}
-use Rattle.rrd_spec.specs.History.Rows.{rows_of, row_parts_of, steps_to_rows}
-use Rattle.rrd_spec.specs.Laws.ListedContent.{rows_never_lost, keep_last, filled_up, kept_rows, archive_of, content_listed}
+use Rattle.std.specs.Prelude.{◌≡◌, ℕ, ◌+◌, ◌-◌, ◌*◌, ◌/◌, ◌<◌, ◌≤◌, cond, List, [], ◌∷◌, ◌++◌, length, map, replicate}
+use Rattle.rrd_spec.proofs.Names.{refl, ◌∙◌, ap, arith, append-nil, ne_eqb, fold, range_with_len, enumerate_from, AllByRecursion, Cell, Raw, DsDef, Part, Rra, Content, Event, Tuned, Resized, moment_of, moment_at_end, raws_under, samples, second, seconds_of, rows_after, IsArchive, IsBase, steps_of, parts_of, seconds_to_steps, rows_of, row_parts_of, steps_to_rows, rows_never_lost, keep_last, filled_up, kept_rows, archive_of, content_listed, finished, unfinished, keep_all}
 use Rattle.rrd_spec.proofs.RowLemmas.{filled_already}
-use Rattle.rrd_spec.specs.History.Groups.{finished, unfinished}
 use Rattle.rrd_spec.proofs.GroupLemmas.{finished_nil, unfinished_nil}
-use Rattle.rrd_spec.specs.Lemmas.Lists.{keep_all}
 
 module _ (base : Content) (es : List Event) (same : (moment_at_end base es).last ≡ base.last) where
   pub seconds_none : seconds_of base es ≡ []
@@ -84,8 +73,7 @@ unfolding content_listed with_all
 content_tuned base sources is =
     let es = Tuned sources ∷ [] in
     let raws = raws_under base.sources sources base.raws in
-    ap (λ ps. with_all base sources base.last raws ps (map (archive_of base es) (enumerate_from 0 base.archives))) (parts_same base es refl is.some_step)
-    ∙ ap (with_all base sources base.last raws base.parts) (archives_stay base es 0 base.archives refl is.archives_are (λ index rows low. refl) (λ index rows since low h. omega arith))
+    cc (parts_same base es refl is.some_step, archives_stay base es 0 base.archives refl is.archives_are (λ index rows low. refl) (λ index rows since low h. omega arith))
 
 -- another number of rows
 other_fold : (at rows index old : ℕ) → (at ≡ index → ⊥) → fold (rows_after index) old (Resized at rows ∷ []) ≡ old

@@ -1,18 +1,7 @@
 -- Rates stay in their bounds.
-use Rattle.std.proofs.Common.{◌≡◌, refl, ap, ℕ, zero, suc, ◌+◌, ◌-◌, ◌<◌, ◌≤◌, cond, List, [], ◌∷◌, length, map, arith, ⊎_elim, ℤ, pos, negsuc, ◌+ℤ◌, ◌-ℤ◌, ◌*ℤ◌, ◌≤ℤ◌, ◌<ℤ◌, unsigned_abs, neg_ℤ, ltb, ◌^◌, Option}
-use Rattle.std.specs.Prelude.{int_lt}
-use Rattle.std.proofs.lemmas.Int.{ints}
-use Rattle.std.proofs.lemmas.Bool.{cond_both, cases_lt, lt-leb, le-leb, ltb-true}
-use Rattle.std.specs.List.{fold, range_with_len, AllByRecursion}
-use Rattle.rrd_fixed.specs.declared.cell.Cell.{Cell}
-use Rattle.rrd_fixed.specs.declared.raw.Raw.{Raw}
-use Rattle.rrd_fixed.specs.declared.kind.Kind.{Kind}
-use Rattle.rrd_fixed.specs.declared.kind.Kind.TheVariants.{Gauge, Counter, Derive, Absolute}
-use Rattle.rrd_fixed.specs.Rate.{top, rise, raised_if_negative, plain_rate, is_under, is_over, cell_within, rate, IsAccepted, IsBounded}
-use Rattle.rrd_fixed.specs.Nearest.{near_limit}
-use Rattle.rrd_spec.specs.declared.settings.DsDef.{DsDef}
-use Rattle.rrd_spec.specs.History.{Reading, Sampled, Moment, moment_after, rates, samples, second, seconds, IsHistory}
-use Rattle.rrd_spec.specs.Validity.{AreAccepted, IsRow}
+use Rattle.std.specs.Prelude.{◌≡◌, ℕ, zero, suc, ◌+◌, ◌-◌, ◌<◌, ◌≤◌, cond, List, [], ◌∷◌, length, map, ℤ, pos, negsuc, ◌+ℤ◌, ◌-ℤ◌, ◌≤ℤ◌, unsigned_abs, ◌^◌, Option, int_lt}
+use Rattle.rrd_spec.proofs.Names.{refl, ap, arith, ⊎_elim, ◌*ℤ◌, ◌<ℤ◌, neg_ℤ, ltb, ints, cond_both, cases_lt, lt-leb, le-leb, ltb-true, fold, range_with_len, AllByRecursion, Cell, Raw, Kind, Gauge, Counter, Derive, Absolute, top, rise, raised_if_negative, plain_rate, is_under, is_over, cell_within, rate, IsAccepted, IsBounded, near_limit, DsDef, Sampled, Moment, moment_after, rates, samples, second, seconds, IsHistory, AreAccepted, IsRow}
+use Rattle.rrd_spec.specs.History.{Reading}
 
 -- ---- one source
 
@@ -75,9 +64,8 @@ rates_bounded (source ∷ sources) interval (old ∷ olds) (new ∷ news) some a
 second_row : (now : Moment) (list : List Reading) (at : ℕ) → AreAccepted now.sources now.raws → AllByRecursion (λ (sample : Reading). AreAccepted now.sources sample.raws) list → IsHistory now (map Sampled list) → now.last < at → at ≤ (fold moment_after now (map Sampled list)).last → IsRow (length now.sources) (second (samples now (map Sampled list)) at)
 second_row now [] at a is h low high = absurd (omega arith)
 second_row now (sample ∷ list) at a is h low high =
-    let next = moment_after now (Sampled sample) in
     ⊎_elim
-    (λ (past : sample.time < at). rw (lt-leb at sample.time past) (second_row next list at is.0 is.1 h.1 past high))
+    (λ (past : sample.time < at). rw (lt-leb at sample.time past) (second_row (moment_after now (Sampled sample)) list at is.0 is.1 h.1 past high))
     (λ (reached : at ≤ sample.time). rw (le-leb at sample.time reached) (record {
       one_each = length-rates now.sources (sample.time - now.last) now.raws sample.raws a is.0;
       each = rates_bounded now.sources (sample.time - now.last) now.raws sample.raws (omega (arith, h.0)) a is.0;

@@ -1,25 +1,6 @@
 -- A database from the lists that a file has of it.
-use Rattle.std.proofs.Common.{◌≡◌, ◌∙◌, ◌+◌, ◌*◌, ◌/◌, ◌<◌, ℕ, List, [], ◌∷◌, ◌++◌, refl, sym, ap, subst, arith, length, map, get_or, take, drop}
-use Rattle.std.specs.List.{AllByRecursion, flat_map}
-use Rattle.std.proofs.lemmas.List.{drop_at, ext_get_or, take_at}
-use Rattle.rrd_fixed.specs.declared.cell.Cell.{Cell}
-use Rattle.rrd_fixed.specs.declared.raw.Raw.{Raw}
-use Rattle.rrd_fold.specs.Parts.{Part}
-use Rattle.rrd_spec.specs.declared.settings.DsDef.{DsDef}
-use Rattle.rrd_spec.specs.declared.settings.RraDef.{RraDef}
-use Rattle.rrd_spec.specs.Limits.{Limits}
-use Rattle.rrd_spec.specs.Settings.{resolution}
-use Rattle.rrd_spec.specs.History.Cells.{time_of}
-use Rattle.rrd_spec.specs.History.{Rra, Content}
-use Rattle.rrd_spec.specs.Journal.Entries.{Entry}
-use Rattle.rrd_spec.specs.Lemmas.Validity.{length-accepted, rows_wide}
-use Rattle.rrd_spec.specs.declared.version.Version.{Version}
-use Rattle.rrd_spec.specs.Files.Filed.{Filed, Head, Source, head_of, sources_of}
-use Rattle.rrd_spec.specs.Laws.FiledOnce.{FiledOnce, RowsFiledOnce}
-use Rattle.rrd_spec.specs.Laws.Slots.{HasOneEach}
-use Rattle.rrd_spec.specs.Files.Slots.{by_slot, cells_by_slot, slot_of}
-use Rattle.rrd_spec.specs.Journal.Survivors.{Stored}
-use Rattle.rrd_spec.specs.Validity.{IsValidArchiveWithin}
+use Rattle.std.specs.Prelude.{◌≡◌, ◌+◌, ◌*◌, ◌/◌, ◌<◌, ℕ, List, [], ◌∷◌, ◌++◌, length, map, take, drop}
+use Rattle.rrd_spec.proofs.Names.{◌∙◌, refl, sym, ap, subst, arith, get_or, AllByRecursion, flat_map, drop_at, ext_get_or, take_at, Cell, Raw, Part, DsDef, RraDef, Limits, resolution, time_of, Rra, Content, Entry, length-accepted, rows_wide, Version, Filed, Head, Source, head_of, sources_of, FiledOnce, RowsFiledOnce, HasOneEach, by_slot, cells_by_slot, slot_of, Stored, IsValidArchiveWithin}
 use Rattle.rrd_spec.proofs.Slotted.{place_has_slot}
 use Rattle.rrd_spec.proofs.SlotCells.{as_many_cells, cell_stands_in_slot, wide_rows}
 use native.Mathlib.Nat as nat
@@ -69,8 +50,6 @@ archives_filed_once : (step last sources : ℕ) (archives others : List Rra) →
     → flat_map (cells_by_slot step last) archives ≡ flat_map (cells_by_slot step last) others → archives ≡ others
 unfolding archive_with
 archives_filed_once step last sources [] [] some all each heads cells = refl
-archives_filed_once step last sources [] (other ∷ others) some all each heads cells = absurd cc
-archives_filed_once step last sources (archive ∷ archives) [] some all each heads cells = absurd cc
 archives_filed_once step last sources (archive ∷ archives) (other ∷ others) some all each heads cells =
     let head : head_of archive ≡ head_of other = cc in
     let later : map head_of archives ≡ map head_of others = cc in
@@ -87,6 +66,7 @@ archives_filed_once step last sources (archive ∷ archives) (other ∷ others) 
     let rows : archive.rows ≡ other.rows = rows_filed_once size last sources archive.rows other.rows some_size all.0.each_row each.0.each_row count (both.0 ∙ other_cells) in
     let rest : archives ≡ others = archives_filed_once step last sources archives others some all.1 each.1 later both.1 in
     (λ i. archive_with (def i) (head i).parts (rows i) ∷ rest i)
+archives_filed_once step last sources x y some all each heads cells = absurd cc
 
 -- ---- sources
 
@@ -107,10 +87,6 @@ pub record GivesBack (defs : List DsDef) (raws : List Raw) (parts : List Part) :
 
 pub gives_back : (defs : List DsDef) (raws : List Raw) (parts : List Part) → length raws ≡ length defs → length parts ≡ length defs → GivesBack defs raws parts
 gives_back [] [] [] a b = record { defs_are = refl; raws_are = refl; parts_are = refl }
-gives_back [] [] (part ∷ parts) a b = absurd (omega arith)
-gives_back [] (raw ∷ raws) parts a b = absurd (omega arith)
-gives_back (def ∷ defs) [] parts a b = absurd (omega arith)
-gives_back (def ∷ defs) (raw ∷ raws) [] a b = absurd (omega arith)
 gives_back (def ∷ defs) (raw ∷ raws) (part ∷ parts) a b =
     let rest = gives_back defs raws parts (omega arith) (omega arith) in
     record {
@@ -118,6 +94,7 @@ gives_back (def ∷ defs) (raw ∷ raws) (part ∷ parts) a b =
       raws_are = ap (λ rs. raw ∷ rs) rest.raws_are;
       parts_are = ap (λ ps. part ∷ ps) rest.parts_are;
     }
+gives_back x y parts a b = absurd (omega arith)
 
 -- ---- the database
 

@@ -1,12 +1,7 @@
 -- An archive's rows after a history in two pieces.
-use Rattle.std.proofs.Common.{◌≡◌, refl, sym, ◌∙◌, ap, ℕ, ◌+◌, ◌-◌, ◌<◌, ◌≤◌, min, cond, List, [], ◌∷◌, ◌++◌, length, take, drop, replicate, arith, length-append, append_assoc, append-nil, take_all, get_or, ltb, ⊎_elim}
-use Rattle.std.proofs.lemmas.Bool.{cases_lt, lt-ltb, le-ltb}
-use Rattle.std.proofs.lemmas.List.{drop-append-le, drop-replicate, length-drop, length-replicate, take-append-drop, replicate-append-replicate, take_at, get_or-append_right, get_or-drop, get_or_append_left, get_or-replicate}
-use Rattle.std.specs.List.{fold}
-use Rattle.rrd_spec.specs.History.{Event, Sampled, Tuned, Resized, Added, Removed, Moment, moment_after, rows_after, IsHistory}
-use Rattle.rrd_spec.specs.Laws.ListedContent.{rows_never_lost, keep_last, filled_up}
+use Rattle.std.specs.Prelude.{◌≡◌, ℕ, ◌+◌, ◌-◌, ◌<◌, ◌≤◌, min, cond, List, [], ◌∷◌, ◌++◌, length, take, drop, replicate}
+use Rattle.rrd_spec.proofs.Names.{refl, sym, ◌∙◌, ap, arith, length-append, append_assoc, append-nil, take_all, get_or, ltb, ⊎_elim, cases_lt, lt-ltb, le-ltb, drop-append-le, drop-replicate, length-drop, length-replicate, take-append-drop, replicate-append-replicate, take_at, get_or-append_right, get_or-drop, get_or_append_left, get_or-replicate, fold, Event, Sampled, Tuned, Resized, Added, Removed, Moment, moment_after, rows_after, IsHistory, rows_never_lost, keep_last, filled_up, keep_all, keep_last_past, length-keep_last, split_last}
 use Rattle.rrd_spec.proofs.HistoryLemmas.{last_rises}
-use Rattle.rrd_spec.specs.Lemmas.Lists.{keep_all, keep_last_past, length-keep_last, split_last}
 
 -- ---- lists
 
@@ -20,10 +15,7 @@ length-filled_up n u xs h = omega (arith, length-append (replicate (n - length x
 filled_up-replicate : {A : Type 0} (n q : ℕ) (u : A) (xs : List A) → q + length xs ≤ n → filled_up n u (replicate q u ++ xs) ≡ filled_up n u xs
 filled_up-replicate n q u xs h =
     let count : length (replicate q u ++ xs) ≡ q + length xs = omega (arith, length-append (replicate q u) xs, length-replicate q u) in
-    ap (λ m. replicate (n - m) u ++ (replicate q u ++ xs)) count
-    ∙ sym (append_assoc (replicate (n - (q + length xs)) u) (replicate q u) xs)
-    ∙ ap (λ us. us ++ xs) (replicate-append-replicate (n - (q + length xs)) q u)
-    ∙ ap (λ m. replicate m u ++ xs) {x = n - (q + length xs) + q} {y = n - length xs} (omega arith)
+    cc (count, append_assoc (replicate (n - (q + length xs)) u) (replicate q u) xs, replicate-append-replicate (n - (q + length xs)) q u, ap (λ m. replicate m u ++ xs) {x = n - (q + length xs) + q} {y = n - length xs} (omega arith))
 
 -- to keep the last of what was kept before is to keep the last of all
 pub rows_again : {A : Type 0} (before after then now : ℕ) (u : A) (xs ys : List A) → then ≤ length xs → then ≤ before → now ≤ before + length ys → now ≤ after → filled_up after u (keep_last (min (then + length ys) now) (xs ++ ys)) ≡ filled_up after u (keep_last now (filled_up before u (keep_last then xs) ++ ys))

@@ -1,10 +1,6 @@
 -- The rows that an update leaves in their slots.
-use Rattle.std.proofs.Common.{◌≡◌, ◌∙◌, ◌+◌, ◌-◌, ◌/◌, ◌%◌, ◌<◌, ◌++◌, ℕ, zero, suc, List, [], ◌∷◌, sym, ap, arith, length, length-append, length-take, get_or, take}
-use Rattle.std.specs.List.{AllByRecursion}
-use Rattle.std.proofs.lemmas.List.{get_or-append-add, get_or-take}
-use Rattle.rrd_fixed.specs.declared.cell.Cell.{Cell}
-use Rattle.rrd_spec.specs.Files.Places.{place_in}
-use Rattle.rrd_spec.specs.Laws.Slots.{CellStaysInSlot, HasOneEach, StaysInSlot}
+use Rattle.std.specs.Prelude.{◌≡◌, ◌+◌, ◌-◌, ◌/◌, ◌%◌, ◌<◌, ◌++◌, ℕ, zero, suc, List, [], ◌∷◌, length, take}
+use Rattle.rrd_spec.proofs.Names.{◌∙◌, sym, ap, arith, length-append, length-take, get_or, AllByRecursion, get_or-append-add, get_or-take, Cell, place_in, CellStaysInSlot, HasOneEach, StaysInSlot}
 use Rattle.rrd_spec.proofs.SlotCells.{cell_stands_in_slot}
 use Rattle.rrd_spec.proofs.Slotted.{is_place, same_place, stands_in_place}
 
@@ -40,17 +36,16 @@ module _ (size from to : ℕ) (saved rows : List (List Cell)) (slot : ℕ) (coun
 pub stays_in_slot : (size from to : ℕ) (saved rows : List (List Cell)) (slot : ℕ) → StaysInSlot size from to saved rows slot
 stays_in_slot size from to saved rows slot some count inside stays =
     let len = before_len size from to saved rows slot count inside stays in
-    stands_in_place size to rows slot some inside
-    ∙ sym (stands_in_place size from (before saved rows) slot some (omega (arith, len)) ∙ same_row size from to saved rows slot count inside stays)
+    cc (stands_in_place size to rows slot some inside, stands_in_place size from (before saved rows) slot some (omega (arith, len)) ∙ same_row size from to saved rows slot count inside stays)
 
 -- ---- cells
 
-all_taken : (sources n : ℕ) (rows : List (List Cell)) → AllByRecursion (HasOneEach sources) rows → AllByRecursion (HasOneEach sources) (take n rows)
+pub all_taken : (sources n : ℕ) (rows : List (List Cell)) → AllByRecursion (HasOneEach sources) rows → AllByRecursion (HasOneEach sources) (take n rows)
 all_taken sources zero rows all = tt
 all_taken sources (suc n) [] all = tt
 all_taken sources (suc n) (row ∷ rows) all = (all.0, all_taken sources n rows all.1)
 
-all_joined : (sources : ℕ) (a b : List (List Cell)) → AllByRecursion (HasOneEach sources) a → AllByRecursion (HasOneEach sources) b → AllByRecursion (HasOneEach sources) (a ++ b)
+pub all_joined : (sources : ℕ) (a b : List (List Cell)) → AllByRecursion (HasOneEach sources) a → AllByRecursion (HasOneEach sources) b → AllByRecursion (HasOneEach sources) (a ++ b)
 all_joined sources [] b p q = q
 all_joined sources (row ∷ a) b p q = (p.0, all_joined sources a b p.1 q)
 

@@ -1,16 +1,6 @@
 -- The survivors of a run.
-use Rattle.std.proofs.Common.{◌≡◌, refl, sym, ◌∙◌, ap, subst, ℕ, zero, suc, ◌+◌, ◌-◌, ◌≤◌, ◌<◌, min, true, false, List, [], ◌∷◌, ◌++◌, length, take, arith, ⊎_elim, append-nil, reverse, Option, Some, None}
-use Rattle.std.specs.Prelude.{is_none}
-use Rattle.std.proofs.lemmas.Bool.{cases_Bool, cases_lt}
-use Rattle.std.proofs.lemmas.List.{length-take, reverse-append, reverse-reverse}
-use Rattle.std.specs.List.{fold}
-use Rattle.rrd_spec.specs.History.{Content}
-use Rattle.rrd_spec.specs.Commands.{DatabaseChange, content_of, moved}
-use Rattle.rrd_spec.specs.Commands.Verdict.{verdict, is_accepted}
-use Rattle.rrd_spec.specs.Journal.Entries.{Entry, entry, undone, IsSound}
-use Rattle.rrd_spec.specs.Journal.Survivors.{Action, Changed, Reverted, State, Stored, survived, entries, with_change, without_last, after, reverted, changed, stored_after, AllAccepted, AllUndo, Stands}
-use Rattle.rrd_spec.specs.Laws.Commands.{CommandsGoOn}
-use Rattle.rrd_spec.specs.Laws.Journal.{RunsAgree}
+use Rattle.std.specs.Prelude.{◌≡◌, ℕ, zero, suc, ◌+◌, ◌-◌, ◌≤◌, ◌<◌, min, true, false, List, [], ◌∷◌, ◌++◌, length, take, reverse, Option, Some, None, is_none}
+use Rattle.rrd_spec.proofs.Names.{refl, sym, ◌∙◌, ap, subst, arith, ⊎_elim, append-nil, cases_Bool, cases_lt, length-take, reverse-append, reverse-reverse, fold, Content, DatabaseChange, content_of, moved, verdict, is_accepted, Entry, entry, undone, IsSound, Action, Changed, Reverted, State, Stored, survived, entries, with_change, without_last, after, reverted, changed, stored_after, AllAccepted, AllUndo, Stands, CommandsGoOn, RunsAgree}
 use Rattle.rrd_spec.proofs.LivesPlain.{is_listed}
 use Rattle.rrd_spec.proofs.Moving.{moves, moved_sound}
 use Rattle.rrd_spec.proofs.Quiet.{content_nil}
@@ -56,10 +46,7 @@ on_survived base first (command ∷ commands) sound h =
 pub commands_go_on : (base : Content) (first second : List DatabaseChange) → CommandsGoOn base first second
 commands_go_on base first second sound h =
     let on = on_survived base (reverse first) (reverse second) sound (subst (AllAccepted base) (reverse-append first second) h) in
-    ap (content_of base) (sym (reverse-reverse (first ++ second)) ∙ ap reverse (reverse-append first second))
-    ∙ on.2
-    ∙ ap (λ x. content_of x (reverse (reverse second))) (ap (content_of base) (reverse-reverse first))
-    ∙ ap (content_of (content_of base first)) (reverse-reverse second)
+    cc (sym (reverse-reverse (first ++ second)) ∙ ap reverse (reverse-append first second), on.2, reverse-reverse first, reverse-reverse second)
 
 survived_depth : (base : Content) (commands : List DatabaseChange) → (survived base commands).depth ≡ base.depth
 survived_depth base commands = refl
@@ -125,7 +112,6 @@ revert_stands base (old ∷ brought) (command ∷ survivors) zero kept h = absur
 revert_stands base (old ∷ brought) [] zero kept h =
     let P : List Entry → Type 0 = λ journal. Stands (record { base = undone base old; brought = brought; survivors = []; revertible = 0 }) (reverted kept.content journal) in
     let places = h.places in
-    let depth = h.undo.1 in
     subst P (sym h.journal_is) (record {
       content_is = ap (λ now. undone now old) (h.content_is ∙ survived_nil base h.sound) ∙ sym (survived_nil (undone base old) h.undo.0);
       journal_is = refl;

@@ -1,11 +1,6 @@
 -- The cells of an archive, slot by slot.
-use Rattle.std.proofs.Common.{◌≡◌, ◌∙◌, ◌+◌, ◌-◌, ◌*◌, ◌<◌, ◌≤◌, ◌≢◌, ◌++◌, ℕ, zero, suc, List, [], ◌∷◌, sym, ap, refl, arith, length, get_or, set, take, drop}
-use Rattle.std.specs.List.{AllByRecursion, flat_map, range_with_len}
-use Rattle.std.proofs.lemmas.List.{append_assoc, drop_at, get_or_append_left, get_or-append_right, length-append, length-set, set-append_left, set-append_right, take_at}
-use Rattle.rrd_fixed.specs.declared.cell.Cell.{Cell}
-use Rattle.rrd_spec.specs.Files.Slots.{by_slot, row_in}
-use Rattle.rrd_spec.specs.Files.Places.{place_in}
-use Rattle.rrd_spec.specs.Laws.Slots.{AsManyCells, CellStandsInSlot, HasOneEach, PutsBlock, PutsCell, with_row_in}
+use Rattle.std.specs.Prelude.{◌≡◌, ◌+◌, ◌-◌, ◌*◌, ◌<◌, ◌≤◌, ◌≢◌, ◌++◌, ℕ, zero, suc, List, [], ◌∷◌, length, take, drop}
+use Rattle.rrd_spec.proofs.Names.{◌∙◌, sym, ap, refl, arith, get_or, set, AllByRecursion, flat_map, range_with_len, append_assoc, drop_at, get_or_append_left, get_or-append_right, length-append, length-set, set-append_left, set-append_right, take_at, Cell, by_slot, row_in, place_in, AsManyCells, CellStandsInSlot, HasOneEach, PutsBlock, PutsCell, with_row_in}
 use Rattle.rrd_spec.proofs.Slotted.{keeps_row, puts_row, slot_has_place, stands_in_place}
 use native.Mathlib.Nat as nat
 
@@ -29,15 +24,11 @@ wide_blocks f w a (suc n) all within wide =
 
 same_blocks : (f g : ℕ → List Cell) (a n : ℕ) → ((k : ℕ) → a ≤ k → k < a + n → g k ≡ f k) → blocks g a n ≡ blocks f a n
 same_blocks f g a zero same = refl
-same_blocks f g a (suc n) same =
-    ap (λ b. b ++ blocks g (a + 1) n) (same a (omega arith) (omega arith))
-    ∙ ap (λ b. f a ++ b) (same_blocks f g (a + 1) n (λ k low high. same k (omega (arith, low)) (omega (arith, high))))
+same_blocks f g a (suc n) same = cc (same a (omega arith) (omega arith), same_blocks f g (a + 1) n (λ k low high. same k (omega (arith, low)) (omega (arith, high))))
 
 -- those before one, that one, those after it
 cut : (f : ℕ → List Cell) (a s m n : ℕ) → n ≡ s + suc m → blocks f a n ≡ blocks f a s ++ (f (a + s) ++ blocks f (a + s + 1) m)
-cut f a zero m n is =
-    ap (blocks f a) {x = n} {y = suc m} (omega (arith, is))
-    ∙ ap (λ k. f k ++ blocks f (k + 1) m) {x = a} {y = a + 0} (omega arith)
+cut f a zero m n is = cc (ap (blocks f a) {x = n} {y = suc m} (omega (arith, is)), ap (λ k. f k ++ blocks f (k + 1) m) {x = a} {y = a + 0} (omega arith))
 cut f a (suc s) m zero is = absurd (omega (arith, is))
 cut f a (suc s) m (suc n) is =
     ap (λ b. f a ++ b) (cut f (a + 1) s m n (omega (arith, is)))
@@ -62,13 +53,7 @@ is_cut f w n s inside wide =
     let here_wide : length (f s) ≡ w = wide s inside in
     let product : (s + 1) * w ≡ s * w + w = ap (λ k. k * w) {x = s + 1} {y = suc s} (omega arith) ∙ nat.suc-mul s w in
     let reach : length (front ++ f s) ≡ (s + 1) * w = omega (arith, length-append front (f s), front_wide, here_wide, product) in
-    record {
-      whole = whole;
-      front_is = ap (take (s * w)) whole ∙ take_at front (f s ++ back) (s * w) front_wide;
-      back_is = ap (drop ((s + 1) * w)) (whole ∙ sym (append_assoc front (f s) back)) ∙ drop_at (front ++ f s) back ((s + 1) * w) reach;
-      front_wide = front_wide;
-      here_wide = here_wide;
-    }
+    assumption (whole, ap (take (s * w)) whole ∙ take_at front (f s ++ back) (s * w) front_wide, ap (drop ((s + 1) * w)) (whole ∙ sym (append_assoc front (f s) back)) ∙ drop_at (front ++ f s) back ((s + 1) * w) reach, front_wide, here_wide)
 
 -- another block in place of one
 another : (f g : ℕ → List Cell) (w n s : ℕ) → s < n → AreWide f w n → ((k : ℕ) → k < n → k ≢ s → g k ≡ f k)
@@ -91,9 +76,7 @@ wide_rows sources (row ∷ rows) zero all inside = all.0
 wide_rows sources (row ∷ rows) (suc place) all inside = wide_rows sources rows place all.1 (omega arith)
 
 wide_slots : (size last sources : ℕ) (rows : List (List Cell)) → 0 < size → AllByRecursion (HasOneEach sources) rows → AreWide (row_in size last rows) sources (length rows)
-wide_slots size last sources rows some all slot inside =
-    ap length (stands_in_place size last rows slot some inside)
-    ∙ wide_rows sources rows (place_in size last (length rows) slot) all (slot_has_place size last (length rows) slot some inside).there
+wide_slots size last sources rows some all slot inside = cc (stands_in_place size last rows slot some inside, wide_rows sources rows (place_in size last (length rows) slot) all (slot_has_place size last (length rows) slot some inside).there)
 
 pub as_many_cells : (size last sources : ℕ) (rows : List (List Cell)) → AsManyCells size last sources rows
 as_many_cells size last sources rows some all =
@@ -104,21 +87,19 @@ cell_stands_in_slot size last sources rows slot source or some all inside within
     let f = row_in size last rows in
     let n = length rows in
     let c = is_cut f sources n slot inside (wide_slots size last sources rows some all) in
-    let front = blocks f 0 slot in
     let back = blocks f (slot + 1) (n - slot - 1) in
     let at = slot * sources + source in
     ap (λ cells. get_or cells at or) c.whole
-    ∙ (get_or-append_right front (f slot ++ back) (slot * sources) at or c.front_wide (omega arith)
+    ∙ (get_or-append_right (blocks f 0 slot) (f slot ++ back) (slot * sources) at or c.front_wide (omega arith)
     ∙ (ap (λ k. get_or (f slot ++ back) k or) {x = at - slot * sources} {y = source} (omega arith)
     ∙ (get_or_append_left (f slot) back or source (omega (arith, within, c.here_wide))
     ∙ ap (λ row. get_or row source or) (stands_in_place size last rows slot some inside))))
 
 pub puts_block : (size last sources : ℕ) (rows : List (List Cell)) (slot : ℕ) (row : List Cell) → PutsBlock size last sources rows slot row
 puts_block size last sources rows slot row some all inside wide =
-    let then = with_row_in size last rows slot row in
     let n = length rows in
     let f = row_in size last rows in
-    let g = row_in size last then in
+    let g = row_in size last (with_row_in size last rows slot row) in
     let cells = by_slot size last rows in
     ap (blocks g 0) (length-set rows (place_in size last n slot) row)
     ∙ (another f g sources n slot inside (wide_slots size last sources rows some all) (λ k below apart. keeps_row size last rows slot row k some inside below apart)

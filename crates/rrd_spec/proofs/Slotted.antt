@@ -1,20 +1,6 @@
 -- Slots and places, by time and by number.
-use Rattle.std.proofs.Common.{◌≡◌, ◌≢◌, ◌∙◌, ◌+◌, ◌-◌, ◌*◌, ◌/◌, ◌%◌, ◌<◌, ◌≤◌, ◌⊎◌, ℕ, zero, suc, List, [], ◌∷◌, Some, pos, negsuc, ◌-ℤ◌, sym, ap, arith, inl, inr, length, get_or, replicate, Bool, true, false, Option}
-use Rattle.std.proofs.lemmas.Int.{ints}
-use Rattle.std.proofs.lemmas.Bool.{cases_lt, eq-eqb, lt-ltb, ne_eqb}
-use Rattle.std.proofs.lemmas.List.{get_or_default, get_or-set_other, get_or-set_same, length-set}
-use Rattle.std.specs.Prelude.{unsigned_abs}
-use Rattle.std.specs.List.{find, enumerate_from}
-use Rattle.std.specs.Option.{option_map_or}
-use Rattle.std.specs.Int.{int_rem_euclid, int_div_euclid}
-use Rattle.rrd_fixed.specs.declared.cell.Cell.{Cell}
-use Rattle.rrd_spec.specs.Settings.{resolution}
-use Rattle.rrd_spec.specs.History.Cells.{row_of_age, time_of}
-use Rattle.rrd_spec.specs.History.{Rra, Content}
-use Rattle.rrd_spec.specs.Files.Slots.{slot_of, stands_in, row_in}
-use Rattle.rrd_spec.specs.Files.Places.{place_in}
-use Rattle.rrd_spec.specs.Laws.Slots.{KeepsRow, PlaceHasSlot, PlacesDiffer, PutsRow, ShowsInPlace, SlotHasPlace, StandsInPlace, with_row_in}
-use Rattle.std.proofs.Math.Nat.{add-mul-mod_self_right, mod-add-div'}
+use Rattle.std.specs.Prelude.{◌≡◌, ◌≢◌, ◌+◌, ◌-◌, ◌*◌, ◌/◌, ◌%◌, ◌<◌, ◌≤◌, ◌⊎◌, ℕ, zero, suc, List, [], ◌∷◌, Some, pos, negsuc, ◌-ℤ◌, length, replicate, Bool, true, false, Option, unsigned_abs}
+use Rattle.rrd_spec.proofs.Names.{◌∙◌, sym, ap, arith, inl, inr, get_or, ints, cases_lt, eq-eqb, lt-ltb, ne_eqb, get_or_default, get_or-set_other, get_or-set_same, length-set, find, enumerate_from, option_map_or, int_rem_euclid, int_div_euclid, Cell, resolution, row_of_age, time_of, Rra, Content, slot_of, stands_in, row_in, place_in, KeepsRow, PlaceHasSlot, PlacesDiffer, PutsRow, ShowsInPlace, SlotHasPlace, StandsInPlace, with_row_in, add-mul-mod_self_right, mod-add-div'}
 use native.Mathlib.Nat as nat
 
 -- ---- the number of a row since 1970
@@ -86,7 +72,7 @@ slot_is size rows last place some r = ap (λ t. slot_of size rows t) (time_is si
 
 -- ---- the place in a slot
 
-mod_once : (n rows : ℕ) → 0 < rows → n < rows + rows → ((n < rows) × (n % rows ≡ n)) ⊎ ((rows ≤ n) × (n % rows ≡ n - rows))
+pub mod_once : (n rows : ℕ) → 0 < rows → n < rows + rows → ((n < rows) × (n % rows ≡ n)) ⊎ ((rows ≤ n) × (n % rows ≡ n - rows))
 mod_once n rows r h = elim (cases_lt n rows) [
   | inl lt ↦ inl (lt, nat.mod-eq_of_lt lt)
   | inr le ↦
@@ -200,11 +186,10 @@ places_differ size last rows slot other a b apart same =
 
 pub shows_in_place : (content : Content) (archive : Rra) (place : ℕ) → ShowsInPlace content archive place
 shows_in_place content archive place some inside =
-    let size = resolution content.step archive.def in
     let rows = archive.rows in
     let unknown = replicate (length content.sources) Cell.Unknown in
     let back : length rows - 1 - (length rows - 1 - place) ≡ place = omega (arith, inside) in
-    ap (row_of_age rows unknown) (age_is size (length rows) content.last place some inside)
+    ap (row_of_age rows unknown) (age_is (resolution content.step archive.def) (length rows) content.last place some inside)
     ∙ rw (lt-ltb (length rows - 1 - place) (length rows) (omega (arith, inside))) (ap (λ k. get_or rows k unknown) back ∙ get_or_default rows place unknown [] inside)
 
 -- ---- one row put into its place
@@ -217,9 +202,7 @@ row_then size last rows slot row other some inside =
     stands_in_place size last then other some (omega (arith, inside, same)) ∙ ap (λ n. get_or then (place_in size last n other) []) same
 
 pub puts_row : (size last : ℕ) (rows : List (List Cell)) (slot : ℕ) (row : List Cell) → PutsRow size last rows slot row
-puts_row size last rows slot row some inside =
-    row_then size last rows slot row slot some inside
-    ∙ get_or-set_same rows (place_in size last (length rows) slot) row [] (is_place (last / size + 1) (length rows) slot inside).inside
+puts_row size last rows slot row some inside = cc (row_then size last rows slot row slot some inside, get_or-set_same rows (place_in size last (length rows) slot) row [] (is_place (last / size + 1) (length rows) slot inside).inside)
 
 pub keeps_row : (size last : ℕ) (rows : List (List Cell)) (slot : ℕ) (row : List Cell) (other : ℕ) → KeepsRow size last rows slot row other
 keeps_row size last rows slot row other some inside within apart =

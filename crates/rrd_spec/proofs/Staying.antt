@@ -1,60 +1,18 @@
 -- An accepted command moves a valid content to a valid one.
-use Rattle.std.proofs.Common.{◌≡◌, refl, sym, ◌∙◌, ap, subst, ℕ, zero, suc, ◌+◌, ◌-◌, ◌*◌, ◌/◌, ◌%◌, ◌<◌, ◌≤◌, ◌^◌, true, false, cond, not, ◌&&◌, ◌||◌, ltb, eqb, List, [], ◌∷◌, length, map, get_or, arith, ℤ, pos, neg_ℤ, ◌≤ℤ◌, unsigned_abs, Option, Some, None}
-use Rattle.std.specs.Prelude.{int_le, sum}
-use lib.Signed.{le_z_yes}
-use lib.Dec.{T}
-use Rattle.std.proofs.lemmas.Int.{ints}
-use Rattle.std.proofs.lemmas.Bool.{cond_both, ltb-true, ltb-false, or_parts, not-false}
-use Rattle.std.proofs.lemmas.List.{length-map}
-use Rattle.std.proofs.lemmas.List.FromFn.{length-enumerate_from}
-use Rattle.std.specs.List.{fold, enumerate_from, list_any, AllByRecursion}
-use Rattle.std.specs.Option.{option_and_then, option_map_or, unwrap_or}
-use Rattle.rrd_fixed.specs.declared.raw.Raw.{Raw}
-use Rattle.rrd_fixed.specs.declared.kind.Kind.{Kind}
-use Rattle.rrd_fixed.specs.declared.kind.Kind.TheVariants.{Gauge, Counter, Derive, Absolute}
-use Rattle.rrd_fixed.specs.Rate.{IsAccepted}
-use Rattle.rrd_fixed.specs.declared.name.Name.{Name}
-use Rattle.rrd_spec.specs.declared.settings.DsDef.{DsDef}
-use Rattle.rrd_spec.specs.History.{Rra, Content, Reading, Event, Sampled, Tuned, Moment, moment_after, moment_of, moment_at_end, same_kind, raws_under, rows_after, seconds_of, IsHistory}
-use Rattle.rrd_spec.specs.Laws.ListedContent.{KeepsArchives, archive_of, content_listed}
+use Rattle.std.specs.Prelude.{◌≡◌, ℕ, zero, suc, ◌+◌, ◌-◌, ◌*◌, ◌/◌, ◌%◌, ◌<◌, ◌≤◌, ◌^◌, true, false, cond, not, ◌&&◌, ◌||◌, List, [], ◌∷◌, length, map, ℤ, pos, ◌≤ℤ◌, unsigned_abs, Option, Some, None, int_le, sum, option_and_then, ◌++◌, drop, take}
+use Rattle.rrd_spec.proofs.Names.{refl, sym, ◌∙◌, ap, subst, ltb, eqb, get_or, arith, neg_ℤ, le_z_yes, T, ints, cond_both, ltb-true, ltb-false, or_parts, not-false, length-map, length-enumerate_from, fold, enumerate_from, list_any, AllByRecursion, option_map_or, unwrap_or, Raw, Kind, Gauge, Counter, Derive, Absolute, IsAccepted, Name, DsDef, Rra, Content, Event, Sampled, Tuned, Moment, moment_after, moment_of, moment_at_end, same_kind, raws_under, rows_after, seconds_of, IsHistory, KeepsArchives, archive_of, content_listed, Asked, DatabaseChange, Updating, TuningBy, Resizing, settings_of, settings_after, rows_of_archives, raw_of, value_for, sample_of, samples_of, asked, tuned, rows_changed, events, names, has_source, is_double, cells, Passes, is_bad_heartbeat, is_bad_rows, has_bad_bounds, grows_too_far, sample_checks, verdict, new_archive, All-append, All-drop, All-take, length_push, map-append, length-remove, ArchiveTune, Add, Remove, leb-false, moved, remove, IsSource, AreAccepted, AreParts, IsRow, IsValidArchive, IsValid, StaysValid, base_of_valid, sound, floor_of, Given, Sample, Update, Tuning, Change, Grow, Shrink, in_range, is_whole, same_name, is_good, present}
+use Rattle.rrd_spec.specs.History.{Reading}
 use Rattle.rrd_spec.proofs.HistoryLemmas.{length-sources}
 use Rattle.rrd_spec.proofs.SampleLemmas.{rows_of_samples}
-use Rattle.rrd_spec.specs.Commands.{Asked, DatabaseChange, Updating, TuningBy, Resizing, settings_of, settings_after, rows_of_archives, raw_of, value_for, sample_of, samples_of, asked, tuned, rows_changed, events}
-use Rattle.rrd_spec.specs.Settings.{names, has_source, is_double, cells}
-use Rattle.rrd_spec.specs.Laws.Commands.{Passes}
-use Rattle.rrd_spec.specs.Commands.Verdict.{is_bad_heartbeat, is_bad_rows, has_bad_bounds, grows_too_far, sample_checks, verdict}
 use Rattle.rrd_spec.proofs.Accepted.{accepted_passes, accepted_history, tune_passes}
 use Rattle.rrd_spec.proofs.Moving.{moved_is, settings_by_time}
 use Rattle.rrd_spec.proofs.ArchiveTunes.{fewer_removed, tune_added, tune_alone, tune_removed, valid_with}
 use Rattle.rrd_spec.proofs.Created.{archive_valid}
 use Rattle.rrd_spec.proofs.LivesPlain.{is_listed}
-use Rattle.rrd_spec.specs.History.Lives.{new_archive}
-use Rattle.rrd_spec.specs.Lemmas.Lists.{All-append, All-drop, All-take}
-use Rattle.std.proofs.lemmas.List.{length_push, map-append}
-use Rattle.std.proofs.lemmas.List.Edits.{length-remove}
-use Rattle.rrd_spec.specs.declared.requests.tune.ArchiveTune.{ArchiveTune}
-use Rattle.rrd_spec.specs.declared.requests.tune.ArchiveTune.TheVariants.{Add, Remove}
-use Rattle.std.proofs.Common.{◌++◌, drop, take}
-use Rattle.std.proofs.lemmas.Bool.{leb-false}
-use Rattle.rrd_spec.specs.Commands.{moved}
-use Rattle.std.specs.List.{remove}
 use Rattle.rrd_spec.proofs.Quiet.{seconds_none}
-use Rattle.rrd_spec.specs.Validity.{IsSource, AreAccepted, AreParts, IsRow, IsValidArchive, IsValid}
-use Rattle.rrd_spec.specs.Laws.Validity.{StaysValid}
 use Rattle.rrd_spec.proofs.Rates.{seconds_rows}
 use Rattle.rrd_spec.proofs.Held.{LeavesGoodRows, parts_valid, archives_valid}
-use Rattle.rrd_spec.specs.Lemmas.Validity.{base_of_valid, sound}
 use Rattle.rrd_spec.proofs.NameLemmas.{names_differ, names_tuned}
-use Rattle.rrd_fixed.specs.Rounding.{floor_of}
-use Rattle.rrd_spec.specs.declared.requests.update.Given.{Given}
-use Rattle.rrd_spec.specs.declared.requests.update.Sample.{Sample}
-use Rattle.rrd_spec.specs.declared.requests.update.Update.{Update}
-use Rattle.rrd_spec.specs.declared.requests.tune.Tuning.{Tuning}
-use Rattle.rrd_spec.specs.declared.requests.resize.Change.{Change}
-use Rattle.rrd_spec.specs.declared.requests.resize.Change.TheVariants.{Grow, Shrink}
-use Rattle.rrd_fixed.specs.Admitted.{in_range, is_whole}
-use Rattle.rrd_fixed.specs.Names.{same_name, is_good}
-use Rattle.rrd_spec.specs.Limits.{present}
 
 -- ---- raw values
 
@@ -106,10 +64,9 @@ kind_is Absolute Derive raw e h = absurd cc
 
 raws_tuned : (f : DsDef → DsDef) (sources : List DsDef) (raws : List Raw) → AreAccepted sources raws → AreAccepted (map f sources) (raws_under sources (map f sources) raws)
 raws_tuned f [] [] h = tt
-raws_tuned f [] (raw ∷ raws) h = absurd h
-raws_tuned f (source ∷ sources) [] h = absurd h
 raws_tuned f (source ∷ sources) (raw ∷ raws) h =
     (cond_both (same_kind source.kind (f source).kind) raw Raw.Unknown (IsAccepted (f source).kind) (λ e. kind_is source.kind (f source).kind raw e h.0) (λ e. tt), raws_tuned f sources raws h.1)
+raws_tuned f x y h = absurd h
 
 -- ---- the numbers of rows
 
@@ -137,23 +94,7 @@ left_valid base es is left =
     let count : length (map (archive_of base es) (enumerate_from 0 base.archives)) ≡ length base.archives = length-map (enumerate_from 0 base.archives) (archive_of base es) ∙ length-enumerate_from 0 base.archives in
     let AP : ℕ → Type 0 = λ n. AllByRecursion (IsValidArchive n (end.last / base.step)) (map (archive_of base es) (enumerate_from 0 base.archives)) in
     let PP : ℕ → Type 0 = λ n. AreParts Rattle.rrd_fold.specs.declared.function.Function.TheVariants.Average n (end.last % base.step) (content_listed base es).parts in
-    record {
-      some_step = is.some_step;
-      small_step = is.small_step;
-      good_time = left.good_time;
-      some_depth = is.some_depth;
-      small_depth = is.small_depth;
-      some_source = omega (arith, is.some_source);
-      few_sources = omega (arith, is.few_sources);
-      some_archive = omega (arith, is.some_archive);
-      few_archives = omega (arith, is.few_archives);
-      few_cells = left.few_cells;
-      sources_are = left.sources_are;
-      names_differ = left.names_differ;
-      raws_are = left.raws_are;
-      parts_are = subst PP (sym as_many) (parts_valid base es is left.history left.seconds_are);
-      archives_are = subst AP (sym as_many) (archives_valid base es 0 base.archives is left.history left.good_rows left.seconds_are is.archives_are);
-    }
+    grind (arith, is, left, subst PP (sym as_many) (parts_valid base es is left.history left.seconds_are), subst AP (sym as_many) (archives_valid base es 0 base.archives is left.history left.good_rows left.seconds_are is.archives_are))
 
 below : (n : ℕ) (m : ℕ) → m ≡ n → n ≤ present.max_cells → m ≤ present.max_cells
 below n m e h = omega arith
@@ -183,14 +124,13 @@ update_leaves base update is h =
     let template = unwrap_or update.template (names base.sources) in
     let list = samples_of base.sources update in
     let es = map Sampled list in
-    let p = accepted_passes base (Updating update) h in
     let history = accepted_history base (Updating update) h in
     let accepted = samples_accepted base.sources template update.samples in
     let same = end_sources (moment_of base) list in
     let SP : List DsDef → Type 0 = λ sources. AllByRecursion IsSource sources in
     record {
       history = history;
-      good_time = end_time base.sources template (moment_of base) update.samples p.1.1.1 is.good_time;
+      good_time = end_time base.sources template (moment_of base) update.samples (accepted_passes base (Updating update) h).1.1.1 is.good_time;
       sources_are = subst SP (sym same) is.sources_are;
       names_differ = ap (λ sources. is_double (names sources)) same ∙ is.names_differ;
       raws_are = end_raws (moment_of base) list is.raws_are accepted;
@@ -223,8 +163,7 @@ tuned_sources tuning (source ∷ sources) a b c is =
 
 tune_leaves : (base : Content) (tuning : Tuning) → IsValid base → verdict base (TuningBy tuning) ≡ None → Leaves base (Tuned (map (tuned tuning) base.sources) ∷ [])
 tune_leaves base tuning is h =
-    let news = map (tuned tuning) base.sources in
-    let es = Tuned news ∷ [] in
+    let es = Tuned (map (tuned tuning) base.sources) ∷ [] in
     let p = accepted_passes base (TuningBy tuning) h in
     let f = λ (option : Asked Name). not (same_name option.0 option.1) && has_source base.sources option.1 in
     let free = λ (option : Asked Name) (e : tuning.rename ≡ Some option). sym (ap (λ r. option_map_or f r false) e) ∙ p.1.1.1.1.0 in

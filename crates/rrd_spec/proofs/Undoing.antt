@@ -1,38 +1,15 @@
 -- What undoes a command.
-use Rattle.std.proofs.Common.{◌≡◌, refl, sym, ◌∙◌, ap, ℕ, zero, suc, ◌+◌, ◌-◌, ◌<◌, min, true, false, cond, List, [], ◌∷◌, ◌++◌, length, map, take, set, Option, Some, None, arith, append_assoc, ⊎_elim, ℤ, slice_index_or}
-use Rattle.std.proofs.lemmas.Bool.{or_parts, cases_Bool, leb-false}
-use Rattle.std.proofs.lemmas.List.{set_at, length_push, length-take, length-map}
-use Rattle.std.specs.List.{fold, enumerate_from, AllByRecursion}
-use Rattle.rrd_fixed.specs.declared.raw.Raw.{Raw}
-use Rattle.rrd_fixed.specs.declared.kind.Kind.{Kind}
-use Rattle.rrd_fixed.specs.declared.kind.Kind.TheVariants.{Gauge, Counter, Derive, Absolute}
-use Rattle.rrd_fixed.specs.declared.name.Name.{Name}
-use Rattle.rrd_spec.specs.declared.settings.DsDef.{DsDef}
-use Rattle.rrd_spec.specs.declared.entry.SavedSource.{SavedSource}
-use Rattle.rrd_spec.specs.History.{Rra, Reading, Sampled, Resized, Moment, moment_after, moment_of, moment_at_end, same_kind, raws_under, rows_after, IsHistory, IsArchive}
-use Rattle.rrd_spec.specs.History.Rows.{rows_of, row_parts_of}
-use Rattle.rrd_spec.specs.Laws.ListedContent.{kept_rows, archive_of, content_listed, moved_listed}
+use Rattle.std.specs.Prelude.{◌≡◌, ℕ, zero, suc, ◌+◌, ◌-◌, ◌<◌, min, true, false, cond, List, [], ◌∷◌, ◌++◌, length, map, take, Option, Some, None, ℤ, slice_index_or}
+use Rattle.rrd_spec.proofs.Names.{refl, sym, ◌∙◌, ap, set, arith, append_assoc, ⊎_elim, or_parts, cases_Bool, leb-false, set_at, length_push, length-take, length-map, fold, enumerate_from, AllByRecursion, Raw, Kind, Gauge, Counter, Derive, Absolute, Name, DsDef, SavedSource, Rra, Sampled, Resized, Moment, moment_after, moment_of, moment_at_end, same_kind, raws_under, rows_after, IsHistory, IsArchive, rows_of, row_parts_of, kept_rows, archive_of, content_listed, moved_listed, Asked, DatabaseChange, Updating, TuningBy, Resizing, settings_of, samples_of, asked, tuned, rows_changed, verdict, AddedEntry, RemovedEntry, ResizeEntry, TuneEntry, archive_at, archive_entry, rows_between, saved, is_asked, is_named, saved_sources, rows_at, put_back, put_back_each, with_source, with_rows_at, entry, undone, IsSound, ComesBack, new_archive, moved, ArchiveTune, Add, Remove, option_map_or, Content, Tuning, Update, Change}
+use Rattle.rrd_spec.specs.History.{Reading}
 use Rattle.rrd_spec.proofs.ContentLemmas.{length-rows_of, length-kept_rows}
 use Rattle.rrd_spec.proofs.SampleLemmas.{rows_of_samples, update_undone}
-use Rattle.rrd_spec.specs.Commands.{Asked, DatabaseChange, Updating, TuningBy, Resizing, settings_of, samples_of, asked, tuned, rows_changed}
-use Rattle.rrd_spec.specs.Commands.Verdict.{verdict}
-use Rattle.rrd_spec.specs.Journal.Entries.{AddedEntry, RemovedEntry, ResizeEntry, TuneEntry, archive_at, archive_entry, rows_between, saved, is_asked, is_named, saved_sources, rows_at, put_back, put_back_each, with_source, with_rows_at, entry, undone, IsSound}
-use Rattle.rrd_spec.specs.Laws.Journal.{ComesBack}
 use Rattle.rrd_spec.proofs.Accepted.{accepted_passes, accepted_history, tune_passes}
 use Rattle.rrd_spec.proofs.ArchiveTunes.{put_in_again, tune_added, tune_removed, without_added}
 use Rattle.rrd_spec.proofs.Changing.{tune_changes}
 use Rattle.rrd_spec.proofs.Staying.{sampled_keep}
-use Rattle.rrd_spec.specs.History.Lives.{new_archive}
-use Rattle.rrd_spec.specs.Commands.{moved}
-use Rattle.rrd_spec.specs.declared.requests.tune.ArchiveTune.{ArchiveTune}
-use Rattle.rrd_spec.specs.declared.requests.tune.ArchiveTune.TheVariants.{Add, Remove}
-use Rattle.std.specs.Option.{option_map_or}
-use Rattle.rrd_spec.specs.History.{Content}
 use Rattle.rrd_spec.proofs.Moving.{moved_is}
 use Rattle.rrd_spec.proofs.Quiet.{made, with_all, resized_other, resized_elsewhere, content_resized, row_parts_same}
-use Rattle.rrd_spec.specs.declared.requests.tune.Tuning.{Tuning}
-use Rattle.rrd_spec.specs.declared.requests.update.Update.{Update}
-use Rattle.rrd_spec.specs.declared.requests.resize.Change.{Change}
 
 -- ---- an update
 
@@ -44,9 +21,8 @@ archive_back : (base : Content) (index : ℕ) (archive : Rra) (samples : List Re
 unfolding made
 archive_back base index archive samples some is h =
     let es = map Sampled samples in
-    let end = (moment_at_end base es).last in
     let new = rows_of base archive es in
-    let f = rows_between base.step archive.def base.last end in
+    let f = rows_between base.step archive.def base.last ((moment_at_end base es).last) in
     let r = length archive.rows in
     let kept = kept_rows base index archive es in
     let m = min f r in
@@ -105,9 +81,7 @@ not_named tuning source h =
 
 kind_itself : (kind : Kind) → same_kind kind kind ≡ true
 kind_itself Gauge = refl
-kind_itself Counter = refl
-kind_itself Derive = refl
-kind_itself Absolute = refl
+kind_itself x = refl
 
 with_sources : Content → List DsDef → List Raw → Content
 with_sources base sources raws = record base { sources = sources; raws = raws }
@@ -149,13 +123,10 @@ sources_back base tuning number done done_raws (source ∷ sources) (raw ∷ raw
 -- other settings, or an archive that comes or goes
 tuned_back : (base : Content) (tuning : Tuning) (archive : Option ArchiveTune) → tuning.archive ≡ archive → IsSound base → verdict base (TuningBy tuning) ≡ None → undone (moved base (TuningBy tuning)) (option_map_or (archive_entry base) archive (TuneEntry (saved_sources tuning 0 base.sources base.raws))) ≡ base
 unfolding with_sources
-tuned_back base tuning None e sound h =
-    ap (λ now. fold with_source now (saved_sources tuning 0 base.sources base.raws)) (tune_changes base tuning sound.is_base e)
-    ∙ sources_back base tuning 0 [] [] base.sources base.raws refl refl sound.one_raw_each
+tuned_back base tuning None e sound h = cc (tune_changes base tuning sound.is_base e, sources_back base tuning 0 [] [] base.sources base.raws refl refl sound.one_raw_each)
 tuned_back base tuning (Some (Add def)) e sound h =
-    let new = new_archive (length base.sources) def in
     ap (λ now. undone now AddedEntry) (tune_added base tuning def sound.is_base e h)
-    ∙ ap (λ archives. let x : Content = record base { archives = archives } in x) (without_added base.archives new)
+    ∙ ap (λ archives. let x : Content = record base { archives = archives } in x) (without_added base.archives (new_archive (length base.sources) def))
 tuned_back base tuning (Some (Remove number)) e sound h =
     let p = tune_passes base tuning (Some (Remove number)) e h in
     let there : number < length base.archives = omega (arith, leb-false (length (settings_of base).rows) number p.0, length-map base.archives (λ (a : Rra). a.def.rows)) in
@@ -195,10 +166,6 @@ resize_back base archive change rows sound h =
     ∙ ap (λ archives. with_archives base archives) (archives_resized_back base archive new 0 archive base.archives (omega arith) sound.is_base.archives_are there)
 
 pub comes_back : (base : Content) (command : DatabaseChange) → ComesBack base command
-comes_back base (Updating update) sound h =
-    ap (λ now. undone now (entry base (Updating update))) (sym (moved_is base (Updating update) sound h (sampled_keep (samples_of base.sources update))))
-    ∙ update_back base update sound h
+comes_back base (Updating update) sound h = cc (moved_is base (Updating update) sound h (sampled_keep (samples_of base.sources update)), update_back base update sound h)
 comes_back base (TuningBy tuning) sound h = tuned_back base tuning tuning.archive refl sound h
-comes_back base (Resizing archive change rows) sound h =
-    ap (λ now. undone now (entry base (Resizing archive change rows))) (sym (moved_is base (Resizing archive change rows) sound h tt))
-    ∙ resize_back base archive change rows sound h
+comes_back base (Resizing archive change rows) sound h = cc (moved_is base (Resizing archive change rows) sound h tt, resize_back base archive change rows sound h)

@@ -1,7 +1,6 @@
 -- Glue: the value of a list of archives' items after a `&mut` into it has ended.
 use Rattle.std.specs.Prelude.{ℕ, List, length, slice_set}
-use Rattle.std.specs.List.{refill}
-use Rattle.std.specs.Borrow.{Array, Fml, Lends, MutBor, RattleType}
+use Rattle.rrd_spec.specs.Names.{refill, Array, Fml, Lends, MutBor, RattleType}
 use Rattle.rrd_spec.specs.contracts.archive_list.ArchiveList.{the_row}
 
 module _ (T : RattleType) (list : MutBor (List T.Denot)) where

@@ -1,11 +1,7 @@
 -- Definition: which archive a fetch reads, and which rows of it (rrdfetch; the order of the archives is this project's
 -- rule).
 use Rattle.std.specs.Prelude.{ℕ, ◌+◌, ◌-◌, ◌*◌, ◌/◌, pos, int_lt, int_le, nat_lt, Bool, true, false, not, ◌&&◌, ◌||◌, if◌then◌else◌, Option, Some, None, Result, Ok, Err, List, [], ◌∷◌, map}
-use Rattle.std.specs.Int.{abs_diff}
-use Rattle.std.specs.List.{find, filter, list_any, enumerate_from}
-use Rattle.std.specs.Option.{option_or}
-use Rattle.rrd_fold.specs.declared.function.Function.{Function}
-use Rattle.rrd_fold.specs.declared.function.Function.TheVariants.{Average, Min, Max, Last}
+use Rattle.rrd_spec.specs.Names.{abs_diff, find, filter, list_any, enumerate_from, option_or, Function, Average, Min, Max, Last}
 use Rattle.rrd_spec.specs.declared.settings.RraDef.{RraDef}
 use Rattle.rrd_spec.specs.declared.requests.fetch.Candidate.{Candidate}
 use Rattle.rrd_spec.specs.declared.requests.fetch.Chosen.{Chosen}

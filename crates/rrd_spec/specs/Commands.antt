@@ -1,12 +1,6 @@
 -- Definition: the commands that change a database, and the events that they cause (rrdupdate, rrdtune, rrdresize).
 use Rattle.std.specs.Prelude.{ℕ, ◌+◌, ◌-◌, if◌then◌else◌, Bool, true, false, Option, Some, None, List, [], ◌∷◌, ◌++◌, map, slice_index_or, slice_set}
-use Rattle.std.specs.List.{fold, remove}
-use Rattle.std.specs.Option.{option_map_or, unwrap_or}
-use Rattle.rrd_fixed.specs.declared.raw.Raw.{Raw}
-use Rattle.rrd_fixed.specs.declared.kind.Kind.{Kind}
-use Rattle.rrd_fixed.specs.declared.name.Name.{Name}
-use Rattle.rrd_fixed.specs.Names.{same_name}
-use Rattle.rrd_fixed.specs.Admitted.{admit}
+use Rattle.rrd_spec.specs.Names.{fold, remove, option_map_or, unwrap_or, Raw, Kind, Name, same_name, admit}
 use Rattle.rrd_spec.specs.declared.settings.DsDef.{DsDef}
 use Rattle.rrd_spec.specs.declared.requests.update.Given.{Given}
 use Rattle.rrd_spec.specs.declared.requests.update.Sample.{Sample}

@@ -1,16 +1,9 @@
 -- Example: the results of the definitions for worked histories, commands and times; and the values that these use.
 use Rattle.std.specs.Prelude.{ℕ, ◌^◌, ◌*◌, pos, None, List, [], ◌∷◌, map, replicate, false}
-use Rattle.rrd_fixed.specs.declared.cell.Cell.{Cell}
-use Rattle.rrd_fixed.specs.declared.raw.Raw.{Raw}
-use Rattle.rrd_fixed.specs.declared.kind.Kind.TheVariants.{Gauge, Counter}
-use Rattle.rrd_fold.specs.declared.function.Function.{Function}
-use Rattle.rrd_fold.specs.declared.function.Function.TheVariants.{Last}
+use Rattle.rrd_spec.specs.Names.{Cell, Raw, Gauge, Counter, Function, Last, nothing, fold, Name}
 use Rattle.rrd_spec.specs.declared.settings.DsDef.{DsDef}
 use Rattle.rrd_spec.specs.declared.settings.RraDef.{RraDef}
-use Rattle.rrd_fold.specs.Parts.{nothing}
 use Rattle.rrd_spec.specs.History.{Rra, Content, Event, Sampled}
-use Rattle.std.specs.List.{fold}
-use Rattle.rrd_fixed.specs.declared.name.Name.{Name}
 use Rattle.rrd_spec.specs.declared.requests.update.Given.{Given}
 use Rattle.rrd_spec.specs.declared.requests.update.Sample.{Sample}
 use Rattle.rrd_spec.specs.declared.requests.tune.Tuning.{Tuning}

@@ -1,16 +1,9 @@
 -- Definition: the content that a history of commands leaves in a database, second by second. A rule without the name of
 -- a manual page is this project's.
 use Rattle.std.specs.Prelude.{◌≡◌, ℕ, ◌+◌, ◌-◌, ◌<◌, nat_le, ◌==◌, if◌then◌else◌, Bool, List, [], ◌∷◌, map, length}
-use Rattle.std.specs.List.{fold, find, range_with_len, AllByRecursion}
-use Rattle.std.specs.Option.{option_map_or}
-use Rattle.rrd_fixed.specs.declared.cell.Cell.{Cell}
-use Rattle.rrd_fixed.specs.declared.raw.Raw.{Raw}
-use Rattle.rrd_fixed.specs.declared.kind.Kind.{Kind}
-use Rattle.rrd_fixed.specs.declared.kind.Kind.TheVariants.{Gauge, Counter, Derive, Absolute}
-use Rattle.rrd_fixed.specs.Rate.{rate}
+use Rattle.rrd_spec.specs.Names.{fold, find, range_with_len, AllByRecursion, option_map_or, Cell, Raw, Kind, Gauge, Counter, Derive, Absolute, rate, Part}
 use Rattle.rrd_spec.specs.declared.settings.DsDef.{DsDef}
 use Rattle.rrd_spec.specs.declared.settings.RraDef.{RraDef}
-use Rattle.rrd_fold.specs.Parts.{Part}
 pub mod Groups
 pub mod Steps
 pub mod Lives

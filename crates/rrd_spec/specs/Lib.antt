@@ -1,3 +1,5 @@
+pub mod Words
+pub mod Names
 pub mod Limits
 pub mod Lists
 pub mod ArchiveLists
@@ -8,7 +10,6 @@ pub mod Journal
 pub mod Choice
 pub mod Validity
 pub mod Files
-pub mod Slow
 pub mod Laws
 pub mod Lemmas
 pub mod Preparations

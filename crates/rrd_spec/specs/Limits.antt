@@ -1,6 +1,6 @@
 -- Definition: the maximum of each setting of a database. The values are this project's.
 use Rattle.std.specs.Prelude.{ℕ, Bool, true, false}
-use Rattle.rrd_fixed.specs.Rate.{top}
+use Rattle.rrd_spec.specs.Names.{top}
 use Rattle.rrd_spec.specs.declared.version.Version.{Version}
 use Rattle.rrd_spec.specs.declared.version.Version.TheVariants.{One, Two}
 

@@ -1,7 +1,6 @@
 -- Glue: what a list ends as, once a `&mut` into it has ended.
 use Rattle.std.specs.Prelude.{List, length}
-use Rattle.std.specs.List.{refill}
-use Rattle.std.specs.Borrow.{Array, Fml, Lends, MutBor, RattleType}
+use Rattle.rrd_spec.specs.Names.{refill, Array, Fml, Lends, MutBor, RattleType}
 use Rattle.rrd_spec.specs.contracts.list.List.{the_row}
 
 module _ (T : RattleType) (list : MutBor (List T.Denot)) where

@@ -1,10 +1,6 @@
 -- Definition: the partial steps and rows of many data sources; and, as glue, their cells and their changes.
 use Rattle.std.specs.Prelude.{◌≡◌, ℕ, ℤ, List, [], ◌∷◌, map, replicate}
-use Rattle.std.specs.List.{AllByRecursion, fold}
-use Rattle.rrd_fixed.specs.declared.cell.Cell.{Cell}
-use Rattle.rrd_fold.specs.declared.function.Function.{Function}
-use Rattle.rrd_fold.specs.Parts.{Part, nothing, with_cell, row_cell}
-use Rattle.rrd_fold.specs.Bounds.{Consolidating}
+use Rattle.rrd_spec.specs.Names.{AllByRecursion, fold, Cell, Function, Part, nothing, with_cell, row_cell, Consolidating}
 
 -- a function of two lists, item by item
 abbrev pub map_each : {P A : Type 0} → (P → A → P) → List P → List A → List P

@@ -1,10 +1,8 @@
 -- Definition: the settings of a database, and the values that follow from the settings alone (rrdcreate).
 use Rattle.std.specs.Prelude.{ℕ, ◌*◌, List, map, [], ◌∷◌, Bool, false, ◌||◌, length, sum}
+use Rattle.rrd_spec.specs.Names.{Name, same_name, list_any}
 use Rattle.rrd_spec.specs.declared.settings.RraDef.{RraDef}
-use Rattle.rrd_fixed.specs.declared.name.Name.{Name}
-use Rattle.rrd_fixed.specs.Names.{same_name}
 use Rattle.rrd_spec.specs.declared.settings.DsDef.{DsDef}
-use Rattle.std.specs.List.{list_any}
 
 -- the resolution, in seconds per row, of an archive whose steps have `step` seconds
 abbrev pub resolution : ℕ → RraDef → ℕ

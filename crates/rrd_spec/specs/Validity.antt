@@ -1,20 +1,13 @@
 -- Definition: which databases are valid (this project's rule).
 use Rattle.std.specs.Prelude.{◌≡◌, ℕ, ◌+◌, ◌*◌, ◌/◌, ◌%◌, ◌<◌, ◌≤◌, ◌≢◌, min, pos, ◌≤ℤ◌, unsigned_abs, true, false, List, [], ◌∷◌, length}
-use Rattle.std.specs.List.{AllByRecursion}
-use Rattle.rrd_fixed.specs.declared.cell.Cell.{Cell}
-use Rattle.rrd_fixed.specs.declared.raw.Raw.{Raw}
-use Rattle.rrd_fixed.specs.Rate.{top, IsAccepted, IsBounded}
+use Rattle.rrd_spec.specs.Names.{AllByRecursion, Cell, Raw, top, IsAccepted, IsBounded, Function, Average, Part, is_good}
 use Rattle.rrd_spec.specs.declared.settings.DsDef.{DsDef}
 use Rattle.rrd_spec.specs.declared.entry.SavedSource.{SavedSource}
-use Rattle.rrd_fold.specs.declared.function.Function.{Function}
-use Rattle.rrd_fold.specs.declared.function.Function.TheVariants.{Average}
-use Rattle.rrd_fold.specs.Parts.{Part}
 pub use Rattle.rrd_fold.specs.Bounds.{weight}
 use Rattle.rrd_spec.specs.Limits.{Limits, max_tuned, present}
 use Rattle.rrd_spec.specs.History.{Rra, Content}
 use Rattle.rrd_spec.specs.Commands.{settings_of}
 use Rattle.rrd_spec.specs.Settings.{names, is_double, cells}
-use Rattle.rrd_fixed.specs.Names.{is_good}
 use Rattle.rrd_spec.specs.Commands.Verdict.{is_bad_heartbeat, has_bad_bounds}
 use Rattle.rrd_spec.specs.Journal.Entries.{SavedArchive, BeforeUpdate, Entry, UpdateEntry, TuneEntry, ResizeEntry, AddedEntry, RemovedEntry, rows_between, rows_at, entry, undone}
 

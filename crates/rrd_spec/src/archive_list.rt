@@ -1,7 +1,7 @@
 //! A list with capacity for one item of each archive.
-ghost use Rattle.std.specs.Prelude.{◌≡◌, ◌<◌, ◌≤◌, ◌++◌, ◌∷◌, ◌-◌, [], length, take, IfOk, insert, remove, slice_index_or};
-ghost use Rattle.std.specs.Borrow.{sem};
-ghost use Rattle.rrd_spec.specs.Limits.{present};
+ghost use Rattle.std.specs.Prelude.{◌≡◌, ◌<◌, ◌≤◌, ◌++◌, ◌∷◌, ◌-◌, [], length, take, IfOk, slice_index_or};
+ghost use Rattle.rrd_spec.specs.Names.{insert, remove, sem};
+ghost use Rattle.rrd_spec.specs.Words.{present};
 
 use crate::limits::MAX_ARCHIVES;
 use std::alloc::{AllocError, Global};

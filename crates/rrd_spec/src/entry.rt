@@ -1,6 +1,6 @@
 //! The part of a journal entry that restores a data source.
 ghost use Rattle.std.specs.Prelude.{◌≡◌, [], None};
-ghost use Rattle.rrd_fixed.specs.declared.kind.Kind.TheVariants.{Gauge};
+ghost use Rattle.rrd_spec.specs.Names.{Gauge};
 ghost use Rattle.rrd_fixed.specs.declared.raw.Raw.TheVariants.{Unknown};
 
 use crate::DsDef;

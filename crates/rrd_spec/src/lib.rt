@@ -1,7 +1,7 @@
 //! The definition of a round-robin database.
 //!
 //! The crate has the types of requests and refusals, the definitions, which look at every second and every row by
-//! themselves, the theorems on the definitions, and a slow program that computes the definitions.
+//! themselves, and the theorems on the definitions.
 #![tactic(auto)]
 
 mod archive_list;
@@ -15,7 +15,6 @@ mod refusal;
 mod requests;
 mod settings;
 mod slots;
-pub mod slow;
 mod version;
 
 pub use archive_list::ArchiveList;
@@ -28,6 +27,6 @@ pub use requests::{
     ArchiveTune, Candidate, Change, Chosen, CreateSpec, FetchRequest, Given, Receipt, Sample,
     Tuning, Update,
 };
-pub use settings::{DsDef, RraDef, are_accepted};
+pub use settings::{DsDef, RraDef};
 pub use slots::first_slot_row;
 pub use version::Version;

@@ -1,6 +1,6 @@
 //! A list of any length.
 ghost use Rattle.std.specs.Prelude.{◌≡◌, ◌<◌, ◌++◌, ◌∷◌, [], length, is_ok, if◌then◌else◌, slice_index_or};
-ghost use Rattle.std.specs.Borrow.{sem};
+ghost use Rattle.rrd_spec.specs.Names.{sem};
 
 use std::alloc::{AllocError, Global};
 use std::marker::Model;

@@ -1,6 +1,6 @@
 //! The reasons for which a command is refused.
 ghost use Rattle.std.specs.Prelude.{◌≡◌, ◌≤◌, length};
-ghost use Rattle.rrd_spec.specs.declared.refusal.Refusal.TheVariants.{OutOfMemory};
+ghost use Rattle.rrd_spec.specs.Words.{OutOfMemory};
 
 use arrayvec::ArrayString;
 use rrd_fixed::{message, numbered_message};

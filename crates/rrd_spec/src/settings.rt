@@ -1,9 +1,7 @@
 //! The settings of data sources and archives.
-ghost use Rattle.std.specs.Prelude.{◌≡◌, ◌^◌, ◌<◌, ◌↔◌, ◌≤◌, ◌≤ℤ◌, IsTrue, pos};
+ghost use Rattle.std.specs.Prelude.{◌≡◌, ◌^◌, ◌<◌, ◌≤◌, ◌≤ℤ◌, pos};
+ghost use Rattle.rrd_spec.specs.Words.{present, resolution};
 ghost use Rattle.rrd_fixed.specs.Rate.{IsAccepted, IsBounded, rate as rate_of};
-ghost use Rattle.rrd_spec.specs.Limits.{present};
-ghost use Rattle.rrd_spec.specs.Settings.{resolution};
-ghost use Rattle.rrd_spec.specs.Validity.{AreAccepted};
 
 use rrd_fixed::{Cell, Kind, Name, Raw, rate};
 use rrd_fold::Function;
@@ -95,19 +93,4 @@ impl RraDef {
     {
         step * self.steps
     }
-}
-
-/// Returns whether there is one raw value for each data source, and each is accepted.
-pub fn are_accepted(sources: &[DsDef], raws: &[Raw]) -> bool
-    ensures { IsTrue result ↔ AreAccepted sources.now raws.now }
-{
-    if raws.len() != sources.len() {
-        return false;
-    }
-    for i in 0..sources.len() {
-        if !sources[i].kind.accepts(raws[i]) {
-            return false;
-        }
-    }
-    true
 }

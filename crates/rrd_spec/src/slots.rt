@@ -1,7 +1,6 @@
 //! The order of an archive's rows in a file.
 ghost use Rattle.std.specs.Prelude.{◌≡◌, ◌<◌, ◌≤◌};
-ghost use Rattle.rrd_spec.specs.Files.Places.{place_in};
-ghost use Rattle.rrd_spec.specs.Limits.{present};
+ghost use Rattle.rrd_spec.specs.Words.{place_in, present};
 
 /// Returns the index of the row that a file stores in slot 0 of an archive.
 ///

@@ -1,6 +1,6 @@
 //! The versions of the file layout, and the limits in which they differ.
 ghost use Rattle.std.specs.Prelude.{◌≡◌, ◌≤◌};
-ghost use Rattle.rrd_spec.specs.Limits.{max_journal_depth_of, max_archives_of, max_cells_of, present, allows_archive_changes_of};
+ghost use Rattle.rrd_spec.specs.Words.{max_journal_depth_of, max_archives_of, max_cells_of, present, allows_archive_changes_of};
 
 use crate::limits::{MAX_ARCHIVES, MAX_CELLS, MAX_JOURNAL_DEPTH};
 

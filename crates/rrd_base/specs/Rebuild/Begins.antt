@@ -1,7 +1,6 @@
 -- Definition: the result for the header, the first record of a database.
 use Rattle.std.specs.Prelude.{◌≡◌, IfErr, IfOk, Result}
-use Rattle.rrd_spec.specs.Files.Filed.{Filed, Header}
-use Rattle.rrd_spec.specs.Files.Rebuilding.{IsHeader, begun}
+use Rattle.rrd_base.specs.Names.{Filed, Header, IsHeader, begun}
 use Rattle.rrd_base.specs.declared.rebuild.PieceFault.{PieceFault}
 use Rattle.rrd_base.specs.declared.rebuild.header.Header.{Header as HeaderSaid}
 use Rattle.rrd_base.specs.declared.rebuild.PieceFault.TheVariants.{Bad, OutOfMemory}

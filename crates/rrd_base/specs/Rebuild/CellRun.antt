@@ -1,7 +1,6 @@
 -- Glue: runs of consecutive cells.
 use Rattle.std.specs.Prelude.{List, replicate}
-use Rattle.rrd_fixed.specs.declared.cell.Cell.{Cell}
-use Rattle.rrd_fixed.specs.declared.cell.Cell.TheVariants.{Unknown}
+use Rattle.rrd_base.specs.Names.{Cell, Unknown}
 use Rattle.rrd_base.specs.declared.cell_run.CellRun.{CellRun}
 use Rattle.rrd_base.specs.declared.cell_run.CellRun.TheVariants as run
 

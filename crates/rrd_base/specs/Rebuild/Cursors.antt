@@ -1,8 +1,6 @@
 -- Glue: a cursor over the cells of a file.
 use Rattle.std.specs.Prelude.{◌≡◌, ℕ, ◌+◌, ◌*◌, ◌%◌, ◌<◌, List, [], ◌∷◌}
-use Rattle.rrd_spec.specs.Files.Places.{place_in}
-use Rattle.rrd_spec.specs.History.{Rra}
-use Rattle.rrd_spec.specs.Settings.{resolution}
+use Rattle.rrd_base.specs.Names.{place_in, Rra, resolution}
 use Rattle.rrd_base.specs.declared.rebuild.cursor.Cursor.{Cursor}
 
 -- the number of cells of its archive that the cursor has passed, if there are `sources` data sources

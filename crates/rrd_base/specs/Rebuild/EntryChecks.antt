@@ -1,16 +1,7 @@
 -- Glue: the outlines on which a check of an entry works; and the names of a tune.
 use Rattle.std.specs.Prelude.{◌≡◌, ◌<◌, ◌≤◌, List, length, sum}
-use Rattle.std.specs.List.{AllByRecursion}
-use Rattle.rrd_fixed.specs.declared.name.Name.{Name}
-use Rattle.rrd_spec.specs.declared.entry.SavedSource.{SavedSource}
-use Rattle.rrd_spec.specs.declared.outline.Outline.{Outline}
-use Rattle.rrd_spec.specs.declared.version.Version.{Version}
-use Rattle.rrd_spec.specs.History.{Content}
-use Rattle.rrd_spec.specs.Limits.{limits_of, present}
-use Rattle.rrd_spec.specs.Journal.Entries.{AddedEntry, Entry, RemovedEntry, ResizeEntry, TuneEntry, UpdateEntry}
-use Rattle.rrd_spec.specs.Journal.Fitting.{IsArchiveDef, IsRemovedNumber}
-use Rattle.rrd_spec.specs.Journal.Outlines.{outline_of, rows_of}
-use Rattle.rrd_spec.specs.Validity.{IsValidWithin}
+use Rattle.rrd_base.specs.Names.{AllByRecursion, Name, SavedSource, Outline, Version, Content, limits_of, present, AddedEntry, Entry, RemovedEntry, ResizeEntry, TuneEntry, UpdateEntry, IsRemovedNumber, outline_of, rows_of, IsValidWithin}
+use Rattle.rrd_spec.specs.Journal.Fitting.{IsArchiveDef}
 use Rattle.rrd_base.specs.Rebuild.Validators.{EntryValidator}
 use Rattle.rrd_base.specs.Tune.{with_kept}
 

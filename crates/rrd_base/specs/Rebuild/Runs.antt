@@ -1,8 +1,6 @@
 -- Definition: cells that are read one after another.
 use Rattle.std.specs.Prelude.{List, [], ◌∷◌}
-use Rattle.rrd_fixed.specs.declared.cell.Cell.{Cell}
-use Rattle.rrd_spec.specs.Files.Filed.{Filed}
-use Rattle.rrd_spec.specs.Files.Rebuilding.{MayCell, with_cell}
+use Rattle.rrd_base.specs.Names.{Cell, Filed, MayCell, with_cell}
 
 -- each cell may come after those before it
 abbrev pub MayCells : Filed → List Cell → Type 0

@@ -1,9 +1,6 @@
 -- Definition: the validator of the entries of a journal.
 use Rattle.std.specs.Prelude.{ℕ}
-use Rattle.rrd_spec.specs.declared.outline.Outline.{Outline}
-use Rattle.rrd_spec.specs.declared.version.Version.{Version}
-use Rattle.rrd_spec.specs.Files.Filed.{Filed}
-use Rattle.rrd_spec.specs.Files.Rebuilding.{outline_left}
+use Rattle.rrd_base.specs.Names.{Outline, Version, Filed, outline_left}
 
 -- the version whose limits hold, the seconds in a step, and the outline
 pub record EntryValidator : Type 0 where

@@ -1,8 +1,6 @@
 -- Glue: the minimum and the maximum units of work of a walk.
 use Rattle.std.specs.Prelude.{ℕ, ◌+◌, ◌-◌, ◌*◌, ◌/◌, List, length, map, min, sum}
-use Rattle.rrd_spec.specs.declared.settings.RraDef.{RraDef}
-use Rattle.rrd_spec.specs.History.{Rra, Content, definitions}
-use Rattle.rrd_spec.specs.Commands.Turns.{least_of_sample, most_of_sample}
+use Rattle.rrd_base.specs.Names.{RraDef, Rra, Content, definitions, least_of_sample, most_of_sample}
 use Rattle.rrd_base.specs.Walk.{count_of, sources_of}
 use Rattle.rrd_base.specs.declared.walk.Steps.{Steps}
 

@@ -1,7 +1,7 @@
 //! Putting back what the entry of a tune holds of data sources.
 ghost use Rattle.std.specs.Prelude.{◌≡◌};
-ghost use Rattle.rrd_spec.specs.declared.entry.SavedSource.{SavedSource};
-ghost use Rattle.rrd_base.specs.Tune.{with_kept};
+ghost use Rattle.rrd_base.specs.Names.{SavedSource};
+ghost use Rattle.rrd_base.specs.Words.{with_kept};
 
 use crate::{DsDef, SavedSource};
 use rrd_fixed::{Name, Raw};

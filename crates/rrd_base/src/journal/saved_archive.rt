@@ -1,6 +1,6 @@
 //! The part of a journal entry that restores an archive.
 ghost use Rattle.std.specs.Prelude.{◌≡◌};
-ghost use Rattle.rrd_spec.specs.Preparations.{AllOf, parts_in};
+ghost use Rattle.rrd_base.specs.Names.{AllOf, parts_in};
 
 use crate::journal::EachSource;
 use rrd_fold::{Function, RowPrep};

@@ -1,10 +1,7 @@
 //! The position of the next cell of a file. A place is the index of a row in an archive: 0 is the oldest row.
 ghost use Rattle.std.specs.Prelude.{◌≡◌, ◌+◌, ◌%◌, ◌<◌, ◌≤◌};
-ghost use Rattle.rrd_base.specs.Rebuild.Cursors.{Advances, KnowsPlace, Passes};
-ghost use Rattle.rrd_spec.specs.Limits.{present};
-ghost use Rattle.rrd_spec.specs.Files.Rebuilding.{IsArchiveDef};
-ghost use Rattle.rrd_spec.specs.Settings.{resolution};
-ghost use Rattle.rrd_spec.specs.Files.Places.{place_in};
+ghost use Rattle.rrd_base.specs.Names.{present, IsArchiveDef, resolution, place_in};
+ghost use Rattle.rrd_base.specs.Words.{Advances, KnowsPlace, Passes};
 
 use crate::RraDef;
 use rrd_spec::first_slot_row;

@@ -1,15 +1,8 @@
 //! The checks of a complete journal entry against an outline: each piece by its rule in `EntryValidator`.
 ghost use Rattle.std.specs.Prelude.{◌≡◌, ◌%◌, ◌/◌, List, ◌<◌, ◌≤◌, length, true};
-ghost use Rattle.std.specs.List.{AllByRecursion};
-ghost use Rattle.rrd_base.specs.Journal.{entry_of, update_of};
-ghost use Rattle.rrd_fold.specs.declared.function.Function.TheVariants.{Average};
-ghost use Rattle.rrd_spec.specs.Preparations.{parts_in};
-ghost use Rattle.rrd_spec.specs.Limits.{limits_of, present};
-ghost use Rattle.rrd_spec.specs.Journal.Entries.{AddedEntry};
-ghost use Rattle.rrd_spec.specs.Journal.Outlines.{with_sources};
-ghost use Rattle.rrd_spec.specs.Journal.Fitting.{IsArchiveDef, IsSavedSource, MayRemove, MayResize, MaySave, MaySaveEach, MayTune, MayUndo, MayUpdate};
-ghost use Rattle.rrd_spec.specs.Settings.{names};
-ghost use Rattle.rrd_spec.specs.Validity.{AreAccepted, AreParts, IsPart, IsRow, Rise};
+ghost use Rattle.rrd_base.specs.Names.{AllByRecursion, Average, parts_in, limits_of, present, AddedEntry, with_sources, IsSavedSource, MayRemove, MayResize, MaySave, MaySaveEach, MayTune, MayUndo, MayUpdate, names, AreAccepted, AreParts, IsPart, IsRow, Rise};
+ghost use Rattle.rrd_base.specs.Words.{entry_of, update_of};
+ghost use Rattle.rrd_spec.specs.Journal.Fitting.{IsArchiveDef};
 
 use super::piece_checks::are_bounded;
 use super::validator::EntryValidator;

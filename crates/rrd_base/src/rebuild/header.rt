@@ -1,7 +1,7 @@
 //! The first piece of a database in a file.
 ghost use Rattle.std.specs.Prelude.{◌≡◌, true};
-ghost use Rattle.rrd_base.specs.Rebuild.Begins.{header_said};
-ghost use Rattle.rrd_spec.specs.Files.Rebuilding.{IsHeader};
+ghost use Rattle.rrd_base.specs.Names.{IsHeader};
+ghost use Rattle.rrd_base.specs.Words.{header_said};
 
 use crate::create::is_bad_step;
 use rrd_spec::Version;

@@ -1,8 +1,7 @@
 //! How entries are undone in an outline.
 ghost use Rattle.std.specs.Prelude.{◌≡◌};
-ghost use Rattle.rrd_base.specs.Journal.{entry_of};
-ghost use Rattle.rrd_base.specs.Rebuild.EntryChecks.{HasPlace};
-ghost use Rattle.rrd_spec.specs.Journal.Outlines.{outline_undone, with_row_number};
+ghost use Rattle.rrd_base.specs.Names.{outline_undone, with_row_number};
+ghost use Rattle.rrd_base.specs.Words.{entry_of, HasPlace};
 
 use crate::journal::{Entry, put_back};
 use crate::{ArchiveList, Outline, RraDef};

@@ -1,11 +1,6 @@
 //! Checks of the values in a file's pieces.
 ghost use Rattle.std.specs.Prelude.{◌≡◌, ◌≤◌, true};
-ghost use Rattle.std.specs.List.{AllByRecursion};
-ghost use Rattle.rrd_fixed.specs.Rate.{IsBounded};
-ghost use Rattle.rrd_fold.specs.Bounds.{weight};
-ghost use Rattle.rrd_spec.specs.Limits.{present};
-ghost use Rattle.rrd_spec.specs.Files.Rebuilding.{IsArchiveDef};
-ghost use Rattle.rrd_spec.specs.Validity.{IsPart, IsSource};
+ghost use Rattle.rrd_base.specs.Names.{AllByRecursion, IsBounded, weight, present, IsArchiveDef, IsPart, IsSource};
 
 use crate::create::{has_bad_bounds, is_bad_heartbeat, is_bad_rows, is_bad_steps, is_bad_xff};
 use crate::{DsDef, RraDef};

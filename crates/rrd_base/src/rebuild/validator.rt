@@ -3,18 +3,9 @@
 //! Each rule of an entry is here once: a reader checks each piece of an entry by it, and `may_undo` checks the
 //! complete entry.
 ghost use Rattle.std.specs.Prelude.{◌≡◌, ◌++◌, ◌∷◌, [], ◌%◌, ◌<◌, ◌≤◌, IfOk, IfSome, None, OnErr, OnOk, Some, length, min, slice_get, slice_index_or, true};
-ghost use Rattle.rrd_base.specs.Journal.{entry_of};
-ghost use Rattle.rrd_base.specs.Rebuild.EntryChecks.{HasPlace, IsOutline};
-ghost use Rattle.rrd_base.specs.Rebuild.Validators.{EntryValidator};
-ghost use Rattle.rrd_fixed.specs.Rate.{IsAccepted};
-ghost use Rattle.rrd_fold.specs.declared.function.Function.TheVariants.{Average};
-ghost use Rattle.rrd_spec.specs.Files.Rebuilding.{IsRowPart};
-ghost use Rattle.rrd_spec.specs.Journal.Entries.{rows_between};
-ghost use Rattle.rrd_spec.specs.Journal.Fitting.{AreOldRows, AreRemovedSettings, IsArchiveDef, IsRemovedNumber, IsSavedSource};
-ghost use Rattle.rrd_spec.specs.Journal.Outlines.{outline_undone};
-ghost use Rattle.rrd_spec.specs.Limits.{allows_archive_changes_of, limits_of, max_tuned, present};
-ghost use Rattle.rrd_spec.specs.Validity.{IsPart};
-ghost use Rattle.rrd_spec.specs.declared.settings.DsDef.{DsDef};
+ghost use Rattle.rrd_base.specs.Names.{IsAccepted, Average, IsRowPart, rows_between, AreOldRows, AreRemovedSettings, IsRemovedNumber, IsSavedSource, outline_undone, allows_archive_changes_of, limits_of, max_tuned, present, IsPart, DsDef};
+ghost use Rattle.rrd_base.specs.Words.{entry_of, HasPlace, IsOutline, EntryValidator};
+ghost use Rattle.rrd_spec.specs.Journal.Fitting.{IsArchiveDef};
 
 use super::outline::undo;
 use super::piece_checks::{is_archive, is_part, is_source};

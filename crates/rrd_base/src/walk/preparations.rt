@@ -1,12 +1,6 @@
 //! Functions on the partial steps and rows of all data sources, item by item.
 ghost use Rattle.std.specs.Prelude.{◌≡◌, ◌+◌, ◌^◌, ◌<◌, ◌≤◌, ◌≤ℤ◌, length, map, pos, replicate};
-ghost use Rattle.std.specs.List.{AllByRecursion, fold};
-ghost use Rattle.rrd_fold.specs.Parts.{Part, nothing, step_cell, with_each};
-ghost use Rattle.rrd_fold.specs.Bounds.{Consolidating, most_known};
-ghost use Rattle.rrd_fold.specs.declared.function.Function.TheVariants.{Average};
-ghost use Rattle.rrd_spec.specs.Preparations.{anew, map_each, row_of, with_steps};
-ghost use Rattle.rrd_spec.specs.Limits.{present};
-ghost use Rattle.rrd_spec.specs.Validity.{IsRow};
+ghost use Rattle.rrd_base.specs.Names.{AllByRecursion, fold, Part, nothing, step_cell, with_each, Consolidating, most_known, Average, anew, map_each, row_of, with_steps, present, IsRow};
 
 use crate::RraDef;
 use rrd_fixed::{Cell, Meter};

@@ -1,9 +1,6 @@
 -- Definition: which databases can be created, and the content of a new one (rrdcreate).
 use Rattle.std.specs.Prelude.{ℕ, nat_lt, ◌==◌, Bool, not, ◌||◌, Option, List, [], ◌∷◌, ◌++◌, length, map, replicate}
-use Rattle.std.specs.List.{list_any}
-use Rattle.rrd_fixed.specs.declared.raw.Raw.{Raw}
-use Rattle.rrd_fixed.specs.Names.{is_good}
-use Rattle.rrd_fold.specs.Parts.{nothing}
+use Rattle.rrd_spec.specs.Names.{list_any, Raw, is_good, nothing}
 use Rattle.rrd_spec.specs.declared.requests.create.CreateSpec.{CreateSpec}
 use Rattle.rrd_spec.specs.declared.settings.DsDef.{DsDef}
 use Rattle.rrd_spec.specs.declared.settings.RraDef.{RraDef}

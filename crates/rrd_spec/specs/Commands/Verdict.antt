@@ -1,11 +1,7 @@
 -- Definition: which commands are accepted, and the refusals of the others. The checks are those of rrdupdate, rrdtune
 -- and rrdresize; the limits and the order of the checks are this project's.
 use Rattle.std.specs.Prelude.{ℕ, ◌+◌, ℤ, pos, int_lt, unsigned_abs, nat_lt, nat_le, ◌==◌, if◌then◌else◌, Bool, true, false, not, ◌&&◌, ◌||◌, Option, Some, None, is_none, List, [], ◌∷◌, ◌++◌, length, slice_index_or}
-use Rattle.std.specs.List.{fold, list_any, list_all}
-use Rattle.std.specs.Option.{option_map_or, unwrap_or}
-use Rattle.rrd_fixed.specs.declared.name.Name.{Name}
-use Rattle.rrd_fixed.specs.Names.{is_good, same_name}
-use Rattle.rrd_fixed.specs.Admitted.{admit}
+use Rattle.rrd_spec.specs.Names.{fold, list_any, list_all, option_map_or, unwrap_or, Name, is_good, same_name, admit}
 use Rattle.rrd_spec.specs.declared.settings.DsDef.{DsDef}
 use Rattle.rrd_spec.specs.declared.refusal.Refusal.{Refusal}
 use Rattle.rrd_spec.specs.declared.refusal.Refusal.TheVariants.{BadName, DoubleName, BadHeartbeat, BadBounds, BadRows, TooLarge, NoSuchSource, WrongCount, BadValue, NotLater, NoSample, NothingToTune, NoSuchArchive, ShrinkTooFar, BadTime, MixedTune, BadXff, BadSteps, NoArchive}

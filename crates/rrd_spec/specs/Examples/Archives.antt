@@ -1,8 +1,6 @@
 -- Example: worked examples of archives that are added and removed.
 use Rattle.std.specs.Prelude.{◌≡◌, ℕ, pos, negsuc, Ok, Some, None, List, [], ◌∷◌, length, replicate, ◌++◌}
-use Rattle.std.specs.List.{fold}
-use Rattle.rrd_fixed.specs.declared.cell.Cell.{Cell}
-use Rattle.rrd_fold.specs.declared.function.Function.TheVariants.{Average, Max, Last}
+use Rattle.rrd_spec.specs.Names.{fold, Cell, Average, Max, Last}
 use Rattle.rrd_spec.specs.declared.settings.RraDef.{RraDef}
 use Rattle.rrd_spec.specs.declared.requests.tune.ArchiveTune.TheVariants.{Add, Remove}
 use Rattle.rrd_spec.specs.declared.refusal.Refusal.TheVariants.{MixedTune, BadXff, NoArchive, NoSuchArchive, TooLarge}

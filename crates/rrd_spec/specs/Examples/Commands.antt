@@ -1,9 +1,6 @@
 -- Example: worked examples of commands.
 use Rattle.std.specs.Prelude.{◌≡◌, pos, Some, None, [], ◌∷◌, map}
-use Rattle.std.specs.List.{fold}
-use Rattle.rrd_fixed.specs.declared.raw.Raw.{Raw}
-use Rattle.rrd_fixed.specs.declared.kind.Kind.TheVariants.{Gauge}
-use Rattle.rrd_fold.specs.declared.function.Function.TheVariants.{Last}
+use Rattle.rrd_spec.specs.Names.{fold, Raw, Gauge, Last}
 use Rattle.rrd_spec.specs.declared.settings.DsDef.{DsDef}
 use Rattle.rrd_spec.specs.declared.requests.tune.Tuning.{Tuning}
 use Rattle.rrd_spec.specs.declared.requests.resize.Change.TheVariants.{Grow, Shrink}

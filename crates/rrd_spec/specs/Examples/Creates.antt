@@ -1,6 +1,6 @@
 -- Example: worked examples of new databases, and of the refusals of a create.
 use Rattle.std.specs.Prelude.{◌≡◌, ℕ, pos, Some, None, List, [], ◌∷◌, replicate}
-use Rattle.rrd_fold.specs.declared.function.Function.TheVariants.{Last}
+use Rattle.rrd_spec.specs.Names.{Last}
 use Rattle.rrd_spec.specs.declared.requests.create.CreateSpec.{CreateSpec}
 use Rattle.rrd_spec.specs.declared.settings.DsDef.{DsDef}
 use Rattle.rrd_spec.specs.declared.settings.RraDef.{RraDef}

@@ -1,6 +1,6 @@
 -- Example: worked examples of the rows that a fetch reads, and of the oldest row of an archive.
 use Rattle.std.specs.Prelude.{◌≡◌, pos, negsuc, Ok, Err, [], ◌∷◌}
-use Rattle.rrd_fold.specs.declared.function.Function.TheVariants.{Min, Last}
+use Rattle.rrd_spec.specs.Names.{Min, Last}
 use Rattle.rrd_spec.specs.declared.refusal.Refusal.TheVariants.{BadSpan, BadTime, NoArchiveForFunction, SpanTooLong, NoSuchArchive}
 use Rattle.rrd_spec.specs.History.{Content}
 use Rattle.rrd_spec.specs.Laws.ListedContent.{content_listed}

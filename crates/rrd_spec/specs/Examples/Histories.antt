@@ -1,6 +1,6 @@
 -- Example: worked histories.
 use Rattle.std.specs.Prelude.{◌≡◌, pos, negsuc, [], ◌∷◌, map, drop}
-use Rattle.rrd_fold.specs.declared.function.Function.TheVariants.{Average, Last}
+use Rattle.rrd_spec.specs.Names.{Average, Last}
 use Rattle.rrd_spec.specs.History.Cells.{row_at}
 use Rattle.rrd_spec.specs.History.{Resized}
 use Rattle.rrd_spec.specs.Laws.ListedContent.{content_listed}

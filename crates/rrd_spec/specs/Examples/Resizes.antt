@@ -1,6 +1,6 @@
 -- Example: the rows, by their times, of an archive that was resized.
 use Rattle.std.specs.Prelude.{◌≡◌, pos, negsuc, List, [], ◌∷◌, map}
-use Rattle.rrd_fold.specs.declared.function.Function.TheVariants.{Last}
+use Rattle.rrd_spec.specs.Names.{Last}
 use Rattle.rrd_spec.specs.History.{Content, Event, Resized}
 use Rattle.rrd_spec.specs.History.Lives.{lives}
 use Rattle.rrd_spec.specs.History.Cells.{horizon, row_by_time}

@@ -1,8 +1,6 @@
 -- Definition: a database as the lists that a file has of it.
 use Rattle.std.specs.Prelude.{ℕ, List, [], ◌∷◌, map, length}
-use Rattle.rrd_fixed.specs.declared.cell.Cell.{Cell}
-use Rattle.rrd_fixed.specs.declared.raw.Raw.{Raw}
-use Rattle.rrd_fold.specs.Parts.{Part}
+use Rattle.rrd_spec.specs.Names.{Cell, Raw, Part}
 use Rattle.rrd_spec.specs.declared.settings.DsDef.{DsDef}
 use Rattle.rrd_spec.specs.declared.settings.RraDef.{RraDef}
 use Rattle.rrd_spec.specs.declared.version.Version.{Version}

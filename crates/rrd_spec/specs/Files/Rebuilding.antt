@@ -1,11 +1,7 @@
 -- Definition: which record of a database is due if a file is read record by record, which record may come, and what it
 -- adds (this project's rule).
 use Rattle.std.specs.Prelude.{◌≡◌, ℕ, ◌+◌, ◌*◌, ◌/◌, ◌%◌, ◌<◌, ◌≤◌, false, nat_lt, if◌then◌else◌, Option, Some, None, List, [], ◌∷◌, ◌++◌, length, map, sum}
-use Rattle.std.specs.List.{fold}
-use Rattle.rrd_fixed.specs.declared.cell.Cell.{Cell}
-use Rattle.rrd_fixed.specs.Rate.{IsAccepted, IsBounded}
-use Rattle.rrd_fold.specs.declared.function.Function.TheVariants.{Average}
-use Rattle.rrd_fold.specs.Parts.{Part}
+use Rattle.rrd_spec.specs.Names.{fold, Cell, IsAccepted, IsBounded, Average, Part}
 use Rattle.rrd_spec.specs.declared.due.Due.{Due}
 use Rattle.rrd_spec.specs.declared.due.Due.TheVariants.{SourceDue, HeadDue, PrepDue, CellDue, EntryDue, NothingDue}
 use Rattle.rrd_spec.specs.declared.outline.Outline.{Outline}

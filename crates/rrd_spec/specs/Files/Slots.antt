@@ -1,10 +1,7 @@
 -- Definition: the order of an archive's rows in a file (this project's rule). The slot of a row depends on its time
 -- alone, so a row keeps its slot while others are added and dropped.
 use Rattle.std.specs.Prelude.{ℕ, ℤ, pos, unsigned_abs, ◌==◌, Bool, List, [], length}
-use Rattle.std.specs.List.{find, flat_map, enumerate_from, range_with_len}
-use Rattle.std.specs.Option.{option_map_or}
-use Rattle.std.specs.Int.{int_div_euclid, int_rem_euclid}
-use Rattle.rrd_fixed.specs.declared.cell.Cell.{Cell}
+use Rattle.rrd_spec.specs.Names.{find, flat_map, enumerate_from, range_with_len, option_map_or, int_div_euclid, int_rem_euclid, Cell}
 use Rattle.rrd_spec.specs.Settings.{resolution}
 use Rattle.rrd_spec.specs.History.Cells.{time_of}
 use Rattle.rrd_spec.specs.History.{Rra, Content}

@@ -1,8 +1,6 @@
 -- Definition: the rows that an archive shows at each time.
 use Rattle.std.specs.Prelude.{ℕ, ◌+◌, ◌-◌, ◌*◌, ◌/◌, ℤ, pos, ◌+ℤ◌, ◌-ℤ◌, int_lt, int_le, if◌then◌else◌, List, [], ◌∷◌, map, length, replicate, slice_index_or, negsuc, nat_lt, zero, suc, Result, ok_or, option_map, slice_get}
-use Rattle.std.specs.List.{fold, range_with_len}
-use Rattle.std.specs.Int.{int_max, int_div_euclid}
-use Rattle.rrd_fixed.specs.declared.cell.Cell.{Cell}
+use Rattle.rrd_spec.specs.Names.{fold, range_with_len, int_max, int_div_euclid, Cell, Unknown, Average, Consolidating, nothing}
 use Rattle.rrd_spec.specs.declared.refusal.Refusal.{Refusal}
 use Rattle.rrd_spec.specs.declared.refusal.Refusal.TheVariants.{NoSuchArchive}
 use Rattle.rrd_spec.specs.declared.settings.RraDef.{RraDef}
@@ -11,10 +9,6 @@ use Rattle.rrd_spec.specs.History.{Rra, Content, Event, definitions, moment_afte
 use Rattle.rrd_spec.specs.History.Lives.{Life, lives}
 use Rattle.rrd_spec.specs.History.Steps.{parts_of}
 use Rattle.rrd_spec.specs.History.Rows.{row_parts, row_ending}
-use Rattle.rrd_fixed.specs.declared.cell.Cell.TheVariants.{Unknown}
-use Rattle.rrd_fold.specs.declared.function.Function.TheVariants.{Average}
-use Rattle.rrd_fold.specs.Bounds.{Consolidating}
-use Rattle.rrd_fold.specs.Parts.{nothing}
 
 -- the row of an age, counted in rows from the newest, which has age 0; unknown if the archive has no such row
 abbrev pub row_of_age : List (List Cell) → List Cell → ℤ → List Cell

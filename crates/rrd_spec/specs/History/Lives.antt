@@ -1,9 +1,7 @@
 -- Definition: the archives of a history, each followed by itself, whatever its number becomes (rrdtune, "RRA" and
 -- "DELRRA").
 use Rattle.std.specs.Prelude.{ℕ, zero, suc, ◌-◌, ◌/◌, List, [], ◌∷◌, ◌++◌, map, length, replicate}
-use Rattle.std.specs.List.{remove}
-use Rattle.rrd_fixed.specs.declared.cell.Cell.{Cell}
-use Rattle.rrd_fold.specs.Parts.{nothing}
+use Rattle.rrd_spec.specs.Names.{remove, Cell, nothing}
 use Rattle.rrd_spec.specs.declared.settings.RraDef.{RraDef}
 use Rattle.rrd_spec.specs.History.{Rra, Content, Event, Sampled, Tuned, Resized, Added, Removed, Moment, moment_after, moment_of}
 

@@ -1,7 +1,6 @@
 -- Definition: the rows of a history, each by itself (rrdcreate, "RRA").
 use Rattle.std.specs.Prelude.{◌-◌, ◌/◌, ℕ, ℤ, List, drop, length, map, replicate, unsigned_abs}
-use Rattle.rrd_fixed.specs.declared.cell.Cell.{Cell}
-use Rattle.rrd_fold.specs.Parts.{Part, nothing, with_each, row_cell}
+use Rattle.rrd_spec.specs.Names.{Cell, Part, nothing, with_each, row_cell}
 use Rattle.rrd_spec.specs.declared.settings.RraDef.{RraDef}
 use Rattle.rrd_spec.specs.Settings.{resolution}
 use Rattle.rrd_spec.specs.History.{Rra, Content, Event}

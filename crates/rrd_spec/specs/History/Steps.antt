@@ -1,8 +1,6 @@
 -- Definition: the steps of a history, each by itself (rrdcreate, "The HEARTBEAT and the STEP").
 use Rattle.std.specs.Prelude.{ℕ, List, length, map, replicate}
-use Rattle.rrd_fixed.specs.declared.cell.Cell.{Cell}
-use Rattle.rrd_fold.specs.declared.function.Function.TheVariants.{Average}
-use Rattle.rrd_fold.specs.Parts.{Part, nothing, with_each, step_cell}
+use Rattle.rrd_spec.specs.Names.{Cell, Average, Part, nothing, with_each, step_cell}
 use Rattle.rrd_spec.specs.History.{Content, Event, seconds_of}
 use Rattle.rrd_spec.specs.History.Groups.{Rule, finished, group_part, unfinished}
 

@@ -1,7 +1,7 @@
 -- Definition: the outline of a database, which decides whether a journal entry fits, and the outline after the entry is
 -- undone (this project's rule).
 use Rattle.std.specs.Prelude.{ℕ, zero, suc, List, [], ◌∷◌, ◌-◌, length, map, slice_set, take}
-use Rattle.std.specs.List.{fold, insert}
+use Rattle.rrd_spec.specs.Names.{fold, insert}
 use Rattle.rrd_spec.specs.declared.entry.SavedSource.{SavedSource}
 use Rattle.rrd_spec.specs.declared.outline.Outline.{Outline}
 use Rattle.rrd_spec.specs.declared.settings.DsDef.{DsDef}

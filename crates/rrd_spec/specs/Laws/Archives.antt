@@ -1,9 +1,8 @@
 -- Law: histories in which archives are added and removed.
 use Rattle.std.specs.Prelude.{◌≡◌, ℕ, ◌<◌, ℤ, List, [], ◌∷◌, ◌++◌, length, replicate}
-use Rattle.std.specs.List.{remove}
+use Rattle.rrd_spec.specs.Names.{remove, Cell}
 use Rattle.rrd_spec.specs.declared.settings.RraDef.{RraDef}
 use Rattle.rrd_spec.specs.History.{Content, Event, Added, Removed, moment_of, moment_at_end, IsBase, IsHistory}
-use Rattle.rrd_fixed.specs.declared.cell.Cell.{Cell}
 use Rattle.rrd_spec.specs.History.Cells.{content, row_then}
 use Rattle.rrd_spec.specs.History.Lives.{new_archive}
 use Rattle.rrd_spec.specs.Laws.ListedLives.{content_lived}

@@ -1,11 +1,9 @@
 -- Law: the rows that an archive shows, by time, as lists and by age.
 use Rattle.std.specs.Prelude.{◌≡◌, ◌++◌, ℕ, ◌-◌, ◌/◌, List, length, take, map, if◌then◌else◌, ℤ, nat_lt, Some, slice_index_or, ◌<◌, ◌≤◌, min, pos, slice_get}
-use Rattle.std.specs.List.{range_with_len}
+use Rattle.rrd_spec.specs.Names.{range_with_len, Cell, int_rem_euclid}
 use Rattle.rrd_spec.specs.History.{Content, Rra, Event, moment_of, IsHistory, IsBase, Reading, Sampled, IsArchive}
 use Rattle.rrd_spec.specs.Commands.{events}
 use Rattle.rrd_spec.specs.History.Lives.{Life, life_of, lives}
-use Rattle.rrd_fixed.specs.declared.cell.Cell.{Cell}
-use Rattle.std.specs.Int.{int_rem_euclid}
 use Rattle.rrd_spec.specs.Settings.{resolution}
 use Rattle.rrd_spec.specs.History.Steps.{steps_of, step as step_numbered}
 use Rattle.rrd_spec.specs.History.Rows.{rows_of, row}

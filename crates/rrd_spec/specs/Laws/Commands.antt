@@ -1,10 +1,9 @@
 -- Law: the changes that an accepted command makes in a content, and all that it keeps.
 use Rattle.std.specs.Prelude.{◌≡◌, ◌++◌, ℕ, List, [], length, map, false, Some, None, ◌∷◌, slice_index_or, ◌<◌, ◌≤◌, replicate, reverse}
-use Rattle.std.specs.List.{AllByRecursion, remove}
+use Rattle.rrd_spec.specs.Names.{AllByRecursion, remove, Cell}
 use Rattle.rrd_spec.specs.Limits.{present}
 use Rattle.rrd_spec.specs.History.{Content, IsBase, raws_under}
 use Rattle.rrd_spec.specs.Commands.{DatabaseChange, events, settings_of, moved, content_of, Resizing, TuningBy, raw_of, rows_changed, rows_of_archives, tuned}
-use Rattle.rrd_fixed.specs.declared.cell.Cell.{Cell}
 use Rattle.rrd_spec.specs.Commands.Verdict.{verdict, Check, checks}
 use Rattle.rrd_spec.specs.Journal.Entries.{IsSound, rows_at, with_rows_at}
 use Rattle.rrd_spec.specs.Journal.Survivors.{AllAccepted, survived}

@@ -1,9 +1,6 @@
 -- Law: the effect of many equal seconds or steps, all at once.
 use Rattle.std.specs.Prelude.{◌≡◌, ℕ, ◌+◌, ◌-◌, ◌*◌, ◌/◌, ◌%◌, ◌<◌, ◌≤◌, pos, ◌≤ℤ◌, List, ◌∷◌, ◌++◌, length, map, replicate}
-use Rattle.std.specs.List.{fold}
-use Rattle.rrd_fixed.specs.declared.cell.Cell.{Cell}
-use Rattle.rrd_fold.specs.declared.function.Function.TheVariants.{Average}
-use Rattle.rrd_fold.specs.Parts.{nothing, row_cell, step_cell, with_each}
+use Rattle.rrd_spec.specs.Names.{fold, Cell, Average, nothing, row_cell, step_cell, with_each}
 use Rattle.rrd_spec.specs.Limits.{present}
 use Rattle.rrd_spec.specs.History.{Rra, Content, IsBase}
 use Rattle.rrd_spec.specs.Laws.ListedContent.{keep_last}

@@ -1,7 +1,6 @@
 -- Law: different databases have different lists in a file.
 use Rattle.std.specs.Prelude.{◌≡◌, ℕ, ◌<◌, List, length}
-use Rattle.std.specs.List.{AllByRecursion}
-use Rattle.rrd_fixed.specs.declared.cell.Cell.{Cell}
+use Rattle.rrd_spec.specs.Names.{AllByRecursion, Cell}
 use Rattle.rrd_spec.specs.declared.version.Version.{Version}
 use Rattle.rrd_spec.specs.Files.Filed.{filed}
 use Rattle.rrd_spec.specs.Limits.{Limits}

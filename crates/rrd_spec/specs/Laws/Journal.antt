@@ -1,7 +1,7 @@
 -- Law: the database that reverts restore and that any run leaves: the content of the survivors, and a valid journal;
 -- and the parts of a journal.
 use Rattle.std.specs.Prelude.{◌≡◌, ◌-◌, List, length, take, None, [], ◌∷◌, ◌++◌, ◌≤◌}
-use Rattle.std.specs.List.{fold}
+use Rattle.rrd_spec.specs.Names.{fold}
 use Rattle.rrd_spec.specs.Limits.{Limits}
 use Rattle.rrd_spec.specs.History.{Content}
 use Rattle.rrd_spec.specs.Commands.{DatabaseChange, moved}

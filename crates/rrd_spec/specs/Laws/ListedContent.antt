@@ -2,8 +2,7 @@
 -- are kept; proofs use this form. `content` in History/Cells gives each row by its time, and is the definition;
 -- `IsListedByNumber` in Laws/Cells says that both are equal.
 use Rattle.std.specs.Prelude.{ℕ, ◌+◌, ◌-◌, ◌/◌, min, List, [], ◌∷◌, ◌++◌, map, length, drop, replicate}
-use Rattle.std.specs.List.{enumerate_from}
-use Rattle.rrd_fixed.specs.declared.cell.Cell.{Cell}
+use Rattle.rrd_spec.specs.Names.{enumerate_from, Cell}
 use Rattle.rrd_spec.specs.Settings.{resolution}
 use Rattle.rrd_spec.specs.History.{Rra, Content, Event, Sampled, Tuned, Resized, Added, Removed, rows_after, Moment, moment_after, moment_at_end, moment_of, rows_at_end}
 use Rattle.rrd_spec.specs.History.Steps.{parts_of}

@@ -2,7 +2,7 @@
 -- those that are kept; proofs use this form. `content` in History/Cells gives each row by its time, and is the
 -- definition; `IsListed` in Laws/Cells says that both are equal.
 use Rattle.std.specs.Prelude.{ℕ, ◌-◌, ◌/◌, List, ◌++◌, map, length, replicate}
-use Rattle.rrd_fixed.specs.declared.cell.Cell.{Cell}
+use Rattle.rrd_spec.specs.Names.{Cell}
 use Rattle.rrd_spec.specs.Settings.{resolution}
 use Rattle.rrd_spec.specs.History.{Rra, Content, Event, moment_at_end, rows_at_end}
 use Rattle.rrd_spec.specs.History.Groups.{finished}

@@ -1,6 +1,6 @@
 -- Law: which entries a journal may contain, decided by outlines alone.
 use Rattle.std.specs.Prelude.{◌≡◌, ℕ, List, [], ◌∷◌, ◌++◌, length}
-use Rattle.std.specs.List.{fold}
+use Rattle.rrd_spec.specs.Names.{fold}
 use Rattle.rrd_spec.specs.declared.outline.Outline.{Outline}
 use Rattle.rrd_spec.specs.Limits.{Limits}
 use Rattle.rrd_spec.specs.History.{Content}

@@ -1,14 +1,11 @@
 -- Law: the content after seconds have passed: steps and rows, one after another.
 use Rattle.std.specs.Prelude.{◌≡◌, ◌++◌, ℕ, ◌+◌, ◌-◌, ◌/◌, List, length, map, [], ◌∷◌, ◌<◌, replicate, ◌*◌}
-use Rattle.std.specs.List.{fold}
+use Rattle.rrd_spec.specs.Names.{fold, Cell, Average, with_each}
 use Rattle.rrd_spec.specs.History.{Content, Rra, IsBase, Reading, Sampled, rates}
-use Rattle.rrd_fixed.specs.declared.cell.Cell.{Cell}
 use Rattle.rrd_spec.specs.History.Steps.{seconds_to_steps}
 use Rattle.rrd_spec.specs.History.Rows.{steps_to_rows}
 use Rattle.rrd_spec.specs.Laws.ListedContent.{content_listed, keep_last}
 use Rattle.rrd_spec.specs.History.Groups.{finished, unfinished}
-use Rattle.rrd_fold.specs.declared.function.Function.TheVariants.{Average}
-use Rattle.rrd_fold.specs.Parts.{with_each}
 
 -- an archive after these steps, if `before` steps ended earlier
 unfoldable pub archive_passed : ℕ → ℕ → List (List Cell) → Rra → Rra

@@ -1,7 +1,6 @@
 -- Law: which row is in which slot of a file, and the cells of a file after a row is put at its index.
 use Rattle.std.specs.Prelude.{◌≡◌, ◌≢◌, ℕ, ◌+◌, ◌-◌, ◌*◌, ◌/◌, ◌<◌, List, [], ◌++◌, length, take, drop, slice_index_or, slice_set}
-use Rattle.std.specs.List.{AllByRecursion}
-use Rattle.rrd_fixed.specs.declared.cell.Cell.{Cell}
+use Rattle.rrd_spec.specs.Names.{AllByRecursion, Cell}
 use Rattle.rrd_spec.specs.Settings.{resolution}
 use Rattle.rrd_spec.specs.History.Cells.{row_at, time_of}
 use Rattle.rrd_spec.specs.History.{Rra, Content}

@@ -1,17 +1,14 @@
 -- Law: results of valid values are valid.
 use Rattle.std.specs.Prelude.{◌≡◌, ℕ, ◌+◌, List, length, None, ◌≤◌}
-use Rattle.std.specs.List.{AllByRecursion}
+use Rattle.rrd_spec.specs.Names.{AllByRecursion, Cell, Function, Part, with_each}
 use Rattle.rrd_spec.specs.Limits.{present}
 use Rattle.rrd_spec.specs.History.{Content, Rra}
 use Rattle.rrd_spec.specs.Commands.{DatabaseChange, moved}
-use Rattle.rrd_fixed.specs.declared.cell.Cell.{Cell}
 use Rattle.rrd_spec.specs.Commands.Verdict.{verdict}
 use Rattle.rrd_spec.specs.History.Rows.{row}
 use Rattle.rrd_spec.specs.declared.requests.create.CreateSpec.{CreateSpec}
 use Rattle.rrd_spec.specs.Validity.{IsValid, AreParts, IsRow, IsValidArchive}
 use Rattle.rrd_spec.specs.Commands.Creating.{create_verdict, created}
-use Rattle.rrd_fold.specs.declared.function.Function.{Function}
-use Rattle.rrd_fold.specs.Parts.{Part, with_each}
 use Rattle.rrd_spec.specs.Laws.Passing.{archive_passed, passed}
 
 -- a new database that is not refused is valid

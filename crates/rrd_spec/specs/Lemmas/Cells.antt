@@ -1,9 +1,6 @@
 -- Law: the rows and parts that are shown of archive `number`.
-use Rattle.std.proofs.Common.{◌≡◌, refl, ℕ, zero, suc, ◌<◌, ℤ, List, [], ◌∷◌, length, get_or}
-use Rattle.std.proofs.Math.Nat.{le_of_suc-le-suc, not-suc-le-zero}
-use Rattle.rrd_fixed.specs.declared.cell.Cell.TheVariants.{Unknown}
-use Rattle.rrd_fold.specs.Bounds.{Consolidating}
-use Rattle.rrd_fold.specs.Parts.{nothing}
+use Rattle.std.specs.Prelude.{◌≡◌, ℕ, zero, suc, ◌<◌, ℤ, List, [], ◌∷◌, length}
+use Rattle.rrd_spec.specs.Names.{refl, get_or, le_of_suc-le-suc, not-suc-le-zero, Unknown, Consolidating, nothing}
 use Rattle.rrd_spec.specs.History.{Rra, Content}
 use Rattle.rrd_spec.specs.History.Cells.{cell_in, prep_in, row_at}
 

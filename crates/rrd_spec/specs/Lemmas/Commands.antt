@@ -1,8 +1,6 @@
 -- Law: samples that pass their checks have rising times.
-use Rattle.std.proofs.Common.{List, [], ◌∷◌, map}
-use Rattle.std.proofs.lemmas.Bool.{leb-false}
-use Rattle.std.specs.List.{AllByRecursion}
-use Rattle.rrd_fixed.specs.declared.name.Name.{Name}
+use Rattle.std.specs.Prelude.{List, [], ◌∷◌, map}
+use Rattle.rrd_spec.specs.Names.{leb-false, AllByRecursion, Name}
 use Rattle.rrd_spec.specs.declared.settings.DsDef.{DsDef}
 use Rattle.rrd_spec.specs.declared.requests.update.Sample.{Sample}
 use Rattle.rrd_spec.specs.Commands.{sample_of}

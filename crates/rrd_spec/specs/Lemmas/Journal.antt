@@ -1,6 +1,6 @@
 -- Law: undoing an entry keeps the depth of the journal.
-use Rattle.std.proofs.Common.{◌≡◌, refl, List, [], ◌∷◌}
-use Rattle.std.specs.List.{fold}
+use Rattle.std.specs.Prelude.{◌≡◌, List, [], ◌∷◌}
+use Rattle.rrd_spec.specs.Names.{refl, fold}
 use Rattle.rrd_spec.specs.declared.entry.SavedSource.{SavedSource}
 use Rattle.rrd_spec.specs.History.{Content}
 use Rattle.rrd_spec.specs.Journal.Entries.{Entry, AddedEntry, RemovedEntry, ResizeEntry, TuneEntry, UpdateEntry, undone, with_source}

@@ -1,9 +1,6 @@
 -- Law: lists, item by item, and the newest items of a list.
-use Rattle.std.proofs.Common.{◌≡◌, refl, sym, ◌∙◌, ap, subst, ℕ, zero, suc, ◌+◌, ◌-◌, ◌<◌, ◌≤◌, List, [], ◌∷◌, ◌++◌, length, take, drop, map, get_or, set, replicate, add-one, append-nil, append_assoc, length-append, take_all}
-use Rattle.std.proofs.Math.Nat.{add-sub_assoc, add-sub_cancel_left, le-add_right, le_of_suc-le-suc, not-suc-le-zero, sub-add_cancel, sub-eq-zero_of_le}
-use Rattle.std.proofs.Math.Seq.{drop-cons}
-use Rattle.std.proofs.lemmas.List.{drop-drop, drop_all, drop_at, length-drop, take-append-drop}
-use Rattle.std.specs.List.{AllByRecursion}
+use Rattle.std.specs.Prelude.{◌≡◌, ℕ, zero, suc, ◌+◌, ◌-◌, ◌<◌, ◌≤◌, List, [], ◌∷◌, ◌++◌, length, take, drop, map, replicate}
+use Rattle.rrd_spec.specs.Names.{refl, sym, ◌∙◌, ap, subst, get_or, set, add-one, append-nil, append_assoc, length-append, take_all, add-sub_assoc, add-sub_cancel_left, le-add_right, le_of_suc-le-suc, not-suc-le-zero, sub-add_cancel, sub-eq-zero_of_le, drop-cons, drop-drop, drop_all, drop_at, length-drop, take-append-drop, AllByRecursion}
 use Rattle.rrd_spec.specs.Preparations.{map_each}
 use Rattle.rrd_spec.specs.Laws.ListedContent.{keep_last}
 

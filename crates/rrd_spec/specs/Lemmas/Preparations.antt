@@ -1,10 +1,6 @@
 -- Law: the partial steps and rows of many data sources, one after another.
-use Rattle.std.proofs.Common.{◌≡◌, refl, sym, ◌∙◌, ap, ap₂, ℕ, zero, suc, List, [], ◌∷◌, length, map, replicate}
-use Rattle.std.specs.List.{fold}
-use Rattle.rrd_fixed.specs.declared.cell.Cell.{Cell}
-use Rattle.rrd_fold.specs.declared.function.Function.{Function}
-use Rattle.rrd_fold.specs.Bounds.{Consolidating}
-use Rattle.rrd_fold.specs.Parts.{Part, nothing, with_cell, with_each}
+use Rattle.std.specs.Prelude.{◌≡◌, ℕ, zero, suc, List, [], ◌∷◌, length, map, replicate}
+use Rattle.rrd_spec.specs.Names.{refl, sym, ◌∙◌, ap, ap₂, fold, Cell, Function, Consolidating, Part, nothing, with_cell, with_each}
 use Rattle.rrd_spec.specs.Preparations.{AllOf, anew, map_each, parts_in, with_steps}
 use Rattle.rrd_spec.specs.Settings.{cells}
 use Rattle.rrd_spec.specs.History.Steps.{step}

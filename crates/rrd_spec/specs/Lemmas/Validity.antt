@@ -1,8 +1,6 @@
 -- Law: the properties of a valid content that proofs use.
-use Rattle.std.proofs.Common.{◌≡◌, refl, ap, ℕ, suc, ◌/◌, List, [], ◌∷◌, length}
-use Rattle.std.specs.List.{AllByRecursion}
-use Rattle.rrd_fixed.specs.declared.cell.Cell.{Cell}
-use Rattle.rrd_fixed.specs.declared.raw.Raw.{Raw}
+use Rattle.std.specs.Prelude.{◌≡◌, ℕ, suc, ◌/◌, List, [], ◌∷◌, length}
+use Rattle.rrd_spec.specs.Names.{refl, ap, AllByRecursion, Cell, Raw}
 use Rattle.rrd_spec.specs.declared.settings.DsDef.{DsDef}
 use Rattle.rrd_spec.specs.Journal.Entries.{IsSound}
 use Rattle.rrd_spec.specs.History.{Rra, Content, IsArchive, IsBase}

@@ -1,5 +1,4 @@
-use Rattle.std.proofs.Common.{◌≡◌, map, take}
-use Rattle.rrd_spec.specs.Commands.Creating.{new_archive}
+use Rattle.rrd_base.proofs.Common.{◌≡◌, map, take, new_archive}
 use Rattle.rrd_base.proofs.archives.new_all.Given as goal
 
 abbrev pub invariant-loop-def : goal.invariant-loop-def

@@ -1,5 +1,4 @@
-use Rattle.std.proofs.Common.{◌≡◌, ◌++◌, take, drop, vec_len}
-use Rattle.rrd_spec.specs.Journal.Entries.{put_back_each}
+use Rattle.rrd_base.proofs.Common.{◌≡◌, ◌++◌, take, drop, vec_len, put_back_each}
 use Rattle.rrd_base.proofs.archives.put_back_all.Given as goal
 
 abbrev pub invariant-loop-old : goal.invariant-loop-old

@@ -1,5 +1,4 @@
-use Rattle.std.proofs.Common.{◌≡◌, take, map}
-use Rattle.rrd_spec.specs.Journal.Entries.{saved}
+use Rattle.rrd_base.proofs.Common.{◌≡◌, take, map, saved}
 use Rattle.rrd_base.proofs.archives.save_all.Given as goal
 
 abbrev pub invariant-loop-rra : goal.invariant-loop-rra

@@ -1,14 +1,5 @@
-use Rattle.std.proofs.Common.{◌≡◌, ℕ, sym, ◌∙◌, ap, subst, suc, ◌+◌, ◌*◌, ◌^◌, ◌++◌, ◌<◌, take, drop, map, length, set, get_or, arith}
-use Rattle.std.proofs.lemmas.Nat.{mul-le}
-use Rattle.std.specs.List.{AllByRecursion}
-use Rattle.rrd_spec.specs.History.{Rra, definitions}
-use Rattle.rrd_spec.specs.Laws.Passing.{archive_passed}
-use Rattle.rrd_spec.specs.declared.settings.RraDef.{RraDef}
-use Rattle.rrd_base.specs.Walk.Turns.{rows_pushed, least_of_steps, most_of_steps}
-use Rattle.rrd_spec.specs.Validity.{IsValidArchive}
-use Rattle.rrd_spec.specs.Lemmas.Lists.{All-take-set, map_more, map_next}
-use Rattle.rrd_base.specs.Walk.{cells_of, count_of, sources_of}
-use Rattle.rrd_base.proofs.TurnLemmas.{sum_more, sum_within}
+use Rattle.rrd_base.proofs.Common.{◌≡◌, ℕ, sym, ◌∙◌, ap, subst, suc, ◌+◌, ◌*◌, ◌^◌, ◌++◌, ◌<◌, take, drop, map, length, set, get_or, arith, mul-le, AllByRecursion, Rra, definitions, archive_passed, RraDef, rows_pushed, least_of_steps, most_of_steps, IsValidArchive, All-take-set, map_more, map_next, cells_of, count_of, sum_more, sum_within}
+use Rattle.rrd_base.specs.Walk.{sources_of}
 use Rattle.rrd_base.proofs.archives.take_all.Goals as goal
 
 pub take-requires-clause-turns : goal.take-requires-clause-turns

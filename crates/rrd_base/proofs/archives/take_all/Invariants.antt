@@ -1,9 +1,5 @@
-use Rattle.std.proofs.Common.{◌≡◌, ◌+◌, ◌≤◌, ◌++◌, take, drop, map}
-use Rattle.std.specs.List.{AllByRecursion}
-use Rattle.rrd_spec.specs.Laws.Passing.{archive_passed}
-use Rattle.rrd_spec.specs.Validity.{IsValidArchive}
-use Rattle.rrd_base.specs.Walk.{cells_of, count_of, sources_of}
-use Rattle.rrd_base.specs.Walk.Turns.{least_of_all, most_of_all}
+use Rattle.rrd_base.proofs.Common.{◌≡◌, ◌+◌, ◌≤◌, ◌++◌, take, drop, map, AllByRecursion, archive_passed, IsValidArchive, cells_of, count_of, least_of_all, most_of_all}
+use Rattle.rrd_base.specs.Walk.{sources_of}
 use Rattle.rrd_base.proofs.archives.take_all.Given as goal
 
 abbrev pub invariant-loop-i : goal.invariant-loop-i

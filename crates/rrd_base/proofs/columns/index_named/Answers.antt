@@ -1,5 +1,4 @@
-use Rattle.std.proofs.Common.{sym, ◌∙◌, true, false, arith}
-use Rattle.rrd_base.proofs.UpdatingLemmas.{value_at, value_at_end}
+use Rattle.rrd_base.proofs.Common.{sym, ◌∙◌, true, false, arith, value_at, value_at_end}
 use Rattle.rrd_base.proofs.columns.index_named.Goals as goal
 
 pub returns-then-same : goal.returns-then-same

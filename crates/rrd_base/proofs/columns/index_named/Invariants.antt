@@ -1,6 +1,4 @@
-use Rattle.std.proofs.Common.{◌≡◌, List, drop}
-use Rattle.rrd_spec.specs.declared.requests.update.Given.{Given}
-use Rattle.rrd_spec.specs.Commands.{value_for}
+use Rattle.rrd_base.proofs.Common.{◌≡◌, List, drop, Given, value_for}
 use Rattle.rrd_base.proofs.columns.index_named.Given as goal
 
 abbrev pub invariant-loop-index : goal.invariant-loop-index

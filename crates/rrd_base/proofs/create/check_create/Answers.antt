@@ -1,10 +1,6 @@
-use Rattle.std.proofs.Common.{◌∙◌, ap, ◌++◌}
-use Rattle.std.proofs.lemmas.Result.{err_from_is_err_and}
-use Rattle.rrd_spec.specs.Commands.Verdict.{first_refusal}
-use Rattle.rrd_spec.specs.Commands.Creating.{create_verdict_within, first_checks, source_checks, archive_checks, size_checks}
-use Rattle.rrd_base.proofs.Checks.{passed, refused}
+use Rattle.rrd_base.proofs.Common.{◌∙◌, ap, ◌++◌, err_from_is_err_and, first_refusal, create_verdict_within, first_checks, source_checks, archive_checks, size_checks, refused, present}
+use Rattle.rrd_base.proofs.Checks.{passed}
 use Rattle.rrd_base.proofs.create.check_create.Goals as goal
-use Rattle.rrd_spec.specs.Limits.{present}
 
 pub returns-in_err-check_first : goal.returns-in_err-check_first
 unfolding create_verdict_within

@@ -1,9 +1,4 @@
-use Rattle.std.proofs.Common.{◌≡◌, ◌∙◌, ap, ℕ, ◌*◌, ◌/◌, ◌^◌, ◌<◌, ◌≤◌, arith, pos, ◌-ℤ◌}
-use Rattle.std.proofs.lemmas.Int.{ints}
-use Rattle.std.proofs.lemmas.Nat.{mul-le}
-use mir.Val.{to_z, of_z}
-use mir.Syntax.{w64}
-use Rattle.rrd_spec.specs.declared.requests.fetch.Candidate.{Candidate}
+use Rattle.rrd_base.proofs.Common.{◌≡◌, ◌∙◌, ap, ℕ, ◌*◌, ◌/◌, ◌^◌, ◌<◌, ◌≤◌, arith, pos, ◌-ℤ◌, ints, mul-le, to_z, of_z, w64, Candidate}
 use Rattle.rrd_base.proofs.fetch.candidate.Goals as goal
 
 difference_fits : (m n : ℕ) → m ≤ 10 ^ 10 → n ≤ 10 ^ 18 → to_z w64 (of_z w64 (to_z w64 m -ℤ to_z w64 n)) ≡ pos m -ℤ pos n

@@ -1,5 +1,4 @@
-use Rattle.std.proofs.Common.{◌≡◌, ◌*◌, ◌≤◌, take}
-use Rattle.rrd_spec.specs.Journal.Entries.{cells_saved}
+use Rattle.rrd_base.proofs.Common.{◌≡◌, ◌*◌, ◌≤◌, take, cells_saved}
 use Rattle.rrd_base.proofs.journal.count_cells.Given as goal
 
 abbrev pub invariant-loop-archive : goal.invariant-loop-archive

@@ -1,8 +1,4 @@
-use Rattle.std.proofs.Common.{◌≡◌, sym, ◌∙◌, ap, ℕ, suc, ◌+◌, ◌-◌, ◌<◌, ◌||◌, Bool, true, false, List, [], ◌∷◌, map, length, take, drop, get_or, refl, drop-cons, length-drop, take_all, arith}
-use Rattle.std.specs.List.{list_any}
-use Rattle.rrd_fixed.specs.declared.name.Name.{Name}
-use Rattle.rrd_fixed.specs.Names.{same_name}
-use Rattle.rrd_spec.specs.Settings.{is_double}
+use Rattle.rrd_base.proofs.Common.{◌≡◌, sym, ◌∙◌, ap, ℕ, suc, ◌+◌, ◌-◌, ◌<◌, ◌||◌, Bool, true, false, List, [], ◌∷◌, map, length, take, drop, get_or, refl, drop-cons, length-drop, take_all, arith, list_any, Name, same_name, is_double}
 use Rattle.rrd_base.proofs.named.has_double_name.Goals as goal
 
 any_called : {A : Type 0} (called : A → Name) (name : Name) (named : List A) → list_any (same_name name) (map called named) ≡ list_any (λ other. same_name name (called other)) named
@@ -16,9 +12,7 @@ double_at {A = A} called named i d name found h is e =
     let rest = drop (i + 1) named in
     let one_more : drop i named ≡ one ∷ rest = drop-cons named i d h ∙ ap (λ n. one ∷ drop n named) {x = suc i} {y = i + 1} (omega arith) in
     let whole : rest ≡ take (length named - (i + 1)) rest = sym (take_all (length named - (i + 1)) rest (omega (arith, length-drop (i + 1) named))) in
-    ap (λ (list : List A). is_double (map called list)) one_more
-    ∙ ap (λ n. list_any (same_name n) (map called rest) || is_double (map called rest)) (sym is)
-    ∙ ap (λ b. b || is_double (map called rest)) (any_called called name rest ∙ ap (list_any (λ other. same_name name (called other))) whole ∙ e)
+    cc (one_more, is, any_called called name rest ∙ ap (list_any (λ other. same_name name (called other))) whole ∙ e)
 
 pub returns-then-is_among : goal.returns-then-is_among
 returns-then-is_among g c = let called = g.T.Named.called in sym (double_at called c.args.named.now c.loop-index.index c.index-named-index.result c.name.result.now true c.loop-index-test.true (c.name.ensures ∙ ap called c.index-named-index.is) (sym c.is_among.ensures ∙ c.if-is_among.true)) ∙ c.loop-index.invariant

@@ -1,5 +1,4 @@
-use Rattle.std.proofs.Common.{◌≡◌, drop, map}
-use Rattle.rrd_spec.specs.Settings.{is_double}
+use Rattle.rrd_base.proofs.Common.{◌≡◌, drop, map, is_double}
 use Rattle.rrd_base.proofs.named.has_double_name.Given as goal
 
 abbrev pub invariant-loop-index : goal.invariant-loop-index

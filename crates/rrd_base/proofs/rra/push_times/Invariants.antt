@@ -1,6 +1,4 @@
-use Rattle.std.proofs.Common.{◌≡◌, ◌+◌, ◌*◌, ◌++◌, replicate, length}
-use Rattle.rrd_ring.specs.Rows.{HasWidth}
-use Rattle.rrd_spec.specs.Laws.ListedContent.{keep_last}
+use Rattle.rrd_base.proofs.Common.{◌≡◌, ◌+◌, ◌*◌, ◌++◌, replicate, length, HasWidth, keep_last}
 use Rattle.rrd_base.proofs.rra.push_times.Given as goal
 
 abbrev pub invariant-loop-i : goal.invariant-loop-i

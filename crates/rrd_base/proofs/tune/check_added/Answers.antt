@@ -1,22 +1,7 @@
-use Rattle.std.proofs.Common.{◌≡◌, ◌∙◌, ◌*◌, ◌||◌, ◌++◌, ◌∷◌, [], Bool, List, ap, false, length, refl, sum, sym, true}
-use Rattle.std.specs.Prelude.{nat_lt}
-use Rattle.std.proofs.lemmas.Result.{err_from_is_err_and}
-use Rattle.rrd_spec.specs.declared.refusal.Refusal.TheVariants.{BadRows, BadSteps, BadXff, TooLarge}
-use Rattle.rrd_spec.specs.declared.requests.tune.ArchiveTune.TheVariants.{Add}
-use Rattle.rrd_spec.specs.declared.settings.DsDef.{DsDef}
-use Rattle.rrd_spec.specs.declared.settings.RraDef.{RraDef}
-use Rattle.rrd_spec.specs.Commands.{archive_event, rows_of_archives, settings_after}
-use Rattle.rrd_spec.specs.Commands.Creating.{archive_checks}
-use Rattle.rrd_spec.specs.Commands.Verdict.{◌refuses◌, Check, archive_is_too_large, first_refusal, is_bad_rows, is_bad_steps, is_bad_xff}
-use Rattle.rrd_spec.specs.History.{Rra}
-use Rattle.rrd_spec.specs.Limits.{present}
-use Rattle.rrd_base.specs.Resize.{settings}
-use Rattle.rrd_base.proofs.Checks.{passed, refused}
+use Rattle.rrd_base.proofs.Common.{◌≡◌, ◌∙◌, ◌*◌, ◌||◌, ◌++◌, ◌∷◌, [], Bool, List, ap, false, length, refl, sum, sym, true, nat_lt, err_from_is_err_and, BadRows, BadSteps, BadXff, TooLarge, Add, DsDef, RraDef, archive_event, rows_of_archives, settings_after, archive_checks, ◌refuses◌, Check, archive_is_too_large, first_refusal, is_bad_rows, is_bad_steps, is_bad_xff, Rra, present, settings, refused}
+use Rattle.rrd_base.proofs.Checks.{passed}
 use Rattle.rrd_base.proofs.tune.check_added.Goals as goal
-
-or_false : (b : Bool) → (b || false) ≡ b
-or_false true = refl
-or_false false = refl
+use Rattle.rrd_base.proofs.ChoiceLemmas.{or_false}
 
 -- what is asked of the settings of one archive
 abbrev own : RraDef → List Check

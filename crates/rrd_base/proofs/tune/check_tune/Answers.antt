@@ -1,9 +1,5 @@
-use Rattle.std.proofs.Common.{◌∙◌, ap, sym}
-use Rattle.std.proofs.lemmas.Result.{err_from_is_err_and}
-use Rattle.rrd_spec.specs.Commands.Verdict.{archive_tune_checks, first_refusal, option_checks}
-use Rattle.rrd_spec.specs.Limits.{present}
-use Rattle.rrd_base.specs.Resize.{settings}
-use Rattle.rrd_base.proofs.Checks.{passed, refused}
+use Rattle.rrd_base.proofs.Common.{◌∙◌, ap, sym, err_from_is_err_and, archive_tune_checks, first_refusal, option_checks, present, settings, refused}
+use Rattle.rrd_base.proofs.Checks.{passed}
 use Rattle.rrd_base.proofs.tune.check_tune.Goals as goal
 
 pub returns-in_err-check_options : goal.returns-in_err-check_options
@@ -15,6 +11,4 @@ returns-in_err-check_options c =
 pub returns-in-Some : goal.returns-in-Some
 returns-in-Some c =
     let tuning = c.args.tuning.now in
-    c.check_archive.ensures
-    ∙ ap (λ asked. first_refusal (archive_tune_checks present (settings c.args.sources.now c.args.archives.now) asked)) (sym c.in-Some.is)
-    ∙ passed (option_checks present c.args.sources.now tuning) (archive_tune_checks present (settings c.args.sources.now c.args.archives.now) tuning.archive) c.in_ok-check_options.ensures
+    cc (c.check_archive.ensures, c.in-Some.is, passed (option_checks present c.args.sources.now tuning) (archive_tune_checks present (settings c.args.sources.now c.args.archives.now) tuning.archive) c.in_ok-check_options.ensures)

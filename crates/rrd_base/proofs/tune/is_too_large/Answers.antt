@@ -1,9 +1,4 @@
-use Rattle.std.proofs.Common.{◌≡◌, ◌∙◌, ap, ◌+◌, ◌*◌, ◌||◌, ◌++◌, ◌∷◌, [], length, sum, arith}
-use Rattle.std.specs.Prelude.{nat_lt}
-use Rattle.std.proofs.lemmas.List.{length-map, length_push}
-use Rattle.rrd_spec.specs.Commands.{rows_of_archives}
-use Rattle.rrd_spec.specs.History.{Rra}
-use Rattle.rrd_base.proofs.ResizeLemmas.{few_sum, sum_push}
+use Rattle.rrd_base.proofs.Common.{◌≡◌, ◌∙◌, ap, ◌+◌, ◌*◌, ◌||◌, ◌++◌, ◌∷◌, [], length, sum, arith, nat_lt, length-map, length_push, rows_of_archives, Rra, few_sum, sum_push}
 use Rattle.rrd_base.proofs.tune.is_too_large.Goals as goal
 
 pub overflow_add-all_rows : goal.overflow_add-all_rows

@@ -1,10 +1,6 @@
-use Rattle.std.proofs.Common.{◌≡◌, refl, sym, ◌∙◌, ap, suc, ◌+◌, ◌<◌, ◌≤◌, true, false, cond, [], ◌∷◌, ◌++◌, take, get_or, length, length-append, append-nil, arith, lit<}
+use Rattle.rrd_base.proofs.Common.{◌≡◌, refl, sym, ◌∙◌, ap, suc, ◌+◌, ◌<◌, ◌≤◌, true, false, cond, [], ◌∷◌, ◌++◌, take, get_or, length, length-append, append-nil, arith, lit<, max_tuned, DsDef, SavedSource, before_more, before_few}
 use Rattle.rrd_fixed.specs.declared.raw.Raw.TheVariants.{Unknown}
-use Rattle.rrd_spec.specs.Limits.{max_tuned}
-use Rattle.rrd_spec.specs.declared.settings.DsDef.{DsDef}
-use Rattle.rrd_spec.specs.declared.entry.SavedSource.{SavedSource}
 use Rattle.rrd_spec.specs.Journal.Entries as entries
-use Rattle.rrd_base.proofs.TuneLemmas.{before_more, before_few}
 use Rattle.rrd_base.proofs.tune.keep_sources.Goals as goal
 use Rattle.rrd_base.proofs.tune.keep_sources.Goals.{then-is_named, else-is_named}
 
@@ -19,8 +15,7 @@ push-requires c =
     let h : SavedSource = record { number = i; source = get_or sources i d; raw = get_or raws i Unknown } in
     let more = before_more tuning 0 i i sources raws d Unknown within c.requires.one_each (omega arith) in
     let named : entries.is_named tuning (get_or sources i d) ≡ true = ap (entries.is_named tuning) (sym c.index-sources-number.is) ∙ sym c.is_named.ensures ∙ c.if-is_named.true in
-    let grown : entries.saved_sources tuning 0 (take (suc i) sources) (take (suc i) raws) ≡ c.loop-number.kept.items ++ h ∷ []
-    = more ∙ ap (λ b. entries.saved_sources tuning 0 (take i sources) (take i raws) ++ cond b (h ∷ []) []) named ∙ ap (λ zs. zs ++ h ∷ []) (sym c.loop-number.invariant) in
+    let grown : entries.saved_sources tuning 0 (take (suc i) sources) (take (suc i) raws) ≡ c.loop-number.kept.items ++ h ∷ [] = cc (more, named, c.loop-number.invariant) in
     let few = before_few tuning 0 (suc i) sources raws in
     let count : length (c.loop-number.kept.items ++ h ∷ []) ≡ length c.loop-number.kept.items + 1 = omega (arith, length-append c.loop-number.kept.items (h ∷ [])) in
     let whole : length (c.loop-number.kept.items ++ h ∷ []) ≤ max_tuned = omega (arith, ap length grown, few, c.requires.few) in

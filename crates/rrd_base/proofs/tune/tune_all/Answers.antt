@@ -1,11 +1,6 @@
-use Rattle.std.proofs.Common.{◌≡◌, ◌∙◌, ap, suc, ◌+◌, ◌++◌, ◌<◌, map, take, drop, set, get_or, length, arith}
+use Rattle.rrd_base.proofs.Common.{◌≡◌, ◌∙◌, ap, suc, ◌+◌, ◌++◌, ◌<◌, map, take, drop, set, get_or, length, arith, DsDef, raws_under, get_or_default, map_more, map_next, raws_more, raws_next}
 use Rattle.rrd_fixed.specs.declared.raw.Raw.TheVariants.{Unknown}
-use Rattle.rrd_spec.specs.declared.settings.DsDef.{DsDef}
 use Rattle.rrd_spec.specs.Commands as commands
-use Rattle.rrd_spec.specs.History.{raws_under}
-use Rattle.std.proofs.lemmas.List.{get_or_default}
-use Rattle.rrd_spec.specs.Lemmas.Lists.{map_more, map_next}
-use Rattle.rrd_base.proofs.TuneLemmas.{raws_more, raws_next}
 use Rattle.rrd_base.proofs.tune.tune_all.Goals as goal
 
 pub loop-number-preserved : goal.loop-number-preserved
@@ -22,10 +17,7 @@ loop-number-preserved c =
     let e = c.index-sources-number-in-loop-number.result in
     let again : get_or c.loop-number.sources i e ≡ get_or sources i d = ap (λ zs. get_or zs i e) was.sources_are ∙ map_next f sources sources i e within within ∙ get_or_default sources i e d within in
     let raw : get_or c.loop-number.raws i Unknown ≡ get_or raws i Unknown = ap (λ zs. get_or zs i Unknown) was.raws_are ∙ raws_next f sources raws i Unknown in
-    let under : c.raw_under.result ≡ commands.raw_under (get_or sources i d).kind (f (get_or sources i d)).kind (get_or raws i Unknown)
-    = c.raw_under.ensures ∙ ap (λ (x : DsDef). commands.raw_under x.kind c.settings_after-new.result.kind (get_or c.loop-number.raws i Unknown)) again
-    ∙ ap (λ (x : DsDef). commands.raw_under (get_or sources i d).kind x.kind (get_or c.loop-number.raws i Unknown)) new
-    ∙ ap (commands.raw_under (get_or sources i d).kind (f (get_or sources i d)).kind) raw in
+    let under : c.raw_under.result ≡ commands.raw_under (get_or sources i d).kind (f (get_or sources i d)).kind (get_or raws i Unknown) = cc (c.raw_under.ensures, again, new, raw) in
     record {
       sources_are = ap (λ zs. set zs i c.settings_after-new.result) was.sources_are
           ∙ map_more f sources sources i d c.settings_after-new.result within within new

@@ -1,6 +1,5 @@
-use Rattle.std.proofs.Common.{◌≡◌, ◌++◌, map, take, drop}
+use Rattle.rrd_base.proofs.Common.{◌≡◌, ◌++◌, map, take, drop, raws_under}
 use Rattle.rrd_spec.specs.Commands as commands
-use Rattle.rrd_spec.specs.History.{raws_under}
 use Rattle.rrd_base.proofs.tune.tune_all.Given as goal
 
 abbrev pub invariant-loop-number : goal.invariant-loop-number

@@ -1,6 +1,4 @@
-use Rattle.std.proofs.Common.{◌∙◌, ap, ◌-◌, get_or, length}
-use Rattle.rrd_spec.specs.declared.requests.update.Sample.{Sample}
-use Rattle.rrd_base.proofs.DatabaseLemmas.{last_item}
+use Rattle.rrd_base.proofs.Common.{◌∙◌, ap, ◌-◌, get_or, length, Sample, last_item}
 use Rattle.rrd_base.proofs.update.end_time.Goals as goal
 
 pub returns : goal.returns

@@ -1,8 +1,4 @@
-use Rattle.std.proofs.Common.{sym, ◌∙◌, ap, suc, ◌+◌, ◌++◌, map, take, drop, set, length, ◌<◌, arith}
-use Rattle.rrd_spec.specs.declared.settings.DsDef.{DsDef}
-use Rattle.rrd_spec.specs.Commands.{raw_of, value_for}
-use Rattle.rrd_base.specs.Update.{template_of}
-use Rattle.rrd_spec.specs.Lemmas.Lists.{map_more}
+use Rattle.rrd_base.proofs.Common.{sym, ◌∙◌, ap, suc, ◌+◌, ◌++◌, map, take, drop, set, length, ◌<◌, arith, DsDef, raw_of, value_for, template_of, map_more}
 use Rattle.rrd_base.proofs.update.raws_into.Goals as goal
 
 pub loop-number-preserved : goal.loop-number-preserved

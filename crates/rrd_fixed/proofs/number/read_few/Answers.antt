@@ -1,11 +1,4 @@
-use Rattle.std.proofs.Common.{◌≡◌, ◌∙◌, ◌+◌, ◌*◌, ◌^◌, ◌<◌, ℤ, Bool, Some, None, true, false, slice_index, pos, to_z, length, take, sym, ap, arith}
-use Rattle.std.proofs.lemmas.Bool.Decides.{nat_tests}
-use Rattle.std.proofs.lemmas.Int.{to_z_pos}
-use Rattle.std.proofs.lemmas.List.{take_all, take_rest}
-use Rattle.std.specs.Int.{w128}
-use Rattle.rrd_fixed.specs.Reading.{is_point, value_of}
-use Rattle.rrd_fixed.specs.declared.number.Number.{Number}
-use Rattle.rrd_fixed.proofs.Few.{none_few, other_few, plain_few, pointed_few}
+use Rattle.rrd_fixed.proofs.Common.{◌≡◌, ◌∙◌, ◌+◌, ◌*◌, ◌^◌, ◌<◌, ℤ, Bool, Some, None, true, false, slice_index, pos, to_z, length, take, sym, ap, arith, nat_tests, to_z_pos, take_all, take_rest, w128, is_point, value_of, Number, none_few, other_few, plain_few, pointed_few}
 use Rattle.rrd_fixed.proofs.number.read_few.Goals as goal
 
 abbrev signed : ℤ → Bool → Number

@@ -1,6 +1,4 @@
-use Rattle.std.proofs.Common.{arith, length}
-use Rattle.std.proofs.lemmas.Grind.{common_steps}
-use Rattle.rrd_fixed.proofs.Digits.{fraction_below}
+use Rattle.rrd_fixed.proofs.Common.{arith, length, common_steps, fraction_below}
 use Rattle.rrd_fixed.proofs.number.read_fraction.Goals as goal
 
 pub returns-clause-small : goal.returns-clause-small

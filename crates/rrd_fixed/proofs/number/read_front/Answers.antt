@@ -1,10 +1,4 @@
-use Rattle.std.proofs.Common.{arith, ◌<◌, ◌≤◌, ◌^◌, length, refl, take, ℕ, List, ◌≡◌, true}
-use Rattle.std.proofs.lemmas.List.{length-take-le}
-use Rattle.std.specs.List.{list_all}
-use Rattle.rrd_fixed.specs.Reading.{value_of}
-use Rattle.std.proofs.lemmas.List.Folds.{list_all_more}
-use Rattle.std.specs.Char.{is_ascii_digit}
-use Rattle.rrd_fixed.proofs.Digits.{below_power, value_before, value_below, value_more}
+use Rattle.rrd_fixed.proofs.Common.{arith, ◌<◌, ◌≤◌, ◌^◌, length, refl, take, ℕ, List, ◌≡◌, true, length-take-le, list_all, value_of, list_all_more, is_ascii_digit, below_power, value_before, value_below, value_more}
 use Rattle.rrd_fixed.proofs.number.read_front.Goals as goal
 
 pub overflow_mul-value : goal.overflow_mul-value

@@ -1,7 +1,4 @@
-use Rattle.std.proofs.Common.{◌≡◌, ◌≤◌, ◌-◌, length, take, true}
-use Rattle.std.specs.Char.{is_ascii_digit}
-use Rattle.std.specs.List.{list_all}
-use Rattle.rrd_fixed.specs.Reading.{value_of}
+use Rattle.rrd_fixed.proofs.Common.{◌≡◌, ◌≤◌, ◌-◌, length, take, true, is_ascii_digit, list_all, value_of}
 use Rattle.rrd_fixed.proofs.number.read_front.Given as goal
 
 abbrev pub invariant-loop-at : goal.invariant-loop-at

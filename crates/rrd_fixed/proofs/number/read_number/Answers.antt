@@ -1,6 +1,4 @@
-use Rattle.std.proofs.Common.{◌≡◌, ◌≢◌, ◌∙◌, sym, refl, ℕ, ◌<◌, List, [], ◌∷◌, length, get_or, arith}
-use Rattle.std.proofs.lemmas.Grind.{common_steps}
-use Rattle.rrd_fixed.specs.Reading.{number_of, unsigned_of}
+use Rattle.rrd_fixed.proofs.Common.{◌≡◌, ◌≢◌, ◌∙◌, sym, refl, ℕ, ◌<◌, List, [], ◌∷◌, length, get_or, arith, common_steps, number_of, unsigned_of}
 use Rattle.rrd_fixed.proofs.number.read_number.Goals as goal
 use Rattle.rrd_fixed.proofs.number.read_number.Goals.{in_default-via-then-bytes-lt1, in_default-via-else-bytes-lt1+in_default-1}
 

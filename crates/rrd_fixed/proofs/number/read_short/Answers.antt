@@ -1,5 +1,4 @@
-use Rattle.std.proofs.Common.{arith}
-use Rattle.rrd_fixed.proofs.Digits.{value_all}
+use Rattle.rrd_fixed.proofs.Common.{arith, value_all}
 use Rattle.rrd_fixed.proofs.number.read_short.Goals as goal
 
 pub returns-clause-small : goal.returns-clause-small

@@ -1,6 +1,5 @@
-use Rattle.std.proofs.Common.{sym, ◌∙◌, ◌+◌}
+use Rattle.rrd_fixed.proofs.Common.{sym, ◌∙◌, ◌+◌, unsigned_plain, unsigned_pointed}
 use Rattle.rrd_fixed.proofs.Writings.{take_rest}
-use Rattle.rrd_fixed.proofs.Cut.{unsigned_plain, unsigned_pointed}
 use Rattle.rrd_fixed.proofs.number.read_unsigned.Goals as goal
 
 pub returns-in-None-clause-value : goal.returns-in-None-clause-value

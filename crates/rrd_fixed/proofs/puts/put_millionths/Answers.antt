@@ -1,7 +1,4 @@
-use Rattle.std.proofs.Common.{◌≡◌, ◌-◌, ◌/◌, ◌%◌, ◌++◌, ◌∷◌, codes, decimal, set, arith, append_assoc, sym}
-use Rattle.rrd_fixed.specs.Puts.{Puts}
-use Rattle.rrd_fixed.specs.Text.{millionths_text, six_digits}
-use Rattle.rrd_fixed.proofs.PutLemmas.{puts_before, puts_byte, six_wide}
+use Rattle.rrd_fixed.proofs.Common.{◌≡◌, ◌-◌, ◌/◌, ◌%◌, ◌++◌, ◌∷◌, codes, decimal, set, arith, append_assoc, sym, Puts, millionths_text, six_digits, puts_before, puts_byte, six_wide}
 use Rattle.rrd_fixed.proofs.puts.put_millionths.Goals as goal
 
 pub overflow_sub-point : goal.overflow_sub-point

@@ -1,6 +1,5 @@
-use Rattle.std.proofs.Common.{◌≡◌, ◌∷◌, arith, to_z-of_z}
-use Rattle.rrd_fixed.specs.Text.{millionths_text, signed_text}
-use Rattle.rrd_fixed.proofs.PutLemmas.{millionths_short, puts_byte, signed_minus}
+use Rattle.rrd_fixed.proofs.Common.{◌≡◌, ◌∷◌, arith, millionths_text, signed_text, millionths_short, puts_byte, signed_minus}
+use Rattle.std.proofs.Common.{to_z-of_z}
 use Rattle.rrd_fixed.proofs.puts.put_signed.Goals as goal
 
 pub overflow_sub-buffer : goal.overflow_sub-buffer

@@ -1,8 +1,4 @@
-use Rattle.std.proofs.Common.{◌≤◌, ◌-◌, length, decimal, codes, arith, lit<}
-use Rattle.std.proofs.lemmas.Fmt.{length-decimal-le}
-use borrow.Rule.Slice.PartMut.{put_mid, same_len_mid}
-use Rattle.rrd_fixed.specs.Puts.{Puts}
-use Rattle.rrd_fixed.proofs.PutLemmas.{puts_part, puts_six}
+use Rattle.rrd_fixed.proofs.Common.{◌≤◌, ◌-◌, length, decimal, codes, arith, lit<, length-decimal-le, put_mid, same_len_mid, Puts, puts_part, puts_six}
 use Rattle.rrd_fixed.proofs.puts.put_six.Goals as goal
 
 pub write_digits-requires : goal.write_digits-requires

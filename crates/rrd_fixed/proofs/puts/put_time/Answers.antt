@@ -1,8 +1,5 @@
-use Rattle.std.proofs.Common.{◌≡◌, ℕ, ◌≤◌, ◌^◌, ◌∷◌, decimal, arith, length, lit<, to_z-of_z}
-use Rattle.std.proofs.lemmas.Fmt.{length-decimal-le}
-use Rattle.rrd_fixed.specs.Puts.{Puts}
-use Rattle.rrd_fixed.specs.Text.{time_text}
-use Rattle.rrd_fixed.proofs.PutLemmas.{puts_byte, whole_minus}
+use Rattle.rrd_fixed.proofs.Common.{◌≡◌, ℕ, ◌≤◌, ◌^◌, ◌∷◌, decimal, arith, length, lit<, length-decimal-le, Puts, time_text, puts_byte, whole_minus}
+use Rattle.std.proofs.Common.{to_z-of_z}
 use Rattle.rrd_fixed.proofs.puts.put_time.Goals as goal
 
 short : (n : ℕ) → n ≤ 2 ^ 63 → length (decimal n) ≤ 19

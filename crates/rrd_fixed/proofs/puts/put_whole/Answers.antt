@@ -1,6 +1,4 @@
-use Rattle.std.proofs.Common.{◌∙◌, ◌+◌, ◌-◌, ◌%◌, refl, arith}
-use Rattle.std.proofs.lemmas.List.{length-set}
-use Rattle.rrd_fixed.proofs.PutLemmas.{digit_put, few_digits, one_digit_more}
+use Rattle.rrd_fixed.proofs.Common.{◌∙◌, ◌+◌, ◌-◌, ◌%◌, refl, arith, length-set, digit_put, few_digits, one_digit_more}
 use Rattle.rrd_fixed.proofs.puts.put_whole.Goals as goal
 
 pub loop-left-init : goal.loop-left-init

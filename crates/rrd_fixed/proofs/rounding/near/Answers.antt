@@ -1,8 +1,5 @@
-use Rattle.std.proofs.Common.{arith, rules, ◌≡◌, pos, ◌+ℤ◌, ◌*ℤ◌, FitsSigned, to_z, of_z}
-use Rattle.std.proofs.lemmas.Int.{ints, to_z-of_z}
-use Rattle.std.specs.Int.{w128}
-use Rattle.rrd_fixed.specs.Rounding.{near}
-use Rattle.rrd_fixed.proofs.Nearest.{near_limit_of}
+use Rattle.rrd_fixed.proofs.Common.{arith, rules, ◌≡◌, pos, ◌+ℤ◌, ◌*ℤ◌, FitsSigned, to_z, of_z, ints, w128, near, near_limit_of}
+use Rattle.std.proofs.lemmas.Int.{to_z-of_z}
 use Rattle.rrd_fixed.proofs.rounding.near.Goals as goal
 
 -- each number on the way fits 128 bits, so it comes back from its bits as it was

@@ -1,8 +1,5 @@
-use Rattle.std.proofs.Common.{arith, length-drop}
-use Rattle.std.proofs.lemmas.Result.{err_from_is_err_and}
-use Rattle.rrd_fixed.proofs.Writings.{front_kept, take_rest}
-use Rattle.std.proofs.KnownBytes.{Appends-trans}
-use Rattle.std.proofs.Math.Seq.{take-add}
+use Rattle.rrd_fixed.proofs.Common.{arith, length-drop, err_from_is_err_and, front_kept, Appends-trans, take-add}
+use Rattle.rrd_fixed.proofs.Writings.{take_rest}
 use Rattle.rrd_fixed.proofs.streams.write_bytes.Goals as goal
 
 pub returns-in_err-at : goal.returns-in_err-at

@@ -1,5 +1,4 @@
-use Rattle.std.proofs.Common.{◌≤◌, ◌-◌, length, take}
-use Rattle.std.specs.Io.KnownBytes.{Appends}
+use Rattle.rrd_fixed.proofs.Common.{◌≤◌, ◌-◌, length, take, Appends}
 use Rattle.rrd_fixed.proofs.streams.write_bytes.Given as goal
 
 abbrev pub invariant-loop-at : goal.invariant-loop-at

@@ -1,5 +1,4 @@
-use Rattle.rrd_fold.proofs.PartLemmas.{fold-with_cell, stands_more}
-use Rattle.std.proofs.Common.{◌∷◌, [], replicate}
+use Rattle.rrd_fold.proofs.Common.{fold-with_cell, stands_more, ◌∷◌, [], replicate}
 use Rattle.rrd_fold.proofs.laws.parts_represent_lists.Goals as goal
 
 pub returns-clause-from_nothing : goal.returns-clause-from_nothing

@@ -1,5 +1,4 @@
-use Rattle.rrd_fold.proofs.PartLemmas.{row_finishes}
-use Rattle.rrd_fold.proofs.Sums.{part}
+use Rattle.rrd_fold.proofs.Common.{row_finishes, part}
 use Rattle.rrd_fold.proofs.laws.rows_finish.Goals as goal
 
 pub returns : goal.returns

@@ -1,7 +1,4 @@
-use Rattle.std.proofs.Common.{◌≡◌, ◌∙◌, ◌<◌, ◌++◌, ◌∷◌, [], List, ap, arith, get_or, length, replicate, sym, take_all}
-use Rattle.std.proofs.lemmas.List.{replicate-append-replicate, take_more}
-use Rattle.rrd_fixed.specs.declared.cell.Cell.{Cell}
-use Rattle.rrd_fixed.specs.declared.cell.Cell.TheVariants.{Unknown}
+use Rattle.rrd_ring.proofs.Common.{◌≡◌, ◌∙◌, ◌<◌, ◌++◌, ◌∷◌, [], List, ap, arith, get_or, length, replicate, sym, take_all, replicate-append-replicate, take_more, Cell, Unknown}
 use Rattle.rrd_ring.proofs.ring.are_unknown.Goals as goal
 
 pub loop-i-preserved : goal.loop-i-preserved

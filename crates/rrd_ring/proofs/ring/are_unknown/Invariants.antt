@@ -1,5 +1,4 @@
-use Rattle.std.proofs.Common.{◌≡◌, replicate, take}
-use Rattle.rrd_fixed.specs.declared.cell.Cell.TheVariants.{Unknown}
+use Rattle.rrd_ring.proofs.Common.{◌≡◌, replicate, take, Unknown}
 use Rattle.rrd_ring.proofs.ring.are_unknown.Given as goal
 
 abbrev pub invariant-loop-i : goal.invariant-loop-i

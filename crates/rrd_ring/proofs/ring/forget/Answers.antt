@@ -1,5 +1,4 @@
-use Rattle.std.proofs.Common.{◌≡◌, ◌∙◌, ◌+◌, arith, ap, length, min}
-use Rattle.rrd_ring.proofs.WrittenLemmas.{forgotten, never_written}
+use Rattle.rrd_ring.proofs.Common.{◌≡◌, ◌∙◌, ◌+◌, arith, ap, length, min, forgotten, never_written}
 use Rattle.rrd_ring.proofs.ring.forget.Goals as goal
 
 pub returns-then-start-end-clause-cells : goal.returns-then-start-end-clause-cells

@@ -1,6 +1,4 @@
-use Rattle.std.proofs.Common.{◌≡◌, ◌+◌, ◌-◌, ◌++◌, ◌∙◌, ap, min, ℕ, length, take, drop, replicate, arith}
-use Rattle.rrd_fixed.specs.declared.cell.Cell.TheVariants.{Unknown}
-use Rattle.rrd_ring.proofs.WrittenLemmas.{part_copied}
+use Rattle.rrd_ring.proofs.Common.{◌≡◌, ◌+◌, ◌-◌, ◌++◌, ◌∙◌, ap, min, ℕ, length, take, drop, replicate, arith, Unknown, part_copied}
 use Rattle.rrd_ring.proofs.ring.part_from.Goals as goal
 
 pub returns-clause-cells : goal.returns-clause-cells

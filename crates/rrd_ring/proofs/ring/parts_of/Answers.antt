@@ -1,6 +1,4 @@
-use Rattle.std.proofs.Common.{◌≡◌, ◌+◌, ◌-◌, ◌*◌, ◌≤◌, ap, arith}
-use Rattle.std.proofs.Math.Nat.{add-mul}
-use Rattle.rrd_ring.proofs.RingLemmas.{cells_le}
+use Rattle.rrd_ring.proofs.Common.{◌≡◌, ◌+◌, ◌-◌, ◌*◌, ◌≤◌, ap, arith, add-mul, cells_le}
 use Rattle.rrd_ring.proofs.ring.parts_of.Goals as goal
 
 pub returns-clause-before_end : goal.returns-clause-before_end

@@ -1,5 +1,4 @@
-use Rattle.std.proofs.Common.{ap, length, take, arith, length-append}
-use Rattle.std.proofs.lemmas.List.{length-take-le}
+use Rattle.rrd_ring.proofs.Common.{ap, length, take, arith, length-append, length-take-le}
 use Rattle.rrd_ring.proofs.ring.push_each.Goals as goal
 
 pub push_reserved-requires : goal.push_reserved-requires

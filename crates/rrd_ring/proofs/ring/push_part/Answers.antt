@@ -1,7 +1,4 @@
-use Rattle.std.proofs.Common.{◌≡◌, ◌+◌, ◌-◌, ◌++◌, ◌∙◌, ap, ℕ, List, replicate, vec_len, arith}
-use Rattle.std.proofs.lemmas.List.{append_assoc, take_all}
-use Rattle.rrd_fixed.specs.declared.cell.Cell.{Cell}
-use Rattle.rrd_fixed.specs.declared.cell.Cell.TheVariants.{Unknown}
+use Rattle.rrd_ring.proofs.Common.{◌≡◌, ◌+◌, ◌-◌, ◌++◌, ◌∙◌, ap, ℕ, List, replicate, vec_len, arith, append_assoc, take_all, Cell, Unknown}
 use Rattle.rrd_ring.proofs.ring.push_part.Goals as goal
 
 pub returns-clause-items : goal.returns-clause-items

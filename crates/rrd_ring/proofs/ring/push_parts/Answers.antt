@@ -1,6 +1,4 @@
-use Rattle.std.proofs.Common.{◌++◌, ◌∙◌, ap, take, drop, arith}
-use Rattle.std.proofs.lemmas.List.{append_assoc}
-use Rattle.rrd_ring.specs.Ring.{with_unwritten}
+use Rattle.rrd_ring.proofs.Common.{◌++◌, ◌∙◌, ap, take, drop, arith, append_assoc, with_unwritten}
 use Rattle.rrd_ring.proofs.ring.push_parts.Goals as goal
 
 pub returns : goal.returns

@@ -1,7 +1,4 @@
-use Rattle.std.proofs.Common.{◌*◌, ◌∙◌, ap, take, drop, arith}
-use Rattle.std.proofs.lemmas.Nat.{row_fits}
-use Rattle.rrd_ring.specs.Ring.{with_unwritten}
-use Rattle.rrd_ring.proofs.WrittenLemmas.{whole_row}
+use Rattle.rrd_ring.proofs.Common.{◌*◌, ◌∙◌, ap, take, drop, arith, row_fits, with_unwritten, whole_row}
 use Rattle.rrd_ring.proofs.ring.row_at.Goals as goal
 
 pub row_from-requires-clause-whole : goal.row_from-requires-clause-whole

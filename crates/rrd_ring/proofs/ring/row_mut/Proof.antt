@@ -1,47 +1,8 @@
 -- `row_mut` lends a part of a vector on, and as many cells come back as were lent. The borrow checker shows that the
 -- vector ends with what was written, and not that there is as much of it, so this proof walks the code by hand.
-use Rattle.std.proofs.Common.{◌≡◌, ℕ, List, [], ◌∷◌, refl, sym, ap, ◌∙◌, length, MutBor}
-use Rattle.std.proofs.raw_atomic.Walks.{proved}
-use seplogic.Ra.Ura.{Ura}
-use mir.Syntax.{Lifetime, named, w64}
-use mir.Val.{Val, vint}
-use base.Logic.{SProp, ent, sep, ex, emp, guard, id⊢}
-use base.Stored.{coded_list}
-use base.Fml.{Lft, GName, Share, ftrue, flft, fobs, fbor}
-use types.Logic.{Logic, sem}
-use types.Follow.{takes_part}
-use types.Mut.{open_ref}
-use types.SemTy.{cells, Arr, Body}
-use types.Kit.{Item, ‵, ◌⊛◌, raw, given, some, later, ◌$◌, ◌∵◌, !, qed, move, keep, drop, split, split3, join, group, rewrite, feq_i, feq_l, fsplit, fsplit3, fjoin, use1, use2, updating, await, pick, learn, check, now, show, suffices, frame, done}
-use types.Run.{stop, addr, and_then, no_more, returns, enter}
-use types.ByLocal.{alloc_all, pass_all, free_all, look_at, get, through, sets, lands_as}
-use contract.Monad.{fact}
-use contract.Running.{tables}
-use denote.Array.{Array}
-use denote.Builtin.{usize}
-use denote.Exit.{yes, no}
-use denote.Follow.{follows, follows_then}
-use denote.FollowSlice.{heres_id, slice_of}
-use denote.Memory.{mem}
-use denote.Plain.{uint_vals, uint_Tells}
-use denote.RattleType.{RattleType}
-use denote.Ref.{mut_vals, mut_Tells}
-use denote.Shadow.{pure_l}
-use denote.Signature.{plain}
-use denote.Slice.{MutSlice, Room, shr_slice_at, slice_val}
-use denote.Steps.{nothing, heard, only}
-use denote.Triple.Call.{calls_at}
-use denote.Triple.Clauses.{lasts}
-use denote.Triple.Spec.{triple_of}
-use denote.Triple.Table.{framed}
-use denote.Triple.Walked.{says, Stays, stay_dropped, Goes-dropped, Goes-spent_ref, ends_at}
-use Rattle.std.specs.List.{refill}
-use Rattle.std.specs.Prelude.{slice_range}
-use Rattle.std.specs.Vec.{with_items_from}
-use Rattle.rrd_fixed.specs.declared.cell.Cell.{Cell}
+use Rattle.rrd_ring.proofs.Common.{◌≡◌, ℕ, List, [], ◌∷◌, refl, sym, ap, ◌∙◌, length, MutBor, proved, Ura, Lifetime, named, w64, Val, vint, SProp, ent, sep, ex, emp, guard, id⊢, coded_list, Lft, GName, Share, ftrue, flft, fobs, fbor, Logic, sem, takes_part, open_ref, cells, Arr, Body, Item, ‵, ◌⊛◌, raw, given, some, later, ◌$◌, ◌∵◌, !, qed, move, keep, split, split3, join, group, rewrite, feq_i, feq_l, fsplit, fsplit3, fjoin, use1, use2, updating, await, pick, learn, check, now, show, suffices, frame, done, stop, addr, and_then, no_more, returns, enter, alloc_all, pass_all, free_all, look_at, get, through, sets, lands_as, fact, tables, Array, usize, yes, no, follows, follows_then, heres_id, slice_of, mem, uint_vals, uint_Tells, RattleType, mut_vals, mut_Tells, pure_l, plain, MutSlice, Room, shr_slice_at, slice_val, nothing, heard, only, calls_at, lasts, triple_of, framed, says, Stays, stay_dropped, Goes-dropped, Goes-spent_ref, ends_at, refill, slice_range, with_items_from, Cell, cells_row, refill_same}
+use types.Kit.{drop}
 use Rattle.rrd_fixed.specs.contracts.cell.Cell.{the_row as cell_row}
-use Rattle.rrd_ring.specs.Ring.Slices.{cells_row}
-use Rattle.rrd_ring.proofs.RowLemmas.{refill_same}
 use Rattle.rrd_ring.specs.contracts.ring.row_mut as f
 use Rattle.rrd_ring.proofs.ring.row_mut.Statement.{statement}
 use Rattle.rrd_ring.proofs.ring.row_mut.Code as code

@@ -1,8 +1,4 @@
-use Rattle.std.proofs.Common.{◌+◌, ◌*◌, ◌/◌, ◌∙◌, ap, length, take, drop, arith}
-use Rattle.std.proofs.Math.Nat.{add-mul}
-use Rattle.rrd_ring.specs.Ring.{with_unwritten}
-use Rattle.rrd_ring.proofs.RingLemmas.{cells_le}
-use Rattle.rrd_ring.proofs.WrittenLemmas.{rows_in, run_fits, run_one, run_whole}
+use Rattle.rrd_ring.proofs.Common.{◌+◌, ◌*◌, ◌/◌, ◌∙◌, ap, length, take, drop, arith, add-mul, with_unwritten, cells_le, rows_in, run_fits, run_one, run_whole}
 use Rattle.rrd_ring.proofs.ring.run_from.Goals as goal
 
 pub row_from-requires-clause-few : goal.row_from-requires-clause-few

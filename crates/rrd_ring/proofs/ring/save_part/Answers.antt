@@ -1,8 +1,4 @@
-use Rattle.std.proofs.Common.{◌≡◌, ◌+◌, ◌++◌, ◌∙◌, ap, ℕ, List, length, take, replicate, arith, length-append}
-use Rattle.smallvec.proofs.Lists.{clones_same}
-use Rattle.std.proofs.lemmas.List.{append_assoc, take_all}
-use Rattle.rrd_fixed.specs.declared.cell.Cell.{Cell}
-use Rattle.rrd_fixed.specs.declared.cell.Cell.TheVariants.{Unknown}
+use Rattle.rrd_ring.proofs.Common.{◌≡◌, ◌+◌, ◌++◌, ◌∙◌, ap, ℕ, List, length, take, replicate, arith, length-append, clones_same, append_assoc, take_all, Cell, Unknown}
 use Rattle.rrd_ring.proofs.ring.save_part.Goals as goal
 
 pub returns-clause-items : goal.returns-clause-items

@@ -1,5 +1,4 @@
-use Rattle.std.proofs.Common.{◌++◌, ◌∙◌, ap, take, drop, arith}
-use Rattle.rrd_ring.specs.Ring.{with_unwritten}
+use Rattle.rrd_ring.proofs.Common.{◌++◌, ◌∙◌, ap, take, drop, arith, with_unwritten}
 use Rattle.rrd_ring.proofs.ring.save_parts.Goals as goal
 
 pub returns : goal.returns

@@ -1,7 +1,4 @@
-use Rattle.std.proofs.Common.{◌≡◌, ◌⊎◌, inl, inr, ⊎_elim, ◌+◌, ◌-◌, ◌<◌, ◌≤◌, length, arith}
-use Rattle.std.proofs.lemmas.Bool.{cases_lt}
-use Rattle.std.proofs.lemmas.List.{take_rest}
-use Rattle.rrd_ring.proofs.RingLemmas.{written_from}
+use Rattle.rrd_ring.proofs.Common.{◌≡◌, ◌⊎◌, inl, inr, ⊎_elim, ◌+◌, ◌-◌, ◌<◌, ◌≤◌, length, arith, cases_lt, take_rest, written_from}
 use Rattle.rrd_ring.proofs.ring.write_from.Goals as goal
 
 pub returns : goal.returns

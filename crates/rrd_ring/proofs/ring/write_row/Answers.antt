@@ -1,6 +1,4 @@
-use Rattle.std.proofs.Common.{◌<◌, length, arith}
-use Rattle.rrd_fixed.specs.declared.cell.Cell.TheVariants.{Unknown}
-use Rattle.rrd_ring.proofs.RowLemmas.{copied_more}
+use Rattle.rrd_ring.proofs.Common.{◌<◌, length, arith, Unknown, copied_more}
 use Rattle.rrd_ring.proofs.ring.write_row.Goals as goal
 
 pub loop-i-preserved : goal.loop-i-preserved

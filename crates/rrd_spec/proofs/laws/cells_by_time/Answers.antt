@@ -1,5 +1,4 @@
-use Rattle.rrd_spec.proofs.CellLemmas.{shows_by_time}
-use Rattle.rrd_spec.proofs.ShownLemmas.{shows_cells}
+use Rattle.rrd_spec.proofs.Common.{shows_by_time, shows_cells}
 use Rattle.rrd_spec.proofs.laws.cells_by_time.Goals as goal
 
 pub returns-clause-rows : goal.returns-clause-rows

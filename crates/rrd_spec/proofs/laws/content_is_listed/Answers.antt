@@ -1,9 +1,4 @@
-use Rattle.rrd_spec.proofs.Accepted.{accepted_history}
-use Rattle.rrd_spec.specs.Commands.{events, settings_of}
-use Rattle.rrd_spec.specs.Lemmas.Validity.{sound}
-use Rattle.rrd_spec.proofs.CellLemmas.{is_lived}
-use Rattle.rrd_spec.proofs.LivesPlain.{is_listed}
-use Rattle.rrd_spec.proofs.Moving.{moved_is}
+use Rattle.rrd_spec.proofs.Common.{accepted_history, events, settings_of, sound, is_lived, is_listed, moved_is}
 use Rattle.rrd_spec.proofs.laws.content_is_listed.Goals as goal
 
 pub returns-clause-events : goal.returns-clause-events

@@ -1,10 +1,4 @@
-use Rattle.std.proofs.Common.{refl}
-use Rattle.rrd_spec.specs.History.Groups.{finished, unfinished}
-use Rattle.rrd_spec.specs.Laws.ListedContent.{content_listed, kept_rows}
-use Rattle.rrd_spec.specs.History.{seconds_of}
-use Rattle.rrd_spec.specs.History.Steps.{steps_of, parts_of}
-use Rattle.rrd_spec.specs.History.Rows.{row_parts, rows_of, row_parts_of}
-use Rattle.rrd_spec.specs.Commands.Verdict.{verdict_within}
+use Rattle.rrd_spec.proofs.Common.{refl, finished, unfinished, content_listed, kept_rows, seconds_of, steps_of, parts_of, row_parts, rows_of, row_parts_of, verdict_within}
 use Rattle.rrd_spec.proofs.laws.examples.Goals as goal
 
 pub returns : goal.returns

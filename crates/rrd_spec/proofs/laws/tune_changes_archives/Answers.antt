@@ -1,12 +1,4 @@
-use Rattle.std.proofs.Common.{◌≡◌, Some, length, arith}
-use Rattle.std.proofs.lemmas.Bool.{leb-false}
-use Rattle.std.proofs.lemmas.List.{length-map}
-use Rattle.rrd_spec.specs.Commands.{rows_of_archives}
-use Rattle.rrd_spec.specs.History.{Rra}
-use Rattle.rrd_spec.specs.Lemmas.Validity.{base_of_valid}
-use Rattle.rrd_spec.specs.declared.requests.tune.ArchiveTune.TheVariants.{Remove}
-use Rattle.rrd_spec.proofs.Accepted.{tune_passes}
-use Rattle.rrd_spec.proofs.ArchiveTunes.{tune_added, tune_removed}
+use Rattle.rrd_spec.proofs.Common.{◌≡◌, Some, length, arith, leb-false, length-map, rows_of_archives, Rra, base_of_valid, Remove, tune_passes, tune_added, tune_removed}
 use Rattle.rrd_spec.proofs.laws.tune_changes_archives.Goals as goal
 
 pub returns-clause-added : goal.returns-clause-added

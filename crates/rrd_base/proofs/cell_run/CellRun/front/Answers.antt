@@ -1,7 +1,5 @@
-use Rattle.std.proofs.Common.{◌∙◌, sym, ap, arith, length, take}
-use Rattle.std.proofs.lemmas.List.{length-replicate, take-replicate}
+use Rattle.rrd_base.proofs.Common.{◌∙◌, sym, ap, arith, length, take, length-replicate, take-replicate, run_cells}
 use Rattle.rrd_fixed.specs.declared.cell.Cell.TheVariants.{Unknown}
-use Rattle.rrd_base.specs.Rebuild.CellRun.{run_cells}
 use Rattle.rrd_base.proofs.cell_run.CellRun.front.Goals as goal
 
 pub returns-in-Unknown : goal.returns-in-Unknown

@@ -1,8 +1,4 @@
-use Rattle.std.proofs.Common.{◌≡◌, ◌<◌, ℕ, List, None, get_or, length}
-use Rattle.rrd_spec.specs.declared.requests.update.Given.{Given}
-use Rattle.rrd_spec.specs.declared.settings.DsDef.{DsDef}
-use Rattle.rrd_spec.specs.Commands.{value_for}
-use Rattle.rrd_base.specs.Update.{template_of, value_in}
+use Rattle.rrd_base.proofs.Common.{◌≡◌, ◌<◌, ℕ, List, None, get_or, length, Given, DsDef, value_for, template_of, value_in}
 use Rattle.rrd_base.proofs.columns.Columns.new.Given as goal
 
 abbrev pub invariant-loop-source : goal.invariant-loop-source

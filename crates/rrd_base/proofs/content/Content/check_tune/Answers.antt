@@ -1,10 +1,5 @@
-use Rattle.std.proofs.Common.{◌∙◌, ap}
-use Rattle.rrd_spec.specs.Commands.{TuningBy}
-use Rattle.rrd_spec.specs.History.{Content}
-use Rattle.rrd_base.specs.Resize.{settings}
-use Rattle.rrd_spec.specs.Commands.Verdict.{first_refusal, tune_checks, verdict, verdict_within}
+use Rattle.rrd_base.proofs.Common.{◌∙◌, ap, TuningBy, Content, settings, first_refusal, tune_checks, verdict, verdict_within, present}
 use Rattle.rrd_base.proofs.content.Content.check_tune.Goals as goal
-use Rattle.rrd_spec.specs.Limits.{present}
 
 pub returns : goal.returns
 unfolding verdict_within

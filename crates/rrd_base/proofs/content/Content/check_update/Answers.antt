@@ -1,11 +1,5 @@
-use Rattle.std.proofs.Common.{◌≡◌, ◌∙◌, ap, subst}
-use Rattle.std.specs.Result.{IfOk}
-use Rattle.rrd_spec.specs.Commands.{Updating}
-use Rattle.rrd_spec.specs.History.{Content}
-use Rattle.rrd_spec.specs.Commands.Verdict.{first_refusal, update_checks, verdict, verdict_within}
-use Rattle.rrd_base.specs.Update.{AreColumns}
+use Rattle.rrd_base.proofs.Common.{◌≡◌, ◌∙◌, ap, subst, IfOk, Updating, Content, first_refusal, update_checks, verdict, verdict_within, AreColumns, present}
 use Rattle.rrd_base.proofs.content.Content.check_update.Goals as goal
-use Rattle.rrd_spec.specs.Limits.{present}
 
 pub returns-clause-refusal : goal.returns-clause-refusal
 unfolding verdict_within

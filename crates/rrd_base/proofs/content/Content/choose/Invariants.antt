@@ -1,6 +1,4 @@
-use Rattle.std.proofs.Common.{◌≡◌, take}
-use Rattle.rrd_base.specs.Fetch.{searched}
-use Rattle.rrd_spec.specs.History.{definitions}
+use Rattle.rrd_base.proofs.Common.{◌≡◌, take, searched, definitions}
 use Rattle.rrd_base.proofs.content.Content.choose.Given as goal
 
 abbrev pub invariant-loop-archive : goal.invariant-loop-archive

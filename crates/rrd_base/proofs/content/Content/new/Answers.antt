@@ -1,12 +1,5 @@
-use Rattle.std.proofs.lemmas.List.{length-map}
-use Rattle.std.proofs.Common.{arith, rules, ℕ, List, [], ◌∷◌, map, ◌≡◌, sym, ◌∙◌, ap, subst, length, replicate, ◌<◌, ◌≤◌, ◌/◌}
-use Rattle.std.specs.List.{AllByRecursion}
-use Rattle.rrd_spec.specs.declared.settings.RraDef.{RraDef}
+use Rattle.rrd_base.proofs.Common.{length-map, arith, rules, ℕ, List, [], ◌∷◌, map, ◌≡◌, sym, ◌∙◌, ap, subst, length, replicate, ◌<◌, ◌≤◌, ◌/◌, AllByRecursion, RraDef, nothing, created, new_archive, IsValid, IsValidArchive, Content}
 use Rattle.rrd_fixed.specs.declared.raw.Raw.TheVariants as Raw
-use Rattle.rrd_fold.specs.Parts.{nothing}
-use Rattle.rrd_spec.specs.Commands.Creating.{created, new_archive}
-use Rattle.rrd_spec.specs.Validity.{IsValid, IsValidArchive}
-use Rattle.rrd_spec.specs.History.{Content}
 use Rattle.rrd_base.proofs.content.Content.new.Goals as goal
 
 -- new archives that are valid have a number of rows that can be
@@ -14,23 +7,17 @@ good_rows : (sources steps : ℕ) (defs : List RraDef) → AllByRecursion (IsVal
 good_rows sources steps [] is = tt
 good_rows sources steps (def ∷ defs) is = ((is.0.some_rows, is.0.few_rows), good_rows sources steps defs is.1)
 
-pub new_all-requires-clause-rows : goal.new_all-requires-clause-rows
-new_all-requires-clause-rows c =
+pub new_all-requires : goal.new_all-requires
+new_all-requires c =
     let spec = c.args.spec in
     let is = c.created_is_valid.ensures spec c.requires in
-    subst (λ defs. AllByRecursion (λ (def : RraDef). (0 < def.rows) × (def.rows ≤ 1000000)) defs) (sym c.as_slice.ensures) (good_rows (length spec.sources) ((created spec).last / (created spec).step) spec.archives is.archives_are)
-
-pub new_all-requires-clause-some_sources : goal.new_all-requires-clause-some_sources
-new_all-requires-clause-some_sources c = subst (λ n. 0 < n) (sym c.len-sources.ensures) (c.created_is_valid.ensures c.args.spec c.requires).some_source
-
-pub new_all-requires-clause-few_sources : goal.new_all-requires-clause-few_sources
-new_all-requires-clause-few_sources c = subst (λ n. n ≤ 64) (sym c.len-sources.ensures) (c.created_is_valid.ensures c.args.spec c.requires).few_sources
-
-pub new_all-requires-clause-few : goal.new_all-requires-clause-few
-new_all-requires-clause-few c =
-    let spec = c.args.spec in
     let same : length (map (new_archive (length spec.sources)) spec.archives) ≡ length spec.archives = length-map spec.archives (new_archive (length spec.sources)) in
-    omega (arith, ap length c.as_slice.ensures, same, (c.created_is_valid.ensures spec c.requires).few_archives)
+    record {
+      rows = subst (λ defs. AllByRecursion (λ (def : RraDef). (0 < def.rows) × (def.rows ≤ 1000000)) defs) (sym c.as_slice.ensures) (good_rows (length spec.sources) ((created spec).last / (created spec).step) spec.archives is.archives_are);
+      some_sources = subst (λ n. 0 < n) (sym c.len-sources.ensures) (c.created_is_valid.ensures c.args.spec c.requires).some_source;
+      few_sources = subst (λ n. n ≤ 64) (sym c.len-sources.ensures) (c.created_is_valid.ensures c.args.spec c.requires).few_sources;
+      few = omega (arith, ap length c.as_slice.ensures, same, (c.created_is_valid.ensures spec c.requires).few_archives);
+    }
 
 pub invariant_of-result : goal.invariant_of-result
 invariant_of-result c =

@@ -1,12 +1,4 @@
-use Rattle.std.proofs.Common.{◌≡◌, sym, ◌∙◌, ap, subst, ◌/◌, ◌<◌, ◌≤◌, length, IfOk, None, get_or, arith}
-use Rattle.rrd_spec.specs.History.{Rra, Content}
-use Rattle.rrd_spec.specs.declared.settings.RraDef.{RraDef}
-use Rattle.rrd_spec.specs.Commands.{Resizing, rows_changed, rows_of_archives}
-use Rattle.rrd_base.specs.Content.{content_of}
-use Rattle.rrd_spec.specs.Journal.Entries.{rows_at}
-use Rattle.rrd_spec.specs.Commands.Verdict.{verdict}
-use Rattle.rrd_ring.specs.Rows.{newest_rows}
-use Rattle.rrd_base.proofs.ResizeLemmas.{few_at, have_few, rows_at_archive, rows_of_place}
+use Rattle.rrd_base.proofs.Common.{◌≡◌, sym, ◌∙◌, ap, subst, ◌/◌, ◌<◌, ◌≤◌, length, IfOk, None, get_or, arith, Rra, Content, RraDef, Resizing, rows_changed, rows_of_archives, content_of, rows_at, verdict, newest_rows, few_at, have_few, rows_at_archive, rows_of_place}
 use Rattle.rrd_base.proofs.content.Content.resized.Goals as goal
 
 pub get-rra-requires : goal.get-rra-requires
@@ -24,31 +16,21 @@ rows_changed-requires-clause-small c =
 
 pub rows_changed-requires-clause-few : goal.rows_changed-requires-clause-few
 rows_changed-requires-clause-few c =
-    let X = content_of c.self.inside in
     let accepted = subst (λ (x : Content). verdict x (Resizing c.args.archive c.args.change c.args.rows) ≡ None) (sym c.self.view_is) c.requires in
-    (c.resize_changes_rows.ensures.fits X c.args.archive c.args.change c.args.rows c.self.invariant accepted).few_asked
+    (c.resize_changes_rows.ensures.fits (content_of c.self.inside) c.args.archive c.args.change c.args.rows c.self.invariant accepted).few_asked
 
-pub resized-requires-clause-some_rows : goal.resized-requires-clause-some_rows
-resized-requires-clause-some_rows c =
+pub resized-requires : goal.resized-requires
+resized-requires c =
     let X = content_of c.self.inside in
     let k = c.args.archive in
     let accepted = subst (λ (x : Content). verdict x (Resizing k c.args.change c.args.rows) ≡ None) (sym c.self.view_is) c.requires in
     let old : c.def.result.rows ≡ (get_or X.archives k c.get-rra.result.now).def.rows = ap (λ (d : RraDef). d.rows) c.def.ensures ∙ ap (λ (a : Rra). a.def.rows) c.get-rra.ensures in
     let fits = c.resize_changes_rows.ensures.fits X k c.args.change c.args.rows c.self.invariant accepted in
-    let new : c.rows_changed.result ≡ rows_changed c.args.change (get_or (rows_of_archives X.archives) k 0) c.args.rows
-    = c.rows_changed.ensures ∙ ap (λ m. rows_changed c.args.change m c.args.rows) (old ∙ sym (rows_at_archive X.archives k c.get-rra.result.now fits.there)) in
-    subst (λ m. 0 < m) (sym new) fits.some_then
-
-pub resized-requires-clause-few_rows : goal.resized-requires-clause-few_rows
-resized-requires-clause-few_rows c =
-    let X = content_of c.self.inside in
-    let k = c.args.archive in
-    let accepted = subst (λ (x : Content). verdict x (Resizing k c.args.change c.args.rows) ≡ None) (sym c.self.view_is) c.requires in
-    let old : c.def.result.rows ≡ (get_or X.archives k c.get-rra.result.now).def.rows = ap (λ (d : RraDef). d.rows) c.def.ensures ∙ ap (λ (a : Rra). a.def.rows) c.get-rra.ensures in
-    let fits = c.resize_changes_rows.ensures.fits X k c.args.change c.args.rows c.self.invariant accepted in
-    let new : c.rows_changed.result ≡ rows_changed c.args.change (get_or (rows_of_archives X.archives) k 0) c.args.rows
-    = c.rows_changed.ensures ∙ ap (λ m. rows_changed c.args.change m c.args.rows) (old ∙ sym (rows_at_archive X.archives k c.get-rra.result.now fits.there)) in
-    subst (λ m. m ≤ 1000000) (sym new) fits.few_then
+    let new : c.rows_changed.result ≡ rows_changed c.args.change (get_or (rows_of_archives X.archives) k 0) c.args.rows = cc (c.rows_changed.ensures, old ∙ sym (rows_at_archive X.archives k c.get-rra.result.now fits.there)) in
+    record {
+      some_rows = subst (λ m. 0 < m) (sym new) fits.some_then;
+      few_rows = subst (λ m. m ≤ 1000000) (sym new) fits.few_then;
+    }
 
 pub returns : goal.returns
 returns c =
@@ -57,8 +39,7 @@ returns c =
     let accepted = subst (λ (x : Content). verdict x (Resizing k c.args.change c.args.rows) ≡ None) (sym c.self.view_is) c.requires in
     let there = (c.resize_changes_rows.ensures.fits X k c.args.change c.args.rows c.self.invariant accepted).there in
     let old : c.def.result.rows ≡ (get_or X.archives k c.get-rra.result.now).def.rows = ap (λ (d : RraDef). d.rows) c.def.ensures ∙ ap (λ (a : Rra). a.def.rows) c.get-rra.ensures in
-    let new : c.rows_changed.result ≡ rows_changed c.args.change (get_or (rows_of_archives X.archives) k 0) c.args.rows
-    = c.rows_changed.ensures ∙ ap (λ m. rows_changed c.args.change m c.args.rows) (old ∙ sym (rows_at_archive X.archives k c.get-rra.result.now there)) in
+    let new : c.rows_changed.result ≡ rows_changed c.args.change (get_or (rows_of_archives X.archives) k 0) c.args.rows = cc (c.rows_changed.ensures, old ∙ sym (rows_at_archive X.archives k c.get-rra.result.now there)) in
     let place : c.get-rra.result.now.rows ≡ rows_at X.archives k = ap (λ (a : Rra). a.rows) c.get-rra.ensures ∙ rows_of_place X.archives k c.get-rra.result.now there in
     subst (λ (x : Content). IfOk c.resized.result (λ new. new ≡ newest_rows (rows_changed c.args.change (get_or (rows_of_archives x.archives) k 0) c.args.rows) (rows_at x.archives k))) c.self.view_is
     (subst (λ n. IfOk c.resized.result (λ new. new ≡ newest_rows n (rows_at X.archives k))) new

@@ -1,14 +1,5 @@
-use Rattle.std.proofs.Common.{◌≡◌, sym, ◌∙◌, ap, subst, ◌-◌, replicate, length, arith, ℕ, Vec}
-use Rattle.rrd_spec.specs.Lemmas.Validity.{length-accepted, base_of_valid}
-use Rattle.rrd_spec.specs.History.{Content, Reading, rates}
-use Rattle.rrd_spec.specs.Laws.Passing.{passed}
-use Rattle.rrd_spec.specs.Validity.{AreAccepted, IsValid, IsRow}
-use Rattle.rrd_base.specs.Content.{content_of}
+use Rattle.rrd_base.proofs.Common.{◌≡◌, sym, ◌∙◌, ap, subst, ◌-◌, replicate, length, arith, ℕ, Vec, length-accepted, base_of_valid, Content, Reading, rates, passed, AreAccepted, IsValid, IsRow, content_of, leaves_of, Global, Raw, Walk, rules}
 use Rattle.rrd_base.proofs.Catching.{with_raws}
-use Rattle.rrd_base.proofs.TurnLemmas.{leaves_of}
-use Rattle.std.specs.Global.{Global}
-use Rattle.rrd_fixed.specs.declared.raw.Raw.{Raw}
-use Rattle.rrd_base.specs.declared.walk.Walk.{Walk}
 use Rattle.rrd_base.proofs.content.Content.take_sample.Goals as goal
 
 pub catch_up-requires-clause-rates_are : goal.catch_up-requires-clause-rates_are
@@ -18,8 +9,7 @@ catch_up-requires-clause-rates_are c =
 pub copy_from_slice-requires : goal.copy_from_slice-requires
 copy_from_slice-requires c =
     let X = c.args.self.now in
-    let walk = c.args.walk.now in
-    let raws = walk.raws.items in
+    let raws = c.args.walk.now.raws.items in
     let left = leaves_of X c.catch_up.new.self (c.args.time - X.last) c.find_rates.new.self.rates.items c.catch_up.ensures.value in
     let copied : c.deref-3.result.now ≡ raws = c.deref-3.ensures.value ∙ ap (λ (v : Vec Raw Global). v.items) (c.catch_up.ensures.keeps.raws ∙ ap (λ (w : Walk). w.raws) c.find_rates.ensures.rest) in
     let valid : IsValid X = subst IsValid c.self.view_is c.self.invariant in
@@ -31,19 +21,17 @@ copy_from_slice-requires c =
 pub invariant_of-self : goal.invariant_of-self
 invariant_of-self c =
     let X = c.args.self.now in
-    let walk = c.args.walk.now in
-    let raws = walk.raws.items in
+    let raws = c.args.walk.now.raws.items in
     let left = leaves_of X c.catch_up.new.self (c.args.time - X.last) c.find_rates.new.self.rates.items c.catch_up.ensures.value in
     let copied : c.deref-3.result.now ≡ raws = c.deref-3.ensures.value ∙ ap (λ (v : Vec Raw Global). v.items) (c.catch_up.ensures.keeps.raws ∙ ap (λ (w : Walk). w.raws) c.find_rates.ensures.rest) in
     let sources : c.self-2.inside.sources.items ≡ X.sources = ap (λ (x : Content). x.sources) c.self-2.view_is ∙ left.sources in
     subst (λ rs. IsValid (record (content_of c.self-2.inside) { raws = rs })) (sym (c.copy_from_slice.ensures.items ∙ copied))
     (with_raws (content_of c.self-2.inside) raws c.self-2.invariant (subst (λ ss. AreAccepted ss raws) (sym sources) c.requires.accepted))
 
-pub returns-clause-value : goal.returns-clause-value
-returns-clause-value c =
+pub returns : goal.returns
+returns c =
     let X = c.args.self.now in
-    let walk = c.args.walk.now in
-    let raws = walk.raws.items in
+    let raws = c.args.walk.now.raws.items in
     let left = leaves_of X c.catch_up.new.self (c.args.time - X.last) c.find_rates.new.self.rates.items c.catch_up.ensures.value in
     let copied : c.deref-3.result.now ≡ raws = c.deref-3.ensures.value ∙ ap (λ (v : Vec Raw Global). v.items) (c.catch_up.ensures.keeps.raws ∙ ap (λ (w : Walk). w.raws) c.find_rates.ensures.rest) in
     let time : ℕ = c.args.time in
@@ -53,18 +41,17 @@ returns-clause-value c =
     let same : second ≡ rates X.sources (time - X.last) X.raws raws
     = subst (λ (x : Content). second ≡ rates x.sources (time - x.last) x.raws raws) c.self.view_is
     (c.find_rates.ensures.value ∙ ap (λ ss. rates ss (time - c.self.inside.last) c.deref-2.result.now raws) c.deref.ensures.value ∙ ap (λ rs. rates c.self.inside.sources.items (time - c.self.inside.last) rs raws) c.deref-2.ensures.value) in
-    ap (λ rs. let y : Content = record (content_of c.self-2.inside) { raws = rs } in y) (c.copy_from_slice.ensures.items ∙ copied)
-    ∙ ap (λ (x : Content). let y : Content = record x { raws = raws } in y) (c.self-2.view_is ∙ c.catch_up.ensures.value)
-    ∙ ap (λ s. let y : Content = record (passed X (replicate (time - X.last) s)) { raws = raws } in y) same
-    ∙ sym (c.sample_passes.ensures X reading (base_of_valid X valid) c.requires.later)
-
-pub returns-clause-valid : goal.returns-clause-valid
-returns-clause-valid c =
-    let X = c.args.self.now in
-    let walk = c.args.walk.now in
-    let raws = walk.raws.items in
-    let left = leaves_of X c.catch_up.new.self (c.args.time - X.last) c.find_rates.new.self.rates.items c.catch_up.ensures.value in
-    let copied : c.deref-3.result.now ≡ raws = c.deref-3.ensures.value ∙ ap (λ (v : Vec Raw Global). v.items) (c.catch_up.ensures.keeps.raws ∙ ap (λ (w : Walk). w.raws) c.find_rates.ensures.rest) in
     let sources : c.self-2.inside.sources.items ≡ X.sources = ap (λ (x : Content). x.sources) c.self-2.view_is ∙ left.sources in
-    subst (λ rs. IsValid (record (content_of c.self-2.inside) { raws = rs })) (sym (c.copy_from_slice.ensures.items ∙ copied))
-    (with_raws (content_of c.self-2.inside) raws c.self-2.invariant (subst (λ ss. AreAccepted ss raws) (sym sources) c.requires.accepted))
+    record {
+      value =
+          ap (λ rs. let y : Content = record (content_of c.self-2.inside) { raws = rs } in y) (c.copy_from_slice.ensures.items ∙ copied)
+          ∙ ap (λ (x : Content). let y : Content = record x { raws = raws } in y) (c.self-2.view_is ∙ c.catch_up.ensures.value)
+          ∙ ap (λ s. let y : Content = record (passed X (replicate (time - X.last) s)) { raws = raws } in y) same
+          ∙ sym (c.sample_passes.ensures X reading (base_of_valid X valid) c.requires.later);
+      valid =
+          subst (λ rs. IsValid (record (content_of c.self-2.inside) { raws = rs })) (sym (c.copy_from_slice.ensures.items ∙ copied))
+          (with_raws (content_of c.self-2.inside) raws c.self-2.invariant (subst (λ ss. AreAccepted ss raws) (sym sources) c.requires.accepted));
+      places = search rules;
+      least = search rules;
+      most = search rules;
+    }

@@ -1,45 +1,14 @@
-use Rattle.std.proofs.Common.{◌≡◌, refl, sym, ◌∙◌, ap, subst, ◌+◌, ◌≤◌, [], ◌∷◌, length, map, drop, get_or, arith}
-use Rattle.std.specs.List.{AllByRecursion}
-use Rattle.rrd_spec.specs.declared.settings.DsDef.{DsDef}
-use Rattle.std.proofs.lemmas.List.{with_items_is, drop_all}
-use Rattle.rrd_spec.specs.History.{Content, Reading, Sampled, definitions}
-use Rattle.rrd_spec.specs.Laws.ListedContent.{content_listed}
-use Rattle.rrd_spec.specs.Commands.{Updating, sample_of, value_for, raw_of}
-use Rattle.rrd_spec.specs.Commands.Turns.{in_all, least_of_sample, most_of_sample}
-use Rattle.rrd_base.specs.Update.{template_of}
-use Rattle.rrd_spec.specs.Commands.Verdict.{sample_checks}
-use Rattle.rrd_base.proofs.Catching.{sample_leaves, turns_next, same_least, same_most}
+use Rattle.rrd_base.proofs.Common.{◌≡◌, refl, sym, ◌∙◌, ap, subst, ◌+◌, ◌≤◌, [], ◌∷◌, length, map, drop, get_or, arith, AllByRecursion, DsDef, with_items_is, drop_all, Content, Reading, Sampled, definitions, content_listed, Updating, sample_of, value_for, raw_of, in_all, least_of_sample, most_of_sample, template_of, sample_checks, sample_leaves, turns_next, same_least, same_most, base_of_valid, with_items, HasPlaces, few_turns, one_taken, later_sample, accepted_raws, drop_here, present, rules}
 use Rattle.rrd_spec.specs.Laws.Commands.{Passes}
-use Rattle.rrd_spec.specs.Lemmas.Validity.{base_of_valid}
-use Rattle.std.specs.Vec.{with_items}
-use Rattle.rrd_base.specs.Walk.{HasPlaces}
-use Rattle.rrd_base.proofs.TurnLemmas.{few_turns}
-use Rattle.rrd_base.proofs.SampleSteps.{one_taken, later_sample, accepted_raws}
-use Rattle.rrd_spec.specs.Lemmas.Lists.{drop_here}
 use Rattle.rrd_base.proofs.content.Content.take_samples.Goals as goal
-use Rattle.rrd_spec.specs.Limits.{present}
 
 pub loop-sample-init : goal.loop-sample-init
 loop-sample-init c =
-    let X = c.args.self.now in
-    let pass = c.accepted_passes.ensures X (Updating c.args.update.now) c.requires.accepted in
-    record {
-      comes_to = refl;
-      pass = pass.1.1.1;
-      same_sources = refl;
-      valid = c.requires.valid;
-      same_shape = record { step = refl; defs = refl };
-      from = omega arith;
-      places = c.requires.places;
-      least = omega arith;
-      most = omega (arith, c.requires.turns);
-      few = omega (arith, c.requires.turns);
-    }
+    grind (arith, (c.accepted_passes.ensures c.args.self.now (Updating c.args.update.now) c.requires.accepted).1.1, c.requires)
 
 pub take_sample-requires-clause-accepted : goal.take_sample-requires-clause-accepted
 take_sample-requires-clause-accepted c =
     let X = c.args.self.now in
-    let now = c.loop-sample.self in
     let was = c.loop-sample.invariant in
     let asked = c.args.update.now.template in
     let template = template_of X.sources asked in
@@ -55,15 +24,14 @@ take_sample-requires-clause-accepted c =
     ∙ ap (λ ss. map (λ (source : DsDef). raw_of source.kind (value_for (template_of ss asked) values source)) ss) sources
     ∙ ap (λ vs. map (λ (source : DsDef). raw_of source.kind (value_for template vs source)) X.sources) c.as_slice-values.ensures in
     let written : given ≡ raws = with_items_is c.loop-sample.walk.raws raws (omega (arith, c.raws_into.auto.raws, c.deref_mut.ensures.len)) in
-    accepted_raws c.raw_values_are_accepted.ensures now X.sources template sample.values given was.same_sources (written ∙ raws_are)
+    accepted_raws c.raw_values_are_accepted.ensures c.loop-sample.self X.sources template sample.values given was.same_sources (written ∙ raws_are)
 
 pub take_sample-requires-clause-turns : goal.take_sample-requires-clause-turns
 take_sample-requires-clause-turns c =
     let now = c.loop-sample.self in
     let was = c.loop-sample.invariant in
-    let few = few_turns now now.last c.sample-item.result.time was.valid in
     let in_time : now.last ≤ 9999999999 = was.valid.good_time in
-    omega (arith, was.few, few, in_time)
+    omega (arith, was.few, (few_turns now now.last c.sample-item.result.time was.valid), in_time)
 
 pub loop-sample-preserved : goal.loop-sample-preserved
 loop-sample-preserved c =
@@ -99,8 +67,6 @@ loop-sample-preserved c =
     let most = most_of_sample (length X.sources) X.step (definitions X.archives) in
     let low = turns_next least now.last next.last (drop i all) (drop (i + 1) all) sample here taken.last_is in
     let high = turns_next most now.last next.last (drop i all) (drop (i + 1) all) sample here taken.last_is in
-    let low_is = same_least X now now.last sample.time was.same_sources was.same_shape in
-    let high_is = same_most X now now.last sample.time was.same_sources was.same_shape in
     record {
       comes_to = sym taken.comes_to ∙ ap (λ zs. content_listed now (map Sampled (map (sample_of X.sources template) zs))) (sym here) ∙ was.comes_to;
       pass = taken.pass;
@@ -109,30 +75,23 @@ loop-sample-preserved c =
       from = omega (arith, was.from, taken.last_is, later);
       places = subst (λ ss. HasPlaces c.take_sample.new.walk (length ss)) was.same_sources c.take_sample.ensures.places;
       same_shape = record { step = shape.step ∙ was.same_shape.step; defs = shape.defs ∙ was.same_shape.defs };
-      least = omega (arith, was.least, low, low_is, c.take_sample.ensures.least);
-      most = omega (arith, was.most, high, high_is, c.take_sample.ensures.most);
+      least = omega (arith, was.least, low, (same_least X now now.last sample.time was.same_sources was.same_shape), c.take_sample.ensures.least);
+      most = omega (arith, was.most, high, (same_most X now now.last sample.time was.same_sources was.same_shape), c.take_sample.ensures.most);
       few = omega (arith, was.few, was.from, c.take_sample.ensures.most, few_turns now now.last sample.time was.valid, taken.last_is, later);
     }
 
-pub returns-clause-value : goal.returns-clause-value
-returns-clause-value c =
+pub returns : goal.returns
+returns c =
     let X = c.args.self.now in
     let was = c.loop-sample.invariant in
     let all = c.args.update.now.samples in
     let none : drop c.loop-sample.sample-index all ≡ [] = drop_all c.loop-sample.sample-index all (omega (arith, ap length c.as_slice-sample-items.ensures)) in
-    sym (ap (λ zs. content_listed c.loop-sample.self (map Sampled (map (sample_of X.sources (template_of X.sources c.args.update.now.template)) zs))) none ∙ c.content_stays_without_events.ensures c.loop-sample.self (base_of_valid c.loop-sample.self was.valid)) ∙ was.comes_to
-
-pub returns-clause-turns : goal.returns-clause-turns
-returns-clause-turns c =
-    let X = c.args.self.now in
-    let was = c.loop-sample.invariant in
-    let all = c.args.update.now.samples in
     let least = least_of_sample (length X.sources) X.step (definitions X.archives) in
     let most = most_of_sample (length X.sources) X.step (definitions X.archives) in
-    let none : drop c.loop-sample.sample-index all ≡ [] = drop_all c.loop-sample.sample-index all (omega (arith, ap length c.as_slice-sample-items.ensures)) in
-    let low = ap (in_all least c.loop-sample.self.last) none in
-    let high = ap (in_all most c.loop-sample.self.last) none in
     record {
-      least = omega (arith, was.least, low);
-      most = omega (arith, was.most, high);
+      value = sym (ap (λ zs. content_listed c.loop-sample.self (map Sampled (map (sample_of X.sources (template_of X.sources c.args.update.now.template)) zs))) none ∙ c.content_stays_without_events.ensures c.loop-sample.self (base_of_valid c.loop-sample.self was.valid)) ∙ was.comes_to;
+      turns = record {
+        least = omega (arith, was.least, (ap (in_all least c.loop-sample.self.last) none));
+        most = omega (arith, was.most, (ap (in_all most c.loop-sample.self.last) none));
+      };
     }

@@ -1,17 +1,6 @@
-use Rattle.std.proofs.Common.{◌≡◌, ◌+◌, ◌-◌, ◌*◌, ◌≤◌, length, map, drop}
-use Rattle.std.specs.List.{AllByRecursion}
-use Rattle.rrd_spec.specs.History.{Sampled, definitions}
-use Rattle.rrd_spec.specs.Laws.ListedContent.{content_listed, moved_listed}
-use Rattle.rrd_spec.specs.Commands.{Updating, sample_of}
-use Rattle.rrd_base.specs.Walk.{HasPlaces}
-use Rattle.rrd_spec.specs.Commands.Turns.{in_all, least_of_sample, most_of_sample}
-use Rattle.rrd_base.specs.Update.{template_of}
-use Rattle.rrd_spec.specs.Commands.Verdict.{sample_checks}
-use Rattle.rrd_spec.specs.Validity.{IsValid}
+use Rattle.rrd_base.proofs.Common.{◌≡◌, ◌+◌, ◌-◌, ◌*◌, ◌≤◌, length, map, drop, AllByRecursion, Sampled, definitions, content_listed, moved_listed, Updating, sample_of, HasPlaces, in_all, least_of_sample, most_of_sample, template_of, sample_checks, IsValid, SameShape, present}
 use Rattle.rrd_spec.specs.Laws.Commands.{Passes}
-use Rattle.rrd_base.proofs.Catching.{SameShape}
 use Rattle.rrd_base.proofs.content.Content.take_samples.Given as goal
-use Rattle.rrd_spec.specs.Limits.{present}
 
 abbrev pub invariant-loop-sample : goal.invariant-loop-sample
 invariant-loop-sample l =

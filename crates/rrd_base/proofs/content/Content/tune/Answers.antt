@@ -1,9 +1,4 @@
-use Rattle.std.proofs.Common.{◌≡◌, sym, subst}
-use Rattle.std.specs.Prelude.{OnOk}
-use Rattle.rrd_spec.specs.Commands.{TuningBy}
-use Rattle.rrd_spec.specs.History.{Content}
-use Rattle.rrd_spec.specs.Validity.{IsValid}
-use Rattle.rrd_base.proofs.TuneLemmas.{archive_tuned}
+use Rattle.rrd_base.proofs.Common.{◌≡◌, sym, subst, OnOk, TuningBy, Content, IsValid, archive_tuned}
 use Rattle.rrd_base.proofs.content.Content.tune.Goals as goal
 
 pub tune_archive-requires-clause-there : goal.tune_archive-requires-clause-there

@@ -1,13 +1,4 @@
-use Rattle.std.proofs.Common.{◌≡◌, sym, ◌∙◌, ap, subst, map, length, arith, None}
-use Rattle.std.specs.Vec.{with_items}
-use Rattle.std.proofs.lemmas.List.{with_items_is}
-use Rattle.rrd_spec.specs.History.{Content, raws_under}
-use Rattle.rrd_spec.specs.Commands.{TuningBy, moved, tuned}
-use Rattle.rrd_base.specs.Content.{content_of}
-use Rattle.rrd_spec.specs.Validity.{IsValid}
-use Rattle.rrd_spec.specs.Commands.Verdict.{verdict}
-use Rattle.rrd_spec.specs.Lemmas.Validity.{base_of_valid, length-accepted}
-use Rattle.rrd_base.proofs.TuneLemmas.{settings_are}
+use Rattle.rrd_base.proofs.Common.{◌≡◌, sym, ◌∙◌, ap, subst, map, length, arith, None, with_items, with_items_is, Content, raws_under, TuningBy, moved, tuned, content_of, IsValid, verdict, base_of_valid, length-accepted, settings_are}
 use Rattle.rrd_base.proofs.content.Content.tune_sources.Goals as goal
 
 pub tune_all-requires : goal.tune_all-requires
@@ -21,11 +12,8 @@ invariant_of-self c =
     let X : Content = content_of d in
     let t = c.args.tuning.now in
     let f = tuned t in
-    let sources : (with_items d.sources c.tune_all.new.sources).items ≡ map f d.sources.items
-    = with_items_is d.sources c.tune_all.new.sources (omega (arith, c.tune_all.auto.sources, c.deref_mut.ensures.len)) ∙ c.tune_all.ensures.sources ∙ ap (map f) c.deref_mut.ensures.value in
-    let raws : (with_items d.raws c.tune_all.new.raws).items ≡ raws_under d.sources.items (map f d.sources.items) d.raws.items
-    = with_items_is d.raws c.tune_all.new.raws (omega (arith, c.tune_all.auto.raws, c.deref_mut-2.ensures.len)) ∙ c.tune_all.ensures.raws
-    ∙ ap (λ ss. raws_under ss (map f ss) c.deref_mut-2.result.now) c.deref_mut.ensures.value ∙ ap (raws_under d.sources.items (map f d.sources.items)) c.deref_mut-2.ensures.value in
+    let sources : (with_items d.sources c.tune_all.new.sources).items ≡ map f d.sources.items = cc (with_items_is d.sources c.tune_all.new.sources (omega (arith, c.tune_all.auto.sources, c.deref_mut.ensures.len)), c.tune_all.ensures.sources, c.deref_mut.ensures.value) in
+    let raws : (with_items d.raws c.tune_all.new.raws).items ≡ raws_under d.sources.items (map f d.sources.items) d.raws.items = cc (with_items_is d.raws c.tune_all.new.raws (omega (arith, c.tune_all.auto.raws, c.deref_mut-2.ensures.len)), c.tune_all.ensures.raws, c.deref_mut.ensures.value, c.deref_mut-2.ensures.value) in
     let same = settings_are X (with_items d.sources c.tune_all.new.sources).items (with_items d.raws c.tune_all.new.raws).items (map f d.sources.items) (raws_under d.sources.items (map f d.sources.items) d.raws.items) sources raws ∙ sym (c.tune_changes_sources.ensures X t (base_of_valid X c.self.invariant) c.requires.alone) in
     let accepted : verdict X (TuningBy t) ≡ None = subst (λ (x : Content). verdict x (TuningBy t) ≡ None) (sym c.self.view_is) c.requires.accepted in
     subst IsValid (sym same) (c.stays_valid.ensures X (TuningBy t) c.self.invariant accepted)
@@ -36,11 +24,8 @@ returns c =
     let X : Content = content_of d in
     let t = c.args.tuning.now in
     let f = tuned t in
-    let sources : (with_items d.sources c.tune_all.new.sources).items ≡ map f d.sources.items
-    = with_items_is d.sources c.tune_all.new.sources (omega (arith, c.tune_all.auto.sources, c.deref_mut.ensures.len)) ∙ c.tune_all.ensures.sources ∙ ap (map f) c.deref_mut.ensures.value in
-    let raws : (with_items d.raws c.tune_all.new.raws).items ≡ raws_under d.sources.items (map f d.sources.items) d.raws.items
-    = with_items_is d.raws c.tune_all.new.raws (omega (arith, c.tune_all.auto.raws, c.deref_mut-2.ensures.len)) ∙ c.tune_all.ensures.raws
-    ∙ ap (λ ss. raws_under ss (map f ss) c.deref_mut-2.result.now) c.deref_mut.ensures.value ∙ ap (raws_under d.sources.items (map f d.sources.items)) c.deref_mut-2.ensures.value in
+    let sources : (with_items d.sources c.tune_all.new.sources).items ≡ map f d.sources.items = cc (with_items_is d.sources c.tune_all.new.sources (omega (arith, c.tune_all.auto.sources, c.deref_mut.ensures.len)), c.tune_all.ensures.sources, c.deref_mut.ensures.value) in
+    let raws : (with_items d.raws c.tune_all.new.raws).items ≡ raws_under d.sources.items (map f d.sources.items) d.raws.items = cc (with_items_is d.raws c.tune_all.new.raws (omega (arith, c.tune_all.auto.raws, c.deref_mut-2.ensures.len)), c.tune_all.ensures.raws, c.deref_mut.ensures.value, c.deref_mut-2.ensures.value) in
     settings_are X (with_items d.sources c.tune_all.new.sources).items (with_items d.raws c.tune_all.new.raws).items (map f d.sources.items) (raws_under d.sources.items (map f d.sources.items) d.raws.items) sources raws
     ∙ sym (c.tune_changes_sources.ensures X t (base_of_valid X c.self.invariant) c.requires.alone)
     ∙ ap (λ (x : Content). moved x (TuningBy t)) c.self.view_is

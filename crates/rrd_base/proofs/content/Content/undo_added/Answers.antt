@@ -1,9 +1,4 @@
-use Rattle.std.proofs.Common.{sym, ap, subst, ◌∙◌}
-use Rattle.rrd_spec.specs.History.{Content}
-use Rattle.rrd_spec.specs.Journal.Entries.{AddedEntry, undone}
-use Rattle.rrd_spec.specs.Validity.{IsValid}
-use Rattle.rrd_base.specs.Content.{content_of}
-use Rattle.rrd_base.proofs.TuneLemmas.{with_archives}
+use Rattle.rrd_base.proofs.Common.{sym, ap, subst, ◌∙◌, Content, AddedEntry, undone, IsValid, content_of, with_archives}
 use Rattle.rrd_base.proofs.content.Content.undo_added.Goals as goal
 
 pub invariant_of-self : goal.invariant_of-self
@@ -15,5 +10,4 @@ invariant_of-self c =
 pub returns : goal.returns
 unfolding with_archives
 returns c =
-    let X = content_of c.self.inside in
-    ap (with_archives X) c.pop.ensures ∙ ap (λ (x : Content). undone x AddedEntry) c.self.view_is
+    ap (with_archives (content_of c.self.inside)) c.pop.ensures ∙ ap (λ (x : Content). undone x AddedEntry) c.self.view_is

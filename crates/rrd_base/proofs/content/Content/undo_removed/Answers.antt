@@ -1,9 +1,4 @@
-use Rattle.std.proofs.Common.{sym, ap, subst, ◌∙◌, ◌≤◌, length, arith}
-use Rattle.rrd_spec.specs.History.{Content}
-use Rattle.rrd_spec.specs.Journal.Entries.{RemovedEntry, undone}
-use Rattle.rrd_spec.specs.Validity.{IsValid}
-use Rattle.rrd_base.specs.Content.{content_of}
-use Rattle.rrd_base.proofs.TuneLemmas.{length-insert, with_archives}
+use Rattle.rrd_base.proofs.Common.{sym, ap, subst, ◌∙◌, ◌≤◌, length, arith, Content, RemovedEntry, undone, IsValid, content_of, length-insert, with_archives}
 use Rattle.rrd_base.proofs.content.Content.undo_removed.Goals as goal
 
 pub insert-requires : goal.insert-requires
@@ -23,5 +18,4 @@ invariant_of-self c =
 pub returns : goal.returns
 unfolding with_archives
 returns c =
-    let X = content_of c.self.inside in
-    ap (with_archives X) c.insert.ensures ∙ ap (λ (x : Content). undone x (RemovedEntry c.args.archive c.args.old)) c.self.view_is
+    ap (with_archives (content_of c.self.inside)) c.insert.ensures ∙ ap (λ (x : Content). undone x (RemovedEntry c.args.archive c.args.old)) c.self.view_is

@@ -1,11 +1,4 @@
-use Rattle.std.proofs.Common.{◌≡◌, ◌∙◌, sym, ap, ◌-◌, ◌<◌, length, map, cond, Some, None, arith}
-use Rattle.std.specs.Prelude.{slice_get}
-use Rattle.std.specs.Option.{option_copied}
-use Rattle.std.proofs.lemmas.Bool.{lt-ltb}
-use Rattle.std.proofs.lemmas.List.{length-reverse, length-map}
-use Rattle.rrd_base.specs.Journal.{entry_of, journal_of}
-use Rattle.rrd_spec.specs.Journal.Survivors.{Stored}
-use Rattle.rrd_base.proofs.JournalLemmas.{journal_at}
+use Rattle.rrd_base.proofs.Common.{◌≡◌, ◌∙◌, sym, ap, ◌-◌, ◌<◌, length, map, cond, Some, None, arith, slice_get, option_copied, lt-ltb, length-reverse, length-map, entry_of, journal_of, Stored, journal_at}
 use Rattle.rrd_base.proofs.database.Database.entry.Goals as goal
 
 pub returns : goal.returns

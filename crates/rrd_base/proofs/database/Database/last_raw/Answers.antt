@@ -1,9 +1,5 @@
-use Rattle.std.proofs.Common.{sym, ◌∙◌, ap, subst, ◌<◌, length, get_or, arith}
-use Rattle.std.proofs.lemmas.List.{get_or_default}
+use Rattle.rrd_base.proofs.Common.{sym, ◌∙◌, ap, subst, ◌<◌, length, get_or, arith, get_or_default, length-accepted, Content, Stored}
 use Rattle.rrd_fixed.specs.declared.raw.Raw.TheVariants.{Unknown}
-use Rattle.rrd_spec.specs.Lemmas.Validity.{length-accepted}
-use Rattle.rrd_spec.specs.History.{Content}
-use Rattle.rrd_spec.specs.Journal.Survivors.{Stored}
 use Rattle.rrd_base.proofs.database.Database.last_raw.Goals as goal
 
 pub index-requires : goal.index-requires

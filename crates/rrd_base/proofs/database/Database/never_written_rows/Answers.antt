@@ -1,13 +1,6 @@
-use Rattle.std.proofs.Common.{◌≡◌, sym, ◌∙◌, ap, subst, ◌<◌, ◌≤◌, ◌/◌, length, replicate, take, Some, arith}
-use Rattle.std.specs.Prelude.{slice_get}
-use Rattle.std.proofs.lemmas.Option.{get_or_from_slice_get}
+use Rattle.rrd_base.proofs.Common.{◌≡◌, sym, ◌∙◌, ap, subst, ◌<◌, ◌≤◌, ◌/◌, length, replicate, take, Some, arith, slice_get, get_or_from_slice_get, unknown_rows, Rra, Content, All-at, IsValidArchive, Stored}
 use Rattle.rrd_fixed.specs.declared.cell.Cell.TheVariants.{Unknown}
-use Rattle.rrd_ring.specs.Rows.{unknown_rows}
-use Rattle.rrd_spec.specs.History.{Rra, Content}
-use Rattle.rrd_spec.specs.Lemmas.Lists.{All-at}
-use Rattle.rrd_spec.specs.Validity.{IsValidArchive}
 use Rattle.rrd_base.proofs.RraLemmas.{width_is}
-use Rattle.rrd_spec.specs.Journal.Survivors.{Stored}
 use Rattle.rrd_base.proofs.database.Database.never_written_rows.Goals as goal
 
 pub returns-clause-few : goal.returns-clause-few
@@ -30,7 +23,4 @@ returns-clause-unknown c = λ a e.
     let same = c.get.ensures ∙ get_or_from_slice_get d.archives k a rra found in
     let valid = subst (IsValidArchive n (d.last / d.step)) (sym c.get.ensures) (All-at (IsValidArchive n (d.last / d.step)) d.archives k rra c.content.invariant.archives_are there) in
     let wide = width_is n rra.rows (omega (arith, valid.rows_are, valid.some_rows)) valid.each_row in
-    ap (λ (x : Rra). take count x.rows) (sym same)
-    ∙ c.never_written_rows.ensures.unknown
-    ∙ ap (unknown_rows count) wide
-    ∙ ap (λ (x : Content). replicate count (replicate (length x.sources) Unknown)) (c.content.view_is ∙ ap (λ (k : Stored). k.content) c.self.view_is)
+    cc (same, c.never_written_rows.ensures.unknown, wide, c.content.view_is ∙ ap (λ (k : Stored). k.content) c.self.view_is)

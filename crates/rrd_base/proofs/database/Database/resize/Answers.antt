@@ -1,13 +1,7 @@
-use Rattle.std.proofs.Common.{◌≡◌, refl, sym, ◌∙◌, ap, subst}
+use Rattle.rrd_base.proofs.Common.{◌≡◌, refl, sym, ◌∙◌, ap, subst, Resizing, moved, rows_at, entry_of, Stored, changed, IsValid, added, resized_is}
 use Rattle.rrd_base.specs.declared.journal.Entry.TheVariants as entry
-use Rattle.rrd_spec.specs.Commands.{Resizing, moved}
 use Rattle.rrd_spec.specs.Journal.Entries as entries
-use Rattle.rrd_spec.specs.Journal.Entries.{rows_at, entry as entry_for}
-use Rattle.rrd_base.specs.Journal.{entry_of}
-use Rattle.rrd_spec.specs.Journal.Survivors.{Stored, changed}
-use Rattle.rrd_spec.specs.Validity.{IsValid}
-use Rattle.rrd_base.proofs.KeptLemmas.{added}
-use Rattle.rrd_base.proofs.ResizeLemmas.{resized_is}
+use Rattle.rrd_spec.specs.Journal.Entries.{entry as entry_for}
 use Rattle.rrd_base.proofs.database.Database.resize.Goals as goal
 
 pub resize-old-requires-clause-there : goal.resize-old-requires-clause-there

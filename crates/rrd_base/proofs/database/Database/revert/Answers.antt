@@ -1,29 +1,23 @@
-use Rattle.std.proofs.Common.{◌≡◌, sym, ◌∙◌, ap, ◌-◌, List, [], ◌∷◌, length, take}
-use Rattle.rrd_spec.specs.Journal.Entries.{Entry, undone}
-use Rattle.rrd_spec.specs.Journal.Survivors.{Stored, reverted}
-use Rattle.rrd_base.specs.Journal.{entry_of, journal_of}
-use Rattle.rrd_spec.specs.Lemmas.Journal.{undone_depth}
+use Rattle.rrd_base.proofs.Common.{◌≡◌, sym, ◌∙◌, ap, ◌-◌, List, [], ◌∷◌, length, take, undone, Stored, reverted, entry_of, journal_of, undone_depth}
+use Rattle.rrd_spec.specs.Journal.Entries.{Entry}
 use Rattle.rrd_base.proofs.KeptLemmas.{newest}
 use Rattle.rrd_base.proofs.database.Database.revert.Goals as goal
 
-pub undo-requires-clause-fits : goal.undo-requires-clause-fits
-undo-requires-clause-fits c =
+pub undo-requires : goal.undo-requires
+undo-requires c =
     let d = c.self.inside in
-    (newest c.database_stays.ensures.reverted d.content d.journal.items c.in-Some.entry c.self.invariant.valid c.in-Some.ensures.value).can
-
-pub undo-requires-clause-valid : goal.undo-requires-clause-valid
-undo-requires-clause-valid c =
-    let d = c.self.inside in
-    (newest c.database_stays.ensures.reverted d.content d.journal.items c.in-Some.entry c.self.invariant.valid c.in-Some.ensures.value).valid
+    record {
+      fits = (newest c.database_stays.ensures.reverted d.content d.journal.items c.in-Some.entry c.self.invariant.valid c.in-Some.ensures.value).can;
+      valid = (newest c.database_stays.ensures.reverted d.content d.journal.items c.in-Some.entry c.self.invariant.valid c.in-Some.ensures.value).valid;
+    }
 
 pub invariant_of-self-2 : goal.invariant_of-self-2
 invariant_of-self-2 c =
     let d = c.self.inside in
     let e = c.in-Some.entry in
-    let one = newest c.database_stays.ensures.reverted d.content d.journal.items e c.self.invariant.valid c.in-Some.ensures.value in
     rw (c.undo.ensures, c.pop_back.ensures.items) (record {
       places = c.self.invariant.places ∙ sym (undone_depth d.content (entry_of e));
-      valid = one.after;
+      valid = (newest c.database_stays.ensures.reverted d.content d.journal.items e c.self.invariant.valid c.in-Some.ensures.value).after;
     })
 
 some_entry : (e : Entry) (journal rest : List Entry) → journal ≡ e ∷ rest → journal ≡ [] → ⊥

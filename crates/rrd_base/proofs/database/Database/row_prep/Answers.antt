@@ -1,10 +1,4 @@
-use Rattle.std.proofs.Common.{sym, ◌∙◌, ap, subst, ◌<◌, length, get_or}
-use Rattle.rrd_fold.specs.Bounds.{Consolidating}
-use Rattle.rrd_fold.specs.Parts.{nothing}
-use Rattle.rrd_spec.specs.History.{Rra, Content}
-use Rattle.rrd_spec.specs.History.Cells.{prep_at}
-use Rattle.rrd_spec.specs.Lemmas.Cells.{prep_of_archive}
-use Rattle.rrd_spec.specs.Journal.Survivors.{Stored}
+use Rattle.rrd_base.proofs.Common.{sym, ◌∙◌, ap, subst, ◌<◌, length, get_or, Consolidating, nothing, Rra, Content, prep_at, prep_of_archive, Stored}
 use Rattle.rrd_base.proofs.database.Database.row_prep.Goals as goal
 
 pub returns : goal.returns

@@ -1,7 +1,4 @@
-use Rattle.std.proofs.Common.{◌≡◌, refl, sym, ◌∙◌, ap}
-use Rattle.rrd_spec.specs.Commands.{TuningBy, moved}
-use Rattle.rrd_spec.specs.Journal.Survivors.{Stored, changed}
-use Rattle.rrd_base.proofs.KeptLemmas.{added}
+use Rattle.rrd_base.proofs.Common.{◌≡◌, refl, sym, ◌∙◌, ap, TuningBy, moved, Stored, changed, added}
 use Rattle.rrd_base.proofs.database.Database.tune.Goals as goal
 
 pub invariant_of-self-2 : goal.invariant_of-self-2

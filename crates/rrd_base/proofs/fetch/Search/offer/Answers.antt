@@ -1,9 +1,4 @@
-use Rattle.std.proofs.Common.{◌≡◌, sym, ◌∙◌, ap, Option, Some}
-use Rattle.std.proofs.lemmas.Bool.{both_ways}
-use Rattle.rrd_spec.specs.declared.requests.fetch.Candidate.{Candidate}
-use Rattle.rrd_base.specs.Fetch.{Searched}
-use Rattle.rrd_spec.specs.Choice.{candidate}
-use Rattle.rrd_base.proofs.ChoiceLemmas.{instead, other_function, one_compared, first_taken, next_taken, old_stays}
+use Rattle.rrd_base.proofs.Common.{◌≡◌, sym, ◌∙◌, ap, Option, Some, both_ways, Candidate, Searched, candidate, instead, other_function, one_compared, first_taken, next_taken, old_stays}
 use Rattle.rrd_base.proofs.fetch.Search.offer.Goals as goal
 use Rattle.rrd_base.proofs.fetch.Search.offer.Goals.{in-Some, in-None}
 

@@ -1,5 +1,4 @@
-use Rattle.std.proofs.Common.{◌≡◌, take}
-use Rattle.rrd_base.specs.Tune.{with_kept}
+use Rattle.rrd_base.proofs.Common.{◌≡◌, take, with_kept}
 use Rattle.rrd_base.proofs.journal.put_back.put_back.Given as goal
 
 abbrev pub invariant-loop-old : goal.invariant-loop-old

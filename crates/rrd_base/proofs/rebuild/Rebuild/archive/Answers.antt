@@ -1,10 +1,4 @@
-use Rattle.std.proofs.Common.{◌≡◌, ◌∙◌, ◌++◌, ◌∷◌, [], refl, replicate, sym, ap, subst, arith}
-use Rattle.rrd_fixed.specs.declared.cell.Cell.{Cell}
-use Rattle.rrd_spec.specs.History.{Rra}
-use Rattle.rrd_spec.specs.Files.Rebuilding.{MayHead, with_head}
-use Rattle.rrd_base.specs.Rebuild.{coming, filed_in, IsRebuilding}
-use Rattle.rrd_base.proofs.Comes.{archive_came, at_head, cursor_stays, head_keeps, head_is, none_later, outlines_lengths, plain_good}
-use Rattle.rrd_base.proofs.Versions.{few_archives}
+use Rattle.rrd_base.proofs.Common.{◌≡◌, ◌∙◌, ◌++◌, ◌∷◌, [], refl, replicate, sym, ap, subst, arith, Cell, Rra, MayHead, with_head, coming, filed_in, IsRebuilding, archive_came, at_head, cursor_stays, head_keeps, head_is, none_later, outlines_lengths, plain_good, few_archives}
 use Rattle.rrd_base.proofs.rebuild.Rebuild.archive.Goals as goal
 
 pub unprepared-requires : goal.unprepared-requires

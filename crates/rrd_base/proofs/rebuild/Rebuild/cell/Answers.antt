@@ -1,113 +1,54 @@
-use Rattle.std.proofs.Common.{◌≡◌, ◌∙◌, ◌<◌, ◌≤◌, refl, sym, ap, subst, arith}
-use Rattle.rrd_spec.specs.declared.due.Due.TheVariants.{CellDue}
-use Rattle.rrd_spec.specs.declared.settings.RraDef.{RraDef}
-use Rattle.rrd_spec.specs.History.{Rra}
-use Rattle.rrd_spec.specs.Limits.{present}
-use Rattle.rrd_spec.specs.Files.Rebuilding.{IsArchiveDef, due, with_cell}
-use Rattle.rrd_spec.specs.Settings.{resolution}
-use Rattle.rrd_spec.specs.Files.Places.{place_in}
-use Rattle.rrd_base.specs.Rebuild.Cursors.{Advances, KnowsPlace, filled_by}
-use Rattle.rrd_base.specs.Rebuild.{IsCursor, IsRebuilding, coming, filed_in}
-use Rattle.rrd_base.proofs.CellComes.{at_cell, cell_came, cell_comes, cell_here, is_put, place_there, row_there, with_cell_at}
-use Rattle.rrd_base.proofs.Versions.{few_archives}
+use Rattle.rrd_base.proofs.Common.{◌≡◌, ◌∙◌, ◌<◌, ◌≤◌, refl, sym, ap, subst, arith, CellDue, RraDef, Rra, present, IsArchiveDef, due, resolution, place_in, Advances, KnowsPlace, filled_by, IsCursor, IsRebuilding, coming, filed_in, at_cell, cell_came, cell_comes, cell_here, is_put, place_there, row_there, with_cell_at, few_archives, rules}
+use Rattle.rrd_spec.specs.Files.Rebuilding.{with_cell}
 use Rattle.rrd_base.proofs.rebuild.Rebuild.cell.Goals as goal
 
 pub get_mut-rra-requires : goal.get_mut-rra-requires
 get_mut-rra-requires c =
     let d = coming c.self.inside in
-    let cursor = c.self.inside.cursor in
-    let may = c.may_cell.ensures.good c.if-not-may_cell.false in
-    let is_due : due (filed_in d) ≡ CellDue = ap due c.self.view_is ∙ may.is_due in
+    let is_due : due (filed_in d) ≡ CellDue = ap due c.self.view_is ∙ (c.may_cell.ensures.good c.if-not-may_cell.false).is_due in
     omega (arith, (at_cell c.cells_stand_in_slots.ensures.as_many d c.self.invariant.came is_due).there)
 
-pub place-place-requires-clause-def_is : goal.place-place-requires-clause-def_is
-place-place-requires-clause-def_is c =
+pub place-place-requires : goal.place-place-requires
+place-place-requires c =
     let d = coming c.self.inside in
     let cursor = c.self.inside.cursor in
-    let may = c.may_cell.ensures.good c.if-not-may_cell.false in
-    let is_due : due (filed_in d) ≡ CellDue = ap due c.self.view_is ∙ may.is_due in
+    let is_due : due (filed_in d) ≡ CellDue = ap due c.self.view_is ∙ (c.may_cell.ensures.good c.if-not-may_cell.false).is_due in
     let a = c.get_mut-rra.result.now in
     let here = cell_here c.cells_stand_in_slots.ensures.as_many d a cursor c.self.invariant.came c.self.invariant.cursor_is is_due c.get_mut-rra.ensures.value refl in
-    subst (IsArchiveDef present) (sym c.def-def.ensures) here.so_far.def_is
+    assumption (subst (IsArchiveDef present) (sym c.def-def.ensures) here.so_far.def_is, subst (λ (def : RraDef). KnowsPlace (resolution d.step def) d.last def.rows cursor) (sym c.def-def.ensures) here.knows)
 
-pub place-place-requires-clause-known : goal.place-place-requires-clause-known
-place-place-requires-clause-known c =
+pub set_cell-requires : goal.set_cell-requires
+set_cell-requires c =
     let d = coming c.self.inside in
     let cursor = c.self.inside.cursor in
-    let may = c.may_cell.ensures.good c.if-not-may_cell.false in
-    let is_due : due (filed_in d) ≡ CellDue = ap due c.self.view_is ∙ may.is_due in
-    let a = c.get_mut-rra.result.now in
-    let here = cell_here c.cells_stand_in_slots.ensures.as_many d a cursor c.self.invariant.came c.self.invariant.cursor_is is_due c.get_mut-rra.ensures.value refl in
-    subst (λ (def : RraDef). KnowsPlace (resolution d.step def) d.last def.rows cursor) (sym c.def-def.ensures) here.knows
-
-pub set_cell-requires-clause-there : goal.set_cell-requires-clause-there
-set_cell-requires-clause-there c =
-    let d = coming c.self.inside in
-    let cursor = c.self.inside.cursor in
-    let may = c.may_cell.ensures.good c.if-not-may_cell.false in
-    let is_due : due (filed_in d) ≡ CellDue = ap due c.self.view_is ∙ may.is_due in
+    let is_due : due (filed_in d) ≡ CellDue = ap due c.self.view_is ∙ (c.may_cell.ensures.good c.if-not-may_cell.false).is_due in
     let a = c.get_mut-rra.result.now in
     let here = cell_here c.cells_stand_in_slots.ensures.as_many d a cursor c.self.invariant.came c.self.invariant.cursor_is is_due c.get_mut-rra.ensures.value refl in
     let place = c.place-place.result in
     let place_is : place ≡ place_in (resolution d.step a.def) d.last a.def.rows cursor.slot = c.place-place.ensures ∙ ap (λ (def : RraDef). place_in (resolution d.step def) d.last def.rows cursor.slot) c.def-def.ensures in
     let inside = place_there c.rows_stand_in_slots.ensures.place d a cursor place c.self.invariant.came here place_is in
-    omega (arith, inside, here.so_far.rows_are)
+    record {
+      there = omega (arith, inside, here.so_far.rows_are);
+      within = omega (arith, row_there d a cursor place here inside, c.self.invariant.cursor_is.source_there);
+    }
 
-pub set_cell-requires-clause-within : goal.set_cell-requires-clause-within
-set_cell-requires-clause-within c =
+pub advance-requires : goal.advance-requires
+advance-requires c =
     let d = coming c.self.inside in
     let cursor = c.self.inside.cursor in
-    let may = c.may_cell.ensures.good c.if-not-may_cell.false in
-    let is_due : due (filed_in d) ≡ CellDue = ap due c.self.view_is ∙ may.is_due in
+    let is_due : due (filed_in d) ≡ CellDue = ap due c.self.view_is ∙ (c.may_cell.ensures.good c.if-not-may_cell.false).is_due in
     let a = c.get_mut-rra.result.now in
     let here = cell_here c.cells_stand_in_slots.ensures.as_many d a cursor c.self.invariant.came c.self.invariant.cursor_is is_due c.get_mut-rra.ensures.value refl in
     let place = c.place-place.result in
     let place_is : place ≡ place_in (resolution d.step a.def) d.last a.def.rows cursor.slot = c.place-place.ensures ∙ ap (λ (def : RraDef). place_in (resolution d.step def) d.last def.rows cursor.slot) c.def-def.ensures in
     let inside = place_there c.rows_stand_in_slots.ensures.place d a cursor place c.self.invariant.came here place_is in
-    omega (arith, row_there d a cursor place here inside, c.self.invariant.cursor_is.source_there)
-
-pub advance-requires-clause-archive_there : goal.advance-requires-clause-archive_there
-advance-requires-clause-archive_there c =
-    let d = coming c.self.inside in
-    let cursor = c.self.inside.cursor in
-    let may = c.may_cell.ensures.good c.if-not-may_cell.false in
-    let is_due : due (filed_in d) ≡ CellDue = ap due c.self.view_is ∙ may.is_due in
-    let a = c.get_mut-rra.result.now in
-    let here = cell_here c.cells_stand_in_slots.ensures.as_many d a cursor c.self.invariant.came c.self.invariant.cursor_is is_due c.get_mut-rra.ensures.value refl in
-    omega (arith, here.at.there, c.self.invariant.came.few_archives, c.self.invariant.came.header_is.few_archives, few_archives d.version)
-
-pub advance-requires-clause-slot_there : goal.advance-requires-clause-slot_there
-advance-requires-clause-slot_there c =
-    let d = coming c.self.inside in
-    let cursor = c.self.inside.cursor in
-    let may = c.may_cell.ensures.good c.if-not-may_cell.false in
-    let is_due : due (filed_in d) ≡ CellDue = ap due c.self.view_is ∙ may.is_due in
-    let a = c.get_mut-rra.result.now in
-    let here = cell_here c.cells_stand_in_slots.ensures.as_many d a cursor c.self.invariant.came c.self.invariant.cursor_is is_due c.get_mut-rra.ensures.value refl in
-    subst (λ (def : RraDef). cursor.slot < def.rows) (sym c.def-def.ensures) here.slot
-
-pub advance-requires-clause-place_there : goal.advance-requires-clause-place_there
-advance-requires-clause-place_there c =
-    let d = coming c.self.inside in
-    let cursor = c.self.inside.cursor in
-    let may = c.may_cell.ensures.good c.if-not-may_cell.false in
-    let is_due : due (filed_in d) ≡ CellDue = ap due c.self.view_is ∙ may.is_due in
-    let a = c.get_mut-rra.result.now in
-    let here = cell_here c.cells_stand_in_slots.ensures.as_many d a cursor c.self.invariant.came c.self.invariant.cursor_is is_due c.get_mut-rra.ensures.value refl in
-    let place = c.place-place.result in
-    let place_is : place ≡ place_in (resolution d.step a.def) d.last a.def.rows cursor.slot = c.place-place.ensures ∙ ap (λ (def : RraDef). place_in (resolution d.step def) d.last def.rows cursor.slot) c.def-def.ensures in
-    let inside = place_there c.rows_stand_in_slots.ensures.place d a cursor place c.self.invariant.came here place_is in
-    subst (λ (def : RraDef). place < def.rows) (sym c.def-def.ensures) inside
-
-pub advance-requires-clause-few_rows : goal.advance-requires-clause-few_rows
-advance-requires-clause-few_rows c =
-    let d = coming c.self.inside in
-    let cursor = c.self.inside.cursor in
-    let may = c.may_cell.ensures.good c.if-not-may_cell.false in
-    let is_due : due (filed_in d) ≡ CellDue = ap due c.self.view_is ∙ may.is_due in
-    let a = c.get_mut-rra.result.now in
-    let here = cell_here c.cells_stand_in_slots.ensures.as_many d a cursor c.self.invariant.came c.self.invariant.cursor_is is_due c.get_mut-rra.ensures.value refl in
-    subst (λ (def : RraDef). def.rows ≤ present.max_rows) (sym c.def-def.ensures) here.so_far.def_is.few_rows
+    record {
+      archive_there = omega (arith, here.at.there, c.self.invariant.came.few_archives, c.self.invariant.came.header_is.few_archives, few_archives d.version);
+      slot_there = subst (λ (def : RraDef). cursor.slot < def.rows) (sym c.def-def.ensures) here.slot;
+      place_there = subst (λ (def : RraDef). place < def.rows) (sym c.def-def.ensures) inside;
+      few_rows = subst (λ (def : RraDef). def.rows ≤ present.max_rows) (sym c.def-def.ensures) here.so_far.def_is.few_rows;
+      source_there = search rules;
+    }
 
 pub invariant_of-self : goal.invariant_of-self
 invariant_of-self c =

@@ -1,8 +1,4 @@
-use Rattle.std.proofs.Common.{◌∙◌, sym, ap, arith}
-use Rattle.rrd_spec.specs.Files.Filed.{Filed}
-use Rattle.rrd_spec.specs.Files.Rebuilding.{due, unprepared}
-use Rattle.rrd_base.specs.Rebuild.{coming}
-use Rattle.rrd_base.proofs.Dues.{due_source, due_prep, due_after, due_head, due_cell, due_entry, due_nothing}
+use Rattle.rrd_base.proofs.Common.{◌∙◌, sym, ap, arith, Filed, due, unprepared, coming, due_source, due_prep, due_after, due_head, due_cell, due_entry, due_nothing}
 use Rattle.rrd_base.proofs.rebuild.Rebuild.due.Goals as goal
 
 pub returns-then-len-self : goal.returns-then-len-self

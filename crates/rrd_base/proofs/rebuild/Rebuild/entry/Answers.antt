@@ -1,14 +1,4 @@
-use Rattle.std.proofs.Common.{◌≡◌, ◌∙◌, List, ◌∷◌, take, take_all, sym, ap, subst, arith}
-use Rattle.rrd_spec.specs.declared.outline.Outline.{Outline}
-use Rattle.rrd_spec.specs.Limits.{limits_of}
-use Rattle.rrd_spec.specs.Journal.Outlines.{outline_undone}
-use Rattle.rrd_spec.specs.Journal.Fitting.{MayUndo}
-use Rattle.rrd_spec.specs.Files.Rebuilding.{MayEntry, with_entry}
-use Rattle.rrd_base.specs.declared.journal.Entry.{Entry}
-use Rattle.rrd_base.specs.Journal.{entry_of}
-use Rattle.rrd_base.specs.Rebuild.{Coming, IsRebuilding, coming, filed_in}
-use Rattle.rrd_base.specs.Rebuild.Validators.{EntryValidator}
-use Rattle.rrd_base.proofs.EntryComes.{at_entry, entry_came, entry_is, entry_keeps, fits, left_valid}
+use Rattle.rrd_base.proofs.Common.{◌≡◌, ◌∙◌, List, ◌∷◌, take, take_all, sym, ap, subst, arith, Outline, limits_of, outline_undone, MayUndo, MayEntry, with_entry, Entry, entry_of, Coming, IsRebuilding, coming, filed_in, EntryValidator, at_entry, entry_came, entry_is, entry_keeps, fits, left_valid}
 use Rattle.rrd_base.proofs.rebuild.Rebuild.entry.Goals as goal
 
 pub undo-requires-clause-good : goal.undo-requires-clause-good
@@ -46,7 +36,6 @@ returns-clause-ok c =
     let may = c.may_entry.ensures.good c.if-not-may_entry.false in
     let here : MayEntry (filed_in d) (entry_of e) = subst (λ f. MayEntry f (entry_of e)) (sym c.self.view_is) may in
     let at = at_entry c.cells_stand_in_slots.ensures.as_many d c.self.invariant.came here.is_due in
-    let fits : MayUndo (limits_of d.version) d.step d.validator.outline (entry_of e) = subst (λ (o : Outline). MayUndo (limits_of d.version) d.step o (entry_of e)) (sym (ap (λ (j : EntryValidator). j.outline) c.self.invariant.came.validator_is)) here.fits in
     let now : Coming = entry_came d e (outline_undone d.validator.outline (entry_of e)) in
     let room : take d.places (e ∷ d.journal) ≡ e ∷ d.journal = take_all d.places (e ∷ d.journal) (omega (arith, at.more, c.self.invariant.came.header_is.few_entries, c.self.invariant.came.places)) in
     rw (c.push_front-oldest.ensures.items)

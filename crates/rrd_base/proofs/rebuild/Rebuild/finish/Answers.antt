@@ -1,12 +1,4 @@
-use Rattle.rrd_spec.specs.declared.due.Due.TheVariants.{NothingDue}
-use Rattle.std.proofs.Common.{◌≡◌, ◌∙◌, sym, ap, subst}
-use Rattle.rrd_spec.specs.Files.Filed.{Filed, filed}
-use Rattle.rrd_spec.specs.Files.Rebuilding.{due, limits}
-use Rattle.rrd_base.specs.Journal.{journal_of}
-use Rattle.rrd_base.specs.Rebuild.{coming, content_so_far, filed_of}
-use Rattle.rrd_spec.specs.Journal.Survivors.{Stored}
-use Rattle.rrd_spec.specs.Validity.{IsValidDatabaseWithin}
-use Rattle.rrd_base.proofs.Rebuilt.{all_came, content_valid, database_valid, filed_whole}
+use Rattle.rrd_base.proofs.Common.{NothingDue, ◌≡◌, ◌∙◌, sym, ap, subst, Filed, filed, due, limits, journal_of, coming, content_so_far, filed_of, Stored, IsValidDatabaseWithin, all_came, content_valid, database_valid, filed_whole}
 use Rattle.rrd_base.proofs.rebuild.Rebuild.finish.Goals as goal
 
 pub invariant_of-content : goal.invariant_of-content

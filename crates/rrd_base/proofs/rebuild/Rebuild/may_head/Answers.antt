@@ -1,8 +1,4 @@
-use Rattle.std.proofs.Common.{◌≡◌, ◌∙◌, sym, ap, subst}
-use Rattle.rrd_spec.specs.declared.due.Due.TheVariants.{HeadDue}
-use Rattle.rrd_spec.specs.Files.Rebuilding.{MayHead, due}
-use Rattle.rrd_base.specs.Rebuild.{coming, filed_in}
-use Rattle.rrd_base.proofs.Comes.{fits_at_head, head_fits}
+use Rattle.rrd_base.proofs.Common.{◌≡◌, ◌∙◌, sym, ap, subst, HeadDue, MayHead, due, coming, filed_in, fits_at_head, head_fits}
 use Rattle.rrd_base.proofs.rebuild.Rebuild.may_head.Goals as goal
 
 pub returns-clause-good : goal.returns-clause-good

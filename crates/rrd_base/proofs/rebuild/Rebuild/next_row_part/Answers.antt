@@ -1,14 +1,4 @@
-use Rattle.std.proofs.Common.{◌≡◌, ◌∙◌, ℕ, sym, ap, subst, to_z-of_z}
-use Rattle.std.specs.Int.{w128}
-use Rattle.std.proofs.lemmas.Option.{IfSome_then}
-use Rattle.rrd_fold.specs.Bounds.{Consolidating}
-use Rattle.rrd_fold.specs.Parts.{Part}
-use Rattle.rrd_spec.specs.declared.settings.RraDef.{RraDef}
-use Rattle.rrd_spec.specs.Files.Filed.{Filed}
-use Rattle.rrd_spec.specs.Files.Rebuilding.{IsRowPart, MayPrep, due}
-use Rattle.rrd_base.specs.Rebuild.{coming}
-use Rattle.rrd_base.specs.Rebuild.Validators.{EntryValidator}
-use Rattle.rrd_base.proofs.Comes.{at_prep}
+use Rattle.rrd_base.proofs.Common.{◌≡◌, ◌∙◌, ℕ, sym, ap, subst, to_z-of_z, w128, IfSome_then, Consolidating, Part, RraDef, Filed, IsRowPart, MayPrep, due, coming, EntryValidator, at_prep}
 use Rattle.rrd_base.proofs.rebuild.Rebuild.next_row_part.Goals as goal
 
 -- the rule of a part, at the same step, time and values

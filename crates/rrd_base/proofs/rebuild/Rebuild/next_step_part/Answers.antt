@@ -1,16 +1,4 @@
-use Rattle.rrd_spec.specs.Settings.{has_source}
-use Rattle.std.proofs.Common.{◌≡◌, ◌∙◌, sym, ap, subst, true, false, ◌%◌, to_z-of_z}
-use Rattle.std.specs.Int.{w128}
-use Rattle.std.proofs.lemmas.Option.{IfSome_then}
-use Rattle.rrd_fold.specs.declared.function.Function.TheVariants.{Average}
-use Rattle.rrd_spec.specs.Validity.{IsPart}
-use Rattle.rrd_spec.specs.Files.Filed.{Source}
-use Rattle.rrd_spec.specs.Files.Rebuilding.{MaySource, due}
-use Rattle.rrd_base.specs.Rebuild.{coming, filed_in}
-use Rattle.rrd_base.specs.Rebuild.Validators.{EntryValidator}
-use Rattle.rrd_base.proofs.Comes.{names_came}
-use Rattle.rrd_base.proofs.Versions.{source_in}
-use Rattle.rrd_spec.specs.Limits.{newest}
+use Rattle.rrd_base.proofs.Common.{has_source, ◌≡◌, ◌∙◌, sym, ap, subst, true, false, ◌%◌, to_z-of_z, w128, IfSome_then, Average, IsPart, Source, MaySource, due, coming, filed_in, EntryValidator, names_came, source_in, newest}
 use Rattle.rrd_base.proofs.rebuild.Rebuild.next_step_part.Goals.{then-not-is_source-via-then-not-is_source, then-not-is_source-via-else-not-is_source+then-not-accepts, then-not-is_source-via-else-not-is_source+else-not-accepts+then-has_source}
 use Rattle.rrd_base.proofs.rebuild.Rebuild.next_step_part.Goals as goal
 

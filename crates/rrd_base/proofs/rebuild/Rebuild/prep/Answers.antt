@@ -1,14 +1,4 @@
-use Rattle.std.proofs.Common.{refl, ◌≡◌, ◌∙◌, ◌-◌, ◌++◌, ◌∷◌, [], suc, length, set, sym, ap, subst, arith, to_z-of_z}
-use Rattle.std.specs.Int.{w128}
-use Rattle.rrd_fold.specs.Bounds.{Consolidating}
-use Rattle.rrd_fold.specs.Parts.{Part}
-use Rattle.rrd_spec.specs.declared.settings.RraDef.{RraDef}
-use Rattle.rrd_spec.specs.History.{Rra}
-use Rattle.rrd_spec.specs.Files.Filed.{Filed}
-use Rattle.rrd_spec.specs.Files.Rebuilding.{IsRowPart, due, with_prep}
-use Rattle.rrd_base.specs.Rebuild.{Coming, IsCursor, IsRebuilding, coming, filed_in}
-use Rattle.std.proofs.lemmas.List.{set-get_or}
-use Rattle.rrd_base.proofs.Comes.{AtPrep, at_prep, cursor_stays, last_prep, prep_came, prep_is, prep_keeps, prep_later}
+use Rattle.rrd_base.proofs.Common.{refl, ◌≡◌, ◌∙◌, ◌-◌, ◌++◌, ◌∷◌, [], suc, length, set, sym, ap, subst, arith, to_z-of_z, w128, Consolidating, Part, RraDef, Rra, Filed, IsRowPart, due, with_prep, Coming, IsCursor, IsRebuilding, coming, filed_in, set-get_or, AtPrep, at_prep, cursor_stays, last_prep, prep_came, prep_is, prep_keeps, prep_later}
 use Rattle.rrd_base.proofs.rebuild.Rebuild.prep.Goals as goal
 
 pub overflow_sub-last : goal.overflow_sub-last
@@ -30,20 +20,17 @@ push_prep-requires c =
     let d = coming c.self.inside in
     let both = simp (to_z-of_z {w = w128} c.ranges.value) at c.in-Some.ensures.some in
     let at : AtPrep d both.0.def = at_prep d both.0.def c.self.invariant.came (ap due c.self.view_is ∙ both.0.is_due) in
-    let x = c.get_mut.result.now in
     let count : length d.archives ≡ suc (c.len-last.result - 1) = omega (arith, at.some) in
-    let last = last_prep d x (c.len-last.result - 1) both.0.def c.self.invariant.came count c.get_mut.ensures.value at.is in
+    let last = last_prep d c.get_mut.result.now (c.len-last.result - 1) both.0.def c.self.invariant.came count c.get_mut.ensures.value at.is in
     ap (λ (p : Consolidating). p.function) both.1 ∙ ap (λ (def : RraDef). def.function) (sym last.1)
 
 pub invariant_of-self : goal.invariant_of-self
 invariant_of-self c =
     let d = coming c.self.inside in
-    let x = c.get_mut.result.now in
     let i = c.len-last.result - 1 in
-    let cursor = c.self.inside.cursor in
-    let same : set d.archives i c.push_prep.new.self ≡ d.archives = ap (set d.archives i) (c.in_err-push_prep.ensures.err ∙ c.get_mut.ensures.value) ∙ set-get_or d.archives i x in
+    let same : set d.archives i c.push_prep.new.self ≡ d.archives = ap (set d.archives i) (c.in_err-push_prep.ensures.err ∙ c.get_mut.ensures.value) ∙ set-get_or d.archives i c.get_mut.result.now in
     let path : d ≡ record d { archives = set d.archives i c.push_prep.new.self } = λ j. record d { archives = sym same j } in
-    record { came = subst IsRebuilding path c.self.invariant.came; cursor_is = subst (λ (e : Coming). IsCursor e cursor) path c.self.invariant.cursor_is }
+    record { came = subst IsRebuilding path c.self.invariant.came; cursor_is = subst (λ (e : Coming). IsCursor e c.self.inside.cursor) path c.self.invariant.cursor_is }
 
 pub invariant_of-self-2 : goal.invariant_of-self-2
 invariant_of-self-2 c =

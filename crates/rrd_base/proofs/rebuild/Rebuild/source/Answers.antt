@@ -1,9 +1,5 @@
-use Rattle.std.proofs.Common.{◌≡◌, ◌∙◌, ◌++◌, ◌∷◌, [], sym, ap, subst, to_z-of_z}
-use Rattle.std.specs.Int.{w128}
-use Rattle.rrd_spec.specs.Files.Filed.{Source}
-use Rattle.rrd_spec.specs.Files.Rebuilding.{MaySource, due, with_source}
-use Rattle.rrd_base.specs.Rebuild.{coming, filed_in, IsRebuilding}
-use Rattle.rrd_base.proofs.Comes.{room_for_source, source_came, source_keeps, source_is}
+use Rattle.rrd_base.proofs.Common.{◌≡◌, ◌∙◌, ◌++◌, ◌∷◌, [], sym, ap, subst, to_z-of_z, w128, Source, MaySource, due, coming, filed_in, IsRebuilding, room_for_source, source_came, source_keeps, source_is}
+use Rattle.rrd_spec.specs.Files.Rebuilding.{with_source}
 use Rattle.rrd_base.proofs.rebuild.Rebuild.source.Goals as goal
 
 pub push_source-requires : goal.push_source-requires

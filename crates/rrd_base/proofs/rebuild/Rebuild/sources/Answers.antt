@@ -1,7 +1,4 @@
-use Rattle.std.proofs.Common.{ap, arith, length}
-use Rattle.rrd_spec.specs.declared.outline.Outline.{Outline}
-use Rattle.rrd_base.specs.Rebuild.{coming}
-use Rattle.rrd_base.proofs.Entering.{some_left}
+use Rattle.rrd_base.proofs.Common.{ap, arith, length, Outline, coming, some_left}
 use Rattle.rrd_base.proofs.rebuild.Rebuild.sources.Goals as goal
 
 pub returns-clause-some : goal.returns-clause-some

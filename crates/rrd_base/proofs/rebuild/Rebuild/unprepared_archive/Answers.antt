@@ -1,8 +1,4 @@
-use Rattle.std.proofs.Common.{◌∙◌, ◌-◌, Some, sym, ap, arith}
-use Rattle.rrd_spec.specs.Files.Filed.{Filed}
-use Rattle.rrd_spec.specs.Files.Rebuilding.{unprepared}
-use Rattle.rrd_base.specs.Rebuild.{coming}
-use Rattle.rrd_base.proofs.Dues.{prepared_last, prepared_none, unprepared_some}
+use Rattle.rrd_base.proofs.Common.{◌∙◌, ◌-◌, Some, sym, ap, arith, Filed, unprepared, coming, prepared_last, prepared_none, unprepared_some}
 use Rattle.rrd_base.proofs.rebuild.Rebuild.unprepared_archive.Goals as goal
 
 pub returns-then-archives-eq0 : goal.returns-then-archives-eq0

@@ -1,8 +1,4 @@
-use Rattle.std.proofs.Common.{drop, length, take}
-use Rattle.std.specs.List.{AllByRecursion}
-use Rattle.rrd_spec.specs.Limits.{limits_of}
-use Rattle.rrd_spec.specs.Journal.Fitting.{IsSavedSource}
-use Rattle.rrd_base.proofs.FittingLemmas.{RiseLeft}
+use Rattle.rrd_base.proofs.Common.{drop, length, take, AllByRecursion, limits_of, IsSavedSource, RiseLeft}
 use Rattle.rrd_base.proofs.rebuild.entry_checks.are_named.Given as goal
 
 abbrev pub invariant-loop-old : goal.invariant-loop-old

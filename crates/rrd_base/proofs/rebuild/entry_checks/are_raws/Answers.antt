@@ -1,14 +1,5 @@
-use Rattle.std.proofs.Common.{◌≡◌, ◌∙◌, ◌+◌, ◌<◌, ◌++◌, ◌∷◌, ℕ, List, Bool, [], true, get_or, length, take, ap, sym, subst, arith}
-use Rattle.std.proofs.lemmas.List.{take_more}
-use Rattle.rrd_fixed.specs.declared.raw.Raw.{Raw}
+use Rattle.rrd_base.proofs.Common.{◌≡◌, ◌∙◌, ◌+◌, ◌<◌, ◌++◌, ◌∷◌, ℕ, List, Bool, [], true, get_or, length, take, ap, sym, subst, arith, take_more, Raw, IsAccepted, Outline, DsDef, accepted_at, length-accepted, AreAccepted, accepted_more}
 use Rattle.rrd_fixed.specs.declared.raw.Raw.TheVariants.{Unknown}
-use Rattle.rrd_fixed.specs.Rate.{IsAccepted}
-use Rattle.rrd_spec.specs.declared.outline.Outline.{Outline}
-use Rattle.rrd_spec.specs.declared.settings.DsDef.{DsDef}
-use Rattle.rrd_spec.specs.Lemmas.Rates.{accepted_at}
-use Rattle.rrd_spec.specs.Lemmas.Validity.{length-accepted}
-use Rattle.rrd_spec.specs.Validity.{AreAccepted}
-use Rattle.rrd_base.proofs.Comes.{accepted_more}
 use Rattle.rrd_base.proofs.rebuild.entry_checks.are_raws.Goals as goal
 
 -- what follows from one accepted value follows where all are accepted

@@ -1,5 +1,4 @@
-use Rattle.std.proofs.Common.{take}
-use Rattle.rrd_spec.specs.Validity.{AreAccepted}
+use Rattle.rrd_base.proofs.Common.{take, AreAccepted}
 use Rattle.rrd_base.proofs.rebuild.entry_checks.are_raws.Given as goal
 
 abbrev pub invariant-loop-source : goal.invariant-loop-source

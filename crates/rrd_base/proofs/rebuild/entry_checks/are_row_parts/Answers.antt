@@ -1,10 +1,4 @@
-use Rattle.std.proofs.Common.{◌≡◌, ◌∙◌, ◌/◌, ◌%◌, ◌<◌, length, subst, sym, arith, rules}
-use Rattle.std.specs.Int.{w128}
-use mir.Facts.{to_z-of_z}
-use mir.Val.{of_z, to_z}
-use Rattle.rrd_fold.specs.Parts.{Part}
-use Rattle.rrd_spec.specs.Validity.{IsPart}
-use Rattle.rrd_base.proofs.FittingLemmas.{All_here_part}
+use Rattle.rrd_base.proofs.Common.{◌≡◌, ◌∙◌, ◌/◌, ◌%◌, ◌<◌, length, subst, sym, arith, rules, w128, to_z-of_z, of_z, to_z, Part, IsPart, All_here_part}
 use Rattle.rrd_base.proofs.rebuild.entry_checks.are_row_parts.Goals as goal
 
 pub returns-then-is_none-clause-bad : goal.returns-then-is_none-clause-bad

@@ -1,6 +1,4 @@
-use Rattle.std.proofs.Common.{take}
-use Rattle.std.specs.List.{AllByRecursion}
-use Rattle.rrd_spec.specs.Validity.{IsRow}
+use Rattle.rrd_base.proofs.Common.{take, AllByRecursion, IsRow}
 use Rattle.rrd_base.proofs.rebuild.entry_checks.are_rows.Given as goal
 
 abbrev pub invariant-loop-number : goal.invariant-loop-number

@@ -1,7 +1,4 @@
-use Rattle.std.proofs.Common.{◌%◌, take}
-use Rattle.std.specs.List.{AllByRecursion}
-use Rattle.rrd_spec.specs.Validity.{IsPart}
-use Rattle.rrd_fold.specs.declared.function.Function.TheVariants.{Average}
+use Rattle.rrd_base.proofs.Common.{◌%◌, take, AllByRecursion, IsPart, Average}
 use Rattle.rrd_base.proofs.rebuild.entry_checks.are_step_parts.Given as goal
 
 abbrev pub invariant-loop-prep : goal.invariant-loop-prep

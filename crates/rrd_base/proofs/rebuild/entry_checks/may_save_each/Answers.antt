@@ -1,6 +1,4 @@
-use Rattle.std.proofs.Common.{◌<◌, ap, length, arith}
-use Rattle.rrd_spec.specs.declared.outline.Outline.{Outline}
-use Rattle.rrd_base.proofs.FittingLemmas.{item_there, saves_here, saves_lengths, saves_more}
+use Rattle.rrd_base.proofs.Common.{◌<◌, ap, length, arith, Outline, item_there, saves_here, saves_lengths, saves_more}
 use Rattle.rrd_base.proofs.rebuild.entry_checks.may_save_each.Goals as goal
 
 pub returns-then-olds-archives-clause-bad : goal.returns-then-olds-archives-clause-bad

@@ -1,5 +1,4 @@
-use Rattle.std.proofs.Common.{length, take}
-use Rattle.rrd_spec.specs.Journal.Fitting.{MaySaveEach}
+use Rattle.rrd_base.proofs.Common.{length, take, MaySaveEach}
 use Rattle.rrd_base.proofs.rebuild.entry_checks.may_save_each.Given as goal
 
 abbrev pub invariant-loop-archive : goal.invariant-loop-archive

@@ -1,6 +1,4 @@
-use Rattle.std.proofs.Common.{◌≡◌, take}
-use Rattle.arrayvec.specs.ArrayVec.{array_vec_len}
-use Rattle.rrd_spec.specs.Settings.{names}
+use Rattle.rrd_base.proofs.Common.{◌≡◌, take, array_vec_len, names}
 use Rattle.rrd_base.proofs.rebuild.entry_checks.names_of.Given as goal
 
 abbrev pub invariant-loop-source : goal.invariant-loop-source

@@ -1,10 +1,4 @@
-use Rattle.std.proofs.Common.{◌∙◌, List, ap}
-use Rattle.std.specs.List.{refill}
-use Rattle.arrayvec.specs.ArrayVec.{array_vec_len}
-use Rattle.rrd_fixed.specs.declared.name.Name.{Name}
-use Rattle.rrd_spec.specs.declared.entry.SavedSource.{SavedSource}
-use Rattle.rrd_base.specs.Rebuild.EntryChecks.{with_names}
-use Rattle.rrd_base.proofs.FittingLemmas.{names_put, kept_refills}
+use Rattle.rrd_base.proofs.Common.{◌∙◌, List, ap, refill, array_vec_len, Name, SavedSource, with_names, names_put, kept_refills}
 use Rattle.rrd_base.proofs.rebuild.entry_checks.names_with.Goals as goal
 
 pub returns : goal.returns

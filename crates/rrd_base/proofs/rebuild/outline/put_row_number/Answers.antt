@@ -1,5 +1,4 @@
-use Rattle.std.proofs.Common.{arith}
-use Rattle.rrd_base.proofs.FittingLemmas.{row_number_past, row_number_set}
+use Rattle.rrd_base.proofs.Common.{arith, row_number_past, row_number_set}
 use Rattle.rrd_base.proofs.rebuild.outline.put_row_number.Goals as goal
 
 pub returns-then-archive-len : goal.returns-then-archive-len

@@ -1,6 +1,4 @@
-use Rattle.std.proofs.Common.{take}
-use Rattle.std.specs.List.{AllByRecursion}
-use Rattle.rrd_fixed.specs.Rate.{IsBounded}
+use Rattle.rrd_base.proofs.Common.{take, AllByRecursion, IsBounded}
 use Rattle.rrd_base.proofs.rebuild.piece_checks.are_bounded.Given as goal
 
 abbrev pub invariant-loop-cell : goal.invariant-loop-cell

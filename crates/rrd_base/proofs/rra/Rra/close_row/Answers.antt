@@ -1,12 +1,4 @@
-use Rattle.std.proofs.Common.{◌≡◌, sym, ◌∙◌, ap, subst, ◌≤◌, List, length, map, replicate, arith}
-use Rattle.std.proofs.lemmas.List.{with_items_is, length-map}
-use Rattle.std.specs.List.{AllByRecursion}
-use Rattle.rrd_fold.specs.Bounds.{Consolidating}
-use Rattle.rrd_fold.specs.Parts.{Part, nothing, row_cell}
-use Rattle.rrd_spec.specs.History.{Rra}
-use Rattle.rrd_spec.specs.Preparations.{anew, row_of, AllOf}
-use Rattle.rrd_spec.specs.Lemmas.Preparations.{AllOf-anew}
-use Rattle.rrd_base.proofs.RraLemmas.{shown, closes, parts_fit, row_of_parts}
+use Rattle.rrd_base.proofs.Common.{◌≡◌, sym, ◌∙◌, ap, subst, ◌≤◌, List, length, map, replicate, arith, with_items_is, length-map, AllByRecursion, Consolidating, Part, nothing, row_cell, Rra, anew, row_of, AllOf, AllOf-anew, shown, closes, parts_fit, row_of_parts}
 use Rattle.rrd_base.proofs.rra.Rra.close_row.Goals as goal
 
 pub close_rows-requires-clause-fits : goal.close_rows-requires-clause-fits

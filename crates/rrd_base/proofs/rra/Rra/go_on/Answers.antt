@@ -1,21 +1,12 @@
-use Rattle.std.proofs.Common.{sym, ◌∙◌, ap, subst, ◌+◌, ◌≤◌, ℕ, List, replicate, arith}
-use Rattle.std.proofs.lemmas.List.{with_items_is}
-use Rattle.std.specs.List.{AllByRecursion, fold}
-use Rattle.rrd_fold.specs.Bounds.{Consolidating}
-use Rattle.rrd_fold.specs.Parts.{Part, with_each}
-use Rattle.rrd_spec.specs.History.{Rra}
-use Rattle.rrd_spec.specs.Preparations.{map_each, with_steps, AllOf}
-use Rattle.rrd_spec.specs.Lemmas.Preparations.{AllOf-with_steps}
-use Rattle.rrd_base.proofs.RraLemmas.{shown, goes_on, preps_fit}
+use Rattle.rrd_base.proofs.Common.{sym, ◌∙◌, ap, subst, ◌+◌, ◌≤◌, ℕ, List, replicate, arith, with_items_is, AllByRecursion, fold, Consolidating, Part, with_each, Rra, map_each, with_steps, AllOf, AllOf-with_steps, shown, goes_on, preps_fit}
 use Rattle.rrd_base.proofs.rra.Rra.go_on.Goals as goal
 
 pub add_steps-requires-clause-fits : goal.add_steps-requires-clause-fits
 add_steps-requires-clause-fits c =
-    let a = c.self.inside in
     let n : ℕ = c.args.count in
     let fits = subst (λ (x : Rra). AllByRecursion (λ (p : Part). p.known + n ≤ 1000000) x.parts) (sym c.self.view_is) c.requires.fits in
     subst (λ (preps : List Consolidating). AllByRecursion (λ (prep : Consolidating). prep.part.known + n ≤ 1000000) preps) (sym c.deref_mut.ensures.value)
-    (preps_fit n 1000000 1000000 a.preps.items (omega arith) fits)
+    (preps_fit n 1000000 1000000 c.self.inside.preps.items (omega arith) fits)
 
 pub invariant_of-self : goal.invariant_of-self
 invariant_of-self c =

@@ -1,74 +1,55 @@
-use Rattle.std.proofs.Common.{◌≡◌, refl, sym, ◌∙◌, ap, subst, ◌+◌, ◌*◌, ◌<◌, ◌^◌, ◌∷◌, ◌++◌, ℕ, List, [], min, length, replicate, length-append, arith}
-use Rattle.std.proofs.lemmas.List.{length-drop, length-replicate}
-use Rattle.rrd_fixed.specs.declared.cell.Cell.{Cell}
-use Rattle.rrd_ring.specs.Rows.{HasWidth}
-use Rattle.rrd_ring.specs.Widths.{HasWidth-append, HasWidth-drop, width_is}
-use Rattle.rrd_spec.specs.History.{Rra}
-use Rattle.rrd_spec.specs.Laws.ListedContent.{keep_last}
-use Rattle.rrd_base.specs.declared.rra.Rra.TheInside.{Inside}
-use Rattle.rrd_base.proofs.PushedRows.{push_before, push_past}
-use Rattle.rrd_base.proofs.RraLemmas.{shown}
+use Rattle.rrd_base.proofs.Common.{◌≡◌, refl, sym, ◌∙◌, ap, subst, ◌+◌, ◌*◌, ◌<◌, ◌^◌, ◌∷◌, ◌++◌, ℕ, List, [], min, length, replicate, length-append, arith, length-drop, length-replicate, Cell, HasWidth, HasWidth-append, HasWidth-drop, width_is, Rra, keep_last, Inside, push_before, push_past, shown}
 use Rattle.rrd_base.proofs.rra.Rra.push.Goals as goal
 use Rattle.rrd_base.proofs.rra.Rra.push.Goals.{then-times-rows, else-times-rows}
 
-pub push_row-requires-clause-one_each : goal.push_row-requires-clause-one_each
-push_row-requires-clause-one_each c =
+pub push_row-requires : goal.push_row-requires
+push_row-requires c =
     let rows = c.self.inside.rows in
-    let row = c.args.row.now in
-    let n = length row in
-    let one : List (List Cell) = row ∷ [] in
+    let n = length c.args.row.now in
     let wide = subst (λ (x : Rra). HasWidth n x.rows) (sym c.self.view_is) c.requires.wide in
-    sym (width_is n rows wide (omega (arith, c.rows.ensures.count, c.rows.ensures.some)))
-
-pub push_row-requires-clause-turns : goal.push_row-requires-clause-turns
-push_row-requires-clause-turns c =
-    let rows = c.self.inside.rows in
-    let row = c.args.row.now in
-    let n = length row in
-    let r = length rows in
     let k : ℕ = c.args.times in
     let most = subst (λ (x : Rra). c.args.meter.now + n * min (1 + k) (length x.rows) < 2 ^ 64) (sym c.self.view_is) c.requires.turns in
-    let more : min (1 + k) r ≡ 1 + k = omega (arith, c.if-times-rows.true, c.rows.ensures.count) in
+    let more : min (1 + k) (length rows) ≡ 1 + k = omega (arith, c.if-times-rows.true, c.rows.ensures.count) in
     let all = subst (λ x. c.args.meter.now + n * x < 2 ^ 64) more most in
-    omega (arith, all)
+    record {
+      one_each = sym (width_is n rows wide (omega (arith, c.rows.ensures.count, c.rows.ensures.some)));
+      turns = omega (arith, all);
+    }
 
-pub push_times-requires-clause-wide : goal.push_times-requires-clause-wide
-push_times-requires-clause-wide c =
+pub push_times-requires : goal.push_times-requires
+push_times-requires c =
     let rows = c.self.inside.rows in
     let row = c.args.row.now in
     let n = length row in
     let one : List (List Cell) = row ∷ [] in
     let wide = subst (λ (x : Rra). HasWidth n x.rows) (sym c.self.view_is) c.requires.wide in
-    subst (λ k. HasWidth k c.if-times-rows.self-inside.rows) (sym c.requires.same_width)
-    (elim c.if-times-rows.branch [
-      | then-times-rows w ↦ subst (HasWidth n) (sym (ap (λ (x : Inside). x.rows) w.self-inside-is ∙ w.push_row.ensures.rows)) (HasWidth-drop n 1 (rows ++ one) (HasWidth-append n rows one wide (refl, tt)))
-      | else-times-rows w ↦ subst (HasWidth n) (sym (ap (λ (x : Inside). x.rows) w.self-inside-is)) wide
-    ])
-
-pub push_times-requires-clause-turns : goal.push_times-requires-clause-turns
-push_times-requires-clause-turns c =
-    let rows = c.self.inside.rows in
     let now = c.if-times-rows.self-inside.rows in
-    let row = c.args.row.now in
-    let n = length row in
     let r = length rows in
     let k : ℕ = c.args.times in
-    let one : List (List Cell) = row ∷ [] in
     let most = subst (λ (x : Rra). c.args.meter.now + n * min (1 + k) (length x.rows) < 2 ^ 64) (sym c.self.view_is) c.requires.turns in
-    subst (λ m. c.if-times-rows.meter + m * min k (length now) < 2 ^ 64) (sym c.requires.same_width)
-    (elim c.if-times-rows.branch [
-      | then-times-rows w ↦
-          let count : length now ≡ r = ap (λ (x : Inside). length x.rows) w.self-inside-is ∙ ap length w.push_row.ensures.rows ∙ omega (arith, length-drop 1 (rows ++ one), length-append rows one) in
-          let few : min k r ≡ k = omega (arith, w.if-times-rows.true, c.rows.ensures.count) in
-          let more : min (1 + k) r ≡ 1 + k = omega (arith, w.if-times-rows.true, c.rows.ensures.count) in
-          let all = subst (λ x. c.args.meter.now + n * x < 2 ^ 64) more most in
-          subst (λ x. c.if-times-rows.meter + n * min k x < 2 ^ 64) (sym count)
-          (subst (λ x. c.if-times-rows.meter + n * x < 2 ^ 64) (sym few) (omega (arith, all, w.meter-is, w.push_row.ensures.turns)))
-      | else-times-rows w ↦
-          let same : min (1 + k) r ≡ min k r = omega (arith, w.if-times-rows.false, c.rows.ensures.count) in
-          let all = subst (λ x. c.args.meter.now + n * x < 2 ^ 64) same most in
-          subst (λ x. c.if-times-rows.meter + n * min k x < 2 ^ 64) (sym (ap (λ (x : Inside). length x.rows) w.self-inside-is)) (omega (arith, all, w.meter-is))
-    ])
+    record {
+      wide =
+          subst (λ k. HasWidth k c.if-times-rows.self-inside.rows) (sym c.requires.same_width)
+          (elim c.if-times-rows.branch [
+            | then-times-rows w ↦ subst (HasWidth n) (sym (ap (λ (x : Inside). x.rows) w.self-inside-is ∙ w.push_row.ensures.rows)) (HasWidth-drop n 1 (rows ++ one) (HasWidth-append n rows one wide (refl, tt)))
+            | else-times-rows w ↦ subst (HasWidth n) (sym (ap (λ (x : Inside). x.rows) w.self-inside-is)) wide
+          ]);
+      turns =
+          subst (λ m. c.if-times-rows.meter + m * min k (length now) < 2 ^ 64) (sym c.requires.same_width)
+          (elim c.if-times-rows.branch [
+            | then-times-rows w ↦
+                let count : length now ≡ r = ap (λ (x : Inside). length x.rows) w.self-inside-is ∙ ap length w.push_row.ensures.rows ∙ omega (arith, length-drop 1 (rows ++ one), length-append rows one) in
+                let few : min k r ≡ k = omega (arith, w.if-times-rows.true, c.rows.ensures.count) in
+                let more : min (1 + k) r ≡ 1 + k = omega (arith, w.if-times-rows.true, c.rows.ensures.count) in
+                let all = subst (λ x. c.args.meter.now + n * x < 2 ^ 64) more most in
+                subst (λ x. c.if-times-rows.meter + n * min k x < 2 ^ 64) (sym count)
+                (subst (λ x. c.if-times-rows.meter + n * x < 2 ^ 64) (sym few) (omega (arith, all, w.meter-is, w.push_row.ensures.turns)))
+            | else-times-rows w ↦
+                let same : min (1 + k) r ≡ min k r = omega (arith, w.if-times-rows.false, c.rows.ensures.count) in
+                let all = subst (λ x. c.args.meter.now + n * x < 2 ^ 64) same most in
+                subst (λ x. c.if-times-rows.meter + n * min k x < 2 ^ 64) (sym (ap (λ (x : Inside). length x.rows) w.self-inside-is)) (omega (arith, all, w.meter-is))
+          ]);
+    }
 
 pub returns-clause-value : goal.returns-clause-value
 returns-clause-value c =

@@ -1,15 +1,5 @@
-use Rattle.std.proofs.Common.{◌≡◌, ℕ, sym, ◌∙◌, ap, subst, suc, ◌+◌, ◌++◌, ◌<◌, ◌≤◌, take, drop, length, set, get_or, arith, append-nil}
-use Rattle.std.specs.List.{AllByRecursion}
-use Rattle.std.specs.Vec.{with_item}
-use Rattle.std.proofs.lemmas.List.{get_or_read, take_all, drop_all}
+use Rattle.rrd_base.proofs.Common.{◌≡◌, ℕ, sym, ◌∙◌, ap, subst, suc, ◌+◌, ◌++◌, ◌<◌, ◌≤◌, take, drop, length, set, get_or, arith, append-nil, AllByRecursion, with_item, get_or_read, take_all, drop_all, IsAccepted, IsBounded, DsDef, rates, All-take-set, length-accepted, accepted_at, rate_of, rates_more, Walk}
 use Rattle.rrd_fixed.specs.declared.raw.Raw.TheVariants.{Unknown}
-use Rattle.rrd_fixed.specs.Rate.{IsAccepted, IsBounded}
-use Rattle.rrd_spec.specs.declared.settings.DsDef.{DsDef}
-use Rattle.rrd_spec.specs.History.{rates}
-use Rattle.rrd_spec.specs.Lemmas.Lists.{All-take-set}
-use Rattle.rrd_spec.specs.Lemmas.Validity.{length-accepted}
-use Rattle.rrd_spec.specs.Lemmas.Rates.{accepted_at, rate_of, rates_more}
-use Rattle.rrd_base.specs.declared.walk.Walk.{Walk}
 use Rattle.rrd_base.proofs.walk.Walk.find_rates.Goals as goal
 
 pub bounds-old-i : goal.bounds-old-i
@@ -18,9 +8,8 @@ bounds-old-i c = omega (arith, length-accepted c.args.sources.now c.args.old.now
 pub rate-requires-clause-old_accepted : goal.rate-requires-clause-old_accepted
 rate-requires-clause-old_accepted c =
     let i = c.loop-i.i in
-    let d = c.index-sources-i.result in
     subst (λ (source : DsDef). IsAccepted source.kind (get_or c.args.old.now i Unknown)) (sym c.index-sources-i.is)
-    (accepted_at c.args.sources.now c.args.old.now i d Unknown c.requires.old_accepted (omega arith) (omega (arith, length-accepted c.args.sources.now c.args.old.now c.requires.old_accepted)))
+    (accepted_at c.args.sources.now c.args.old.now i c.index-sources-i.result Unknown c.requires.old_accepted (omega arith) (omega (arith, length-accepted c.args.sources.now c.args.old.now c.requires.old_accepted)))
 
 pub rate-requires-clause-new_accepted : goal.rate-requires-clause-new_accepted
 rate-requires-clause-new_accepted c =
@@ -54,10 +43,9 @@ loop-i-preserved c =
     let left : i < length c.loop-i.self.rates.items = omega (arith, c.loop-i.self.rates.ok.0, was.places) in
     let same : c.loop-i.self.raws ≡ walk.raws = ap (λ (w : Walk). w.raws) was.rest in
     let read : c.index.result.now ≡ get_or new i c.index.result.now = c.index.ensures ∙ ap (λ v. get_or v.items i c.index.result.now) same in
-    let raw = get_or_read new i c.index.result.now within_new read Unknown in
     let this = c.rate.ensures.value
     ∙ ap (λ source. rate_of n source (get_or old i Unknown) c.index.result.now) c.index-sources-i.is
-    ∙ ap (rate_of n (get_or sources i d) (get_or old i Unknown)) raw in
+    ∙ ap (rate_of n (get_or sources i d) (get_or old i Unknown)) (get_or_read new i c.index.result.now within_new read Unknown) in
     let P = λ (k : ℕ). AllByRecursion IsBounded (take k (set c.loop-i.self.rates.items i cell)) in
     record {
       value = ap (λ ys. set ys i cell) was.value

@@ -1,7 +1,4 @@
-use Rattle.std.proofs.Common.{◌≡◌, ◌++◌, take, drop, length, vec_len}
-use Rattle.std.specs.List.{AllByRecursion}
-use Rattle.rrd_fixed.specs.Rate.{IsBounded}
-use Rattle.rrd_spec.specs.History.{rates}
+use Rattle.rrd_base.proofs.Common.{◌≡◌, ◌++◌, take, drop, length, vec_len, AllByRecursion, IsBounded, rates}
 use Rattle.rrd_base.proofs.walk.Walk.find_rates.Given as goal
 
 abbrev pub invariant-loop-i : goal.invariant-loop-i

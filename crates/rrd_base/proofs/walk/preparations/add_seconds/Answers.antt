@@ -1,12 +1,6 @@
-use Rattle.std.proofs.Common.{◌≡◌, sym, ◌∙◌, ap, ◌+◌, ◌++◌, take, drop, suc, ℕ, replicate, length, set, get_or, ◌<◌, arith}
-use Rattle.std.specs.List.{fold}
-use Rattle.rrd_fixed.specs.declared.cell.Cell.{Cell}
+use Rattle.rrd_base.proofs.Common.{◌≡◌, sym, ◌∙◌, ap, ◌+◌, ◌++◌, take, drop, suc, ℕ, replicate, length, set, get_or, ◌<◌, arith, fold, Cell, Part, Average, map_each, fold-with_each, map_each_more, map_each_next, map_each_all}
 use Rattle.rrd_fixed.specs.declared.cell.Cell.TheVariants.{Unknown}
-use Rattle.rrd_fold.specs.Parts.{Part, with_cell}
-use Rattle.rrd_fold.specs.declared.function.Function.TheVariants.{Average}
-use Rattle.rrd_spec.specs.Preparations.{map_each}
-use Rattle.rrd_spec.specs.Lemmas.Preparations.{fold-with_each}
-use Rattle.rrd_spec.specs.Lemmas.Lists.{map_each_more, map_each_next, map_each_all}
+use Rattle.rrd_fold.specs.Parts.{with_cell}
 use Rattle.rrd_base.proofs.walk.preparations.add_seconds.Goals as goal
 
 pub loop-i-preserved : goal.loop-i-preserved
@@ -31,9 +25,8 @@ loop-i-preserved c =
 
 pub returns-clause-added : goal.returns-clause-added
 returns-clause-added c =
-    let i = c.loop-i.i in
     let old = c.args.preps.now in
     let rates = c.args.rates.now in
     let n : ℕ = c.args.seconds in
     let f = λ (p : Part) (x : Cell). fold (with_cell Average) p (replicate n x) in
-    c.loop-i.invariant.added ∙ map_each_all f old rates i (omega arith) (omega (arith, c.requires.row.one_each)) ∙ sym (fold-with_each Average n old rates)
+    c.loop-i.invariant.added ∙ map_each_all f old rates c.loop-i.i (omega arith) (omega (arith, c.requires.row.one_each)) ∙ sym (fold-with_each Average n old rates)

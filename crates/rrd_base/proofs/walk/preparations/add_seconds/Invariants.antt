@@ -1,8 +1,5 @@
-use Rattle.std.proofs.Common.{◌≡◌, ◌+◌, ◌++◌, take, drop, replicate}
-use Rattle.std.specs.List.{fold}
-use Rattle.rrd_fold.specs.declared.function.Function.TheVariants.{Average}
+use Rattle.rrd_base.proofs.Common.{◌≡◌, ◌+◌, ◌++◌, take, drop, replicate, fold, Average, map_each}
 use Rattle.rrd_fold.specs.Parts.{with_cell}
-use Rattle.rrd_spec.specs.Preparations.{map_each}
 use Rattle.rrd_base.proofs.walk.preparations.add_seconds.Given as goal
 
 abbrev pub invariant-loop-i : goal.invariant-loop-i

@@ -1,6 +1,4 @@
-use Rattle.std.proofs.Common.{◌≡◌, ◌∙◌, ap, ◌+◌, ◌++◌, take, drop, map, pos, suc, length, set, get_or, ◌<◌, arith}
-use Rattle.rrd_spec.specs.Preparations.{anew, row_of}
-use Rattle.rrd_spec.specs.Lemmas.Lists.{map_more, map_next}
+use Rattle.rrd_base.proofs.Common.{◌≡◌, ◌∙◌, ap, ◌+◌, ◌++◌, take, drop, map, pos, suc, length, set, get_or, ◌<◌, arith, anew, row_of, map_more, map_next}
 use Rattle.rrd_base.proofs.walk.preparations.close_rows.Goals as goal
 
 pub loop-i-preserved : goal.loop-i-preserved

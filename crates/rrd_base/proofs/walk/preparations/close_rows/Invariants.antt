@@ -1,5 +1,4 @@
-use Rattle.std.proofs.Common.{◌≡◌, ◌+◌, ◌++◌, take, drop, map}
-use Rattle.rrd_spec.specs.Preparations.{anew, row_of}
+use Rattle.rrd_base.proofs.Common.{◌≡◌, ◌+◌, ◌++◌, take, drop, map, anew, row_of}
 use Rattle.rrd_base.proofs.walk.preparations.close_rows.Given as goal
 
 abbrev pub invariant-loop-i : goal.invariant-loop-i

@@ -1,8 +1,4 @@
-use Rattle.std.proofs.Common.{◌≡◌, ℕ, ◌∙◌, ap, subst, ◌+◌, ◌++◌, take, drop, map, suc, length, set, get_or, ◌<◌, arith}
-use Rattle.std.specs.List.{AllByRecursion}
-use Rattle.rrd_fixed.specs.Rate.{IsBounded}
-use Rattle.rrd_fold.specs.Parts.{Part, nothing, step_cell}
-use Rattle.rrd_spec.specs.Lemmas.Lists.{All-take-set, map_more, map_next, map_all, map-same}
+use Rattle.rrd_base.proofs.Common.{◌≡◌, ℕ, ◌∙◌, ap, subst, ◌+◌, ◌++◌, take, drop, map, suc, length, set, get_or, ◌<◌, arith, AllByRecursion, IsBounded, Part, nothing, step_cell, All-take-set, map_more, map_next, map_all, map-same}
 use Rattle.rrd_base.proofs.walk.preparations.close_steps.Goals as goal
 
 pub loop-i-preserved : goal.loop-i-preserved

@@ -1,7 +1,4 @@
-use Rattle.std.proofs.Common.{◌≡◌, ◌+◌, ◌++◌, take, drop, map}
-use Rattle.std.specs.List.{AllByRecursion}
-use Rattle.rrd_fixed.specs.Rate.{IsBounded}
-use Rattle.rrd_fold.specs.Parts.{Part, nothing, step_cell}
+use Rattle.rrd_base.proofs.Common.{◌≡◌, ◌+◌, ◌++◌, take, drop, map, AllByRecursion, IsBounded, Part, nothing, step_cell}
 use Rattle.rrd_base.proofs.walk.preparations.close_steps.Given as goal
 
 abbrev pub invariant-loop-i : goal.invariant-loop-i

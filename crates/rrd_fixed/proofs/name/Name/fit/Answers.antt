@@ -1,11 +1,4 @@
-use Rattle.std.proofs.Common.{arith, ◌≡◌, ◌≤◌, length, List, ℕ, true, nat_lt, nat_le, refl, ap, Some, ◌∙◌}
-use Rattle.std.specs.Str.{IsAscii}
-use Rattle.std.proofs.lemmas.Str.{IsUtf8-from_ascii}
-use Rattle.std.proofs.lemmas.Str.Ascii.{All-from_ascii}
-use Rattle.std.proofs.lemmas.List.Sums.{list_all-from_AllPass}
-use Rattle.std.proofs.lemmas.Bool.{lt-ltb}
-use Rattle.std.proofs.lemmas.Grind.{common_steps}
-use Rattle.rrd_fixed.specs.Names.{fits}
+use Rattle.rrd_fixed.proofs.Common.{arith, ◌≡◌, ◌≤◌, length, List, ℕ, true, nat_lt, nat_le, refl, ap, Some, ◌∙◌, IsAscii, IsUtf8-from_ascii, All-from_ascii, list_all-from_AllPass, lt-ltb, common_steps, fits}
 use Rattle.rrd_fixed.proofs.name.Name.fit.Goals as goal
 
 fits_ascii : (bs : List ℕ) → IsAscii bs → length bs ≤ 19 → fits bs ≡ true

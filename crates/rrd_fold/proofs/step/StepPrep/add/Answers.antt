@@ -1,9 +1,4 @@
-use Rattle.std.proofs.Common.{sym, ap, arith, ◌+ℤ◌, FitsSigned}
-use Rattle.std.proofs.lemmas.Int.{ints, to_z-of_z}
-use Rattle.std.specs.Int.{w128}
-use Rattle.rrd_fold.specs.Parts.{Part}
-use Rattle.rrd_fold.proofs.Sums.{fold_unknown, added, IsSum_more, part}
-use Rattle.rrd_fold.specs.declared.function.Function.TheVariants.{Average}
+use Rattle.rrd_fold.proofs.Common.{sym, ap, arith, ◌+ℤ◌, FitsSigned, ints, to_z-of_z, w128, Part, fold_unknown, added, IsSum_more, part, Average}
 use Rattle.rrd_fold.proofs.step.StepPrep.add.Goals as goal
 
 pub invariant_of-self : goal.invariant_of-self

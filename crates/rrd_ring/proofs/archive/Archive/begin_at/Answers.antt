@@ -1,11 +1,4 @@
-use Rattle.std.proofs.Common.{◌≡◌, ◌∙◌, ◌*◌, ◌-◌, ◌<◌, ℕ, List, [], ◌∷◌, ap, sym, arith, length, replicate, vec_len}
-use Rattle.std.proofs.lemmas.Bool.{eqb-true}
-use Rattle.rrd_fixed.specs.declared.cell.Cell.{Cell}
-use Rattle.rrd_fixed.specs.declared.cell.Cell.TheVariants.{Unknown}
-use Rattle.rrd_ring.specs.Ring.{ring_rows, with_unwritten}
-use Rattle.rrd_ring.specs.Rows.{unknown_rows}
-use Rattle.rrd_ring.proofs.RingLemmas.{ring_unknown}
-use Rattle.rrd_ring.proofs.WrittenLemmas.{row_count}
+use Rattle.rrd_ring.proofs.Common.{◌≡◌, ◌∙◌, ◌*◌, ◌-◌, ◌<◌, ℕ, List, [], ◌∷◌, ap, sym, arith, length, replicate, vec_len, eqb-true, Cell, Unknown, ring_rows, with_unwritten, unknown_rows, ring_unknown, row_count}
 use Rattle.rrd_ring.proofs.archive.Archive.begin_at.Goals as goal
 
 -- rows of which none is written are the same from each index on

@@ -1,8 +1,4 @@
-use Rattle.std.proofs.Common.{◌*◌, replicate, arith}
-use Rattle.rrd_fixed.specs.declared.cell.Cell.TheVariants.{Unknown}
-use Rattle.rrd_ring.specs.Rows.{width}
-use Rattle.rrd_ring.proofs.BlockLemmas.{ArePut, are_forgotten}
-use Rattle.rrd_ring.proofs.WrittenLemmas.{row_count}
+use Rattle.rrd_ring.proofs.Common.{◌*◌, replicate, arith, Unknown, width, ArePut, are_forgotten, row_count}
 use Rattle.rrd_ring.proofs.archive.Archive.clear_rows_wrapping.Goals as goal
 use Rattle.rrd_ring.proofs.archive.Archive.clear_rows_wrapping.Goals.{After-forget-2}
 

@@ -1,8 +1,4 @@
-use Rattle.std.proofs.Common.{◌+◌, ◌*◌, ◌≤◌, ◌∙◌, sym, ap, take, drop, arith}
-use Rattle.rrd_ring.specs.Rows.{row_cells}
-use Rattle.rrd_ring.specs.Ring.{with_unwritten}
-use Rattle.rrd_ring.proofs.RingLemmas.{ring_run}
-use Rattle.rrd_ring.proofs.WrittenLemmas.{ring_le, row_count}
+use Rattle.rrd_ring.proofs.Common.{◌+◌, ◌*◌, ◌≤◌, ◌∙◌, sym, ap, take, drop, arith, row_cells, with_unwritten, ring_run, ring_le, row_count}
 use Rattle.rrd_ring.proofs.archive.Archive.contiguous_rows.Goals as goal
 
 pub index_of-index-requires-clause-there : goal.index_of-index-requires-clause-there

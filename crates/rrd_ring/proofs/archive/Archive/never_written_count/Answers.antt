@@ -1,6 +1,4 @@
-use Rattle.std.proofs.Common.{◌-◌, ◌∙◌, sym, ap, arith}
-use Rattle.rrd_ring.specs.Rows.{unknown_rows}
-use Rattle.rrd_ring.proofs.WrittenLemmas.{never_written_rows, row_count, row_width}
+use Rattle.rrd_ring.proofs.Common.{◌-◌, ◌∙◌, sym, ap, arith, unknown_rows, never_written_rows, row_count, row_width}
 use Rattle.rrd_ring.proofs.archive.Archive.never_written_count.Goals as goal
 
 pub returns-clause-few : goal.returns-clause-few

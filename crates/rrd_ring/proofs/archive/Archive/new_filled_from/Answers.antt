@@ -1,9 +1,4 @@
-use Rattle.std.proofs.Common.{◌≡◌, ◌∙◌, ap, ◌*◌, ◌-◌, ◌%◌, List, [], length, replicate, arith}
-use Rattle.std.proofs.lemmas.Nat.{mod_below}
-use Rattle.rrd_fixed.specs.declared.cell.Cell.{Cell}
-use Rattle.rrd_fixed.specs.declared.cell.Cell.TheVariants.{Unknown}
-use Rattle.rrd_ring.specs.Ring.{ring_rows, with_unwritten}
-use Rattle.rrd_ring.proofs.RingLemmas.{ring_unknown}
+use Rattle.rrd_ring.proofs.Common.{◌≡◌, ◌∙◌, ap, ◌*◌, ◌-◌, ◌%◌, List, [], length, replicate, arith, mod_below, Cell, Unknown, ring_rows, with_unwritten, ring_unknown}
 use Rattle.rrd_ring.proofs.archive.Archive.new_filled_from.Goals as goal
 
 pub returns : goal.returns

@@ -1,5 +1,4 @@
-use Rattle.std.proofs.Common.{◌*◌, arith}
-use Rattle.rrd_ring.proofs.WrittenLemmas.{AreCopied, oldest_copied, ring_le, row_count}
+use Rattle.rrd_ring.proofs.Common.{◌*◌, arith, AreCopied, oldest_copied, ring_le, row_count}
 use Rattle.rrd_ring.proofs.archive.Archive.oldest.Goals as goal
 use Rattle.rrd_ring.proofs.archive.Archive.oldest.Goals.{In_ok-cells}
 

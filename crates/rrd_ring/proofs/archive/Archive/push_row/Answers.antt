@@ -1,8 +1,4 @@
-use Rattle.std.proofs.Common.{◌≤◌, sym, subst, arith}
-use Rattle.std.proofs.lemmas.Nat.{row_fits}
-use Rattle.rrd_ring.specs.Ring.{IsPartlyWritten}
-use Rattle.rrd_ring.proofs.RingLemmas.{cells_le}
-use Rattle.rrd_ring.proofs.WrittenLemmas.{IsFilled, IsPushed, ring_filled, row_pushed, row_width, whole_row}
+use Rattle.rrd_ring.proofs.Common.{◌≤◌, sym, subst, arith, row_fits, IsPartlyWritten, cells_le, IsFilled, IsPushed, ring_filled, row_pushed, row_width, whole_row}
 use Rattle.rrd_ring.proofs.archive.Archive.push_row.Goals as goal
 use Rattle.rrd_ring.proofs.archive.Archive.push_row.Goals.{After-fill_up, After-write_row_at}
 

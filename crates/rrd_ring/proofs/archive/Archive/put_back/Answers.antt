@@ -1,7 +1,4 @@
-use Rattle.std.proofs.Common.{◌≤◌, ◌∙◌, ap, length, arith}
-use Rattle.std.specs.Vec.{with_items}
-use Rattle.rrd_ring.proofs.RingLemmas.{cells_le, rows_len}
-use Rattle.rrd_ring.proofs.WrittenLemmas.{IsPutBack, MayPutBack, are_put_back, ring_filled_up, row_count}
+use Rattle.rrd_ring.proofs.Common.{◌≤◌, ◌∙◌, ap, length, arith, with_items, cells_le, rows_len, IsPutBack, MayPutBack, are_put_back, ring_filled_up, row_count}
 use Rattle.rrd_ring.proofs.archive.Archive.put_back.Goals as goal
 use Rattle.rrd_ring.proofs.archive.Archive.put_back.Goals.{After-fill_up, After-write_from}
 

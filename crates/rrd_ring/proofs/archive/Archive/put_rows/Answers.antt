@@ -1,6 +1,4 @@
-use Rattle.std.proofs.Common.{◌*◌, ap, arith}
-use Rattle.rrd_ring.proofs.BlockLemmas.{ArePut, are_put}
-use Rattle.rrd_ring.proofs.WrittenLemmas.{row_count, row_width}
+use Rattle.rrd_ring.proofs.Common.{◌*◌, ap, arith, ArePut, are_put, row_count, row_width}
 use Rattle.rrd_ring.proofs.archive.Archive.put_rows.Goals as goal
 use Rattle.rrd_ring.proofs.archive.Archive.put_rows.Goals.{After-write_cells-2}
 

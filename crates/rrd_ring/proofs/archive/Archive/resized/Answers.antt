@@ -1,5 +1,4 @@
-use Rattle.std.proofs.Common.{◌*◌, arith}
-use Rattle.rrd_ring.proofs.WrittenLemmas.{IsResized, newest_copied, ring_le}
+use Rattle.rrd_ring.proofs.Common.{◌*◌, arith, IsResized, newest_copied, ring_le}
 use Rattle.rrd_ring.proofs.archive.Archive.resized.Goals as goal
 use Rattle.rrd_ring.proofs.archive.Archive.resized.Goals.{In_ok-push_parts}
 

@@ -1,8 +1,4 @@
-use Rattle.std.proofs.Common.{◌*◌, ◌<◌, ◌∙◌, sym, ap, arith}
-use Rattle.rrd_ring.specs.Rows.{nth_row}
-use Rattle.rrd_ring.specs.Ring.{row_of, with_unwritten}
-use Rattle.rrd_ring.proofs.RingLemmas.{nth_row-ring_rows}
-use Rattle.rrd_ring.proofs.WrittenLemmas.{row_count}
+use Rattle.rrd_ring.proofs.Common.{◌*◌, ◌<◌, ◌∙◌, sym, ap, arith, nth_row, row_of, with_unwritten, nth_row-ring_rows, row_count}
 use Rattle.rrd_ring.proofs.archive.Archive.row.Goals as goal
 
 pub index_of-index-requires-clause-there : goal.index_of-index-requires-clause-there

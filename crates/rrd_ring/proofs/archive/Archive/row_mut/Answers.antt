@@ -1,7 +1,4 @@
-use Rattle.std.proofs.Common.{◌≡◌, ◌+◌, ◌*◌, ◌∙◌, refl, arith}
-use Rattle.rrd_ring.proofs.BlockLemmas.{IsLent, one_more, row_lent}
-use Rattle.rrd_ring.proofs.RowLemmas.{with_row-same_width}
-use Rattle.rrd_ring.proofs.WrittenLemmas.{ring_filled, row_count}
+use Rattle.rrd_ring.proofs.Common.{◌≡◌, ◌+◌, ◌*◌, ◌∙◌, refl, arith, IsLent, one_more, row_lent, with_row-same_width, ring_filled, row_count}
 use Rattle.rrd_ring.proofs.archive.Archive.row_mut.Goals as goal
 use Rattle.rrd_ring.proofs.archive.Archive.row_mut.Goals.{After-fill_up}
 

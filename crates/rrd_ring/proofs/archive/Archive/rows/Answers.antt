@@ -1,5 +1,4 @@
-use Rattle.std.proofs.Common.{sym}
-use Rattle.rrd_ring.proofs.WrittenLemmas.{row_count}
+use Rattle.rrd_ring.proofs.Common.{sym, row_count}
 use Rattle.rrd_ring.proofs.archive.Archive.rows.Goals as goal
 
 pub returns-clause-count : goal.returns-clause-count

@@ -1,8 +1,4 @@
-use Rattle.std.proofs.Common.{◌*◌, subst, List}
-use Rattle.rrd_fixed.specs.declared.cell.Cell.{Cell}
-use Rattle.rrd_ring.specs.Rows.{HasWidth}
-use Rattle.rrd_ring.proofs.RingLemmas.{HasWidth-ring_rows}
-use Rattle.rrd_ring.specs.Ring.{with_unwritten}
+use Rattle.rrd_ring.proofs.Common.{◌*◌, subst, List, Cell, HasWidth, HasWidth-ring_rows, with_unwritten}
 use Rattle.rrd_ring.proofs.archive.Archive.sources.Goals as goal
 
 pub returns-clause-each_row : goal.returns-clause-each_row

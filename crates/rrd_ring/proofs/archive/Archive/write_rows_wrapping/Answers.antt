@@ -1,7 +1,4 @@
-use Rattle.std.proofs.Common.{◌∙◌, ◌*◌, List, ap, arith, length, replicate, sym}
-use Rattle.rrd_fixed.specs.declared.cell.Cell.{Cell}
-use Rattle.rrd_fixed.specs.declared.cell.Cell.TheVariants.{Unknown}
-use Rattle.rrd_ring.specs.Rows.{width, with_rows}
+use Rattle.rrd_ring.proofs.Common.{◌∙◌, ◌*◌, List, ap, arith, length, replicate, sym, Cell, Unknown, width, with_rows}
 use Rattle.rrd_ring.proofs.archive.Archive.write_rows_wrapping.Goals as goal
 
 pub put_rows-requires-clause-there : goal.put_rows-requires-clause-there

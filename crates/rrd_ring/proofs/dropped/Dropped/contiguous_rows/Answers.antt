@@ -1,7 +1,4 @@
-use Rattle.std.proofs.Common.{◌≡◌, ◌+◌, ◌-◌, ◌*◌, ◌≤◌, ◌∙◌, ℕ, sym, ap, length, take, drop, arith}
-use Rattle.std.proofs.Math.Nat.{add-mul}
-use Rattle.rrd_ring.specs.Rows.{row_cells}
-use Rattle.rrd_ring.proofs.RingLemmas.{cells_le, rows_len, rows_run}
+use Rattle.rrd_ring.proofs.Common.{◌≡◌, ◌+◌, ◌-◌, ◌*◌, ◌≤◌, ◌∙◌, ℕ, sym, ap, length, take, drop, arith, add-mul, row_cells, cells_le, rows_len, rows_run}
 use Rattle.rrd_ring.proofs.dropped.Dropped.contiguous_rows.Goals as goal
 
 pub cells_of-start-requires-clause-few_rows : goal.cells_of-start-requires-clause-few_rows

@@ -1,6 +1,4 @@
-use Rattle.std.proofs.Common.{sym, subst}
-use Rattle.rrd_ring.specs.Rows.{AreDropped}
-use Rattle.rrd_ring.proofs.RingLemmas.{AreDropped-rows_of, rows_len}
+use Rattle.rrd_ring.proofs.Common.{sym, subst, AreDropped, AreDropped-rows_of, rows_len}
 use Rattle.rrd_ring.proofs.dropped.Dropped.len.Goals as goal
 
 pub returns-clause-count : goal.returns-clause-count

@@ -1,6 +1,4 @@
-use Rattle.std.proofs.Common.{◌≡◌, ◌+◌, ◌-◌, ◌<◌, ◌∙◌, ℕ, sym, ap, length, take, drop, arith}
-use Rattle.rrd_ring.specs.Rows.{nth_row}
-use Rattle.rrd_ring.proofs.RingLemmas.{nth_row-rows_of, rows_fit, rows_len}
+use Rattle.rrd_ring.proofs.Common.{◌≡◌, ◌+◌, ◌-◌, ◌<◌, ◌∙◌, ℕ, sym, ap, length, take, drop, arith, nth_row, nth_row-rows_of, rows_fit, rows_len}
 use Rattle.rrd_ring.proofs.dropped.Dropped.row.Goals as goal
 use Rattle.rrd_ring.proofs.dropped.Dropped.row.Goals.{After-as_slice}
 

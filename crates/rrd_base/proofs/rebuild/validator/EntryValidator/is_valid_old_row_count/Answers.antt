@@ -1,12 +1,4 @@
-use Rattle.std.proofs.Common.{◌∙◌, ◌*◌, ◌<◌, ◌≤◌, length, ap, subst, sym, arith, pos, not, rules}
-use Rattle.std.specs.Prelude.{nat_lt}
-use Rattle.rrd_fold.specs.declared.function.Function.TheVariants.{Average}
-use Rattle.rrd_spec.specs.declared.settings.RraDef.{RraDef}
-use Rattle.rrd_spec.specs.Limits.{limits_of}
-use Rattle.rrd_spec.specs.Journal.Fitting.{AreOldRows}
-use Rattle.rrd_base.specs.Rebuild.Validators.{EntryValidator}
-use Rattle.rrd_base.proofs.Comes.{not_past, past_not}
-use Rattle.rrd_base.proofs.FittingLemmas.{rows_are_put}
+use Rattle.rrd_base.proofs.Common.{◌∙◌, ◌*◌, ◌<◌, ◌≤◌, length, ap, subst, sym, arith, pos, not, rules, nat_lt, Average, RraDef, limits_of, AreOldRows, EntryValidator, not_past, past_not, rows_are_put}
 use Rattle.rrd_base.proofs.rebuild.validator.EntryValidator.is_valid_old_row_count.Goals as goal
 
 abbrev no_def : RraDef
