@@ -1,30 +1,6 @@
 -- The pieces of a body that keeps to its rules do come, one after another: sources, heads, cells.
-use Rattle.std.proofs.Common.{◌≡◌, ◌∙◌, ◌++◌, ◌∷◌, ◌+◌, ◌*◌, ◌/◌, ◌%◌, ◌<◌, ◌≤◌, List, [], Bool, sym, ap, subst, refl, length, arith, map, append_assoc, append-nil, length-append}
-use Rattle.std.specs.Prelude.{nat_lt, false, ◌||◌, Some, None}
-use Rattle.std.specs.List.{AllByRecursion, flat_map, list_any}
-use Rattle.std.proofs.lemmas.Bool.{lt-ltb, le-ltb}
-use Rattle.std.proofs.lemmas.List.{map-append}
-use Rattle.std.proofs.lemmas.List.Concat.{flat_map-cons}
-use Rattle.std.proofs.lemmas.List.Sums.{sum-map, sum_by-append}
-use Rattle.std.proofs.lemmas.Nat.{mul-le}
-use Rattle.rrd_fixed.specs.declared.cell.Cell.{Cell}
-use Rattle.rrd_fixed.specs.declared.name.Name.{Name}
-use Rattle.rrd_fixed.specs.Names.{same_name}
-use Rattle.rrd_fixed.specs.Rate.{IsAccepted, IsBounded}
-use Rattle.rrd_fold.specs.declared.function.Function.TheVariants.{Average}
-use Rattle.rrd_fold.specs.Parts.{Part}
-use Rattle.rrd_spec.specs.declared.due.Due.TheVariants.{SourceDue, HeadDue, PrepDue, CellDue, EntryDue, NothingDue}
-use Rattle.rrd_spec.specs.declared.settings.DsDef.{DsDef}
-use Rattle.rrd_spec.specs.declared.settings.RraDef.{RraDef}
-use Rattle.rrd_spec.specs.Journal.Entries.{Entry}
-use Rattle.rrd_spec.specs.Files.Filed.{Filed, Head, Header, Source}
-use Rattle.rrd_spec.specs.Limits.{limits_of}
-use Rattle.rrd_spec.specs.Files.Rebuilding.{IsArchiveDef, due, heads_with_part, rows_in_all, unprepared}
-use Rattle.rrd_spec.specs.Settings.{has_source, is_double, names}
-use Rattle.rrd_spec.specs.Validity.{AreParts, IsPart, IsSourceWithin}
-use Rattle.rrd_file.specs.Layout.{head_pieces}
-use Rattle.rrd_file.specs.Layout.Pieces.{Piece, OfSource, OfArchive, OfPrep, OfCell}
-use Rattle.rrd_file.specs.Stages.{Stage, Body, Runs, Takes}
+use Rattle.std.specs.Prelude.{◌≡◌, ◌++◌, ◌∷◌, ◌+◌, ◌*◌, ◌/◌, ◌%◌, ◌<◌, ◌≤◌, List, [], Bool, length, map, nat_lt, false, ◌||◌, Some, None}
+use Rattle.rrd_file.proofs.Names.{◌∙◌, sym, ap, subst, refl, arith, append_assoc, append-nil, length-append, AllByRecursion, flat_map, list_any, lt-ltb, le-ltb, map-append, flat_map-cons, sum-map, sum_by-append, mul-le, Cell, Name, same_name, IsAccepted, IsBounded, Average, Part, SourceDue, HeadDue, PrepDue, CellDue, EntryDue, NothingDue, DsDef, RraDef, Entry, Filed, Head, Header, Source, limits_of, IsArchiveDef, due, heads_with_part, rows_in_all, unprepared, has_source, is_double, names, AreParts, IsPart, IsSourceWithin, head_pieces, Piece, OfSource, OfArchive, OfPrep, OfCell, Stage, Body, Runs, Takes, rules}
 use Rattle.rrd_file.proofs.Order.{in_order}
 use Rattle.rrd_file.proofs.Tests.{or_left, or_right}
 
@@ -60,10 +36,9 @@ head_due f sources u heads =
 cell_due : (f : Filed) → f.header.sources ≤ length f.sources → unprepared f.header.sources f.heads ≡ None → f.header.archives ≤ length f.heads → length f.cells < f.header.sources * rows_in_all f.heads → due f ≡ CellDue
 unfolding due
 cell_due f sources u heads cells =
-    let a = le-ltb (length f.sources) f.header.sources sources in
     let b = le-ltb (length f.heads) f.header.archives heads in
     let c = lt-ltb (length f.cells) (f.header.sources * rows_in_all f.heads) cells in
-    λ i. in_order (a i) (u i) (b i) (c i) (nat_lt (length f.entries) f.header.entries)
+    λ i. in_order ((le-ltb (length f.sources) f.header.sources sources) i) (u i) (b i) (c i) (nat_lt (length f.entries) f.header.entries)
 
 -- the body but for its entries has come
 pub record IsBodyIn (f : Filed) : Type 0 where
@@ -75,22 +50,16 @@ pub record IsBodyIn (f : Filed) : Type 0 where
 pub entry_due : (f : Filed) → IsBodyIn f → length f.entries < f.header.entries → due f ≡ EntryDue
 unfolding due
 entry_due f h entries =
-    let a = le-ltb (length f.sources) f.header.sources h.sources in
-    let u = h.prepared in
-    let b = le-ltb (length f.heads) f.header.archives h.heads in
     let c = le-ltb (length f.cells) (f.header.sources * rows_in_all f.heads) h.cells in
     let d = lt-ltb (length f.entries) f.header.entries entries in
-    λ i. in_order (a i) (u i) (b i) (c i) (d i)
+    λ i. in_order ((le-ltb (length f.sources) f.header.sources h.sources) i) (h.prepared i) ((le-ltb (length f.heads) f.header.archives h.heads) i) (c i) (d i)
 
 pub nothing_due : (f : Filed) → IsBodyIn f → f.header.entries ≤ length f.entries → due f ≡ NothingDue
 unfolding due
 nothing_due f h entries =
-    let a = le-ltb (length f.sources) f.header.sources h.sources in
-    let u = h.prepared in
-    let b = le-ltb (length f.heads) f.header.archives h.heads in
     let c = le-ltb (length f.cells) (f.header.sources * rows_in_all f.heads) h.cells in
     let d = le-ltb (length f.entries) f.header.entries entries in
-    λ i. in_order (a i) (u i) (b i) (c i) (d i)
+    λ i. in_order ((le-ltb (length f.sources) f.header.sources h.sources) i) (h.prepared i) ((le-ltb (length f.heads) f.header.archives h.heads) i) (c i) (d i)
 
 -- ---- sources
 
@@ -103,11 +72,8 @@ none_there test (x ∷ xs) y ys e = none_there test xs y ys (or_right (test x.na
 new_name : (xs : List DsDef) (y : DsDef) (ys : List DsDef) → is_double (names (xs ++ y ∷ ys)) ≡ false → has_source xs y.name ≡ false
 new_name [] y ys e = refl
 new_name (x ∷ xs) y ys e =
-    let first = or_left (list_any (same_name x.name) (names (xs ++ y ∷ ys))) (is_double (names (xs ++ y ∷ ys))) e in
-    let later = or_right (list_any (same_name x.name) (names (xs ++ y ∷ ys))) (is_double (names (xs ++ y ∷ ys))) e in
-    let other = none_there (same_name x.name) xs y ys first in
-    let rest = new_name xs y ys later in
-    λ i. other i || rest i
+    let rest = new_name xs y ys (or_right (list_any (same_name x.name) (names (xs ++ y ∷ ys))) (is_double (names (xs ++ y ∷ ys))) e) in
+    λ i. (none_there (same_name x.name) xs y ys (or_left (list_any (same_name x.name) (names (xs ++ y ∷ ys))) (is_double (names (xs ++ y ∷ ys))) e)) i || rest i
 
 abbrev pub defs_of : List Source → List DsDef
 defs_of sources = map (λ (source : Source). source.def) sources
@@ -146,9 +112,8 @@ last_unprepared h [] last are more = rw (lt-ltb (length last.parts) h.sources mo
 last_unprepared h (head ∷ heads) last are more = rw (le-ltb (length head.parts) h.sources (omega (arith, are.0.parts_are.one_each))) (last_unprepared h heads last are.1 more)
 
 part_added : (heads : List Head) (last : Head) (part : Part) → heads_with_part (heads ++ last ∷ []) part ≡ heads ++ record last { parts = last.parts ++ part ∷ [] } ∷ []
-part_added [] last part = refl
-part_added (head ∷ []) last part = refl
 part_added (head ∷ next ∷ heads) last part = ap (λ l. head ∷ l) (part_added (next ∷ heads) last part)
+part_added x last part = refl
 
 abbrev head_with : RraDef → List Part → Head
 head_with def parts = record { def = def; parts = parts }

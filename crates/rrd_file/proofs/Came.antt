@@ -1,22 +1,9 @@
 -- The pieces that have come at a stage, in their order, are those of the layout so far.
-use Rattle.std.proofs.Common.{◌≡◌, ◌∙◌, ◌++◌, ◌∷◌, ◌*◌, ◌<◌, ◌≤◌, ℕ, List, [], sym, ap, subst, refl, length, arith, map, append_assoc, append-nil}
-use Rattle.std.specs.Prelude.{Some, None}
-use Rattle.std.specs.List.{flat_map}
-use Rattle.std.proofs.lemmas.List.{map-append}
-use Rattle.std.proofs.lemmas.List.Concat.{flat_map-cons}
-use Rattle.std.proofs.lemmas.Grind.{flat_map-append}
-use Rattle.rrd_fixed.specs.declared.cell.Cell.{Cell}
-use Rattle.rrd_fold.specs.Parts.{Part}
-use Rattle.rrd_spec.specs.declared.settings.RraDef.{RraDef}
-use Rattle.rrd_spec.specs.Journal.Entries.{Entry}
-use Rattle.rrd_spec.specs.Files.Filed.{Filed, Head, Header, Source}
-use Rattle.rrd_spec.specs.Files.Rebuilding.{heads_with_part, rows_in_all, unprepared, with_entry}
-use Rattle.rrd_file.specs.Faults.{IsWhole}
-use Rattle.rrd_file.specs.Layout.{entry_pieces, head_pieces, pieces_filed, spelled}
-use Rattle.rrd_file.specs.Layout.Pieces.{Piece, Mark, OfVersion, OfHeader, OfSource, OfArchive, OfPrep, OfCell, OfTag, spell}
-use Rattle.rrd_file.specs.Stages.{Stage, Start, Marked, Versioned, Body, Within, DueInEntry, GoesOn, Runs}
+use Rattle.std.specs.Prelude.{◌≡◌, ◌++◌, ◌∷◌, ◌*◌, ◌<◌, ◌≤◌, ℕ, List, [], length, map, Some, None}
+use Rattle.rrd_file.proofs.Names.{◌∙◌, sym, ap, subst, refl, arith, append_assoc, append-nil, flat_map, map-append, flat_map-cons, flat_map-append, Cell, Part, RraDef, Entry, Filed, Head, Header, Source, heads_with_part, rows_in_all, unprepared, with_entry, IsWhole, entry_pieces, head_pieces, pieces_filed, spelled, Piece, Mark, OfVersion, OfHeader, OfSource, OfArchive, OfPrep, OfCell, OfTag, spell, Stage, Start, Marked, Versioned, Body, Within, DueInEntry, GoesOn, Runs}
 use Rattle.rrd_file.proofs.Order.{before_cell, before_entry, before_head, prep_before, saved_source}
 use Rattle.rrd_file.proofs.Ways.{Step, ToMark, ToVersion, ToHeader, ToSource, ToHead, ToPrep, ToCell, ToEntry, ToPiece, step_of}
+use Rattle.rrd_file.proofs.Sound.{none_of}
 
 -- ---- the order of a body's pieces
 
@@ -53,8 +40,6 @@ not_both : {A : Type 0} (x : A) → None ≡ Some x → ⊥
 not_both x e = absurd cc
 
 step_ordered : {s : Stage} {p : Piece} {n : Stage} → IsOrdered s → Step s p n → IsOrdered n
-step_ordered h ToMark = tt
-step_ordered h (ToVersion version) = tt
 step_ordered h (ToHeader version header same is) = record { heads_late = λ some. absurd (omega (arith, some)); cells_late = λ some. absurd (omega (arith, some)); entries_late = λ some. absurd (omega (arith, some)) }
 step_ordered h (ToSource f s may) =
     let more = saved_source f may.is_due in
@@ -79,13 +64,10 @@ step_ordered h (ToPrep f part may) =
     }
 step_ordered h (ToCell f cell may) =
     let before = before_cell f may.is_due in
-    record {
-      heads_late = h.heads_late;
-      cells_late = λ some. record { sources = before.sources; prepared = before.prepared; heads = before.heads };
-      entries_late = λ some. absurd (omega (arith, before.more, (h.entries_late some).1));
-    }
+    grind (arith, h)
 step_ordered h (ToEntry f tag next is_due goes) = entry_ordered f _ _ next h goes
 step_ordered h (ToPiece f pieces due later p next w goes) = entry_ordered f _ _ next h goes
+step_ordered h x = tt
 
 -- ---- what has come
 
@@ -124,10 +106,6 @@ more_sources h a x = no_heads h (a ++ x) ∙ ap (λ l. l ++ x) (sym (no_heads h 
 abbrev runs_filed : Header → List Source → List Head → List Cell → List Entry → List Piece
 runs_filed h sources heads cells entries = run h (map OfSource sources) (flat_map head_pieces heads) (map OfCell cells) (flat_map entry_pieces entries)
 
-none_of : {A : Type 0} (xs : List A) → (0 < length xs → ⊥) → xs ≡ []
-none_of [] h = refl
-none_of (x ∷ xs) h = absurd (h (omega arith))
-
 -- ---- what a piece adds
 
 source_came : (f : Filed) (s : Source) → f.heads ≡ [] → f.cells ≡ [] → f.entries ≡ [] → runs_filed f.header (f.sources ++ s ∷ []) f.heads f.cells f.entries ≡ runs_filed f.header f.sources f.heads f.cells f.entries ++ OfSource s ∷ []
@@ -149,14 +127,8 @@ head_came f def no_cell no_entry =
 part_came : (head : Head) (heads : List Head) (part : Part) → flat_map head_pieces (heads_with_part (head ∷ heads) part) ≡ flat_map head_pieces (head ∷ heads) ++ OfPrep part ∷ []
 part_came head [] part =
     let made : Head = record head { parts = head.parts ++ part ∷ [] } in
-    flat_map-cons head_pieces made [] ∙ append-nil (head_pieces made)
-    ∙ ap (λ l. OfArchive head.def ∷ l) (map-append OfPrep head.parts (part ∷ []))
-    ∙ ap (λ l. l ++ OfPrep part ∷ []) (sym (flat_map-cons head_pieces head [] ∙ append-nil (head_pieces head)))
-part_came head (next ∷ heads) part =
-    flat_map-cons head_pieces head (heads_with_part (next ∷ heads) part)
-    ∙ ap (λ l. head_pieces head ++ l) (part_came next heads part)
-    ∙ sym (append_assoc (head_pieces head) (flat_map head_pieces (next ∷ heads)) (OfPrep part ∷ []))
-    ∙ ap (λ l. l ++ OfPrep part ∷ []) (sym (flat_map-cons head_pieces head (next ∷ heads)))
+    cc (flat_map-cons head_pieces made [], append-nil (head_pieces made), map-append OfPrep head.parts (part ∷ []), flat_map-cons head_pieces head [] ∙ append-nil (head_pieces head))
+part_came head (next ∷ heads) part = cc (flat_map-cons head_pieces head (heads_with_part (next ∷ heads) part), part_came next heads part, append_assoc (head_pieces head) (flat_map head_pieces (next ∷ heads)) (OfPrep part ∷ []), flat_map-cons head_pieces head (next ∷ heads))
 
 -- where a preparation is due there is a head
 heads_came : (sources : ℕ) (heads : List Head) (def : RraDef) (part : Part) → unprepared sources heads ≡ Some def → flat_map head_pieces (heads_with_part heads part) ≡ flat_map head_pieces heads ++ OfPrep part ∷ []
@@ -187,8 +159,6 @@ within_came f pieces (due ∷ later) next g = ap came g
 within_came f pieces [] next g = ap came g.3 ∙ entry_came f g.0 ∙ ap (λ l. pieces_filed f ++ l) g.1
 
 step_came : {s : Stage} {p : Piece} {n : Stage} → IsOrdered s → Step s p n → came n ≡ came s ++ p ∷ []
-step_came h ToMark = refl
-step_came h (ToVersion version) = refl
 step_came h (ToHeader version header same is) = ap (λ v. Mark ∷ OfVersion v ∷ OfHeader header ∷ []) same
 step_came h (ToSource f s may) =
     let more = saved_source f may.is_due in
@@ -200,10 +170,10 @@ step_came h (ToPrep f part may) =
     let before = prep_before f may.def may.is_due in
     prep_came f may.def part before.1 (none_of f.cells (λ some. not_both may.def (sym (h.cells_late some).prepared ∙ before.1))) (none_of f.entries (λ some. not_both may.def (sym (h.entries_late some).0.prepared ∙ before.1)))
 step_came h (ToCell f cell may) =
-    let before = before_cell f may.is_due in
-    cell_came f cell (none_of f.entries (λ some. absurd (omega (arith, before.more, (h.entries_late some).1))))
+    cell_came f cell (none_of f.entries (λ some. absurd (omega (arith, (before_cell f may.is_due).more, (h.entries_late some).1))))
 step_came h (ToEntry f tag next is_due goes) = within_came f (OfTag tag ∷ []) _ next goes
 step_came h (ToPiece f pieces due later p next w goes) = within_came f (pieces ++ p ∷ []) _ next goes ∙ sym (append_assoc (pieces_filed f) pieces (p ∷ []))
+step_came h x = refl
 
 -- ---- runs
 

@@ -1,26 +1,9 @@
 -- Cells one after another, and their bytes.
-use Rattle.std.proofs.Common.{◌≡◌, ◌∙◌, ◌++◌, ◌∷◌, ◌+◌, ◌*◌, ◌^◌, ◌<◌, ◌≤◌, ℕ, zero, suc, List, [], sym, ap, subst, refl, replicate, set, take, drop, append_assoc, append-nil, length, length-append, map, add-one, arith, take_at}
-use Rattle.std.specs.Io.KnownBytes.{Consumes}
-use Rattle.std.specs.List.{AllByRecursion, flat_map}
-use Rattle.std.proofs.lemmas.Grind.{flat_map-append}
-use Rattle.std.proofs.lemmas.List.{length-replicate, length-take, length-take-le, replicate-append-replicate, take_all, take-append-drop, take-take}
-use Rattle.std.proofs.Math.Seq.{take-add}
-use Rattle.std.proofs.lemmas.List.Concat.{flat_map-cons}
-use Rattle.rrd_fixed.specs.Rate.{IsBounded}
-use Rattle.rrd_fixed.specs.declared.cell.Cell.{Cell}
-use Rattle.rrd_fixed.specs.declared.cell.Cell.TheVariants.{Unknown}
-use Rattle.rrd_spec.specs.Files.Filed.{Filed}
-use Rattle.rrd_spec.specs.Files.Rebuilding.{MayCell, with_cell}
-use Rattle.rrd_spec.specs.Lemmas.Lists.{All-append}
-use Rattle.rrd_base.specs.Rebuild.Runs.{MayCells, with_cells}
-use Rattle.rrd_file.specs.Faults.{Front}
-use Rattle.rrd_file.specs.Reader.{Gives, Input, left}
-use Rattle.rrd_file.specs.Progress.{Stands}
-use Rattle.rrd_file.specs.Layout.Pieces.{OfCell, spell}
-use Rattle.rrd_file.specs.Layout.Values.{cell_bytes, cell_number}
-use Rattle.rrd_file.specs.Stages.{Body, Takes}
+use Rattle.std.specs.Prelude.{◌≡◌, ◌++◌, ◌∷◌, ◌+◌, ◌*◌, ◌^◌, ◌<◌, ◌≤◌, ℕ, zero, suc, List, [], replicate, take, drop, length, map}
+use Rattle.rrd_file.proofs.Names.{◌∙◌, sym, ap, subst, refl, set, append_assoc, append-nil, length-append, add-one, arith, take_at, Consumes, AllByRecursion, flat_map, flat_map-append, length-replicate, length-take, length-take-le, replicate-append-replicate, take_all, take-append-drop, take-take, take-add, flat_map-cons, IsBounded, Cell, Unknown, Filed, MayCell, with_cell, All-append, MayCells, with_cells, Front, Gives, Input, left, Stands, OfCell, spell, cell_bytes, cell_number, Body, Takes}
 use Rattle.rrd_file.proofs.Reached.{front_more, gives_rest}
 use Rattle.rrd_file.proofs.SignedBytes.{signed_length}
+use Rattle.rrd_base.proofs.Dues.{none_there}
 
 -- the bytes of cells
 abbrev pub cells_bytes : List Cell → List ℕ
@@ -68,25 +51,10 @@ one_bounded xs i cell h before here =
     let next : take (i + 1) (set xs i cell) ≡ take i xs ++ cell ∷ [] = ap (λ (n : ℕ). take n (set xs i cell)) (add-one i) ∙ take_set xs i cell h in
     subst (AllByRecursion IsBounded) (sym next) (All-append IsBounded (take i xs) (cell ∷ []) before (here, tt))
 
--- the first were read
-pub some_read : (xs : List Cell) (i : ℕ) (bytes rest : List ℕ) → i ≤ length xs → bytes ≡ cells_bytes (take i xs) ++ rest → take (16 * i) bytes ≡ cells_bytes (take i xs)
-some_read xs i bytes rest h is =
-    let front = cells_bytes (take i xs) in
-    ap (take (16 * i)) is ∙ take_at front rest (16 * i) (bytes_count (take i xs) ∙ ap (λ (k : ℕ). 16 * k) (length-take-le i xs h))
-
--- one in its place leaves those before it
-pub take_before : (xs : List Cell) (i : ℕ) (cell : Cell) → take i (set xs i cell) ≡ take i xs
-take_before [] i cell = refl
-take_before (x ∷ xs) zero cell = refl
-take_before (x ∷ xs) (suc i) cell = ap (λ (l : List Cell). x ∷ l) (take_before xs i cell)
-
 -- the bytes of unknown ones
 pub unknown_flat : (n : ℕ) → flat_map (λ (bytes : List ℕ). bytes) (replicate n (cell_bytes Unknown)) ≡ cells_bytes (replicate n Unknown)
 unknown_flat zero = refl
-unknown_flat (suc n) =
-    flat_map-cons (λ (bytes : List ℕ). bytes) (cell_bytes Unknown) (replicate n (cell_bytes Unknown))
-    ∙ ap (λ (l : List ℕ). cell_bytes Unknown ++ l) (unknown_flat n)
-    ∙ sym (flat_map-cons cell_bytes Unknown (replicate n Unknown))
+unknown_flat (suc n) = cc (flat_map-cons (λ (bytes : List ℕ). bytes) (cell_bytes Unknown) (replicate n (cell_bytes Unknown)), unknown_flat n, flat_map-cons cell_bytes Unknown (replicate n Unknown))
 
 -- unknown ones, some and then more
 pub unknown_bytes_on : (m n : ℕ) → cells_bytes (replicate m Unknown) ++ cells_bytes (replicate n Unknown) ≡ cells_bytes (replicate (m + n) Unknown)
@@ -97,30 +65,17 @@ unknown_read count bytes rest is =
     let front = cells_bytes (replicate count Unknown) in
     ap (take (16 * count)) is ∙ take_at front rest (16 * count) (bytes_count (replicate count Unknown) ∙ ap (λ (k : ℕ). 16 * k) (length-replicate count Unknown))
 
--- all were read
-no_more : (rest : List ℕ) → length rest ≡ 0 → rest ≡ []
-no_more [] h = refl
-no_more (b ∷ rest) h = absurd (omega arith)
-
 pub all_read : (xs : List Cell) (i : ℕ) (bytes rest : List ℕ) → length xs ≤ i → length rest + 16 * i ≡ 16 * length xs → bytes ≡ cells_bytes (take i xs) ++ rest → bytes ≡ cells_bytes xs
 all_read xs i bytes rest le room is =
-    is ∙ ap (λ (l : List ℕ). cells_bytes (take i xs) ++ l) (no_more rest (omega (arith, room, le))) ∙ append-nil (cells_bytes (take i xs)) ∙ ap cells_bytes (take_all i xs le)
+    is ∙ ap (λ (l : List ℕ). cells_bytes (take i xs) ++ l) (none_there rest (omega (arith, room, le))) ∙ append-nil (cells_bytes (take i xs)) ∙ ap cells_bytes (take_all i xs le)
 
 -- ---- cells as pieces
 
 pub more_spelled : (row : List Cell) (done more : ℕ) → flat_map spell (map OfCell (take done row)) ++ cells_bytes (take more (drop done row)) ≡ flat_map spell (map OfCell (take (done + more) row))
-more_spelled row done more =
-    ap (λ (l : List ℕ). l ++ cells_bytes (take more (drop done row))) (spelled_so (take done row))
-    ∙ sym (bytes_joined (take done row) (take more (drop done row)))
-    ∙ ap cells_bytes (sym (take-add done more row))
-    ∙ sym (spelled_so (take (done + more) row))
+more_spelled row done more = cc (spelled_so (take done row), bytes_joined (take done row) (take more (drop done row)), take-add done more row, spelled_so (take (done + more) row))
 
 pub rest_spelled : (row : List Cell) (done : ℕ) → flat_map spell (map OfCell (take done row)) ++ cells_bytes (drop done row) ≡ flat_map spell (map OfCell row)
-rest_spelled row done =
-    ap (λ (l : List ℕ). l ++ cells_bytes (drop done row)) (spelled_so (take done row))
-    ∙ sym (bytes_joined (take done row) (drop done row))
-    ∙ ap cells_bytes (take-append-drop done row)
-    ∙ sym (spelled_so row)
+rest_spelled row done = cc (spelled_so (take done row), bytes_joined (take done row) (drop done row), take-append-drop done row, spelled_so row)
 
 -- ---- cells that came one after another
 

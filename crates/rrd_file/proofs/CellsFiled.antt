@@ -1,24 +1,11 @@
 -- Cells in the order of a file, as a database shows them.
-use Rattle.std.proofs.Common.{◌≡◌, ◌∙◌, ◌*◌, ◌<◌, ◌≤◌, ◌++◌, ℕ, zero, suc, List, [], ◌∷◌, Some, sym, ap, subst, arith, length, map, refl}
-use Rattle.std.specs.Prelude.{slice_get}
-use Rattle.std.specs.List.{flat_map}
-use Rattle.std.proofs.lemmas.Grind.{flat_map-append}
-use Rattle.std.proofs.lemmas.List.Concat.{flat_map-cons}
-use Rattle.std.proofs.lemmas.Nat.{mul-le}
-use Rattle.rrd_fixed.specs.declared.cell.Cell.{Cell}
-use Rattle.rrd_spec.specs.declared.settings.RraDef.{RraDef}
-use Rattle.rrd_spec.specs.Settings.{resolution}
-use Rattle.rrd_spec.specs.History.{Rra, Content}
-use Rattle.rrd_spec.specs.Validity.{IsValid}
+use Rattle.std.specs.Prelude.{◌≡◌, ◌*◌, ◌<◌, ◌≤◌, ◌++◌, ℕ, zero, suc, List, [], ◌∷◌, Some, length, map, slice_get}
+use Rattle.rrd_file.proofs.Names.{◌∙◌, sym, ap, subst, arith, refl, flat_map, flat_map-append, flat_map-cons, mul-le, Cell, RraDef, resolution, Rra, Content, IsValid, spelled, OfCell, spell}
 use Rattle.rrd_file.proofs.Told.{archive_at, some_is}
-use Rattle.rrd_file.specs.Layout.{spelled}
-use Rattle.rrd_file.specs.Layout.Pieces.{OfCell, spell}
-
-product : (a b : ℕ) → 0 < a → 0 < b → 0 < a * b
-product a b p q = omega (arith, mul-le 1 1 a b (omega (arith, p)) (omega (arith, q)))
+use Rattle.rrd_spec.proofs.ContentLemmas.{mul_positive}
 
 pub some_size : (d : Content) (n : ℕ) (a : Rra) → IsValid d → slice_get d.archives n ≡ Some a → 0 < resolution d.step a.def
-some_size d n a v e = product d.step a.def.steps v.some_step (archive_at d n a v e).some_steps
+some_size d n a v e = mul_positive d.step a.def.steps v.some_step (archive_at d n a v e).some_steps
 
 -- ---- cells, list by list
 
@@ -28,9 +15,7 @@ map_append (x ∷ xs) ys = ap (λ l. OfCell x ∷ l) (map_append xs ys)
 
 pub cells_spelled : {A : Type 0} (f : A → List Cell) (xs : List A) → spelled (map OfCell (flat_map f xs)) ≡ flat_map (λ x. spelled (map OfCell (f x))) xs
 cells_spelled f [] = refl
-cells_spelled f (x ∷ xs) =
-    ap (λ l. spelled (map OfCell l)) (flat_map-cons f x xs) ∙ (ap spelled (map_append (f x) (flat_map f xs)) ∙ (flat_map-append spell (map OfCell (f x)) (map OfCell (flat_map f xs))
-    ∙ (ap (λ l. spelled (map OfCell (f x)) ++ l) (cells_spelled f xs) ∙ sym (flat_map-cons (λ y. spelled (map OfCell (f y))) x xs))))
+cells_spelled f (x ∷ xs) = cc (flat_map-cons f x xs, map_append (f x) (flat_map f xs), flat_map-append spell (map OfCell (f x)) (map OfCell (flat_map f xs)), cells_spelled f xs, flat_map-cons (λ y. spelled (map OfCell (f y))) x xs)
 
 -- the archive whose settings these are
 pub record IsDefOf (d : Content) (n : ℕ) (def : RraDef) : Type 0 where

@@ -1,18 +1,7 @@
 -- The cells of all archives at an earlier time, of which those of the first archives were written over.
-use Rattle.std.proofs.Common.{◌≡◌, ◌∙◌, ◌+◌, ◌*◌, ◌≤◌, ◌++◌, ℕ, List, Some, sym, ap, subst, arith, length, take, drop, map, refl}
-use Rattle.std.specs.Prelude.{slice_get}
-use Rattle.std.specs.List.{AllByRecursion, flat_map}
-use Rattle.std.proofs.lemmas.List.{append-nil, drop_all, take_all}
-use Rattle.rrd_fixed.specs.declared.cell.Cell.{Cell}
-use Rattle.rrd_spec.specs.Files.Slots.{cells_by_slot}
-use Rattle.rrd_spec.specs.History.{Rra, Content}
-use Rattle.rrd_spec.specs.Laws.Slots.{HasOneEach, StandsInPlace}
-use Rattle.rrd_spec.specs.Laws.Updates.{IsLater, MovesOn}
-use Rattle.rrd_spec.specs.Lemmas.Validity.{rows_wide}
-use Rattle.rrd_spec.specs.Validity.{IsValid}
-use Rattle.rrd_file.specs.Encoded.{HoldsCells, HoldsSlots, cell_bytes}
-use Rattle.rrd_file.specs.Layout.{spelled}
-use Rattle.rrd_file.specs.Layout.Pieces.{OfCell}
+use Rattle.std.specs.Prelude.{◌≡◌, ◌+◌, ◌*◌, ◌≤◌, ◌++◌, ℕ, List, Some, length, take, drop, map, slice_get}
+use Rattle.rrd_file.proofs.Names.{◌∙◌, sym, ap, subst, arith, refl, AllByRecursion, flat_map, append-nil, drop_all, take_all, Cell, cells_by_slot, Rra, Content, HasOneEach, StandsInPlace, IsLater, MovesOn, rows_wide, IsValid, HoldsCells, HoldsSlots, spelled, OfCell}
+use Rattle.rrd_file.specs.Encoded.{cell_bytes}
 use Rattle.rrd_file.proofs.CellsFiled.{cells_spelled}
 use Rattle.rrd_file.proofs.Overwritten.{is_next, so_far}
 use Rattle.rrd_file.proofs.SlotsHeld.{slots_long}
@@ -33,14 +22,7 @@ pub record ArePutBefore (bytes : List ℕ) (now : Content) (last at number : ℕ
   pub bytes_are : bytes ≡ so_far (archive_bytes before.step before.last) (archive_bytes now.step now.last) before.archives now.archives number
 
 pub archives_begin : (bytes : List ℕ) (now : Content) (last : ℕ) → HoldsCells bytes now last → ArePutBefore bytes now last 0 0
-archives_begin bytes now last held = record {
-  before = held.before;
-  valid = held.valid;
-  last_is = held.last_is;
-  later = held.later;
-  at_is = refl;
-  bytes_are = held.bytes_are ∙ cells_spelled (cells_by_slot held.before.step held.before.last) held.before.archives;
-}
+archives_begin bytes now last held = grind (arith, held, held.bytes_are ∙ cells_spelled (cells_by_slot held.before.step held.before.last) held.before.archives)
 
 module _ (stands : (resolution last : ℕ) (rows : List (List Cell)) (slot : ℕ) → StandsInPlace resolution last rows slot) (now : Content) (valid : IsValid now) where
   -- the next archive

@@ -1,44 +1,19 @@
 -- The pieces of an entry, one after another.
-use Rattle.std.proofs.Common.{◌≡◌, ◌≢◌, ◌∙◌, ◌++◌, ◌∷◌, ◌+◌, ◌<◌, ℕ, suc, List, [], sym, ap, subst, refl, length, length-append, arith, take_at, get_or}
-use Rattle.std.specs.List.{flat_map}
-use Rattle.rrd_spec.specs.declared.due.Due.TheVariants.{EntryDue}
-use Rattle.rrd_spec.specs.Journal.Entries.{Entry}
-use Rattle.rrd_spec.specs.Files.Filed.{Filed}
-use Rattle.rrd_spec.specs.Files.Rebuilding.{MayEntry, due, limits, outline_left, with_entry}
-use Rattle.rrd_file.specs.declared.fault.FileFault.{FileFault}
-use Rattle.rrd_file.specs.declared.fault.FileFault.TheVariants.{BadEntry}
-use Rattle.rrd_file.specs.Faults.{Front, IsBad, IsFault, bad_in_body}
-use Rattle.rrd_file.specs.Reader.{Gives, Input, IsCut, left}
-use Rattle.rrd_file.specs.Layout.{entry_pieces}
-use Rattle.rrd_file.specs.Layout.Pieces.{ARemoval, AResize, ATune, AnAddition, AnUpdate, OfTag, Piece, Tag, spell, tag_byte}
-use Rattle.rrd_file.specs.Journal.{IsShaped}
-use Rattle.rrd_file.specs.Stages.{BeforeDue, Body, CountDue, DueInEntry, NamedDue, NumberDue, OldRowsDue, RemovedHeadDue, RemovedNumberDue, RowCellDue, RowPrepDue, RowsDue, TimeDue, GoesOn, IsTagWithin, Keeps, MayTag, Stage, Takes, Within, behind, body_size, first_due, size, size_due}
-use Rattle.rrd_file.specs.Progress.{Comes, Stands}
+use Rattle.std.specs.Prelude.{◌≡◌, ◌≢◌, ◌++◌, ◌∷◌, ◌+◌, ◌<◌, ℕ, suc, List, [], length}
+use Rattle.rrd_file.proofs.Names.{◌∙◌, sym, ap, subst, refl, length-append, arith, take_at, get_or, flat_map, EntryDue, Entry, Filed, MayEntry, due, limits, outline_left, with_entry, FileFault, BadEntry, Front, IsBad, IsFault, bad_in_body, Gives, Input, IsCut, left, entry_pieces, ARemoval, AResize, ATune, AnAddition, AnUpdate, OfTag, Piece, Tag, spell, tag_byte, IsShaped, BeforeDue, Body, CountDue, DueInEntry, NamedDue, NumberDue, OldRowsDue, RemovedHeadDue, RemovedNumberDue, RowCellDue, RowPrepDue, RowsDue, TimeDue, GoesOn, IsTagWithin, MayTag, Stage, Takes, Within, behind, body_size, first_due, size, size_due, Comes, Stands}
+use Rattle.rrd_file.specs.Stages.{Keeps}
 use Rattle.rrd_file.proofs.OneShape.{shaped_one, undo_shaped}
 use Rattle.rrd_file.proofs.Reached.{cut, front_more, gives_rest, refused}
 use Rattle.rrd_file.proofs.Ways.{Step, ToSource, ToHead, ToPrep, ToCell, ToEntry, step_of}
+use Rattle.rrd_file.proofs.OneSpelling.{tag_one}
 
 some_due : (d : DueInEntry) → 0 < size_due d
 some_due TimeDue = omega arith
-some_due (BeforeDue last def) = omega arith
-some_due (RowPrepDue last def) = omega arith
-some_due (RowsDue rows) = omega arith
-some_due RowCellDue = omega arith
-some_due CountDue = omega arith
-some_due (NamedDue lowest more) = omega arith
-some_due NumberDue = omega arith
-some_due (OldRowsDue archive) = omega arith
-some_due RemovedNumberDue = omega arith
-some_due RemovedHeadDue = omega arith
+some_due x = omega arith
 
 -- the stage, where something is due
 pub inside : (bytes : List ℕ) (f : Filed) (pieces : List Piece) (d : DueInEntry) (later : List DueInEntry) (input : Input) → Comes bytes f pieces (d ∷ later) input → Stands bytes (Within f pieces (d ∷ later)) input
-inside bytes f pieces d later input c = record {
-  rest = c.rest;
-  front = front_more bytes c.stage (Within f pieces (d ∷ later)) c.last c.rest c.front (c.goes_on (Within f pieces (d ∷ later)) refl);
-  left_is = c.left_is;
-  place = c.place;
-}
+inside bytes f pieces d later input c = grind (arith, c, front_more bytes c.stage (Within f pieces (d ∷ later)) c.last c.rest c.front (c.goes_on (Within f pieces (d ∷ later)) refl))
 
 -- ---- a piece that came
 
@@ -81,14 +56,6 @@ cut_within bytes f pieces d later old n fault c len is = cut bytes (Within f pie
 
 -- ---- the tag
 
-pub tag_same : (t u : Tag) → tag_byte t ≡ tag_byte u → t ≡ u
-tag_same AnUpdate AnUpdate e = refl
-tag_same ATune ATune e = refl
-tag_same AResize AResize e = refl
-tag_same AnAddition AnAddition e = refl
-tag_same ARemoval ARemoval e = refl
-tag_same t u e = absurd (omega (arith, e))
-
 -- where an entry is due, a piece is its tag
 tag_step : {f : Filed} {q : Piece} {next : Stage} → due f ≡ EntryDue → Step (Body f) q next → (u : Tag) × (q ≡ OfTag u) × IsTagWithin (limits f) u × GoesOn f (OfTag u ∷ []) (first_due u) next
 tag_step e (ToSource f s k) = absurd (let both = sym e ∙ k.is_due in cc)
@@ -118,7 +85,7 @@ came_first bytes f t old new piece may st g e len =
       only = λ q next taken same.
           let it = tag_step is_due (step_of (Body f) q next taken) in
           let byte : tag_byte it.0 ≡ tag_byte t = byte_of t it.0 (sym (ap spell it.1) ∙ same) in
-          subst (λ (u : Tag). GoesOn f (OfTag u ∷ []) (first_due u) next) (tag_same it.0 t byte) it.3;
+          subst (λ (u : Tag). GoesOn f (OfTag u ∷ []) (first_due u) next) (tag_one it.0 t byte) it.3;
       fault_is = λ at. sym (ap (bad_in_body f at) is_due);
       left_is = after.1;
       place = omega (arith, st.place, g.advanced, ap length after.2, length-append piece after.0);
@@ -139,12 +106,7 @@ cut_tag bytes f old n fault is_due st len is = cut bytes (Body f) n old fault st
 
 -- the entry may come
 pub closed : (bytes : List ℕ) (f new : Filed) (input : Input) (e : Entry) → Comes bytes f (entry_pieces e) [] input → MayEntry f e × (new ≡ with_entry f e) → Stands bytes (Body new) input
-closed bytes f new input e c m = record {
-  rest = c.rest;
-  front = front_more bytes c.stage (Body new) c.last c.rest c.front (c.goes_on (Body new) (e, refl, m.0, ap Body m.1));
-  left_is = c.left_is;
-  place = c.place;
-}
+closed bytes f new input e c m = grind (arith, c, front_more bytes c.stage (Body new) c.last c.rest c.front (c.goes_on (Body new) (e, refl, m.0, ap Body m.1)))
 
 -- it may not: no entry with these pieces may
 pub denied : (bytes : List ℕ) (f : Filed) (input : Input) (e : Entry) → Comes bytes f (entry_pieces e) [] input → IsShaped (outline_left f) e → (MayEntry f e → ⊥) → IsBad bytes (BadEntry (suc (length f.entries)))

@@ -1,42 +1,14 @@
 -- The end of a database is found: its numbers lead over its records to what follows them.
-use Rattle.std.proofs.Common.{◌≡◌, ◌∙◌, ◌+◌, ◌*◌, ◌-◌, ◌/◌, ◌^◌, ◌<◌, ◌≤◌, ◌++◌, ◌∷◌, [], ℕ, zero, suc, List, ap, refl, sym, length, map, take, drop, arith, append_assoc, length-append, length-drop}
-use Rattle.std.specs.Prelude.{unsigned_abs}
-use Rattle.std.specs.List.{AllByRecursion, flat_map}
-use Rattle.std.proofs.lemmas.List.{drop_at, length-map, length-take, map-append}
-use Rattle.std.proofs.lemmas.List.Concat.{flat_map-append}
-use Rattle.rrd_fixed.specs.declared.cell.Cell.{Cell}
-use Rattle.rrd_ring.specs.Rows.{HasWidth}
-use Rattle.rrd_spec.specs.declared.entry.SavedSource.{SavedSource}
-use Rattle.rrd_spec.specs.declared.outline.Outline.{Outline}
-use Rattle.rrd_spec.specs.declared.settings.RraDef.{RraDef}
-use Rattle.rrd_spec.specs.declared.version.Version.{Version}
-use Rattle.rrd_spec.specs.declared.version.Version.TheVariants.{One, Two}
-use Rattle.rrd_spec.specs.Files.Filed.{Header, filed, head_of, header_of}
-use Rattle.rrd_spec.specs.Files.Slots.{cells_by_slot}
-use Rattle.rrd_spec.specs.History.{Content, Rra, definitions}
-use Rattle.rrd_spec.specs.Journal.Entries.{BeforeUpdate, Entry, SavedArchive, UpdateEntry, TuneEntry, ResizeEntry, AddedEntry, RemovedEntry}
-use Rattle.rrd_spec.specs.Journal.Fitting.{MayRemove, MayResize, MaySaveEach, MayTune, MayUndo, MayUpdate}
-use Rattle.rrd_spec.specs.Journal.Outlines.{outline_of, outline_undone, with_row_number}
-use Rattle.rrd_spec.specs.Journal.Survivors.{Stored}
-use Rattle.rrd_spec.specs.Laws.Outlines.{MayUndoEach, OutlinesAreNeeded}
-use Rattle.rrd_spec.specs.Laws.Versions.{DatabaseIsWithin}
-use Rattle.rrd_spec.specs.Lemmas.Lists.{All-append, All-drop, All-take}
-use Rattle.rrd_spec.specs.Limits.{Limits, present}
-use Rattle.rrd_spec.specs.Settings.{resolution}
-use Rattle.rrd_spec.specs.Validity.{IsValidArchive, IsValidDatabase}
-use Rattle.rrd_file.specs.End.{after_all_saved, after_body, after_cells, after_database, after_entries, after_rows, after_tag, after_version, archives_before, file_end, four_in, head_size, parts_size, rows_size, two_in}
-use Rattle.rrd_file.specs.Faults.{IsValidIn}
-use Rattle.rrd_file.specs.Laws.{EndIsFound}
-use Rattle.rrd_file.specs.Layout.{body_pieces, entry_pieces, head_pieces, layout_in, raws_and_parts, row_pieces, saved_pieces, spelled}
-use Rattle.rrd_file.specs.Layout.Fitting.{counts}
-use Rattle.rrd_file.specs.Layout.Pieces.{Piece, Tag, OfCell, OfPrep, OfRows, OfSavedSource, OfSource, AnUpdate, ATune, AResize, AnAddition, ARemoval, header_bytes, spell}
-use Rattle.rrd_file.specs.Layout.Values.{archive_bytes, eight_bytes, four_bytes, function_byte, two_bytes}
+use Rattle.std.specs.Prelude.{◌≡◌, ◌+◌, ◌*◌, ◌-◌, ◌/◌, ◌^◌, ◌<◌, ◌≤◌, ◌++◌, ◌∷◌, [], ℕ, zero, suc, List, length, map, take, drop, unsigned_abs}
+use Rattle.rrd_file.proofs.Names.{◌∙◌, ap, refl, sym, arith, append_assoc, length-append, length-drop, AllByRecursion, flat_map, drop_at, length-map, length-take, map-append, flat_map-append, Cell, HasWidth, SavedSource, Outline, RraDef, Version, One, Two, Header, filed, head_of, header_of, cells_by_slot, Content, Rra, definitions, BeforeUpdate, Entry, SavedArchive, UpdateEntry, TuneEntry, ResizeEntry, AddedEntry, RemovedEntry, MayRemove, MayResize, MaySaveEach, MayTune, MayUndo, MayUpdate, outline_of, outline_undone, with_row_number, Stored, MayUndoEach, OutlinesAreNeeded, DatabaseIsWithin, All-append, All-drop, All-take, Limits, present, resolution, IsValidArchive, IsValidDatabase, after_all_saved, after_body, after_cells, after_database, after_entries, after_rows, after_tag, after_version, archives_before, file_end, four_in, head_size, parts_size, rows_size, two_in, IsValidIn, EndIsFound, body_pieces, entry_pieces, head_pieces, layout_in, raws_and_parts, row_pieces, saved_pieces, spelled, counts, Piece, Tag, OfCell, OfPrep, OfRows, OfSavedSource, OfSource, AnUpdate, ATune, AResize, AnAddition, ARemoval, header_bytes, spell, archive_bytes, eight_bytes, four_bytes, function_byte, two_bytes}
 use Rattle.rrd_file.proofs.OneAnswer.{file_is_layout}
-use Rattle.rrd_file.proofs.Sound.{resized_length, tuned_length}
+use Rattle.rrd_file.proofs.Sound.{resized_length}
 use Rattle.rrd_file.proofs.Told.{accepted_length}
 use Rattle.rrd_file.proofs.Walked.{four_first, two_first}
-use Rattle.rrd_file.proofs.length.Numbers.{ManyCells, one_each, some_seconds}
+use Rattle.rrd_file.proofs.length.Numbers.{ManyCells, some_seconds}
 use Rattle.rrd_file.proofs.length.Pieces.{cells_have, head_has, heads_have, olds_have, preps_have, raws_have, rows_have, sources_have}
+use Rattle.rrd_spec.proofs.Outlined.{sources_count}
+use Rattle.rrd_base.proofs.Dues.{one_each}
 
 -- ---- pieces
 
@@ -65,21 +37,17 @@ saved_end n old x parts wide few =
     let p = spelled (map OfPrep old.parts) in
     let r = spelled (row_pieces old.rows) in
     let is : spelled (saved_pieces old) ≡ p ++ (four_bytes k ++ r) = flat_map-append spell (map OfPrep old.parts) (OfRows k ∷ row_pieces old.rows) in
-    ap (λ l. after_rows n (parts_size n) 0 (l ++ x)) is
-    ∙ rows_end n (parts_size n) 0 k p r x (omega (arith, preps_have old.parts, parts)) few (omega (arith, rows_have n old.rows wide))
+    cc (is, rows_end n (parts_size n) 0 k p r x (omega (arith, preps_have old.parts, parts)) few (omega (arith, rows_have n old.rows wide)))
 
 all_saved_end : (step from to n : ℕ) (defs : List RraDef) (olds : List SavedArchive) (x : List ℕ) → AllByRecursion HasFewRows defs → MaySaveEach step from to n defs olds
     → after_all_saved n (length defs) (spelled (flat_map saved_pieces olds) ++ x) ≡ x
 unfolding after_all_saved
 all_saved_end step from to n [] [] x few may = refl
-all_saved_end step from to n [] (old ∷ olds) x few may = absurd may
-all_saved_end step from to n (def ∷ defs) [] x few may = absurd may
 all_saved_end step from to n (def ∷ defs) (old ∷ olds) x few may =
-    let y = spelled (flat_map saved_pieces olds) ++ x in
     let rows : length old.rows < 2 ^ 32 = omega (arith, may.0.as_many, few.0) in
-    let first = saved_end n old y may.0.parts_are.one_each (one_each n old.rows may.0.each_row) rows in
-    ap (λ l. after_all_saved n (length defs) (after_rows n (parts_size n) 0 l)) (split (saved_pieces old) (flat_map saved_pieces olds) x)
-    ∙ ap (after_all_saved n (length defs)) first ∙ all_saved_end step from to n defs olds x few.1 may.1
+    let first = saved_end n old (spelled (flat_map saved_pieces olds) ++ x) may.0.parts_are.one_each (one_each n old.rows may.0.each_row) rows in
+    cc (split (saved_pieces old) (flat_map saved_pieces olds) x, first, all_saved_end step from to n defs olds x few.1 may.1)
+all_saved_end step from to n y z x few may = absurd may
 
 update_end : (step : ℕ) (now : Outline) (old : BeforeUpdate) (x : List ℕ) → AllByRecursion HasFewRows now.archives → MayUpdate step now old
     → after_tag (length now.sources) (length now.archives) AnUpdate (eight_bytes old.last ++ (spelled (raws_and_parts old.raws old.parts ++ flat_map saved_pieces old.archives) ++ x)) ≡ x
@@ -93,8 +61,7 @@ update_end step now old x few may =
     let long = raws_have old.raws old.parts (raws ∙ sym may.parts_are.one_each) in
     let size : length (eight_bytes old.last ++ spelled before) ≡ 8 + 36 * n = omega (arith, long, raws) in
     let skip : drop (8 + 36 * n) (eight_bytes old.last ++ (spelled before ++ (spelled archives ++ x))) ≡ spelled archives ++ x = drop_at (eight_bytes old.last ++ spelled before) (spelled archives ++ x) (8 + 36 * n) size in
-    ap (λ l. after_all_saved n m (drop (8 + 36 * n) (eight_bytes old.last ++ l))) (split before archives x)
-    ∙ ap (after_all_saved n m) skip ∙ all_saved_end step old.last now.last n now.archives old.archives x few may.archives_are
+    cc (split before archives x, skip, all_saved_end step old.last now.last n now.archives old.archives x few may.archives_are)
 
 tune_end : (n m : ℕ) (now : Outline) (olds : List SavedSource) (x : List ℕ) → MayTune present now olds → after_tag n m ATune (two_bytes (length olds) ++ (spelled (map OfSavedSource olds) ++ x)) ≡ x
 unfolding after_tag
@@ -148,21 +115,17 @@ entry_end step now k (RemovedEntry number archive) x few may = ap (after_entries
 -- ---- the outline after an entry is undone
 
 sources_undone : (now : Outline) (e : Entry) → length (outline_undone now e).sources ≡ length now.sources
-sources_undone now (UpdateEntry old) = refl
-sources_undone now (TuneEntry olds) = tuned_length now.sources olds
-sources_undone now (ResizeEntry archive rows) = refl
-sources_undone now AddedEntry = refl
-sources_undone now (RemovedEntry number archive) = refl
+sources_undone now (TuneEntry olds) = sources_count now.sources olds
+sources_undone now x = refl
 
 archives_undone : (step : ℕ) (now : Outline) (e : Entry) → MayUndo present step now e → length (outline_undone now e).archives ≡ archives_before (length now.archives) (tag_for e)
-archives_undone step now (UpdateEntry old) may = refl
-archives_undone step now (TuneEntry olds) may = refl
 archives_undone step now (ResizeEntry archive rows) may = resized_length now.archives archive (length rows)
 archives_undone step now AddedEntry may = omega (arith, length-take (length now.archives - 1) now.archives)
 archives_undone step now (RemovedEntry number archive) may =
     let front = take number now.archives in
     let back = drop number now.archives in
     omega (arith, may.1.number_is.there, length-append front (archive.def ∷ back), length-take number now.archives, length-drop number now.archives)
+archives_undone step now x may = refl
 
 few_resized : (defs : List RraDef) (i rows : ℕ) → rows ≤ 1000000 → AllByRecursion HasFewRows defs → AllByRecursion HasFewRows (with_row_number defs i rows)
 few_resized [] i rows few h = tt
@@ -170,13 +133,12 @@ few_resized (def ∷ defs) zero rows few h = (few, h.1)
 few_resized (def ∷ defs) (suc i) rows few h = (h.0, few_resized defs i rows few h.1)
 
 few_undone : (step : ℕ) (now : Outline) (e : Entry) → AllByRecursion HasFewRows now.archives → MayUndo present step now e → AllByRecursion HasFewRows (outline_undone now e).archives
-few_undone step now (UpdateEntry old) few may = few
-few_undone step now (TuneEntry olds) few may = few
 few_undone step now (ResizeEntry archive rows) few may = few_resized now.archives archive (length rows) may.old_rows.few few
 few_undone step now AddedEntry few may = All-take HasFewRows (length now.archives - 1) now.archives few
 few_undone step now (RemovedEntry number archive) few may =
     All-append HasFewRows (take number now.archives) (archive.def ∷ drop number now.archives) (All-take HasFewRows number now.archives few)
     (may.1.settings_are.def_is.few_rows, All-drop HasFewRows number now.archives few)
+few_undone step now x few may = few
 
 no_entries : (n m : ℕ) (x : List ℕ) → after_entries n m 0 x ≡ x
 unfolding after_entries
@@ -216,10 +178,9 @@ cells_end many n step last steps (a ∷ archives) x y some are =
     let long : length own ≡ length a.rows * n = many (resolution step a.def) last n a.rows (some_seconds step a.def.steps some are.0.some_steps) (one_each n a.rows are.0.each_row) in
     let size : length (spelled (map OfCell own)) ≡ rows_size n a.def.rows = cells_have own ∙ ap (λ k. k * 16) (long ∙ ap (λ k. k * n) are.0.rows_are) in
     let past_head = drop_at head heads (head_size n) (omega (arith, head_has a, are.0.parts_are.one_each)) in
-    let past_cells = drop_at (spelled (map OfCell own)) cells (rows_size n a.def.rows) size in
     (λ i. next (four_in (drop 9 (split_heads i))) (split_heads i) (split_cells i))
     ∙ ap (λ k. next k (head ++ heads) (spelled (map OfCell own) ++ cells)) rows
-    ∙ (λ i. after_cells n m (past_head i) (past_cells i))
+    ∙ (λ i. after_cells n m (past_head i) ((drop_at (spelled (map OfCell own)) cells (rows_size n a.def.rows) size) i))
     ∙ cells_end many n step last steps archives x y some are.1
 
 -- ---- the whole
@@ -261,26 +222,18 @@ body_end laws v c j x valid =
     let parts = split ((sources ++ heads) ++ cells) entries x ∙ split (sources ++ heads) cells e ∙ split sources heads ce in
     let past_sources : drop (97 * n) (spelled sources ++ hce) ≡ hce = drop_at (spelled sources) hce (97 * n) (omega (arith, sources_have c.sources c.raws c.parts is.sources_are is.raws_are is.parts_are.one_each)) in
     let past_heads : drop (m * head_size n) hce ≡ ce = drop_at (spelled heads) ce (m * head_size n) (heads_have n (c.last / c.step) c.archives is.archives_are) in
-    ap (λ l. after_entries n m k (after_cells n m (drop (97 * n) l) (drop (m * head_size n) (drop (97 * n) l)))) parts
-    ∙ ap (λ l. after_entries n m k (after_cells n m l (drop (m * head_size n) l))) past_sources
-    ∙ ap (λ l. after_entries n m k (after_cells n m hce l)) past_heads
-    ∙ ap (after_entries n m k) (cells_end laws.many n c.step c.last (c.last / c.step) c.archives ce e is.some_step is.archives_are)
-    ∙ journal_end laws c j x valid
+    cc (parts, past_sources, past_heads, cells_end laws.many n c.step c.last (c.last / c.step) c.archives ce e is.some_step is.archives_are, journal_end laws c j x valid)
 
 version_end : (v : Version) (h : Header) (z : List ℕ) → h.sources < 2 ^ 16 → h.archives < 2 ^ 16 → h.entries < counts v → after_version v (header_bytes v h ++ z) ≡ after_body h.sources h.archives h.entries z
 unfolding after_version
 version_end One h z sources archives entries =
     let last = two_bytes h.entries ++ z in
-    let a = two_first h.sources (two_bytes h.archives ++ last) sources in
-    let b = two_first h.archives last archives in
     let c = two_first h.entries z entries in
-    λ i. after_body (a i) (b i) (c i) z
+    λ i. after_body ((two_first h.sources (two_bytes h.archives ++ last) sources) i) ((two_first h.archives last archives) i) (c i) z
 version_end Two h z sources archives entries =
     let last = four_bytes h.entries ++ z in
-    let a = two_first h.sources (two_bytes h.archives ++ last) sources in
-    let b = two_first h.archives last archives in
     let c = four_first h.entries z entries in
-    λ i. after_body (a i) (b i) (c i) z
+    λ i. after_body ((two_first h.sources (two_bytes h.archives ++ last) sources) i) ((two_first h.archives last archives) i) (c i) z
 
 few_entries : (v : Version) (d : Stored) → IsValidIn v d → length d.journal < counts v
 few_entries One d valid = omega (arith, valid.few, valid.content_is.small_depth)

@@ -1,17 +1,10 @@
 -- What an entry of a valid database keeps to.
-use Rattle.std.proofs.Common.{◌≡◌, ◌<◌, ◌≤◌, ◌^◌, ◌+◌, ◌/◌, ℕ, zero, suc, List, [], ◌∷◌, Some, ap, subst, length, get_or, arith}
-use Rattle.std.specs.Prelude.{slice_get}
-use Rattle.std.specs.List.{AllByRecursion, insert}
-use Rattle.rrd_spec.specs.declared.entry.SavedSource.{SavedSource}
-use Rattle.rrd_spec.specs.History.{Rra, Content}
-use Rattle.rrd_spec.specs.Journal.Entries.{Entry, RemovedEntry, undone}
-use Rattle.rrd_spec.specs.Validity.{IsValid, IsValidArchive, IsValidJournal, IsValidDatabase, Fits, Rise}
-use Rattle.rrd_spec.specs.Limits.{newest, present}
-use Rattle.rrd_file.specs.Layout.Fitting.{FitsArchive}
+use Rattle.std.specs.Prelude.{◌≡◌, ◌<◌, ◌≤◌, ◌^◌, ◌+◌, ◌/◌, ℕ, zero, suc, List, [], ◌∷◌, Some, length, slice_get}
+use Rattle.rrd_file.proofs.Names.{ap, subst, get_or, arith, AllByRecursion, insert, SavedSource, Rra, Content, Entry, RemovedEntry, undone, IsValid, IsValidArchive, IsValidJournal, IsValidDatabase, Fits, Rise, newest, present, FitsArchive, HasSmallNumber, IsEntryOfSome}
 use Rattle.rrd_file.proofs.OneSpelling.{archive_fits}
 use Rattle.rrd_file.proofs.Sound.{small_limits}
 use Rattle.rrd_file.proofs.Told.{some_is}
-use Rattle.rrd_file.specs.Journal.{HasSmallNumber, IsEntryOfSome}
+use Rattle.rrd_spec.proofs.ArchiveTunes.{inserted}
 
 small_in : (olds : List SavedSource) (i : ℕ) (x : SavedSource) → AllByRecursion HasSmallNumber olds → i < length olds → (get_or olds i x).number < 2 ^ 16
 small_in [] i x all h = absurd (omega arith)
@@ -33,13 +26,6 @@ entry_of_some now journal i e v is = some_entry now journal i e v.content_is v.j
 pub small_numbers : (lowest limit : ℕ) (olds : List SavedSource) → limit ≤ 64 → Rise lowest limit olds → AllByRecursion HasSmallNumber olds
 small_numbers lowest limit [] few r = tt
 small_numbers lowest limit (old ∷ olds) few r = (omega (arith, r.1), small_numbers (old.number + 1) limit olds few r.2)
-
--- the settings of a removed archive
-inserted : {A : Type 0} (P : A → Type 0) (xs : List A) (n : ℕ) (x : A) → n ≤ length xs → AllByRecursion P (insert xs n x) → P x
-inserted P [] zero x h is = is.0
-inserted P [] (suc n) x h is = absurd (omega arith)
-inserted P (y ∷ xs) zero x h is = is.0
-inserted P (y ∷ xs) (suc n) x h is = inserted P xs n x (omega arith) is.1
 
 pub removed_fits : (now : Content) (number : ℕ) (archive : Rra) → number ≤ length now.archives → IsValid (undone now (RemovedEntry number archive)) → FitsArchive archive.def
 removed_fits now number archive there is =

@@ -1,28 +1,7 @@
 -- The pieces of an entry that may come do come, one after another, and lead to the body with it.
-use Rattle.std.proofs.Common.{◌≡◌, ◌∙◌, ◌++◌, ◌∷◌, ◌+◌, ◌*◌, ◌/◌, ◌%◌, ℕ, zero, suc, List, [], sym, ap, subst, refl, length, arith, map, replicate, append_assoc, append-nil}
-use Rattle.std.proofs.Math.Nat.{suc-mul}
-use Rattle.std.specs.List.{AllByRecursion, flat_map}
-use Rattle.std.proofs.lemmas.List.{replicate-append-replicate}
-use Rattle.std.proofs.lemmas.List.Concat.{flat_map-cons}
-use Rattle.rrd_fixed.specs.declared.cell.Cell.{Cell}
-use Rattle.rrd_fixed.specs.declared.raw.Raw.{Raw}
-use Rattle.rrd_fixed.specs.Rate.{IsBounded}
-use Rattle.rrd_fold.specs.declared.function.Function.TheVariants.{Average}
-use Rattle.rrd_fold.specs.Parts.{Part}
-use Rattle.rrd_spec.specs.declared.entry.SavedSource.{SavedSource}
-use Rattle.rrd_spec.specs.declared.outline.Outline.{Outline}
-use Rattle.rrd_spec.specs.declared.settings.DsDef.{DsDef}
-use Rattle.rrd_spec.specs.declared.settings.RraDef.{RraDef}
-use Rattle.rrd_spec.specs.Journal.Entries.{BeforeUpdate, Entry, SavedArchive, UpdateEntry, TuneEntry, ResizeEntry, AddedEntry, RemovedEntry}
-use Rattle.rrd_spec.specs.History.{Rra}
-use Rattle.rrd_spec.specs.Files.Filed.{Filed}
-use Rattle.rrd_spec.specs.Limits.{Limits}
-use Rattle.rrd_spec.specs.Journal.Fitting.{IsSavedSource, MayRemove, MayResize, MaySaveEach, MayTune, MayUpdate}
-use Rattle.rrd_spec.specs.Files.Rebuilding.{MayEntry, limits, outline_left, with_entry}
-use Rattle.rrd_spec.specs.Validity.{AreAccepted, IsPart, IsRow, Rise}
-use Rattle.rrd_file.specs.Layout.{entry_pieces, raws_and_parts, row_pieces, saved_pieces}
-use Rattle.rrd_file.specs.Layout.Pieces.{Piece, OfArchive, OfCell, OfCount, OfNumber, OfPrep, OfRows, OfSavedSource, Tag, OfTag, OfTime, AnUpdate, ATune, AResize, AnAddition, ARemoval}
-use Rattle.rrd_file.specs.Stages.{Stage, Body, Within, DueInEntry, BeforeDue, RowPrepDue, RowCellDue, GoesOn, IsTagWithin, Keeps, Runs, Takes, archive_due, behind, cells_due, first_due, named_due}
+use Rattle.std.specs.Prelude.{◌≡◌, ◌++◌, ◌∷◌, ◌+◌, ◌*◌, ◌/◌, ◌%◌, ℕ, zero, suc, List, [], length, map, replicate}
+use Rattle.rrd_file.proofs.Names.{◌∙◌, sym, ap, subst, refl, arith, append_assoc, append-nil, suc-mul, AllByRecursion, flat_map, replicate-append-replicate, flat_map-cons, Cell, Raw, IsBounded, Average, Part, SavedSource, Outline, DsDef, RraDef, BeforeUpdate, Entry, SavedArchive, UpdateEntry, TuneEntry, ResizeEntry, AddedEntry, RemovedEntry, Rra, Filed, Limits, IsSavedSource, MayRemove, MayResize, MaySaveEach, MayTune, MayUpdate, MayEntry, limits, outline_left, with_entry, AreAccepted, IsPart, IsRow, Rise, entry_pieces, raws_and_parts, row_pieces, saved_pieces, Piece, OfArchive, OfCell, OfCount, OfNumber, OfPrep, OfRows, OfSavedSource, Tag, OfTag, OfTime, AnUpdate, ATune, AResize, AnAddition, ARemoval, Stage, Body, Within, DueInEntry, BeforeDue, RowPrepDue, RowCellDue, GoesOn, IsTagWithin, Runs, Takes, archive_due, behind, cells_due, first_due, named_due}
+use Rattle.rrd_file.specs.Stages.{Keeps}
 
 -- ---- what is due is what comes
 
@@ -35,10 +14,9 @@ Meets l step now (due ∷ later) (p ∷ pieces) = Keeps l step now due p × Meet
 
 both_meet : (l : Limits) (step : ℕ) (now : Outline) (due later : List DueInEntry) (ps qs : List Piece) → Meets l step now due ps → Meets l step now later qs → Meets l step now (due ++ later) (ps ++ qs)
 both_meet l step now [] later [] qs h k = k
-both_meet l step now [] later (p ∷ ps) qs h k = absurd h
-both_meet l step now (d ∷ due) later [] qs h k = absurd h
 both_meet l step now (d ∷ due) later (p ∷ ps) qs h k =
     (h.0, subst (λ (x : List DueInEntry). Meets l step now x (ps ++ qs)) (append_assoc (behind step now d p) due later) (both_meet l step now (behind step now d p ++ due) later ps qs h.1 k))
+both_meet l step now x later y qs h k = absurd h
 
 -- where nothing is due behind what a piece makes due
 alone : (l : Limits) (step : ℕ) (now : Outline) (due : List DueInEntry) (ps : List Piece) → Meets l step now due ps → Meets l step now (due ++ []) ps
@@ -77,10 +55,9 @@ as_many_meet l step now n rows e h = subst (λ (k : ℕ). Meets l step now (cell
 
 raws_meet : (l : Limits) (step : ℕ) (now : Outline) (last : ℕ) (defs : List DsDef) (raws : List Raw) (parts : List Part) → AreAccepted defs raws → length parts ≡ length defs → AllByRecursion (IsPart Average (last % step)) parts → Meets l step now (map (BeforeDue last) defs) (raws_and_parts raws parts)
 raws_meet l step now last [] [] parts h e k = tt
-raws_meet l step now last [] (raw ∷ raws) parts h e k = absurd h
-raws_meet l step now last (def ∷ defs) [] parts h e k = absurd h
 raws_meet l step now last (def ∷ defs) (raw ∷ raws) [] h e k = absurd (omega (arith, e))
 raws_meet l step now last (def ∷ defs) (raw ∷ raws) (part ∷ parts) h e k = ((h.0, k.0), raws_meet l step now last defs raws parts h.1 (omega (arith, e)) k.1)
+raws_meet l step now last x y parts h e k = absurd h
 
 named_meet : (l : Limits) (step : ℕ) (now : Outline) (lowest : ℕ) (olds : List SavedSource) → Rise lowest (length now.sources) olds → AllByRecursion (IsSavedSource l) olds → Meets l step now (named_due lowest (length olds)) (map OfSavedSource olds)
 named_meet l step now lowest [] r h = tt
@@ -89,8 +66,6 @@ named_meet l step now lowest (old ∷ olds) r h =
 
 saved_meet : (l : Limits) (step : ℕ) (now : Outline) (last : ℕ) (defs : List RraDef) (olds : List SavedArchive) → MaySaveEach step last now.last (length now.sources) defs olds → Meets l step now (flat_map (archive_due step now last) defs) (flat_map saved_pieces olds)
 saved_meet l step now last [] [] h = tt
-saved_meet l step now last [] (old ∷ olds) h = absurd h
-saved_meet l step now last (def ∷ defs) [] h = absurd h
 saved_meet l step now last (def ∷ defs) (old ∷ olds) h =
     let n = length now.sources in
     let preps = preps_meet l step now last def n old.parts h.0.parts_are.one_each h.0.parts_are.each in
@@ -101,6 +76,7 @@ saved_meet l step now last (def ∷ defs) (old ∷ olds) h =
     subst (λ (x : List DueInEntry). Meets l step now x (flat_map saved_pieces (old ∷ olds))) due
     (subst (Meets l step now (archive_due step now last def ++ flat_map (archive_due step now last) defs)) pieces
     (both_meet l step now (archive_due step now last def) (flat_map (archive_due step now last) defs) (saved_pieces old) (flat_map saved_pieces olds) first (saved_meet l step now last defs olds h.1)))
+saved_meet l step now last x y h = absurd h
 
 -- ---- entries
 
@@ -148,11 +124,10 @@ within f pieces due later p next keeps goes = (keeps, goes)
 goes_on : (f : Filed) (entry : Entry) → MayEntry f entry → (pieces : List Piece) (due : List DueInEntry) (more : List Piece) → Meets (limits f) f.header.step (outline_left f) due more → pieces ++ more ≡ entry_pieces entry → Goes f entry pieces due more
 goes_on f entry may pieces [] [] h e =
     record { stage = Body (with_entry f entry); goes = (entry, sym e ∙ append-nil pieces, may, refl); runs = refl }
-goes_on f entry may pieces [] (p ∷ more) h e = absurd h
-goes_on f entry may pieces (due ∷ later) [] h e = absurd h
 goes_on f entry may pieces (due ∷ later) (p ∷ more) h e =
     let next = goes_on f entry may (pieces ++ p ∷ []) (behind f.header.step (outline_left f) due p ++ later) more h.1 (append_assoc pieces (p ∷ []) more ∙ e) in
     record { stage = Within f pieces (due ∷ later); goes = refl; runs = (next.stage, within f pieces due later p next.stage h.0 next.goes, next.runs) }
+goes_on f entry may pieces x y h e = absurd h
 
 tag_runs : (f : Filed) (entry : Entry) (tag : Tag) (more : List Piece) → MayEntry f entry → IsTagWithin (limits f) tag → Meets (limits f) f.header.step (outline_left f) (first_due tag) more → OfTag tag ∷ more ≡ entry_pieces entry → Runs (Body f) (OfTag tag ∷ more) (Body (with_entry f entry))
 unfolding Takes

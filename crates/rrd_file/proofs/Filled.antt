@@ -1,12 +1,8 @@
 -- Bytes that came behind those that wait in a buffer.
-use Rattle.std.proofs.Common.{◌≡◌, ◌∙◌, ◌++◌, ◌+◌, ◌-◌, ◌≤◌, ℕ, List, sym, ap, length, take, drop, slice_range, arith, append_assoc, length-drop}
-use Rattle.std.specs.Prelude.{Option, Some, None}
-use Rattle.std.proofs.lemmas.List.Edits.{take-paste}
-use Rattle.std.specs.List.{copy_within}
-use Rattle.std.specs.Io.KnownBytes.{Consumes, Keeps, prepend_known}
-use Rattle.std.proofs.lemmas.List.{drop-take, length-take, take-append-drop}
-use Rattle.rrd_file.specs.Reader.Waiting.{IsWaiting}
-use lib.Seq.{drop-drop, take-add, take-take}
+use Rattle.std.specs.Prelude.{◌≡◌, ◌++◌, ◌+◌, ◌-◌, ◌≤◌, ℕ, List, length, take, drop, Option, Some, None}
+use Rattle.rrd_file.proofs.Names.{◌∙◌, sym, ap, arith, append_assoc, length-drop, take-paste, copy_within, Consumes, Keeps, prepend_known, drop-take, length-take, take-append-drop, IsWaiting, take-take}
+use Rattle.std.proofs.Common.{slice_range}
+use lib.Seq.{drop-drop, take-add}
 
 -- what was read moves to those that wait
 pub waited : (old new : Option (List ℕ)) (before after came : List ℕ) → Consumes old new came → after ≡ before ++ came
@@ -22,10 +18,7 @@ grown xs before m n is =
     let all : m + n - 0 ≡ m + n = omega arith in
     let front : m - 0 ≡ m = omega arith in
     let rest : n ≡ m + n - m = omega arith in
-    ap (λ k. take k xs) all
-    ∙ take-add m n xs
-    ∙ ap (λ l. l ++ take n (drop m xs)) (sym (ap (λ k. take k xs) front) ∙ is)
-    ∙ ap (λ k. before ++ take k (drop m xs)) rest
+    cc (all, take-add m n xs, sym (ap (λ k. take k xs) front) ∙ is, rest)
 
 -- those that wait are at the front once they were moved there
 pub moved_to_front : (old new : List ℕ) (from end : ℕ) → from ≤ end → end ≤ length old → new ≡ copy_within old from end 0
@@ -33,9 +26,7 @@ pub moved_to_front : (old new : List ℕ) (from end : ℕ) → from ≤ end → 
 moved_to_front old new from end ordered within is =
     let m = end - from in
     let all : m - 0 ≡ 0 + m = omega arith in
-    ap (take (m - 0)) is
-    ∙ ap (λ k. take k (copy_within old from end 0)) all
-    ∙ take-paste old 0 (drop from old) m (omega arith) (omega (arith, length-drop from old))
+    cc (is, all, take-paste old 0 (drop from old) m (omega arith) (omega (arith, length-drop from old)))
 
 -- ---- the first bytes that wait
 

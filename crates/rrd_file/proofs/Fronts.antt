@@ -1,18 +1,7 @@
 -- The fault of a first part is the fault of the whole; and how the file of a database begins.
-use Rattle.std.proofs.Common.{◌≡◌, ◌∙◌, ◌+◌, ◌≤◌, ◌++◌, ◌∷◌, [], ℕ, List, ap, refl, subst, sym, length, take, arith, length-append, append_assoc}
-use Rattle.std.specs.List.{flat_map}
-use Rattle.std.proofs.lemmas.List.{take-append-le}
-use Rattle.std.proofs.lemmas.List.Concat.{flat_map-cons}
-use Rattle.rrd_spec.specs.Files.Filed.{Filed, filed}
-use Rattle.rrd_spec.specs.Journal.Survivors.{Stored}
-use Rattle.rrd_spec.specs.declared.version.Version.TheVariants.{One}
-use Rattle.rrd_file.specs.declared.fault.FileFault.{FileFault}
-use Rattle.rrd_file.specs.declared.fault.FileFault.TheVariants.{NotOurs, Version as WrongVersion, Truncated, BadBlock, BadEntry, Trailing, Read, OutOfMemory}
-use Rattle.rrd_file.specs.Faults.{Front, IsBad, IsTrailing}
-use Rattle.rrd_file.specs.Laws.{FileBegins, FrontHasTheFault}
-use Rattle.rrd_file.specs.Layout.{body_pieces, entry_pieces, layout_in, pieces_filed, spelled}
-use Rattle.rrd_file.specs.Layout.Pieces.{Piece, Mark, OfHeader, OfVersion, spell}
-use Rattle.rrd_file.specs.Stages.{Stage, size}
+use Rattle.std.specs.Prelude.{◌≡◌, ◌+◌, ◌≤◌, ◌++◌, ◌∷◌, [], ℕ, List, length, take}
+use Rattle.rrd_file.proofs.Names.{◌∙◌, ap, refl, subst, sym, arith, length-append, append_assoc, flat_map, take-append-le, flat_map-cons, Filed, filed, Stored, One, FileFault, NotOurs, Truncated, BadBlock, BadEntry, Trailing, Read, OutOfMemory, Front, IsBad, IsTrailing, FileBegins, FrontHasTheFault, body_pieces, entry_pieces, layout_in, pieces_filed, spelled, Piece, Mark, OfHeader, OfVersion, spell, Stage, size}
+use Rattle.rrd_file.specs.declared.fault.FileFault.TheVariants.{Version as WrongVersion}
 use Rattle.rrd_file.proofs.Lengths.{header_length}
 use Rattle.rrd_file.proofs.OneAnswer.{file_is_layout}
 
@@ -69,9 +58,7 @@ module _ (front rest : List ℕ) where
 -- the first three pieces, before what follows them
 begin_so : (version header : Piece) (more : List Piece)
     → spelled (Mark ∷ version ∷ header ∷ more) ≡ spell Mark ++ (spell version ++ (spell header ++ spelled more))
-begin_so version header more =
-    flat_map-cons spell Mark (version ∷ header ∷ more)
-    ∙ ap (λ (l : List ℕ). spell Mark ++ l) (flat_map-cons spell version (header ∷ more) ∙ ap (λ (l : List ℕ). spell version ++ l) (flat_map-cons spell header more))
+begin_so version header more = cc (flat_map-cons spell Mark (version ∷ header ∷ more), flat_map-cons spell version (header ∷ more) ∙ ap (λ (l : List ℕ). spell version ++ l) (flat_map-cons spell header more))
 
 long_so : (mark version header more : List ℕ) → length mark ≡ 4 → length version ≡ 2 → 16 ≤ length header
     → 16 ≤ length (mark ++ (version ++ (header ++ more)))

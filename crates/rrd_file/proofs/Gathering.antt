@@ -1,18 +1,6 @@
 -- Bytes that are gathered one after another.
-use Rattle.std.proofs.Common.{◌≡◌, ◌∙◌, ◌+◌, ◌<◌, ◌≤◌, ◌++◌, ◌∷◌, ℕ, List, [], Option, Some, Result, Ok, Err, sym, ap, refl, subst, take, drop, length, get_or, append_assoc, append-nil, map}
-use Rattle.std.specs.Prelude.{slice_get}
-use Rattle.std.specs.List.{flat_map}
-use Rattle.std.proofs.KnownBytes.{Appends-trans}
-use Rattle.std.proofs.lemmas.Grind.{flat_map-append}
-use Rattle.std.proofs.lemmas.List.{take_more, take-append-drop, take_all}
-use Rattle.std.proofs.lemmas.List.Concat.{flat_map-cons}
-use Rattle.std.specs.Option.{option_map}
-use Rattle.std.proofs.lemmas.Option.{get_or_from_slice_get, slice_get_within, slice_get-get_or, slice_get-map}
-use Rattle.rrd_fixed.specs.Written.{AppendsFront, Writes}
-use Rattle.rrd_fixed.specs.declared.streams.WriteFault.{WriteFault}
-use Rattle.rrd_fixed.specs.Writing.{writes_stop, writes_then}
-use Rattle.rrd_file.specs.Writer.{Adds, Breaks, Gathers}
-use Rattle.rrd_file.specs.declared.writer.PieceWriter.{PieceWriter}
+use Rattle.std.specs.Prelude.{◌≡◌, ◌+◌, ◌<◌, ◌≤◌, ◌++◌, ◌∷◌, ℕ, List, [], Option, Some, Result, Ok, Err, take, drop, length, map, slice_get, option_map}
+use Rattle.rrd_file.proofs.Names.{◌∙◌, sym, ap, refl, subst, get_or, append_assoc, append-nil, flat_map, Appends-trans, flat_map-append, take_more, take-append-drop, take_all, flat_map-cons, get_or_from_slice_get, slice_get_within, slice_get-get_or, slice_get-map, AppendsFront, Writes, WriteFault, writes_stop, writes_then, Adds, Breaks, Gathers, PieceWriter}
 
 -- ---- one run of bytes and then another
 
@@ -84,8 +72,7 @@ flat_one f x = flat_map-cons f x [] ∙ append-nil (f x)
 pub one_more : {A : Type 0} (f : A → List ℕ) (xs : List A) (i : ℕ) (x : A) → slice_get xs i ≡ Some x → flat_map f (take (i + 1) xs) ≡ flat_map f (take i xs) ++ f x
 one_more f xs i x is =
     let inside : i < length xs = slice_get_within xs i x is in
-    ap (flat_map f) (take_more xs i x inside ∙ ap (λ y. take i xs ++ y ∷ []) (get_or_from_slice_get xs i x x is))
-    ∙ flat_map-append f (take i xs) (x ∷ []) ∙ ap (λ l. flat_map f (take i xs) ++ l) (flat_one f x)
+    cc (take_more xs i x inside ∙ ap (λ y. take i xs ++ y ∷ []) (get_or_from_slice_get xs i x x is), flat_map-append f (take i xs) (x ∷ []), flat_one f x)
 
 module _ {W : Type 0} {contents : W → Option (List ℕ)} where
   pub item_added : {A : Type 0} {p q r : PieceWriter W} (f : A → List ℕ) (items : List A) (i : ℕ) (item : A) → slice_get items i ≡ Some item
@@ -111,9 +98,7 @@ module _ {W : Type 0} {contents : W → Option (List ℕ)} where
 
 pub flat_flat : {A B : Type 0} (f : B → List ℕ) (g : A → List B) (xs : List A) → flat_map f (flat_map g xs) ≡ flat_map (λ x. flat_map f (g x)) xs
 flat_flat f g [] = refl
-flat_flat f g (x ∷ xs) =
-    ap (flat_map f) (flat_map-cons g x xs) ∙ flat_map-append f (g x) (flat_map g xs)
-    ∙ ap (λ l. flat_map f (g x) ++ l) (flat_flat f g xs) ∙ sym (flat_map-cons (λ y. flat_map f (g y)) x xs)
+flat_flat f g (x ∷ xs) = cc (flat_map-cons g x xs, flat_map-append f (g x) (flat_map g xs), flat_flat f g xs, flat_map-cons (λ y. flat_map f (g y)) x xs)
 
 -- the item of a place
 pub item_at : {A : Type 0} (xs : List A) (i : ℕ) (d : A) → i < length xs → slice_get xs i ≡ Some (get_or xs i d)

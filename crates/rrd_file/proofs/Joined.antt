@@ -1,15 +1,7 @@
 -- Runs of bytes and of pieces, one behind another.
-use Rattle.std.proofs.Common.{◌≡◌, ◌∙◌, ◌++◌, ◌∷◌, [], List, ℕ, sym, ap, append_assoc, append-nil, map, refl, length}
-use Rattle.std.specs.List.{flat_map}
-use Rattle.std.proofs.lemmas.Grind.{flat_map-append}
-use Rattle.rrd_spec.specs.Journal.Entries.{SavedArchive}
-use Rattle.rrd_spec.specs.Limits.{newest}
-use Rattle.rrd_spec.specs.Files.Filed.{Filed, filed, head_of, header_of}
-use Rattle.rrd_spec.specs.History.{Rra}
-use Rattle.rrd_spec.specs.Journal.Survivors.{Stored}
-use Rattle.rrd_file.specs.Layout.{body_pieces, saved_pieces, entry_pieces, head_pieces, layout, row_pieces, spelled}
-use Rattle.rrd_file.specs.Encoded.{cell_bytes, front_bytes, journal_bytes}
-use Rattle.rrd_file.specs.Layout.Pieces.{Piece, Mark, OfVersion, OfHeader, OfSource, OfArchive, OfPrep, OfRows, OfCell, spell}
+use Rattle.std.specs.Prelude.{◌≡◌, ◌++◌, ◌∷◌, [], List, ℕ, map, length}
+use Rattle.rrd_file.proofs.Names.{◌∙◌, sym, ap, append_assoc, append-nil, refl, flat_map, flat_map-append, SavedArchive, newest, Filed, filed, head_of, header_of, Rra, Stored, body_pieces, saved_pieces, entry_pieces, head_pieces, layout, row_pieces, spelled, front_bytes, journal_bytes, Piece, Mark, OfVersion, OfHeader, OfSource, OfArchive, OfPrep, OfRows, OfCell, spell}
+use Rattle.rrd_file.specs.Encoded.{cell_bytes}
 
 -- ---- bytes added in turn
 

@@ -1,35 +1,13 @@
 -- Pieces of the body that came whole: taken, or refused.
-use Rattle.std.proofs.Common.{◌≡◌, ◌≢◌, ◌∙◌, ◌^◌, ◌<◌, ℕ, List, [], sym, ap, subst, refl, length, arith}
-use Rattle.rrd_fixed.specs.declared.cell.Cell.{Cell}
-use Rattle.rrd_fold.specs.Parts.{Part}
-use Rattle.rrd_base.specs.declared.rebuild.PieceFault.{PieceFault}
-use Rattle.rrd_base.specs.declared.rebuild.PieceFault.TheVariants as refusal
-use Rattle.rrd_spec.specs.declared.due.Due.TheVariants.{SourceDue, HeadDue, PrepDue, CellDue, NothingDue}
-use Rattle.rrd_spec.specs.declared.settings.RraDef.{RraDef}
-use Rattle.rrd_spec.specs.declared.version.Version.{Version}
-use Rattle.rrd_spec.specs.declared.version.Version.TheVariants.{One, Two}
-use Rattle.rrd_spec.specs.Files.Filed.{Filed, Header, Source}
-use Rattle.rrd_spec.specs.Files.Rebuilding.{IsHeader, MayCell, MayHead, MayPrep, MaySource, begun, due, limits, with_cell, with_head, with_prep, with_source}
-use Rattle.rrd_file.specs.declared.fault.FileFault.{FileFault}
-use Rattle.rrd_file.specs.declared.fault.FileFault.TheVariants.{NotOurs, Version as WrongVersion, BadBlock, BadEntry}
-use Rattle.std.specs.Prelude.{Bool, Some, false, not, true}
-use Rattle.std.specs.Cmp.Lexicographic.{pointwise}
-use Rattle.std.proofs.lemmas.Bool.Decides.{Decides-eqb}
-use Rattle.std.proofs.lemmas.Slice.Eq.{slice_eq-Decides}
-use lib.Dec.{eqb}
-use Rattle.rrd_file.specs.Faults.{Front, IsBad, IsFault, IsTrailing, IsWhole, bad_in_body}
-use Rattle.rrd_file.specs.Reader.{Gives, Input, IsCut, left}
-use Rattle.rrd_file.specs.Layout.Pieces.{Mark, OfArchive, OfCell, OfHeader, OfPrep, OfSource, OfVersion, Piece, spell, version_number}
-use Rattle.rrd_file.specs.Layout.Values.{two_bytes}
-use Rattle.rrd_file.specs.Stages.{Body, Marked, Stage, Start, Takes, Versioned, body_size, header_size, size}
-use Rattle.rrd_file.specs.Progress.{Stands}
-use Rattle.rrd_file.specs.Refusals.{fault_in_block, fault_in_entry}
-use Rattle.rrd_file.specs.Layout.Fitting.{FitsArchive, FitsCell, FitsHeader, FitsPart, FitsSource}
+use Rattle.std.specs.Prelude.{◌≡◌, ◌≢◌, ◌^◌, ◌<◌, ℕ, List, [], length, Bool, Some, false, not, true}
+use Rattle.rrd_file.proofs.Names.{◌∙◌, sym, ap, subst, refl, arith, Cell, Part, PieceFault, SourceDue, HeadDue, PrepDue, CellDue, NothingDue, RraDef, Version, One, Two, Filed, Header, Source, IsHeader, MayCell, MayHead, MayPrep, MaySource, begun, due, limits, with_cell, with_head, with_prep, with_source, FileFault, NotOurs, BadBlock, BadEntry, pointwise, Decides-eqb, slice_eq-Decides, eqb, Front, IsBad, IsFault, IsTrailing, IsWhole, bad_in_body, Gives, Input, IsCut, left, Mark, OfArchive, OfCell, OfHeader, OfPrep, OfSource, OfVersion, Piece, spell, version_number, two_bytes, Body, Marked, Stage, Start, Takes, Versioned, body_size, header_size, size, Stands, fault_in_block, fault_in_entry, FitsArchive, FitsCell, FitsHeader, FitsPart, FitsSource}
+use Rattle.rrd_file.specs.declared.fault.FileFault.TheVariants.{Version as WrongVersion}
 use Rattle.rrd_file.proofs.OneSpelling.{archive_fits, cell_fits, header_fits, prep_fits, source_fits}
 use Rattle.rrd_file.proofs.Reached.{cut, refused, taken}
 use Rattle.rrd_file.proofs.Sound.{IsSound, reached_sound, small_limits}
 use Rattle.rrd_file.proofs.Spelled.{archive_one, cell_one, header_one, part_one, source_one, two_one}
 use Rattle.rrd_file.proofs.Ways.{Step, ToMark, ToVersion, ToHeader, ToSource, ToHead, ToPrep, ToCell, ToEntry, step_of}
+use Rattle.rrd_base.specs.declared.rebuild.PieceFault.TheVariants as refusal
 
 -- ---- refusals
 
@@ -155,11 +133,10 @@ source_same x y a b e = source_one x y a b e
 pub source_unread : (bytes piece : List ℕ) (old new : Input) (f : Filed) → due f ≡ SourceDue → Stands bytes (Body f) old → Gives old piece new → length piece ≡ 97 → ((s : Source) → FitsSource s → spell (OfSource s) ≢ piece) → IsBad bytes (BadBlock old.at)
 unfolding size
 source_unread bytes piece old new f d st g len none =
-    let sound = sound_body bytes f old st in
     refused bytes (Body f) piece old new (BadBlock old.at) st g (ap body_size d ∙ sym len) (omega (arith, len))
     (λ q n t e.
     let it = source_step d (step_of (Body f) q n t) in
-    none it.0 (source_fits f it.0 sound.header it.2) (sym (ap spell it.1) ∙ e)) (sym (ap (bad_in_body f old.at) d))
+    none it.0 (source_fits f it.0 (sound_body bytes f old st).header it.2) (sym (ap spell it.1) ∙ e)) (sym (ap (bad_in_body f old.at) d))
 
 pub source_refused : (bytes piece : List ℕ) (old new : Input) (f : Filed) (s : Source) → due f ≡ SourceDue → Stands bytes (Body f) old → Gives old piece new → length piece ≡ 97 → spell (OfSource s) ≡ piece → FitsSource s → (MaySource f s → ⊥) → IsBad bytes (BadBlock old.at)
 unfolding size
@@ -259,11 +236,4 @@ ended bytes f old d st none = record {
 
 pub trails : (bytes : List ℕ) (f : Filed) (old : Input) → due f ≡ NothingDue → Stands bytes (Body f) old → ((rest : List ℕ) → left old ≡ Some rest → 0 < length rest) → IsTrailing bytes old.at
 unfolding size
-trails bytes f old d st some = record {
-  stage = Body f;
-  rest = st.rest;
-  front = st.front;
-  done = ap body_size d;
-  some = some st.rest st.left_is;
-  place = st.place;
-}
+trails bytes f old d st some = grind (arith, Body f, st, ap body_size d, some st.rest st.left_is)

@@ -1,32 +1,13 @@
 -- Pieces of an entry that came whole: kept, or refused.
-use Rattle.std.proofs.Common.{◌≡◌, ◌≢◌, ◌∙◌, ◌++◌, ◌∷◌, ◌/◌, ◌%◌, ◌^◌, ◌<◌, ◌≤◌, ℕ, suc, List, [], sym, ap, subst, refl, length, arith}
-use native.Mathlib.Nat as nat
-use Rattle.rrd_fixed.specs.declared.cell.Cell.{Cell}
-use Rattle.rrd_fixed.specs.declared.raw.Raw.{Raw}
-use Rattle.rrd_fold.specs.declared.function.Function.TheVariants.{Average}
-use Rattle.rrd_fold.specs.Parts.{Part}
-use Rattle.rrd_spec.specs.declared.entry.SavedSource.{SavedSource}
-use Rattle.rrd_spec.specs.declared.outline.Outline.{Outline}
-use Rattle.rrd_spec.specs.declared.settings.DsDef.{DsDef}
-use Rattle.rrd_spec.specs.declared.settings.RraDef.{RraDef}
-use Rattle.rrd_spec.specs.Files.Filed.{Filed}
-use Rattle.rrd_spec.specs.Limits.{Limits, limits_of}
-use Rattle.rrd_spec.specs.Journal.Fitting.{IsSavedSource}
-use Rattle.rrd_spec.specs.Validity.{IsPart}
-use Rattle.rrd_spec.specs.Files.Rebuilding.{limits, outline_left}
-use Rattle.rrd_base.specs.Rebuild.Validators.{EntryValidator, validator}
-use Rattle.rrd_file.specs.declared.fault.FileFault.TheVariants.{BadEntry}
-use Rattle.rrd_file.specs.Faults.{IsBad}
-use Rattle.rrd_file.specs.Reader.{Gives, Input}
-use Rattle.rrd_file.specs.Layout.Pieces.{OfArchive, OfCell, OfCount, OfNumber, OfPrep, OfRawAndPart, OfRows, OfSavedSource, OfTime, Piece, spell}
-use Rattle.rrd_file.specs.Stages.{BeforeDue, CountDue, DueInEntry, Keeps, NamedDue, NumberDue, OldRowsDue, RemovedHeadDue, RemovedNumberDue, RowCellDue, RowPrepDue, RowsDue, TimeDue, Within, behind, size_due}
-use Rattle.rrd_file.specs.Progress.{Comes}
-use Rattle.rrd_file.specs.Layout.Fitting.{FitsArchive, FitsCell, FitsPart, FitsRaw, FitsSavedSource}
+use Rattle.std.specs.Prelude.{◌≡◌, ◌≢◌, ◌++◌, ◌∷◌, ◌/◌, ◌%◌, ◌^◌, ◌<◌, ◌≤◌, ℕ, suc, List, [], length}
+use Rattle.rrd_file.proofs.Names.{◌∙◌, sym, ap, subst, refl, arith, Cell, Raw, Average, Part, SavedSource, Outline, DsDef, RraDef, Filed, Limits, limits_of, IsSavedSource, IsPart, limits, outline_left, EntryValidator, validator, BadEntry, IsBad, Gives, Input, OfArchive, OfCell, OfCount, OfNumber, OfPrep, OfRawAndPart, OfRows, OfSavedSource, OfTime, Piece, spell, BeforeDue, CountDue, DueInEntry, NamedDue, NumberDue, OldRowsDue, RemovedHeadDue, RemovedNumberDue, RowCellDue, RowPrepDue, RowsDue, TimeDue, Within, behind, size_due, Comes, FitsArchive, FitsCell, FitsPart, FitsRaw, FitsSavedSource}
+use Rattle.rrd_file.specs.Stages.{Keeps}
 use Rattle.rrd_file.proofs.Coming.{came, inside, wrong}
-use Rattle.rrd_file.proofs.OneSpelling.{archive_fits, cell_fits, def_fits, part_fits, raw_fits}
+use Rattle.rrd_file.proofs.OneSpelling.{IsHere, archive_fits, cell_fits, def_fits, part_fits, raw_fits, here, row_part_fits, saved_source_fits}
 use Rattle.rrd_file.proofs.Sound.{AreSmall, AreSound, HasSomeSteps, IsSound, IsSoundDue, reached_sound, small_limits}
 use Rattle.rrd_file.proofs.Spelled.{archive_one, cell_one, eight_one, four_one, part_one, raw_and_part_one, saved_source_one, two_one}
 use Rattle.rrd_file.proofs.Ways.{Way, ByTime, ByRawAndPart, ByRowPrep, ByRows, ByRowCell, ByCount, ByNamed, ByNumber, ByOldRows, ByRemovedNumber, ByRemovedHead, way}
+use native.Mathlib.Nat as nat
 
 -- a piece of the kind that is due, whose values fit their bytes
 pub data Read : DueInEntry → Piece → Type 0 where
@@ -41,24 +22,6 @@ pub data Read : DueInEntry → Piece → Type 0 where
   ReadOldRows : (archive rows : ℕ) → rows < 2 ^ 32 → Read (OldRowsDue archive) (OfRows rows)
   ReadRemovedNumber : (number : ℕ) → number < 2 ^ 16 → Read RemovedNumberDue (OfNumber number)
   ReadRemovedHead : (def : RraDef) → FitsArchive def → Read RemovedHeadDue (OfArchive def)
-
--- the limits, the step and the outline at a stage that a file reaches
-record IsHere (l : Limits) (step : ℕ) (now : Outline) : Type 0 where
-  small : AreSmall l
-  sound : AreSound now
-  some_step : 0 < step
-  small_step : step ≤ 1000000
-
-here : (f : Filed) → IsSound f → IsHere (limits f) f.header.step (outline_left f)
-here f h =
-    let small = small_limits f.header.version in
-    record { small = small; sound = h.left; some_step = h.header.some_step; small_step = omega (arith, h.header.small_step, small.step) }
-
-row_part_fits : (step last : ℕ) (def : RraDef) (part : Part) → HasSomeSteps def → IsPart def.function (last / step % def.steps) part → FitsPart part
-row_part_fits step last def part h p = part_fits def.function (last / step % def.steps) part (omega (arith, nat.mod-lt (last / step) h.some, h.few)) p
-
-saved_source_fits : (l : Limits) (old : SavedSource) (now : Outline) → AreSmall l → AreSound now → old.number < length now.sources → IsSavedSource l old → FitsSavedSource old
-saved_source_fits l old now small h n k = record { number = omega (arith, n, h.sources); source = def_fits l old.source small k.0; raw = raw_fits old.source.kind old.raw k.1 }
 
 -- no other piece that keeps to the rule is spelled so
 read_one : (l : Limits) (step : ℕ) (now : Outline) {d : DueInEntry} {p q : Piece} → IsHere l step now → IsSoundDue d → Read d p → Way l step now d q → spell q ≡ spell p → q ≡ p

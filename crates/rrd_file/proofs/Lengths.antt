@@ -1,19 +1,6 @@
 -- How many bytes the values of a piece have.
-use Rattle.std.proofs.Common.{◌≡◌, ◌++◌, ◌∷◌, ◌+◌, ◌-◌, ◌≤◌, ℕ, List, refl, length, replicate, arith, length-append}
-use Rattle.std.specs.Prelude.{nat_lt, true}
-use Rattle.std.specs.List.{list_all}
-use Rattle.std.proofs.lemmas.Bool.{leb-true}
-use Rattle.std.proofs.lemmas.List.{length-replicate}
-use Rattle.rrd_fixed.specs.declared.name.Name.{Name}
-use Rattle.rrd_fixed.specs.Names.{is_good, is_letter}
-use Rattle.rrd_fold.specs.Parts.{Part}
-use Rattle.rrd_spec.specs.declared.settings.DsDef.{DsDef}
-use Rattle.rrd_spec.specs.declared.version.Version.{Version}
-use Rattle.rrd_spec.specs.declared.version.Version.TheVariants.{One, Two}
-use Rattle.rrd_spec.specs.Files.Filed.{Header}
-use Rattle.rrd_file.specs.Layout.Values.{bound_bytes, eight_bytes, name_bytes, kind_byte, part_bytes, bound_number, source_bytes}
-use Rattle.rrd_file.specs.Layout.Pieces.{header_bytes}
-use Rattle.rrd_file.specs.Stages.{header_size}
+use Rattle.std.specs.Prelude.{◌≡◌, ◌++◌, ◌∷◌, ◌+◌, ◌-◌, ◌≤◌, ℕ, List, length, replicate, nat_lt, true}
+use Rattle.rrd_file.proofs.Names.{refl, arith, length-append, list_all, leb-true, length-replicate, Name, is_good, is_letter, Part, DsDef, Version, One, Two, Header, bound_bytes, eight_bytes, name_bytes, kind_byte, part_bytes, bound_number, source_bytes, header_bytes, header_size}
 use Rattle.rrd_file.proofs.SignedBytes.{signed_length}
 use Rattle.rrd_file.proofs.Tests.{and_left, and_right}
 

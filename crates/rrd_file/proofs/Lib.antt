@@ -1,3 +1,5 @@
+pub mod Names
+pub mod Common
 pub mod Joined
 pub mod Gathering
 pub mod Told

@@ -1,24 +1,8 @@
 -- An input has one answer, but for failures of the reader and of memory.
-use Rattle.std.proofs.Common.{◌≡◌, ◌∙◌, ◌++◌, ◌+◌, ◌-◌, ◌<◌, ℕ, List, [], Bool, sym, ap, subst, length, arith, take}
-use Rattle.std.specs.Prelude.{if◌then◌else◌, nat_lt, Result, Ok, Err}
-use Rattle.std.proofs.lemmas.Bool.{lt-ltb, le-ltb}
-use Rattle.std.proofs.lemmas.List.{take_all}
-use Rattle.rrd_spec.specs.declared.version.Version.{Version}
-use Rattle.rrd_spec.specs.Files.Filed.{Filed, filed}
-use Rattle.rrd_spec.specs.Commands.{DatabaseChange}
-use Rattle.rrd_spec.specs.Journal.Entries.{Entry}
-use Rattle.rrd_spec.specs.Laws.FiledOnce.{FiledOnce}
-use Rattle.rrd_spec.specs.History.{Content}
-use Rattle.rrd_spec.specs.Laws.Journal.{RevertTakesBack}
-use Rattle.rrd_spec.specs.Limits.{Limits, limits_of}
-use Rattle.rrd_spec.specs.Validity.{IsValidWithin}
-use Rattle.rrd_spec.specs.Journal.Survivors.{Stored}
-use Rattle.rrd_file.specs.declared.fault.FileFault.{FileFault}
-use Rattle.rrd_file.specs.declared.fault.FileFault.TheVariants.{NotOurs, Version as WrongVersion, Truncated, BadBlock, BadEntry, Trailing, Read, OutOfMemory}
-use Rattle.rrd_file.specs.Faults.{Front, IsAnswer, IsBad, IsFault, IsFile, IsTrailing, IsTruncated, IsWhole, bad_at}
-use Rattle.rrd_file.specs.Laws.{RevertRestoresBytes, RevertRestoresBytesButOldest, IsOfFile, IsValidIn}
-use Rattle.rrd_file.specs.Layout.{layout, layout_in}
-use Rattle.rrd_file.specs.Stages.{Stage, Start, Body, size}
+use Rattle.std.specs.Prelude.{◌≡◌, ◌++◌, ◌+◌, ◌-◌, ◌<◌, ℕ, List, [], Bool, length, take, if◌then◌else◌, nat_lt, Result, Ok, Err}
+use Rattle.rrd_file.proofs.Names.{◌∙◌, sym, ap, subst, arith, lt-ltb, le-ltb, take_all, Version, Filed, filed, DatabaseChange, Entry, FiledOnce, Content, RevertTakesBack, Limits, limits_of, IsValidWithin, Stored, FileFault, NotOurs, Truncated, BadBlock, BadEntry, Trailing, Read, OutOfMemory, Front, IsAnswer, IsBad, IsFault, IsFile, IsTrailing, IsTruncated, IsWhole, bad_at, RevertRestoresBytes, RevertRestoresBytesButOldest, IsOfFile, layout, layout_in, Stage, Start, Body, size}
+use Rattle.rrd_file.specs.declared.fault.FileFault.TheVariants.{Version as WrongVersion}
+use Rattle.rrd_file.specs.Laws.{IsValidIn}
 use Rattle.rrd_file.proofs.Came.{whole_is_layout}
 use Rattle.rrd_file.proofs.OneEnd.{EndsAt, ends_bad, ends_done, ends_short, one_end, one_layout, same_body}
 use Rattle.rrd_file.proofs.ValidRuns.{Outlining, valid_is_whole}
@@ -77,8 +61,7 @@ stops bytes (Truncated at) h k = truncated_stops bytes at h
 stops bytes (BadBlock at) h k = bad_stops bytes (BadBlock at) h
 stops bytes (BadEntry number) h k = bad_stops bytes (BadEntry number) h
 stops bytes (Trailing at) h k = trailing_stops bytes at h
-stops bytes Read h k = absurd k
-stops bytes OutOfMemory h k = absurd k
+stops bytes x h k = absurd k
 
 -- ---- two answers
 
@@ -129,9 +112,8 @@ file_is_layout bytes d file = whole_is_layout bytes (filed file.version d) file.
 
 pub layouts_differ : Outlining → OneDatabase → (v w : Version) (d e : Stored) (more : List ℕ) → IsValidIn v d → IsValidIn w e → layout_in v d ++ more ≡ layout_in w e → (v ≡ w) × (d ≡ e) × (more ≡ [])
 layouts_differ laws one v w d e more a b same =
-    let mine = valid_is_whole laws v d.content d.journal a in
     let its = subst (λ (bytes : List ℕ). IsWhole bytes (filed w e)) (sym same) (valid_is_whole laws w e.content e.journal b) in
-    let both = one_layout (layout_in v d) more (filed v d) (filed w e) mine its in
+    let both = one_layout (layout_in v d) more (filed v d) (filed w e) (valid_is_whole laws v d.content d.journal a) its in
     (ap (λ (f : Filed). f.header.version) both.0, one_filed one v w d e a b both.0, both.1)
 
 -- ---- reverts

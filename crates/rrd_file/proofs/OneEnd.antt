@@ -1,14 +1,6 @@
 -- The pieces of an input come in one way only, as far as they go.
-use Rattle.std.proofs.Common.{◌≡◌, ◌∙◌, ◌++◌, ◌∷◌, ◌<◌, ℕ, List, [], sym, ap, subst, length, take, arith, append_assoc, length-append}
-use Rattle.std.specs.Prelude.{◌≢◌}
-use Rattle.std.proofs.lemmas.List.{take_at}
-use Rattle.std.proofs.lemmas.List.Concat.{flat_map-cons}
-use Rattle.rrd_spec.specs.Files.Filed.{Filed}
-use Rattle.rrd_file.specs.Faults.{Front, IsWhole}
-use Rattle.rrd_file.specs.Layout.{spelled}
-use Rattle.rrd_file.specs.Layout.Pieces.{Piece, Mark, OfVersion, OfHeader, OfSource, OfArchive, OfPrep, OfCell, OfTag, OfTime, OfRawAndPart, OfRows, OfCount, OfSavedSource, OfNumber, spell}
-use Rattle.rrd_file.specs.Layout.Values.{cell_number, raw_bytes, part_bytes}
-use Rattle.rrd_file.specs.Stages.{Stage, Start, Body, Runs, Takes, size}
+use Rattle.std.specs.Prelude.{◌≡◌, ◌++◌, ◌∷◌, ◌<◌, ℕ, List, [], length, take, ◌≢◌}
+use Rattle.rrd_file.proofs.Names.{◌∙◌, sym, ap, subst, arith, append_assoc, length-append, take_at, flat_map-cons, Filed, Front, IsWhole, spelled, Piece, Mark, OfVersion, OfHeader, OfSource, OfArchive, OfPrep, OfCell, OfTag, OfTime, OfRawAndPart, OfRows, OfCount, OfSavedSource, OfNumber, spell, cell_number, raw_bytes, part_bytes, Stage, Start, Body, Runs, Takes, size}
 use Rattle.rrd_file.proofs.Lengths.{header_length, part_length}
 use Rattle.rrd_file.proofs.OneEntry.{one_next}
 use Rattle.rrd_file.proofs.OneSpelling.{one_at}
@@ -25,20 +17,11 @@ EndsAt s rest = (p : Piece) (n : Stage) (more : List ℕ) → Takes s p n → re
 
 some_bytes : (p : Piece) → 0 < length (spell p)
 unfolding spell
-some_bytes Mark = omega arith
-some_bytes (OfVersion x) = omega arith
 some_bytes (OfHeader x) = omega (arith, header_length x.version x)
-some_bytes (OfSource x) = omega arith
-some_bytes (OfArchive x) = omega arith
 some_bytes (OfPrep x) = omega (arith, part_length x)
 some_bytes (OfCell x) = omega (arith, signed_length (cell_number x))
-some_bytes (OfTag x) = omega arith
-some_bytes (OfTime x) = omega arith
 some_bytes (OfRawAndPart x y) = omega (arith, length-append (raw_bytes x) (part_bytes y), part_length y)
-some_bytes (OfRows x) = omega arith
-some_bytes (OfCount x) = omega arith
-some_bytes (OfSavedSource x) = omega arith
-some_bytes (OfNumber x) = omega arith
+some_bytes x = omega arith
 
 -- where no piece is due
 pub ends_done : (s : Stage) (rest : List ℕ) → size s ≡ 0 → EndsAt s rest

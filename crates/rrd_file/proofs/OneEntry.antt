@@ -1,11 +1,6 @@
 -- An entry that may come has pieces that no other such entry has.
-use Rattle.std.proofs.Common.{◌≡◌, ◌∙◌, ◌∷◌, List, [], sym, ap, refl}
-use Rattle.rrd_spec.specs.Journal.Entries.{Entry}
-use Rattle.rrd_spec.specs.Files.Filed.{Filed}
-use Rattle.rrd_spec.specs.Files.Rebuilding.{MayEntry, outline_left, with_entry}
-use Rattle.rrd_file.specs.Layout.{entry_pieces}
-use Rattle.rrd_file.specs.Layout.Pieces.{Piece}
-use Rattle.rrd_file.specs.Stages.{Stage, Body, DueInEntry, GoesOn, Takes}
+use Rattle.std.specs.Prelude.{◌≡◌, ◌∷◌, List, []}
+use Rattle.rrd_file.proofs.Names.{◌∙◌, sym, ap, refl, Entry, Filed, MayEntry, outline_left, with_entry, entry_pieces, Piece, Stage, Body, DueInEntry, GoesOn, Takes}
 use Rattle.rrd_file.proofs.OneShape.{shaped_one, undo_shaped}
 use Rattle.rrd_file.proofs.Ways.{Step, ToMark, ToVersion, ToHeader, ToSource, ToHead, ToPrep, ToCell, ToEntry, ToPiece, step_of}
 

@@ -1,25 +1,6 @@
 -- Entries with the same pieces are one, where their lists are as long as the outline says.
-use Rattle.std.proofs.Common.{◌≡◌, ◌∙◌, ◌++◌, ◌∷◌, ℕ, List, [], sym, ap, refl, length, get_or, arith, map, append_assoc}
-use Rattle.std.specs.List.{AllByRecursion, flat_map}
-use Rattle.std.proofs.lemmas.List.{length-map}
-use Rattle.std.proofs.lemmas.List.Concat.{flat_map-cons}
-use Rattle.rrd_fixed.specs.declared.cell.Cell.{Cell}
-use Rattle.rrd_fixed.specs.declared.raw.Raw.{Raw}
-use Rattle.rrd_fold.specs.Parts.{Part}
-use Rattle.rrd_ring.specs.Rows.{HasWidth}
-use Rattle.rrd_spec.specs.declared.entry.SavedSource.{SavedSource}
-use Rattle.rrd_spec.specs.declared.outline.Outline.{Outline}
-use Rattle.rrd_spec.specs.declared.settings.RraDef.{RraDef}
-use Rattle.rrd_spec.specs.Journal.Entries.{BeforeUpdate, Entry, SavedArchive, UpdateEntry, TuneEntry, ResizeEntry, AddedEntry, RemovedEntry}
-use Rattle.rrd_spec.specs.History.{Rra}
-use Rattle.rrd_spec.specs.Files.Filed.{Filed}
-use Rattle.rrd_spec.specs.Limits.{Limits}
-use Rattle.rrd_spec.specs.Journal.Fitting.{MaySaveEach, MayUndo}
-use Rattle.rrd_spec.specs.Files.Rebuilding.{MayEntry, limits, outline_left}
-use Rattle.rrd_spec.specs.Validity.{IsRow}
-use Rattle.rrd_file.specs.Layout.{entry_pieces, raws_and_parts, row_pieces, saved_pieces}
-use Rattle.rrd_file.specs.Layout.Pieces.{Piece, Mark, OfArchive, OfCell, OfCount, OfNumber, OfPrep, OfRawAndPart, OfRows, OfSavedSource, OfTag, OfTime, AnUpdate, ATune, AResize, AnAddition, ARemoval}
-use Rattle.rrd_file.specs.Journal.{AreSavedShaped, IsRemovedShaped, IsShaped, IsUpdateShaped}
+use Rattle.std.specs.Prelude.{◌≡◌, ◌++◌, ◌∷◌, ℕ, List, [], length, map}
+use Rattle.rrd_file.proofs.Names.{◌∙◌, sym, ap, refl, get_or, arith, append_assoc, AllByRecursion, flat_map, length-map, flat_map-cons, Cell, Raw, Part, HasWidth, SavedSource, Outline, RraDef, BeforeUpdate, Entry, SavedArchive, UpdateEntry, TuneEntry, ResizeEntry, AddedEntry, RemovedEntry, Rra, Filed, Limits, MaySaveEach, MayUndo, MayEntry, limits, outline_left, IsRow, entry_pieces, raws_and_parts, row_pieces, saved_pieces, Piece, Mark, OfArchive, OfCell, OfCount, OfNumber, OfPrep, OfRawAndPart, OfRows, OfSavedSource, OfTag, OfTime, AnUpdate, ATune, AResize, AnAddition, ARemoval, AreSavedShaped, IsRemovedShaped, IsShaped, IsUpdateShaped}
 use Rattle.rrd_file.proofs.Spelled.{append_same}
 use Rattle.rrd_file.proofs.Told.{accepted_length, length_before}
 
@@ -30,7 +11,6 @@ map_one f one [] [] e = refl
 map_one f one [] (y ∷ b) e = absurd (let bad : [] ≡ f y ∷ map f b = e in cc)
 map_one f one (x ∷ a) [] e = absurd (let bad : f x ∷ map f a ≡ [] = e in cc)
 map_one f one (x ∷ a) (y ∷ b) e =
-    let both : f x ∷ map f a ≡ f y ∷ map f b = e in
     let first : f x ≡ f y = cc in
     let later : map f a ≡ map f b = cc in
     λ i. one x y first i ∷ map_one f one a b later i
@@ -46,22 +26,18 @@ before_same x y e = cc
 
 raws_one : (r s : List Raw) (a b : List Part) → length r ≡ length a → length s ≡ length b → raws_and_parts r a ≡ raws_and_parts s b → (r ≡ s) × (a ≡ b)
 raws_one [] [] [] [] l m e = (refl, refl)
-raws_one [] [] [] (y ∷ b) l m e = absurd (omega (arith, m))
 raws_one [] [] (x ∷ a) b l m e = absurd (omega (arith, l))
-raws_one [] (s ∷ ss) [] [] l m e = absurd (omega (arith, m))
 raws_one [] (s ∷ ss) [] (y ∷ b) l m e = absurd (let bad : [] ≡ OfRawAndPart s y ∷ raws_and_parts ss b = e in cc)
 raws_one [] (s ∷ ss) (x ∷ a) b l m e = absurd (omega (arith, l))
 raws_one (r ∷ rs) ss [] b l m e = absurd (omega (arith, l))
 raws_one (r ∷ rs) [] (x ∷ a) [] l m e = absurd (let bad : OfRawAndPart r x ∷ raws_and_parts rs a ≡ [] = e in cc)
-raws_one (r ∷ rs) [] (x ∷ a) (y ∷ b) l m e = absurd (omega (arith, m))
-raws_one (r ∷ rs) (s ∷ ss) (x ∷ a) [] l m e = absurd (omega (arith, m))
 raws_one (r ∷ rs) (s ∷ ss) (x ∷ a) (y ∷ b) l m e =
-    let both : OfRawAndPart r x ∷ raws_and_parts rs a ≡ OfRawAndPart s y ∷ raws_and_parts ss b = e in
     let raw : r ≡ s = cc in
     let part : x ≡ y = cc in
     let rest : raws_and_parts rs a ≡ raws_and_parts ss b = cc in
     let later = raws_one rs ss a b (omega (arith, l)) (omega (arith, m)) rest in
     (λ i. raw i ∷ later.0 i, λ i. part i ∷ later.1 i)
+raws_one z u x y l m e = absurd (omega (arith, m))
 
 -- ---- rows of one width
 
@@ -70,14 +46,12 @@ row_cut row rows a = ap (λ l. l ++ a) (flat_map-cons (λ (r : List Cell). map O
 
 rows_one : (width : ℕ) (rows olds : List (List Cell)) (a b : List Piece) → HasWidth width rows → HasWidth width olds → length rows ≡ length olds → row_pieces rows ++ a ≡ row_pieces olds ++ b → (rows ≡ olds) × (a ≡ b)
 rows_one width [] [] a b h k l e = (refl, e)
-rows_one width [] (y ∷ olds) a b h k l e = absurd (omega (arith, l))
-rows_one width (x ∷ rows) [] a b h k l e = absurd (omega (arith, l))
 rows_one width (x ∷ rows) (y ∷ olds) a b h k l e =
     let same : length (map OfCell x) ≡ length (map OfCell y) = length-map x OfCell ∙ h.0 ∙ sym k.0 ∙ sym (length-map y OfCell) in
     let both = append_same (map OfCell x) (row_pieces rows ++ a) (map OfCell y) (row_pieces olds ++ b) same (sym (row_cut x rows a) ∙ e ∙ row_cut y olds b) in
-    let first = map_one OfCell cell_same x y both.0 in
     let later = rows_one width rows olds a b h.1 k.1 (omega (arith, l)) both.1 in
-    (λ i. first i ∷ later.0 i, later.1)
+    (λ i. (map_one OfCell cell_same x y both.0) i ∷ later.0 i, later.1)
+rows_one width x y a b h k l e = absurd (omega (arith, l))
 
 -- ---- what an update saved
 
@@ -86,27 +60,23 @@ saved_cut old olds = flat_map-cons saved_pieces old olds ∙ append_assoc (map O
 
 saved_one : (sources : ℕ) (defs : List RraDef) (olds news : List SavedArchive) → AreSavedShaped sources defs olds → AreSavedShaped sources defs news → flat_map saved_pieces olds ≡ flat_map saved_pieces news → olds ≡ news
 saved_one sources [] [] [] h k e = refl
-saved_one sources [] [] (new ∷ news) h k e = absurd k
 saved_one sources [] (old ∷ olds) news h k e = absurd h
 saved_one sources (def ∷ defs) [] news h k e = absurd h
-saved_one sources (def ∷ defs) (old ∷ olds) [] h k e = absurd k
 saved_one sources (def ∷ defs) (old ∷ olds) (new ∷ news) h k e =
     let same : length (map OfPrep old.parts) ≡ length (map OfPrep new.parts) = length-map old.parts OfPrep ∙ h.0.one_part_each ∙ sym k.0.one_part_each ∙ sym (length-map new.parts OfPrep) in
     let both = append_same (map OfPrep old.parts) (OfRows (length old.rows) ∷ (row_pieces old.rows ++ flat_map saved_pieces olds)) (map OfPrep new.parts) (OfRows (length new.rows) ∷ (row_pieces new.rows ++ flat_map saved_pieces news)) same (sym (saved_cut old olds) ∙ e ∙ saved_cut new news) in
-    let behind : OfRows (length old.rows) ∷ (row_pieces old.rows ++ flat_map saved_pieces olds) ≡ OfRows (length new.rows) ∷ (row_pieces new.rows ++ flat_map saved_pieces news) = both.1 in
     let count : length old.rows ≡ length new.rows = cc in
     let rest : row_pieces old.rows ++ flat_map saved_pieces olds ≡ row_pieces new.rows ++ flat_map saved_pieces news = cc in
     let function : old.function ≡ new.function = h.0.same_function ∙ sym k.0.same_function in
     let parts = map_one OfPrep prep_same old.parts new.parts both.0 in
     let rows = rows_one sources old.rows new.rows (flat_map saved_pieces olds) (flat_map saved_pieces news) h.0.one_cell_each k.0.one_cell_each count rest in
-    let later = saved_one sources defs olds news h.1 k.1 rows.1 in
-    λ i. record { function = function i; parts = parts i; rows = rows.0 i } ∷ later i
+    λ i. record { function = function i; parts = parts i; rows = rows.0 i } ∷ (saved_one sources defs olds news h.1 k.1 rows.1) i
+saved_one sources x y z h k e = absurd k
 
 -- ---- entries
 
 update_one : (now : Outline) (old new : BeforeUpdate) → IsUpdateShaped now old → IsUpdateShaped now new → entry_pieces (UpdateEntry old) ≡ entry_pieces (UpdateEntry new) → old ≡ new
 update_one now old new h k e =
-    let whole : OfTag AnUpdate ∷ OfTime old.last ∷ (raws_and_parts old.raws old.parts ++ flat_map saved_pieces old.archives) ≡ OfTag AnUpdate ∷ OfTime new.last ∷ (raws_and_parts new.raws new.parts ++ flat_map saved_pieces new.archives) = e in
     let last : old.last ≡ new.last = cc in
     let rest : raws_and_parts old.raws old.parts ++ flat_map saved_pieces old.archives ≡ raws_and_parts new.raws new.parts ++ flat_map saved_pieces new.archives = cc in
     let po : length old.raws ≡ length old.parts = h.one_raw_each ∙ sym h.one_part_each in
@@ -119,7 +89,6 @@ update_one now old new h k e =
 
 resize_one : (width x y : ℕ) (rows olds : List (List Cell)) → HasWidth width rows → HasWidth width olds → entry_pieces (ResizeEntry x rows) ≡ entry_pieces (ResizeEntry y olds) → ResizeEntry x rows ≡ ResizeEntry y olds
 resize_one width x y rows olds h k e =
-    let whole : OfTag AResize ∷ OfNumber x ∷ OfRows (length rows) ∷ row_pieces rows ≡ OfTag AResize ∷ OfNumber y ∷ OfRows (length olds) ∷ row_pieces olds = e in
     let number : x ≡ y = cc in
     let count : length rows ≡ length olds = cc in
     let rest : row_pieces rows ≡ row_pieces olds = cc in
@@ -128,13 +97,11 @@ resize_one width x y rows olds h k e =
 
 tune_one : (x y : List SavedSource) → entry_pieces (TuneEntry x) ≡ entry_pieces (TuneEntry y) → TuneEntry x ≡ TuneEntry y
 tune_one x y e =
-    let whole : OfTag ATune ∷ OfCount (length x) ∷ map OfSavedSource x ≡ OfTag ATune ∷ OfCount (length y) ∷ map OfSavedSource y = e in
     let rest : map OfSavedSource x ≡ map OfSavedSource y = cc in
     ap TuneEntry (map_one OfSavedSource before_same x y rest)
 
 removed_one : (now : Outline) (x y : ℕ) (a b : Rra) → IsRemovedShaped now a → IsRemovedShaped now b → entry_pieces (RemovedEntry x a) ≡ entry_pieces (RemovedEntry y b) → RemovedEntry x a ≡ RemovedEntry y b
 removed_one now x y a b h k e =
-    let whole : OfTag ARemoval ∷ OfNumber x ∷ OfArchive a.def ∷ (map OfPrep a.parts ++ row_pieces a.rows) ≡ OfTag ARemoval ∷ OfNumber y ∷ OfArchive b.def ∷ (map OfPrep b.parts ++ row_pieces b.rows) = e in
     let number : x ≡ y = cc in
     let def : a.def ≡ b.def = cc in
     let rest : map OfPrep a.parts ++ row_pieces a.rows ≡ map OfPrep b.parts ++ row_pieces b.rows = cc in
@@ -180,21 +147,15 @@ rows_shaped width (row ∷ rows) h = (h.0.one_each, rows_shaped width rows h.1)
 
 saved_shaped : (step from to sources : ℕ) (defs : List RraDef) (olds : List SavedArchive) → MaySaveEach step from to sources defs olds → AreSavedShaped sources defs olds
 saved_shaped step from to sources [] [] h = tt
-saved_shaped step from to sources [] (old ∷ olds) h = absurd h
-saved_shaped step from to sources (def ∷ defs) [] h = absurd h
 saved_shaped step from to sources (def ∷ defs) (old ∷ olds) h =
     (record { same_function = h.0.same_function; one_part_each = h.0.parts_are.one_each; one_cell_each = rows_shaped sources old.rows h.0.each_row }, saved_shaped step from to sources defs olds h.1)
+saved_shaped step from to sources x y h = absurd h
 
 fits_shaped : (l : Limits) (step : ℕ) (now : Outline) (e : Entry) → MayUndo l step now e → IsShaped now e
-fits_shaped l step now (UpdateEntry old) m = record {
-  one_raw_each = accepted_length now.sources old.raws m.raws_are;
-  one_part_each = m.parts_are.one_each;
-  archives_are = saved_shaped step old.last now.last (length now.sources) now.archives old.archives m.archives_are;
-}
-fits_shaped l step now (TuneEntry olds) m = tt
+fits_shaped l step now (UpdateEntry old) m = assumption (accepted_length now.sources old.raws m.raws_are, m.parts_are, saved_shaped step old.last now.last (length now.sources) now.archives old.archives m.archives_are)
 fits_shaped l step now (ResizeEntry archive rows) m = rows_shaped (length now.sources) rows m.each_row
-fits_shaped l step now AddedEntry m = tt
 fits_shaped l step now (RemovedEntry number archive) m = record { one_part_each = m.1.parts_are.one_each; rows_are = m.1.rows_are; one_cell_each = rows_shaped (length now.sources) archive.rows m.1.each_row }
+fits_shaped l step now x m = tt
 
 pub undo_shaped : (f : Filed) (e : Entry) → MayEntry f e → IsShaped (outline_left f) e
 undo_shaped f e m = fits_shaped (limits f) f.header.step (outline_left f) e m.fits

@@ -1,41 +1,12 @@
 -- Of the pieces that may come at a stage, no two are spelled alike.
-use Rattle.std.proofs.Common.{◌≡◌, ◌∙◌, ◌∷◌, ◌+◌, ◌/◌, ◌%◌, ◌^◌, ◌<◌, ◌≤◌, ℕ, List, [], Bool, sym, ap, refl, subst, length, arith, map}
-use Rattle.std.specs.Prelude.{ℤ, nat_lt, nat_le, true, false, ◌&&◌, ◌==◌, if◌then◌else◌, unsigned_abs, Option, Some, None}
-use Rattle.std.specs.List.{AllByRecursion, list_all}
-use Rattle.std.proofs.lemmas.Bool.{lt-ltb, ltb-false}
-use Rattle.std.proofs.lemmas.Int.{ints}
-use native.Mathlib.Nat as nat
-use Rattle.rrd_fixed.specs.declared.cell.Cell.{Cell}
-use Rattle.rrd_fixed.specs.declared.raw.Raw.{Raw}
-use Rattle.rrd_fixed.specs.declared.kind.Kind.{Kind}
-use Rattle.rrd_fixed.specs.declared.kind.Kind.TheVariants.{Gauge, Counter, Derive, Absolute}
-use Rattle.rrd_fixed.specs.Names.{fits, is_good, is_letter}
-use Rattle.rrd_fixed.specs.Rate.{IsAccepted, IsBounded}
-use Rattle.rrd_fold.specs.Bounds.{weight}
-use Rattle.rrd_fold.specs.declared.function.Function.{Function}
-use Rattle.rrd_fold.specs.declared.function.Function.TheVariants.{Average, Min, Max, Last}
-use Rattle.rrd_fold.specs.Parts.{Part}
-use Rattle.rrd_spec.specs.declared.settings.DsDef.{DsDef}
-use Rattle.rrd_spec.specs.declared.settings.RraDef.{RraDef}
-use Rattle.rrd_spec.specs.declared.outline.Outline.{Outline}
-use Rattle.rrd_spec.specs.declared.entry.SavedSource.{SavedSource}
-use Rattle.rrd_spec.specs.Limits.{Limits, max_journal_depth_of}
-use Rattle.rrd_spec.specs.declared.version.Version.{Version}
-use Rattle.rrd_spec.specs.declared.version.Version.TheVariants.{One, Two}
-use Rattle.rrd_spec.specs.Files.Filed.{Filed, Head, Header, Source}
-use Rattle.rrd_spec.specs.Files.Rebuilding.{IsArchiveDef, IsHeader, MaySource, MayPrep, due, limits, outline_left, unprepared}
-use Rattle.rrd_spec.specs.Validity.{IsPart, IsSourceWithin}
-use Rattle.rrd_spec.specs.Journal.Fitting.{IsSavedSource}
-use Rattle.rrd_spec.specs.Commands.Verdict.{is_crossed, is_far}
-use Rattle.rrd_file.specs.Layout.Pieces.{Piece, OfVersion, OfHeader, OfSource, OfArchive, OfPrep, OfCell, Tag, OfTag, AnUpdate, ATune, AResize, AnAddition, ARemoval, OfTime, OfRawAndPart, OfRows, OfCount, OfSavedSource, OfNumber, header_bytes, spell, tag_byte, version_number}
-use Rattle.rrd_file.specs.Layout.Values.{two_bytes}
-use Rattle.rrd_file.specs.Stages.{Stage, Start, DueInEntry, Runs, Takes}
-use Rattle.rrd_file.specs.Layout.Fitting.{counts, FitsArchive, FitsBound, FitsCell, FitsDef, FitsHeader, FitsSavedSource, FitsPart, FitsRaw, FitsSource}
+use Rattle.std.specs.Prelude.{◌≡◌, ◌∷◌, ◌+◌, ◌/◌, ◌%◌, ◌^◌, ◌<◌, ◌≤◌, ℕ, List, [], Bool, length, map, ℤ, nat_lt, nat_le, true, false, ◌&&◌, ◌==◌, if◌then◌else◌, unsigned_abs, Option, Some, None}
+use Rattle.rrd_file.proofs.Names.{◌∙◌, sym, ap, refl, subst, arith, AllByRecursion, list_all, lt-ltb, ltb-false, ints, Cell, Raw, Kind, Gauge, Counter, Derive, Absolute, fits, is_good, is_letter, IsAccepted, IsBounded, weight, Function, Average, Min, Max, Last, Part, DsDef, RraDef, Outline, SavedSource, Limits, max_journal_depth_of, Version, One, Two, Filed, Head, Header, Source, IsArchiveDef, IsHeader, MaySource, MayPrep, due, limits, outline_left, unprepared, IsPart, IsSourceWithin, IsSavedSource, is_crossed, is_far, Piece, OfVersion, OfHeader, OfSource, OfArchive, OfPrep, OfCell, Tag, OfTag, AnUpdate, ATune, AResize, AnAddition, ARemoval, OfTime, OfRawAndPart, OfRows, OfCount, OfSavedSource, OfNumber, header_bytes, spell, tag_byte, version_number, two_bytes, Stage, Start, DueInEntry, Runs, Takes, counts, FitsArchive, FitsBound, FitsCell, FitsDef, FitsHeader, FitsSavedSource, FitsPart, FitsRaw, FitsSource}
 use Rattle.rrd_file.proofs.Order.{prep_before}
 use Rattle.rrd_file.proofs.Ways.{Step, ToMark, ToVersion, ToHeader, ToSource, ToHead, ToPrep, ToCell, ToEntry, ToPiece, Way, ByTime, ByRawAndPart, ByRowPrep, ByRows, ByRowCell, ByCount, ByNamed, ByNumber, ByOldRows, ByRemovedNumber, ByRemovedHead, step_of}
 use Rattle.rrd_file.proofs.Sound.{AreSmall, AreSound, HasSomeSteps, IsSound, IsSoundDue, IsSoundStage, reached_sound, small_limits}
 use Rattle.rrd_file.proofs.Spelled.{archive_one, raw_and_part_one, cell_one, eight_one, four_one, header_one, saved_source_one, head_same, part_one, source_one, two_one}
 use Rattle.rrd_file.proofs.Tests.{and_left, and_right, or_left, or_right}
+use native.Mathlib.Nat as nat
 
 -- ---- what keeps to its rule fits its bytes
 
@@ -44,14 +15,11 @@ cell_fits Cell.Unknown h = tt
 cell_fits (Cell.Known value) h = omega (arith, h)
 
 pub raw_fits : (kind : Kind) (raw : Raw) → IsAccepted kind raw → FitsRaw raw
-raw_fits Gauge Raw.Unknown h = tt
-raw_fits Counter Raw.Unknown h = tt
-raw_fits Derive Raw.Unknown h = tt
-raw_fits Absolute Raw.Unknown h = tt
 raw_fits Gauge (Raw.Known value) h = omega (arith, h)
 raw_fits Absolute (Raw.Known value) h = omega (arith, h)
 raw_fits Counter (Raw.Known value) h = omega (arith, ints, h.0, h.1)
 raw_fits Derive (Raw.Known value) h = omega (arith, ints, h.0, h.1)
+raw_fits x Raw.Unknown h = tt
 
 bound_fits : (l : Limits) (bound : Option ℤ) → AreSmall l → is_far l bound ≡ false → FitsBound bound
 bound_fits l None small h = tt
@@ -79,14 +47,11 @@ def_fits l def small h = record {
 
 small_weight : (function : Function) (known : ℕ) → weight function known ≤ known + 1
 small_weight Average known = omega arith
-small_weight Min known = omega arith
-small_weight Max known = omega arith
-small_weight Last known = omega arith
+small_weight x known = omega arith
 
 pub part_fits : (function : Function) (passed : ℕ) (part : Part) → passed < 2 ^ 32 → IsPart function passed part → FitsPart part
 part_fits function passed part few h =
-    let small = small_weight function part.known in
-    record { known = omega (arith, h.few); value = omega (arith, ints, h.few, h.bounded, small) }
+    record { known = omega (arith, h.few); value = omega (arith, ints, h.few, h.bounded, (small_weight function part.known)) }
 
 pub source_fits : (f : Filed) (s : Source) → IsHeader f.header → MaySource f s → FitsSource s
 source_fits f s h m = record {
@@ -107,7 +72,7 @@ header_fits h is =
     let small = small_limits h.version in
     record { step = omega (arith, is.small_step, small.step); last = omega (arith, is.good_time, small.last); depth = omega (arith, is.small_depth, depth_counts h.version); sources = omega (arith, is.few_sources, small.sources); archives = omega (arith, is.few_archives, small.archives); entries = omega (arith, is.few_entries, is.small_depth, depth_counts h.version) }
 
-row_part_fits : (step last : ℕ) (def : RraDef) (part : Part) → HasSomeSteps def → IsPart def.function (last / step % def.steps) part → FitsPart part
+pub row_part_fits : (step last : ℕ) (def : RraDef) (part : Part) → HasSomeSteps def → IsPart def.function (last / step % def.steps) part → FitsPart part
 row_part_fits step last def part h p = part_fits def.function (last / step % def.steps) part (omega (arith, nat.mod-lt (last / step) h.some, h.few)) p
 
 some_is : (x y : RraDef) → Some x ≡ Some y → x ≡ y
@@ -132,7 +97,7 @@ def_among sources heads def e h = subst HasSomeOr e (unprepared_has sources head
 pub prep_fits : (f : Filed) (part : Part) → IsSound f → MayPrep f part → FitsPart part
 prep_fits f part h m = row_part_fits f.header.step f.header.last m.def part (def_among f.header.sources f.heads m.def (prep_before f m.def m.is_due).1 h.steps) m.part_is
 
-tag_one : (t u : Tag) → tag_byte t ≡ tag_byte u → t ≡ u
+pub tag_one : (t u : Tag) → tag_byte t ≡ tag_byte u → t ≡ u
 tag_one AnUpdate AnUpdate e = refl
 tag_one ATune ATune e = refl
 tag_one AResize AResize e = refl
@@ -142,11 +107,11 @@ tag_one t u e = absurd (omega (arith, e))
 
 -- ---- within an entry
 
-saved_source_fits : (l : Limits) (old : SavedSource) (now : Outline) → AreSmall l → AreSound now → old.number < length now.sources → IsSavedSource l old → FitsSavedSource old
+pub saved_source_fits : (l : Limits) (old : SavedSource) (now : Outline) → AreSmall l → AreSound now → old.number < length now.sources → IsSavedSource l old → FitsSavedSource old
 saved_source_fits l old now small h n k = record { number = omega (arith, n, h.sources); source = def_fits l old.source small k.0; raw = raw_fits old.source.kind old.raw k.1 }
 
 -- the limits, the step and the outline at a stage that a file reaches
-record IsHere (l : Limits) (step : ℕ) (now : Outline) : Type 0 where
+pub record IsHere (l : Limits) (step : ℕ) (now : Outline) : Type 0 where
   pub small : AreSmall l
   pub sound : AreSound now
   pub some_step : 0 < step
@@ -183,7 +148,7 @@ version_one Two One e = let n = two_one 2 1 (omega arith) (omega arith) e in abs
 same_header : (x y : Header) → x.version ≡ y.version → IsHeader x → IsHeader y → header_bytes x.version x ≡ header_bytes y.version y → x ≡ y
 same_header x y v a b e = header_one x y v (header_fits x a) (header_fits y b) e
 
-here : (f : Filed) → IsSound f → IsHere (limits f) f.header.step (outline_left f)
+pub here : (f : Filed) → IsSound f → IsHere (limits f) f.header.step (outline_left f)
 here f h =
     let small = small_limits f.header.version in
     record { small = small; sound = h.left; some_step = h.header.some_step; small_step = omega (arith, h.header.small_step, small.step) }

@@ -1,12 +1,6 @@
 -- What came before the piece that is due.
-use Rattle.std.proofs.Common.{◌≡◌, ◌*◌, ◌<◌, ◌≤◌, Bool, refl, length}
-use Rattle.std.specs.Prelude.{nat_lt, true, false, if◌then◌else◌, Option, Some, None}
-use Rattle.std.proofs.lemmas.Bool.{ltb-true, ltb-false}
-use Rattle.rrd_spec.specs.declared.settings.RraDef.{RraDef}
-use Rattle.rrd_spec.specs.Files.Filed.{Filed}
-use Rattle.rrd_spec.specs.declared.due.Due.{Due}
-use Rattle.rrd_spec.specs.declared.due.Due.TheVariants.{SourceDue, HeadDue, PrepDue, CellDue, EntryDue, NothingDue}
-use Rattle.rrd_spec.specs.Files.Rebuilding.{due, prep_or, rows_in_all, unprepared}
+use Rattle.std.specs.Prelude.{◌≡◌, ◌*◌, ◌<◌, ◌≤◌, Bool, length, nat_lt, true, false, if◌then◌else◌, Option, Some, None}
+use Rattle.rrd_file.proofs.Names.{refl, ltb-true, ltb-false, RraDef, Filed, Due, SourceDue, HeadDue, PrepDue, CellDue, EntryDue, NothingDue, due, prep_or, rows_in_all, unprepared}
 
 -- the due piece, by what is there
 abbrev pub in_order : Bool → Option RraDef → Bool → Bool → Bool → Due
@@ -45,12 +39,8 @@ cell_order Bool.false None Bool.false Bool.false Bool.true e = absurd cc
 cell_order Bool.false None Bool.false Bool.false Bool.false e = absurd cc
 
 entry_order : (a : Bool) (u : Option RraDef) (b c d : Bool) → in_order a u b c d ≡ EntryDue → (a ≡ false) × (u ≡ None) × (b ≡ false) × (c ≡ false) × (d ≡ true)
-entry_order Bool.true u b c d e = absurd cc
-entry_order Bool.false (Some x) b c d e = absurd cc
-entry_order Bool.false None Bool.true c d e = absurd cc
-entry_order Bool.false None Bool.false Bool.true d e = absurd cc
 entry_order Bool.false None Bool.false Bool.false Bool.true e = (refl, refl, refl, refl, refl)
-entry_order Bool.false None Bool.false Bool.false Bool.false e = absurd cc
+entry_order y u b c d e = absurd cc
 
 pub saved_source : (f : Filed) → due f ≡ SourceDue → length f.sources < f.header.sources
 unfolding due

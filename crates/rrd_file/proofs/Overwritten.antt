@@ -1,42 +1,20 @@
 -- Bytes of an earlier time, of which some are written over.
-use Rattle.std.proofs.Common.{◌≡◌, ◌∙◌, ◌+◌, ◌-◌, ◌*◌, ◌<◌, ◌≤◌, ◌++◌, ℕ, zero, suc, List, [], ◌∷◌, Some, sym, ap, refl, arith, length, get_or, take, drop, map, max, min, length-append, length-drop, length-take, append_assoc, append-nil}
-use Rattle.std.specs.Prelude.{slice_get}
-use Rattle.std.specs.List.{AllByRecursion, flat_map, slice_range}
-use Rattle.std.proofs.Math.Seq.{drop-drop, take-add}
-use Rattle.std.proofs.lemmas.List.{drop_at, ext_get_or, get_or-drop, get_or-take, take_at, take-append-drop}
-use Rattle.std.proofs.lemmas.Grind.{flat_map-append}
-use Rattle.std.proofs.lemmas.List.Concat.{flat_map-cons}
-use Rattle.std.proofs.lemmas.Nat.{mul-le}
-use native.Mathlib.Nat as nat
-use Rattle.rrd_fixed.specs.declared.cell.Cell.{Cell}
-use Rattle.rrd_spec.specs.Laws.Slots.{HasOneEach}
-use Rattle.rrd_ring.specs.Rows.{row_cells}
-use Rattle.rrd_file.specs.Encoded.{HoldsRows, row_bytes}
-use Rattle.rrd_file.specs.Layout.{row_pieces, spelled}
-use Rattle.rrd_file.specs.Layout.Pieces.{OfCell, spell}
+use Rattle.std.specs.Prelude.{◌≡◌, ◌+◌, ◌-◌, ◌*◌, ◌<◌, ◌≤◌, ◌++◌, ℕ, zero, suc, List, [], ◌∷◌, Some, length, take, drop, map, min, slice_get, slice_range}
+use Rattle.rrd_file.proofs.Names.{◌∙◌, sym, ap, refl, arith, get_or, max, length-append, length-drop, length-take, append_assoc, append-nil, AllByRecursion, flat_map, drop-drop, take-add, drop_at, ext_get_or, get_or-drop, get_or-take, take_at, take-append-drop, flat_map-append, flat_map-cons, mul-le, Cell, HasOneEach, row_cells, HoldsRows, row_bytes, row_pieces, spelled, OfCell, spell}
 use Rattle.rrd_file.proofs.CellRuns.{bytes_count, cells_bytes, spelled_so}
 use Rattle.rrd_file.proofs.Gathering.{one_more}
 use Rattle.rrd_file.proofs.Turned.{rows_joined, rows_spelled}
+use native.Mathlib.Nat as nat
+use Rattle.rrd_spec.proofs.RowsStay.{all_taken}
+use Rattle.rrd_base.proofs.Dues.{none_there}
+use Rattle.rrd_file.proofs.Turns.{dropped_at}
 
 -- ---- a run of rows, of which the first are there and the others are written over those of an earlier time
-
-pub all_taken : (sources n : ℕ) (rows : List (List Cell)) → AllByRecursion (HasOneEach sources) rows → AllByRecursion (HasOneEach sources) (take n rows)
-all_taken sources zero rows all = tt
-all_taken sources (suc n) [] all = tt
-all_taken sources (suc n) (row ∷ rows) all = (all.0, all_taken sources n rows all.1)
 
 pub all_dropped : (sources n : ℕ) (rows : List (List Cell)) → AllByRecursion (HasOneEach sources) rows → AllByRecursion (HasOneEach sources) (drop n rows)
 all_dropped sources zero rows all = all
 all_dropped sources (suc n) [] all = tt
 all_dropped sources (suc n) (row ∷ rows) all = all_dropped sources n rows all.1
-
-pub all_joined : (sources : ℕ) (a b : List (List Cell)) → AllByRecursion (HasOneEach sources) a → AllByRecursion (HasOneEach sources) b → AllByRecursion (HasOneEach sources) (a ++ b)
-all_joined sources [] b p q = q
-all_joined sources (row ∷ a) b p q = (p.0, all_joined sources a b p.1 q)
-
-no_more : (rest : List ℕ) → length rest ≡ 0 → rest ≡ []
-no_more [] h = refl
-no_more (b ∷ rest) h = absurd (omega arith)
 
 module _ (bytes : List (List Cell) → List ℕ) (sources : ℕ)
     (joined : (xs ys : List (List Cell)) → bytes (xs ++ ys) ≡ bytes xs ++ bytes ys)
@@ -101,7 +79,7 @@ module _ (bytes : List (List Cell) → List ℕ) (sources : ℕ)
       let left : length (drop j before) ≡ 0 = omega (arith, index_is, as_many, length-drop j before) in
       let none : length (bytes (drop j before)) ≡ 0 =
       omega (arith, long (drop j before) (all_dropped sources j before wide_before), ap (λ k. k * sources) left, nat.zero-mul sources) in
-      let empty : bytes (drop j before) ≡ [] = no_more (bytes (drop j before)) none in
+      let empty : bytes (drop j before) ≡ [] = none_there (bytes (drop j before)) none in
       into_is ∙ ap (λ l. bytes (run_of j) ++ l) empty ∙ append-nil (bytes (run_of j)) ∙ ap (λ k. bytes (take (k - from) (drop from rows))) index_is
 
 -- ---- the bytes of all rows of an archive, cut where the oldest begin
@@ -129,11 +107,6 @@ module _ (bytes : List (List Cell) → List ℕ) (sources : ℕ)
 
 -- ---- items of an earlier time, of which the first were replaced
 
-one_dropped : {A : Type 0} (xs : List A) (i : ℕ) (x : A) → slice_get xs i ≡ Some x → drop i xs ≡ x ∷ drop (i + 1) xs
-one_dropped [] i x there = absurd cc
-one_dropped (y ∷ xs) zero x there = let same : y ≡ x = cc in ap (λ z. z ∷ xs) same
-one_dropped (y ∷ xs) (suc i) x there = one_dropped xs i x there ∙ ap (λ k. x ∷ drop k (y ∷ xs)) {x = suc (i + 1)} {y = suc i + 1} (omega arith)
-
 module _ {A : Type 0} (f g : A → List ℕ) (olds news : List A) where
   abbrev pub so_far : ℕ → List ℕ
   so_far i = flat_map g (take i news) ++ flat_map f (drop i olds)
@@ -148,7 +121,7 @@ module _ {A : Type 0} (f g : A → List ℕ) (olds news : List A) where
   is_next into at i old new is at_is there there_new =
       let front = flat_map g (take i news) in
       let rest = flat_map f (drop (i + 1) olds) in
-      let behind : flat_map f (drop i olds) ≡ f old ++ rest = ap (flat_map f) (one_dropped olds i old there) ∙ flat_map-cons f old (drop (i + 1) olds) in
+      let behind : flat_map f (drop i olds) ≡ f old ++ rest = ap (flat_map f) (dropped_at olds i old there) ∙ flat_map-cons f old (drop (i + 1) olds) in
       let whole : into ≡ front ++ (f old ++ rest) = is ∙ ap (λ l. front ++ l) behind in
       let both : length (front ++ f old) ≡ at + length (f old) = omega (arith, length-append front (f old), at_is) in
       let more : flat_map g (take (i + 1) news) ≡ front ++ g new = one_more g news i new there_new in

@@ -1,19 +1,7 @@
 -- Pieces that came one after another, and how they lead from stage to stage.
-use Rattle.std.proofs.Common.{◌≡◌, ◌≢◌, ◌∙◌, ◌++◌, ◌∷◌, ◌+◌, ◌<◌, ◌≤◌, ◌⊎◌, inl, inr, ℕ, List, [], sym, ap, subst, refl, take, append_assoc, append-nil, length, length-append, arith, take_at}
-use Rattle.std.specs.Prelude.{Option, Some, None, IfSome}
-use Rattle.std.specs.List.{flat_map}
-use Rattle.std.specs.Io.KnownBytes.{Consumes, Keeps}
-use Rattle.std.proofs.lemmas.List.Concat.{flat_map-cons}
-use Rattle.rrd_spec.specs.Files.Filed.{Filed}
-use Rattle.rrd_spec.specs.Files.Rebuilding.{due}
-use Rattle.rrd_spec.specs.declared.due.Due.TheVariants.{CellDue}
-use Rattle.rrd_file.specs.declared.fault.FileFault.{FileFault}
-use Rattle.rrd_file.specs.declared.fault.FileFault.TheVariants.{NotOurs, Version, Truncated, BadBlock, BadEntry, Trailing, Read, OutOfMemory}
-use Rattle.rrd_file.specs.Faults.{Front, IsBad, IsFault, bad_at}
-use Rattle.rrd_file.specs.Reader.{Advances, Gives, Input, IsCut, left}
-use Rattle.rrd_file.specs.Layout.Pieces.{Piece, spell}
-use Rattle.rrd_file.specs.Stages.{Runs, Stage, Start, Takes, size}
-use Rattle.rrd_file.specs.Progress.{Stands}
+use Rattle.std.specs.Prelude.{◌≡◌, ◌≢◌, ◌++◌, ◌∷◌, ◌+◌, ◌<◌, ◌≤◌, ◌⊎◌, ℕ, List, [], take, length, Option, Some, None, IfSome}
+use Rattle.rrd_file.proofs.Names.{◌∙◌, inl, inr, sym, ap, subst, refl, append_assoc, append-nil, length-append, arith, take_at, flat_map, Consumes, Keeps, flat_map-cons, Filed, due, CellDue, FileFault, NotOurs, Truncated, BadBlock, BadEntry, Trailing, Read, OutOfMemory, Front, IsBad, IsFault, bad_at, Advances, Gives, Input, IsCut, left, Piece, spell, Runs, Stage, Start, Takes, size, Stands}
+use Rattle.rrd_file.specs.declared.fault.FileFault.TheVariants.{Version}
 
 -- ---- one piece more
 
@@ -23,17 +11,10 @@ runs_more a b c (q ∷ ps) p r t = (r.0, r.1, runs_more r.0 b c ps p r.2 t)
 
 spelled_end : (ps : List Piece) (p : Piece) (rest : List ℕ) → flat_map spell (ps ++ p ∷ []) ++ rest ≡ flat_map spell ps ++ (spell p ++ rest)
 spelled_end [] p rest = ap (λ l. l ++ rest) (flat_map-cons spell p [] ∙ append-nil (spell p))
-spelled_end (q ∷ ps) p rest =
-    ap (λ l. l ++ rest) (flat_map-cons spell q (ps ++ p ∷ [])) ∙ append_assoc (spell q) (flat_map spell (ps ++ p ∷ [])) rest
-    ∙ ap (λ l. spell q ++ l) (spelled_end ps p rest) ∙ sym (append_assoc (spell q) (flat_map spell ps) (spell p ++ rest))
-    ∙ ap (λ l. l ++ (spell p ++ rest)) (sym (flat_map-cons spell q ps))
+spelled_end (q ∷ ps) p rest = cc (flat_map-cons spell q (ps ++ p ∷ []), append_assoc (spell q) (flat_map spell (ps ++ p ∷ [])) rest, spelled_end ps p rest, append_assoc (spell q) (flat_map spell ps) (spell p ++ rest), flat_map-cons spell q ps)
 
 pub front_more : (bytes : List ℕ) (s n : Stage) (p : Piece) (rest : List ℕ) → Front bytes s (spell p ++ rest) → Takes s p n → Front bytes n rest
-front_more bytes s n p rest f t = record {
-  pieces = f.pieces ++ p ∷ [];
-  runs = runs_more Start s n f.pieces p f.runs t;
-  parts = f.parts ∙ sym (spelled_end f.pieces p rest);
-}
+front_more bytes s n p rest f t = grind (arith, f.pieces ++ p ∷ [], runs_more Start s n f.pieces p f.runs t, f.parts ∙ sym (spelled_end f.pieces p rest))
 
 -- ---- what a reader has left
 
@@ -58,12 +39,7 @@ keeps_rest (Some xs) (Some ys) rest e k = ap (λ (l : List ℕ). Some l) k ∙ e
 
 -- more came, and none was taken
 pub waited_for : (bytes : List ℕ) (s : Stage) (old new : Input) → Stands bytes s old → Keeps (left old) (left new) → new.at ≡ old.at → Stands bytes s new
-waited_for bytes s old new st keeps at = record {
-  rest = st.rest;
-  front = st.front;
-  left_is = keeps_rest (left old) (left new) st.rest st.left_is keeps;
-  place = omega (arith, st.place, at);
-}
+waited_for bytes s old new st keeps at = grind (arith, st, keeps_rest (left old) (left new) st.rest st.left_is keeps)
 
 -- ---- a piece that came
 
@@ -103,22 +79,12 @@ cut bytes s n old (Truncated at) st len c =
     let both = if_some_at (left old) st.rest (λ rest. (length rest < n) × (at ≡ old.at + length rest)) st.left_is c in
     record { stage = s; rest = st.rest; front = st.front; short = omega (arith, len, both.0); at_is = omega (arith, both.1, st.place) }
 cut bytes s n old Read st len c = tt
-cut bytes s n old NotOurs st len c = absurd c
-cut bytes s n old Version st len c = absurd c
-cut bytes s n old (BadBlock at) st len c = absurd c
-cut bytes s n old (BadEntry number) st len c = absurd c
-cut bytes s n old (Trailing at) st len c = absurd c
-cut bytes s n old OutOfMemory st len c = absurd c
+cut bytes s n old x st len c = absurd c
 
 -- nothing came yet
 pub begins : (bytes : List ℕ) (known : Option (List ℕ)) → known ≡ Some bytes → Stands bytes Start (record { waiting = []; behind = known; at = 0 })
 begins bytes None e = none_is bytes e
-begins bytes (Some xs) e = record {
-  rest = bytes;
-  front = record { pieces = []; runs = refl; parts = refl };
-  left_is = e;
-  place = omega arith;
-}
+begins bytes (Some xs) e = grind (arith, bytes, e)
 
 -- ---- cells
 
@@ -136,17 +102,4 @@ pub came_on : (f : Filed) (first old new : Input) → CellCame f first old → A
 came_on f first old new came moved = elim came [
   | inl waits ↦ (omega (arith, waits.at, moved.0), moved.1)
   | inr before ↦ (omega (arith, before.0, moved.0), moved.1)
-]
-
--- where too few bytes wait, or no cell is due, one came
-pub came_short : (f : Filed) (first now : Input) → CellCame f first now → length now.waiting < 16 → Advances first now
-came_short f first now came short = elim came [
-  | inl waits ↦ absurd (omega (arith, waits.waits, short))
-  | inr before ↦ before
-]
-
-pub came_last : (f : Filed) (first now : Input) → CellCame f first now → (due f ≡ CellDue → ⊥) → Advances first now
-came_last f first now came other = elim came [
-  | inl waits ↦ absurd (other waits.due_is)
-  | inr before ↦ before
 ]

@@ -1,72 +1,24 @@
 -- Values from the bytes that they were spelled as.
-use Rattle.std.proofs.Common.{◌≡◌, ◌≢◌, ◌∙◌, ◌++◌, ◌∷◌, ◌-◌, ◌^◌, ◌<◌, ◌≤◌, ℕ, zero, suc, ◌+◌, ◌*◌, replicate, List, [], sym, ap, refl, subst, take, drop, get_or, length, arith, length-take-le, length-drop, append_assoc, append-nil}
-use Rattle.std.specs.Prelude.{ℤ, pos, ◌==◌, true, Bool, if◌then◌else◌, Option, Some, None, IfSome}
-use Rattle.std.specs.List.{list_all}
-use Rattle.rrd_fixed.specs.declared.name.Name.{Name}
-use Rattle.rrd_fixed.specs.Names.{fits}
-use Rattle.rrd_fold.specs.declared.function.Function.{Function}
-use Rattle.rrd_spec.specs.declared.settings.RraDef.{RraDef}
-use Rattle.rrd_spec.specs.declared.entry.SavedSource.{SavedSource}
-use Rattle.rrd_file.specs.Layout.Pieces.{OfSavedSource, OfArchive, OfHeader, OfSource, OfRawAndPart, count_bytes, spell}
-use Rattle.rrd_file.specs.Stages.{header_size}
-use Rattle.rrd_file.specs.Layout.Fitting.{FitsSavedSource, FitsArchive, FitsDef, FitsNumber, FitsSource}
-use Rattle.rrd_spec.specs.declared.version.Version.{Version}
-use Rattle.rrd_spec.specs.Files.Filed.{Source}
+use Rattle.std.specs.Prelude.{◌≡◌, ◌≢◌, ◌++◌, ◌∷◌, ◌-◌, ◌^◌, ◌<◌, ◌≤◌, ℕ, zero, suc, ◌+◌, ◌*◌, replicate, List, [], take, drop, length, ℤ, pos, ◌==◌, true, Bool, if◌then◌else◌, Option, Some, None, IfSome}
+use Rattle.rrd_file.proofs.Names.{◌∙◌, sym, ap, refl, subst, get_or, arith, length-take-le, length-drop, append_assoc, append-nil, list_all, Name, fits, Function, RraDef, SavedSource, OfSavedSource, OfArchive, OfHeader, OfSource, OfRawAndPart, count_bytes, spell, header_size, FitsSavedSource, FitsArchive, FitsDef, FitsNumber, FitsSource, Version, Source, Raw, Part, DsDef, w16, w32, w64, w128, from_be_bytes, to_be_bytes, ints, take-append-drop, be_bytes_2, be_bytes_4, be_bytes_8, of_z-to_z, of_z, to_z, SFits, two_bytes, four_bytes, eight_bytes, signed_bytes, least, bound_bytes, function_byte, kind_byte, name_bytes, part_bytes, raw_bytes, source_bytes}
 use Rattle.rrd_file.proofs.Spelled.{append_same, header_parts, short_fit}
 use Rattle.rrd_file.proofs.Lengths.{name_length, source_length}
-use Rattle.rrd_fixed.specs.declared.raw.Raw.{Raw}
-use Rattle.rrd_fold.specs.Parts.{Part}
-use Rattle.rrd_spec.specs.declared.settings.DsDef.{DsDef}
-use Rattle.std.specs.Int.{w16, w32, w64, w128, from_be_bytes, to_be_bytes}
-use Rattle.std.proofs.lemmas.Int.{ints}
-use Rattle.std.proofs.lemmas.List.{take-append-drop}
-use Rattle.std.proofs.lemmas.Nat.{be_bytes_2, be_bytes_4, be_bytes_8}
-use Rattle.std.proofs.lemmas.Int.{of_z-to_z}
-use mir.Val.{of_z, to_z, SFits}
-use Rattle.rrd_file.specs.Layout.Values.{two_bytes, four_bytes, eight_bytes, signed_bytes, least, bound_bytes, function_byte, kind_byte, name_bytes, part_bytes, raw_bytes, source_bytes}
 use Rattle.rrd_file.proofs.SignedBytes.{halves}
+use Rattle.rrd_base.proofs.Dues.{none_there}
 
 parted : (n : ℕ) (bs spelling : List ℕ) → take n bs ≡ spelling → bs ≡ spelling ++ drop n bs
 parted n bs spelling e = sym (take-append-drop n bs) ∙ ap (λ l. l ++ drop n bs) e
 
-pub two_back : (bs front piece rest : List ℕ) (n : ℕ) → 2 ≤ length bs → front ≡ take 2 bs → piece ≡ front → rest ≡ drop 2 bs → ((i : ℕ) → get_or piece i 0 < 256) → n ≡ from_be_bytes w16 piece → bs ≡ two_bytes n ++ rest
-two_back bs front piece rest n len f p r fits is =
-    let at = p ∙ f in
-    let l : length piece ≡ 2 = ap length at ∙ length-take-le 2 bs len in
-    parted 2 bs (two_bytes n) (sym at ∙ sym (be_bytes_2 piece n l fits is)) ∙ ap (λ l. two_bytes n ++ l) (sym r)
-
-pub four_back : (bs front piece rest : List ℕ) (n : ℕ) → 4 ≤ length bs → front ≡ take 4 bs → piece ≡ front → rest ≡ drop 4 bs → ((i : ℕ) → get_or piece i 0 < 256) → n ≡ from_be_bytes w32 piece → bs ≡ four_bytes n ++ rest
-four_back bs front piece rest n len f p r fits is =
-    let at = p ∙ f in
-    let l : length piece ≡ 4 = ap length at ∙ length-take-le 4 bs len in
-    parted 4 bs (four_bytes n) (sym at ∙ sym (be_bytes_4 piece n l fits is)) ∙ ap (λ l. four_bytes n ++ l) (sym r)
-
-pub eight_back : (bs front piece rest : List ℕ) (n : ℕ) → 8 ≤ length bs → front ≡ take 8 bs → piece ≡ front → rest ≡ drop 8 bs → ((i : ℕ) → get_or piece i 0 < 256) → n ≡ from_be_bytes w64 piece → bs ≡ eight_bytes n ++ rest
-eight_back bs front piece rest n len f p r fits is =
-    let at = p ∙ f in
-    let l : length piece ≡ 8 = ap length at ∙ length-take-le 8 bs len in
-    parted 8 bs (eight_bytes n) (sym at ∙ sym (be_bytes_8 piece n l fits is)) ∙ ap (λ l. eight_bytes n ++ l) (sym r)
-
 -- a number by its halves
 pub halves_back : (bytes behind rest : List ℕ) (high low bits : ℕ) (z : ℤ) → bytes ≡ eight_bytes high ++ behind → behind ≡ eight_bytes low ++ rest → low < 2 ^ 64 → bits ≡ high * 2 ^ 64 + low → bits < 2 ^ 128 → z ≡ to_z w128 bits → bytes ≡ signed_bytes z ++ rest
 unfolding signed_bytes
-halves_back bytes behind rest high low bits z first second small is below number =
-    first ∙ ap (λ l. eight_bytes high ++ l) second ∙ sym (append_assoc (eight_bytes high) (eight_bytes low) rest)
-    ∙ ap (λ l. l ++ rest) (sym (halves bits high low is small) ∙ ap (to_be_bytes w128) (sym (of_z-to_z w128 bits below) ∙ ap (of_z w128) (sym number)))
-
--- a number that isn't the least one
-pub not_least : (z : ℤ) → SFits w128 z → z ≢ least → FitsNumber z
-not_least z h n = omega (arith, ints, h, n)
-
-nothing_left : (bs : List ℕ) → length bs ≡ 0 → bs ≡ []
-nothing_left [] l = refl
-nothing_left (b ∷ bs) l = absurd (omega (arith, l))
+halves_back bytes behind rest high low bits z first second small is below number = cc (first, second, append_assoc (eight_bytes high) (eight_bytes low) rest, sym (halves bits high low is small) ∙ ap (to_be_bytes w128) (sym (of_z-to_z w128 bits below) ∙ ap (of_z w128) (sym number)))
 
 pub header_back : (version : Version) (bs r s t u v w : List ℕ) (a b c d e f : ℕ) → length bs ≡ header_size version → bs ≡ four_bytes a ++ r → r ≡ eight_bytes b ++ s → s ≡ count_bytes version c ++ t → t ≡ two_bytes d ++ u → u ≡ two_bytes e ++ v → v ≡ count_bytes version f ++ w → length w + header_size version ≡ length bs
     → spell (OfHeader (record { version = version; step = a; last = b; depth = c; sources = d; archives = e; entries = f })) ≡ bs
 unfolding spell
 header_back version bs r s t u v w a b c d e f l p q x y z o n =
-    let none : w ≡ [] = nothing_left w (omega (arith, l, n)) in
+    let none : w ≡ [] = none_there w (omega (arith, l, n)) in
     header_parts version (record { version = version; step = a; last = b; depth = c; sources = d; archives = e; entries = f })
     ∙ sym (p ∙ ap (λ k. four_bytes a ++ k) (q ∙ ap (λ k. eight_bytes b ++ k) (x ∙ ap (λ k. count_bytes version c ++ k) (y ∙ ap (λ k. two_bytes d ++ k) (z ∙ ap (λ k. two_bytes e ++ k) (o ∙ ap (λ k. count_bytes version f ++ k) none ∙ append-nil (count_bytes version f)))))))
 
@@ -75,7 +27,7 @@ pub archive_back : (bs first r s t u : List ℕ) (function : Function) (a b c : 
 unfolding spell
 archive_back [] first r s t u function a b c l f d k p q x n = absurd (omega (arith, l))
 archive_back (y ∷ bs) first r s t u function a b c l f d k p q x n =
-    let none : u ≡ [] = nothing_left u (omega (arith, l, n, ap length d)) in
+    let none : u ≡ [] = none_there u (omega (arith, l, n, ap length d)) in
     let head : function_byte function ≡ y = k ∙ ap (λ m. get_or m 0 0) f in
     λ i. head i ∷ (sym (sym d ∙ p ∙ ap (λ k. four_bytes a ++ k) (q ∙ ap (λ k. four_bytes b ++ k) (x ∙ ap (λ k. four_bytes c ++ k) none)))) i
 
@@ -117,11 +69,6 @@ take_own (x ∷ a) b = ap (λ l. x ∷ l) (take_own a b)
 pub size_said : (bs first : List ℕ) (size : ℕ) (name : Name) → name_bytes name ≡ bs → first ≡ take 1 bs → size ≡ get_or first 0 0 → length name ≡ size
 size_said bs first size name e f s = ap (λ l. get_or l 0 0) (ap (take 1) e ∙ sym f) ∙ sym s
 
-pub text_said : (bs first rest text : List ℕ) (size : ℕ) (name : Name) → name_bytes name ≡ bs → first ≡ take 1 bs → rest ≡ drop 1 bs → size ≡ get_or first 0 0 → text ≡ take size rest → name ≡ text
-text_said bs first rest text size name e f r s t =
-    let long = size_said bs first size name e f s in
-    sym (take_own name (replicate (19 - length name) 0)) ∙ (λ i. take (long i) ((ap (drop 1) e ∙ sym r) i)) ∙ sym t
-
 pub zeros_said : (bs first rest zeros : List ℕ) (size : ℕ) (name : Name) → name_bytes name ≡ bs → first ≡ take 1 bs → rest ≡ drop 1 bs → size ≡ get_or first 0 0 → zeros ≡ drop size rest → list_all (λ (byte : ℕ). byte == 0) zeros ≡ true
 zeros_said bs first rest zeros size name e f r s z =
     let long = size_said bs first size name e f s in
@@ -144,17 +91,6 @@ archive_some bs function a b c xff is fa fb fc back =
 nested : (n a b c : List ℕ) → n ++ a ++ b ++ c ≡ n ++ (a ++ (b ++ c))
 nested n a b c = append_assoc (n ++ a) b c ∙ append_assoc n a (b ++ c)
 
-pub def_back : (bs front rest first r s t u : List ℕ) (def : DsDef) → length bs ≡ 61 → front ≡ take 20 bs → rest ≡ drop 20 bs → name_bytes def.name ≡ front → first ≡ take 1 rest → r ≡ drop 1 rest → kind_byte def.kind ≡ get_or first 0 0
-    → r ≡ eight_bytes def.heartbeat ++ s → s ≡ bound_bytes def.min ++ t → t ≡ bound_bytes def.max ++ u → length u + 40 ≡ length r → source_bytes def ≡ bs
-def_back bs front [] first r s t u def l f d n h k b p q x m = absurd (omega (arith, l, ap length d, length-drop 20 bs))
-def_back bs front (y ∷ rest) first r s t u def l f d n h k b p q x m =
-    let none : u ≡ [] = nothing_left u (omega (arith, l, m, ap length k, ap length d, length-drop 20 bs)) in
-    let head : kind_byte def.kind ≡ y = b ∙ ap (λ m. get_or m 0 0) h in
-    let max : bound_bytes def.max ≡ t = sym (append-nil (bound_bytes def.max)) ∙ ap (λ m. bound_bytes def.max ++ m) (sym none) ∙ sym x in
-    let more : eight_bytes def.heartbeat ++ (bound_bytes def.min ++ bound_bytes def.max) ≡ rest = ap (λ m. eight_bytes def.heartbeat ++ (bound_bytes def.min ++ m)) max ∙ ap (λ m. eight_bytes def.heartbeat ++ m) (sym q) ∙ sym p ∙ k in
-    nested (name_bytes def.name) (kind_byte def.kind ∷ eight_bytes def.heartbeat) (bound_bytes def.min) (bound_bytes def.max)
-    ∙ (λ i. (n ∙ f) i ++ (head i ∷ more i)) ∙ ap (λ m. take 20 bs ++ m) d ∙ take-append-drop 20 bs
-
 pub def_said : (bs : List ℕ) (y : DsDef) → length bs ≡ 61 → FitsDef y → source_bytes y ≡ bs → (name_bytes y.name ≡ take 20 bs) × (kind_byte y.kind ≡ get_or (take 1 (drop 20 bs)) 0 0)
 def_said bs y l fit e =
     let long : length (name_bytes y.name) ≡ length (take 20 bs) = name_length y.name (short_fit y.name fit.name) ∙ sym (length-take-le 20 bs (omega (arith, l))) in
@@ -165,7 +101,7 @@ def_said bs y l fit e =
 pub before_back : (bs r s : List ℕ) (raw : Raw) (part : Part) → length bs ≡ 36 → bs ≡ raw_bytes raw ++ r → r ≡ part_bytes part ++ s → length s + 36 ≡ length bs → spell (OfRawAndPart raw part) ≡ bs
 unfolding spell
 before_back bs r s raw part l p q m =
-    let none : s ≡ [] = nothing_left s (omega (arith, l, m)) in
+    let none : s ≡ [] = none_there s (omega (arith, l, m)) in
     let tail : part_bytes part ≡ r = sym (append-nil (part_bytes part)) ∙ ap (λ m. part_bytes part ++ m) (sym none) ∙ sym q in
     ap (λ m. raw_bytes raw ++ m) tail ∙ sym p
 
@@ -183,7 +119,7 @@ source_said bs y l fit e =
 pub saved_source_back : (bs more front rest last : List ℕ) (old : SavedSource) → length bs ≡ 79 → bs ≡ two_bytes old.number ++ more → length more + 2 ≡ length bs → front ≡ take 61 more → rest ≡ drop 61 more → source_bytes old.source ≡ front → rest ≡ raw_bytes old.raw ++ last → length last + 16 ≡ length rest → spell (OfSavedSource old) ≡ bs
 unfolding spell
 saved_source_back bs more front rest last old l n s f d p q m =
-    let none : last ≡ [] = nothing_left last (omega (arith, l, s, m, ap length d, length-drop 61 more)) in
+    let none : last ≡ [] = none_there last (omega (arith, l, s, m, ap length d, length-drop 61 more)) in
     let tail : raw_bytes old.raw ≡ rest = sym (append-nil (raw_bytes old.raw)) ∙ ap (λ m. raw_bytes old.raw ++ m) (sym none) ∙ sym q in
     ap (λ m. two_bytes old.number ++ m) ((λ i. (p ∙ f) i ++ (tail ∙ d) i) ∙ take-append-drop 61 more) ∙ sym n
 

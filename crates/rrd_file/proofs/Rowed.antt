@@ -1,18 +1,6 @@
 -- Rows that come one after another into a table.
-use Rattle.std.proofs.Common.{refl, ◌≡◌, ◌∙◌, ◌+◌, ◌-◌, ◌<◌, ◌≤◌, ◌++◌, ℕ, zero, suc, List, [], ◌∷◌, sym, ap, subst, length, length-set, replicate, take, arith, append-nil, map}
-use Rattle.std.specs.Prelude.{slice_set}
-use Rattle.std.proofs.lemmas.List.{length-replicate, map-append}
-use Rattle.std.proofs.lemmas.List.Concat.{flat_map-cons}
-use Rattle.rrd_fixed.specs.declared.cell.Cell.{Cell}
-use Rattle.rrd_fixed.specs.declared.cell.Cell.TheVariants.{Unknown}
-use Rattle.rrd_ring.specs.Rows.{HasWidth, nth_row, row_cells, unknown_rows, with_row}
-use Rattle.rrd_spec.specs.Files.Filed.{Filed}
-use Rattle.rrd_spec.specs.Files.Rebuilding.{outline_left}
-use Rattle.rrd_file.specs.Reader.{Input}
-use Rattle.rrd_file.specs.Layout.{row_pieces}
-use Rattle.rrd_file.specs.Layout.Pieces.{OfCell, Piece}
-use Rattle.rrd_file.specs.Stages.{DueInEntry, RowCellDue, cells_due}
-use Rattle.rrd_file.specs.Progress.{Comes}
+use Rattle.std.specs.Prelude.{◌≡◌, ◌+◌, ◌-◌, ◌<◌, ◌≤◌, ◌++◌, ℕ, zero, suc, List, [], ◌∷◌, length, replicate, take, map, slice_set}
+use Rattle.rrd_file.proofs.Names.{refl, ◌∙◌, sym, ap, subst, length-set, arith, append-nil, length-replicate, map-append, flat_map-cons, Cell, Unknown, HasWidth, nth_row, row_cells, unknown_rows, with_row, Filed, outline_left, Input, row_pieces, OfCell, Piece, DueInEntry, RowCellDue, cells_due, Comes}
 use Rattle.rrd_file.proofs.Turns.{more_row, no_cells, row_less, taken_all}
 
 unknown_many : (n width : ℕ) → length (unknown_rows n width) ≡ n
@@ -64,11 +52,7 @@ rows_go_on f n i rows row old new first h more is wide brings =
 -- the cells of all rows are those of one row after another
 pub pieces_of_cells : (rows : List (List Cell)) → map OfCell (row_cells rows) ≡ row_pieces rows
 pieces_of_cells [] = refl
-pieces_of_cells (row ∷ rows) =
-    ap (map OfCell) (flat_map-cons (λ (r : List Cell). r) row rows)
-    ∙ map-append OfCell row (row_cells rows)
-    ∙ ap (λ (l : List Piece). map OfCell row ++ l) (pieces_of_cells rows)
-    ∙ sym (flat_map-cons (λ (r : List Cell). map OfCell r) row rows)
+pieces_of_cells (row ∷ rows) = cc (flat_map-cons (λ (r : List Cell). r) row rows, map-append OfCell row (row_cells rows), pieces_of_cells rows, flat_map-cons (λ (r : List Cell). map OfCell r) row rows)
 
 -- ---- a table that rows are read into
 

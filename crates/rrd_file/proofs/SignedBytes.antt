@@ -1,13 +1,7 @@
 -- Sixteen bytes and the number that they stand for: a number has one spelling.
-use Rattle.std.proofs.Common.{◌≡◌, ℕ, ◌+◌, ◌*◌, ◌/◌, ◌%◌, ◌^◌, ◌<◌, List, [], ◌∷◌, ◌++◌, length, get_or, refl, sym, ap, ◌∙◌, arith}
-use Rattle.std.specs.Int.{w64, w128, from_be_bytes, to_be_bytes}
+use Rattle.std.specs.Prelude.{◌≡◌, ℕ, ◌+◌, ◌*◌, ◌/◌, ◌%◌, ◌^◌, ◌<◌, List, [], ◌∷◌, ◌++◌, length, ℤ}
+use Rattle.rrd_file.proofs.Names.{get_or, refl, sym, ap, ◌∙◌, arith, w64, w128, from_be_bytes, to_be_bytes, ints, to_z, of_z, SFits, to_z-of_z, from_be_bytes-to_be_bytes_8, signed_bytes}
 use native.Mathlib.Nat as nat
-use Rattle.std.proofs.lemmas.Int.{ints}
-use mir.Val.{to_z, of_z, SFits}
-use mir.Facts.{to_z-of_z}
-use lib.IntN.{ℤ}
-use Rattle.std.proofs.lemmas.Nat.{from_be_bytes-to_be_bytes_8}
-use Rattle.rrd_file.specs.Layout.Values.{signed_bytes}
 
 -- the halves of a number of 16 bytes
 high_byte : (n q r p : ℕ) → n ≡ q * 2 ^ 64 + r → r < 2 ^ 64 → n / (2 ^ 64 * p) % 256 ≡ q / p % 256

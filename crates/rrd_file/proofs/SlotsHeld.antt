@@ -1,30 +1,17 @@
 -- The cells of an archive at an earlier time, cut where the oldest row is now.
-use Rattle.std.proofs.Common.{◌≡◌, ◌∙◌, ◌+◌, ◌-◌, ◌%◌, ◌/◌, ◌*◌, ◌<◌, ◌≤◌, ℕ, List, [], Some, sym, ap, subst, arith, length, get_or, take, drop, map, length-drop, length-take}
-use Rattle.std.specs.Prelude.{slice_get}
-use Rattle.std.specs.List.{AllByRecursion, range_with_len}
-use Rattle.std.proofs.lemmas.List.Folds.{flat_map-map}
-use Rattle.rrd_fixed.specs.declared.cell.Cell.{Cell}
-use Rattle.rrd_spec.specs.Files.Places.{place_in}
-use Rattle.rrd_spec.specs.Files.Slots.{by_slot, cells_by_slot, row_in}
-use Rattle.rrd_spec.specs.History.{Rra, Content}
-use Rattle.rrd_spec.specs.Laws.Slots.{HasOneEach, StandsInPlace, StaysInSlot}
-use Rattle.rrd_spec.specs.Settings.{resolution}
-use Rattle.rrd_spec.specs.Validity.{IsValid}
-use Rattle.rrd_file.specs.Encoded.{HoldsRows, HoldsSlots, row_bytes}
-use Rattle.rrd_file.specs.Layout.{spelled}
-use Rattle.rrd_file.specs.Layout.Pieces.{OfCell}
+use Rattle.std.specs.Prelude.{◌≡◌, ◌+◌, ◌-◌, ◌%◌, ◌/◌, ◌*◌, ◌<◌, ◌≤◌, ℕ, List, [], Some, length, take, drop, map, slice_get}
+use Rattle.rrd_file.proofs.Names.{◌∙◌, sym, ap, subst, arith, get_or, length-drop, length-take, AllByRecursion, range_with_len, flat_map-map, Cell, place_in, by_slot, cells_by_slot, row_in, Rra, Content, HasOneEach, StandsInPlace, StaysInSlot, resolution, IsValid, HoldsRows, HoldsSlots, row_bytes, spelled, OfCell}
 use Rattle.rrd_file.proofs.CellsFiled.{some_size}
-use Rattle.rrd_file.proofs.Overwritten.{all_dropped, all_joined, all_taken, cut_at, rows_long}
+use Rattle.rrd_file.proofs.Overwritten.{all_dropped, cut_at, rows_long}
 use Rattle.rrd_file.proofs.Stayed.{in_slots, many_slots, stayed_newer, stayed_older}
 use Rattle.rrd_file.proofs.Told.{archive_at}
 use Rattle.rrd_file.proofs.Turned.{rows_joined, rows_spelled, turn, turned}
+use Rattle.rrd_spec.proofs.RowsStay.{all_taken, all_joined}
 
 -- the bytes of an archive's cells are those of its rows by slot
 slots_are_rows : (size last : ℕ) (rows : List (List Cell)) → spelled (map OfCell (by_slot size last rows)) ≡ row_bytes (in_slots size last rows)
 slots_are_rows size last rows =
-    let f = row_in size last rows in
-    ap (λ cells. spelled (map OfCell cells)) (sym (flat_map-map (λ (row : List Cell). row) f (range_with_len 0 (length rows))))
-    ∙ rows_spelled (in_slots size last rows)
+    cc (flat_map-map (λ (row : List Cell). row) (row_in size last rows) (range_with_len 0 (length rows)), rows_spelled (in_slots size last rows))
 
 -- the same by other names
 pub rows_held : (bytes part : List ℕ) (rows known : List (List Cell)) (sources count from to end kept : ℕ) → bytes ≡ part → rows ≡ known → sources ≡ count → to ≡ end → HoldsRows part known count from end kept → HoldsRows bytes rows sources from to kept

@@ -1,29 +1,9 @@
 -- At each stage that a file reaches, the settings keep to their limits.
-use Rattle.std.proofs.Common.{◌≡◌, ◌∙◌, ◌++◌, ◌∷◌, ◌+◌, ◌<◌, ◌≤◌, ℕ, zero, suc, List, [], sym, ap, refl, subst, length, arith, map, ◌-◌, drop, take, length-append, length-drop}
-use Rattle.std.specs.Prelude.{replicate, slice_set}
-use Rattle.std.specs.List.{AllByRecursion, flat_map, fold}
-use Rattle.std.proofs.lemmas.List.{length-map, length-take}
-use Rattle.std.proofs.lemmas.List.Sums.{fold-append}
-use Rattle.std.proofs.lemmas.List.Concat.{flat_map-cons}
-use Rattle.rrd_fixed.specs.Rate.{top}
-use Rattle.rrd_fold.specs.Parts.{Part}
-use Rattle.rrd_spec.specs.declared.settings.DsDef.{DsDef}
-use Rattle.rrd_spec.specs.declared.settings.RraDef.{RraDef}
-use Rattle.rrd_spec.specs.declared.outline.Outline.{Outline}
-use Rattle.rrd_spec.specs.declared.entry.SavedSource.{SavedSource}
-use Rattle.rrd_spec.specs.Limits.{Limits, limits_of, max_archives_of}
-use Rattle.rrd_spec.specs.Journal.Entries.{Entry, UpdateEntry, TuneEntry, ResizeEntry, AddedEntry, RemovedEntry}
-use Rattle.rrd_spec.specs.declared.version.Version.{Version}
-use Rattle.rrd_spec.specs.declared.version.Version.TheVariants.{One, Two}
-use Rattle.rrd_spec.specs.Files.Filed.{Filed, Head, Source}
-use Rattle.rrd_spec.specs.Lemmas.Lists.{All-append, All-drop, All-replicate, All-take}
-use Rattle.rrd_spec.specs.Files.Rebuilding.{IsHeader, begun, heads_with_part, limits, outline_filed, outline_left, with_head, with_source}
-use Rattle.rrd_spec.specs.Journal.Fitting.{MayUndo}
-use Rattle.rrd_spec.specs.Journal.Outlines.{outline_undone, with_row_number, with_sources}
-use Rattle.rrd_file.specs.Layout.Pieces.{Piece, Tag, OfTag, AnUpdate, ATune, AResize, AnAddition, ARemoval}
-use Rattle.rrd_file.specs.Stages.{Stage, Start, Marked, Versioned, Body, Within, DueInEntry, TimeDue, BeforeDue, RowPrepDue, RowsDue, RowCellDue, CountDue, NamedDue, NumberDue, OldRowsDue, RemovedNumberDue, RemovedHeadDue, GoesOn, Runs, Takes, archive_due, behind, first_due, named_due}
+use Rattle.std.specs.Prelude.{◌≡◌, ◌++◌, ◌∷◌, ◌+◌, ◌<◌, ◌≤◌, ℕ, zero, suc, List, [], length, map, ◌-◌, drop, take, replicate, slice_set}
+use Rattle.rrd_file.proofs.Names.{◌∙◌, sym, ap, refl, subst, arith, length-append, length-drop, AllByRecursion, flat_map, fold, length-map, length-take, fold-append, flat_map-cons, top, Part, DsDef, RraDef, Outline, SavedSource, Limits, limits_of, max_archives_of, Entry, UpdateEntry, TuneEntry, ResizeEntry, AddedEntry, RemovedEntry, Version, One, Two, Filed, Head, Source, All-append, All-drop, All-replicate, All-take, IsHeader, begun, heads_with_part, limits, outline_filed, outline_left, with_head, with_source, MayUndo, outline_undone, with_row_number, with_sources, Piece, Tag, OfTag, AnUpdate, ATune, AResize, AnAddition, ARemoval, Stage, Start, Marked, Versioned, Body, Within, DueInEntry, TimeDue, BeforeDue, RowPrepDue, RowsDue, RowCellDue, CountDue, NamedDue, NumberDue, OldRowsDue, RemovedNumberDue, RemovedHeadDue, GoesOn, Runs, Takes, archive_due, behind, first_due, named_due}
 use Rattle.rrd_file.proofs.Order.{before_entry, before_head, saved_source}
 use Rattle.rrd_file.proofs.Ways.{Step, ToMark, ToVersion, ToHeader, ToSource, ToHead, ToPrep, ToCell, ToEntry, ToPiece, Way, ByTime, ByRawAndPart, ByRowPrep, ByRows, ByRowCell, ByCount, ByNamed, ByNumber, ByOldRows, ByRemovedNumber, ByRemovedHead, step_of}
+use Rattle.rrd_spec.proofs.Outlined.{sources_count}
 
 -- limits that no version exceeds
 pub record AreSmall (l : Limits) : Type 0 where
@@ -42,17 +22,7 @@ few_archives One = omega arith
 few_archives Two = omega arith
 
 pub small_limits : (version : Version) → AreSmall (limits_of version)
-small_limits version = record {
-  step = omega arith;
-  last = omega arith;
-  sources = omega arith;
-  archives = few_archives version;
-  heartbeat = omega arith;
-  bound = omega arith;
-  share = omega arith;
-  steps = omega arith;
-  rows = omega arith;
-}
+small_limits version = grind (arith, few_archives version)
 
 pub record HasSomeSteps (def : RraDef) : Type 0 where
   pub some : 0 < def.steps
@@ -99,10 +69,6 @@ set_length [] i def = refl
 set_length (x ∷ sources) zero def = refl
 set_length (x ∷ sources) (suc i) def = ap suc (set_length sources i def)
 
-pub tuned_length : (sources : List DsDef) (olds : List SavedSource) → length (with_sources sources olds) ≡ length sources
-tuned_length sources [] = refl
-tuned_length sources (old ∷ olds) = tuned_length (slice_set sources old.number old.source) olds ∙ set_length sources old.number old.source
-
 pub resized_length : (defs : List RraDef) (i rows : ℕ) → length (with_row_number defs i rows) ≡ length defs
 resized_length [] i rows = refl
 resized_length (def ∷ defs) zero rows = refl
@@ -115,7 +81,7 @@ resized_steps (def ∷ defs) (suc i) rows h = (h.0, resized_steps defs i rows h.
 
 undone_sound : (l : Limits) (step : ℕ) (s : Outline) (e : Entry) → AreSmall l → AreSound s → MayUndo l step s e → AreSound (outline_undone s e)
 undone_sound l step s (UpdateEntry old) small h m = record { last = omega (arith, h.last, m.earlier); sources = h.sources; archives = h.archives; steps = h.steps }
-undone_sound l step s (TuneEntry olds) small h m = record { last = h.last; sources = omega (arith, h.sources, tuned_length s.sources olds); archives = h.archives; steps = h.steps }
+undone_sound l step s (TuneEntry olds) small h m = record { last = h.last; sources = omega (arith, h.sources, sources_count s.sources olds); archives = h.archives; steps = h.steps }
 undone_sound l step s (ResizeEntry archive rows) small h m = record { last = h.last; sources = h.sources; archives = omega (arith, h.archives, resized_length s.archives archive (length rows)); steps = resized_steps s.archives archive (length rows) h.steps }
 undone_sound l step s AddedEntry small h m =
     let n = length s.archives - 1 in
@@ -143,7 +109,7 @@ filed_sound f is sources heads steps =
       steps = steps;
     }
 
-none_of : {A : Type 0} (xs : List A) → (0 < length xs → ⊥) → xs ≡ []
+pub none_of : {A : Type 0} (xs : List A) → (0 < length xs → ⊥) → xs ≡ []
 none_of [] h = refl
 none_of (x ∷ xs) h = absurd (h (omega arith))
 
@@ -173,11 +139,8 @@ named_sound lowest zero = tt
 named_sound lowest (suc more) = (tt, tt)
 
 first_sound : (tag : Tag) → AllByRecursion IsSoundDue (first_due tag)
-first_sound AnUpdate = (tt, tt)
-first_sound ATune = (tt, tt)
-first_sound AResize = (tt, tt)
 first_sound AnAddition = tt
-first_sound ARemoval = (tt, tt)
+first_sound x = (tt, tt)
 
 goes_sound : (f : Filed) (pieces : List Piece) (due : List DueInEntry) (next : Stage) → IsSound f → AllByRecursion IsSoundDue due → GoesOn f pieces due next → IsSoundStage next
 goes_sound f pieces (due ∷ later) next h k g = subst IsSoundStage (sym g) (h, k)
@@ -196,14 +159,12 @@ goes_sound f pieces [] next h k g =
 -- ---- what a piece adds
 
 part_same : (heads : List Head) (part : Part) → map (λ (head : Head). head.def) (heads_with_part heads part) ≡ map (λ (head : Head). head.def) heads
-part_same [] part = refl
-part_same (head ∷ []) part = refl
 part_same (head ∷ next ∷ heads) part = ap (λ l. head.def ∷ l) (part_same (next ∷ heads) part)
+part_same x part = refl
 
 part_length : (heads : List Head) (part : Part) → length (heads_with_part heads part) ≡ length heads
-part_length [] part = refl
-part_length (head ∷ []) part = refl
 part_length (head ∷ next ∷ heads) part = ap suc (part_length (next ∷ heads) part)
+part_length x part = refl
 
 head_steps : (heads : List Head) (head : Head) → AllByRecursion HasSomeSteps (map (λ (head : Head). head.def) heads) → HasSomeSteps head.def → AllByRecursion HasSomeSteps (map (λ (head : Head). head.def) (heads ++ head ∷ []))
 head_steps [] head h k = (k, tt)
@@ -211,21 +172,16 @@ head_steps (x ∷ heads) head h k = (h.0, head_steps heads head h.1 k)
 
 behind_sound : (l : Limits) (step : ℕ) (now : Outline) {due : DueInEntry} {p : Piece} → AreSmall l → AreSound now → Way l step now due p → AllByRecursion IsSoundDue (behind step now due p)
 behind_sound l step now small h (ByTime last is) = All-append IsSoundDue (map (BeforeDue last) now.sources) (flat_map (archive_due step now last) now.archives) (sources_sound last now.sources) (archives_sound step now last now.archives h.steps)
-behind_sound l step now small h (ByRawAndPart last def raw part is has) = tt
-behind_sound l step now small h (ByRowPrep last def part is) = tt
-behind_sound l step now small h (ByRows rows count is) = tt
-behind_sound l step now small h (ByRowCell cell is) = tt
 behind_sound l step now small h (ByCount count some few) = named_sound 0 count
 behind_sound l step now small h (ByNamed lowest more old from to is) = named_sound (old.number + 1) more
 behind_sound l step now small h (ByNumber archive is) = (tt, tt)
 behind_sound l step now small h (ByOldRows archive rows is) = cells_sound _
 behind_sound l step now small h (ByRemovedNumber number is) = (tt, tt)
 behind_sound l step now small h (ByRemovedHead def is) = All-append IsSoundDue (replicate (length now.sources) (RowPrepDue now.last def)) _ (All-replicate IsSoundDue (length now.sources) (RowPrepDue now.last def) (record { some = is.def_is.some_steps; few = omega (arith, is.def_is.few_steps, small.steps) })) (cells_sound _)
+behind_sound l step now small h x = tt
 
 -- what a piece leads to
 step_sound : {s : Stage} {p : Piece} {n : Stage} → IsSoundStage s → Step s p n → IsSoundStage n
-step_sound h ToMark = tt
-step_sound h (ToVersion version) = tt
 step_sound h (ToHeader version header same is) =
     let few : 0 ≤ header.sources = omega arith in
     let none : 0 ≤ header.archives = omega arith in
@@ -262,6 +218,7 @@ step_sound h (ToPiece f pieces due later p next w goes) =
     let now = outline_left f in
     goes_sound f (pieces ++ p ∷ []) (behind f.header.step now due p ++ later) next h.0
     (All-append IsSoundDue (behind f.header.step now due p) later (behind_sound (limits f) f.header.step now (small_limits f.header.version) h.0.left w) h.1.1) goes
+step_sound h x = tt
 
 pub takes_sound : (s : Stage) (p : Piece) (n : Stage) → IsSoundStage s → Takes s p n → IsSoundStage n
 takes_sound s p n h t = step_sound h (step_of s p n t)

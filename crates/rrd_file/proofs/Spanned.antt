@@ -1,11 +1,6 @@
 -- Bytes that are in none of some spans stay as they were.
-use Rattle.std.proofs.Common.{◌≡◌, ◌∙◌, ◌⊎◌, ◌+◌, ◌-◌, ◌<◌, ◌≤◌, ◌++◌, ℕ, List, [], ◌∷◌, sym, ap, subst, inl, inr, arith, length, get_or, take, drop, length-append, length-take, refl, Some, Result, Ok, Err, OnOk}
-use Rattle.std.specs.List.{All}
-use Rattle.std.proofs.lemmas.List.{get_or-append_right, get_or-drop, get_or-take, get_or_append_left, get_or_past}
-use Rattle.std.proofs.lemmas.List.Elements.{All-pop}
-use Rattle.std.proofs.lemmas.Bool.{cases_lt}
-use Rattle.rrd_file.specs.Spans.{AgreesOutside, IsBeside}
-use Rattle.rrd_file.specs.declared.span.Span.{Span}
+use Rattle.std.specs.Prelude.{◌≡◌, ◌⊎◌, ◌+◌, ◌-◌, ◌<◌, ◌≤◌, ◌++◌, ℕ, List, [], ◌∷◌, length, take, drop, Some, Result, Ok, Err, OnOk}
+use Rattle.rrd_file.proofs.Names.{◌∙◌, sym, ap, subst, inl, inr, arith, get_or, length-append, length-take, refl, All, get_or-append_right, get_or-drop, get_or-take, get_or_append_left, get_or_past, All-pop, cases_lt, AgreesOutside, IsBeside, Span}
 
 -- ---- results
 
@@ -44,15 +39,9 @@ pub beside_both : (bytes front back new_front new_back : List ℕ) (middle stays
     → bytes ≡ front ++ back → length front ≡ middle → length new_front ≡ middle → length new_back ≡ length back → end ≡ length bytes
     → ((i : ℕ) → i < stays → get_or new_front i 0 ≡ get_or front i 0) → ((i : ℕ) → i < later → get_or new_back i 0 ≡ get_or back i 0)
     → (k < stays) ⊎ (middle ≤ k) → (k < middle + later) ⊎ (end ≤ k) → stays ≤ middle → get_or (new_front ++ new_back) k 0 ≡ get_or bytes k 0
-beside_both bytes front back new_front new_back middle stays later end k is long new_long back_long end_is same_front same_back (inl low) older few =
-    get_or_append_left new_front new_back 0 k (omega arith) ∙ same_front k low ∙ sym (get_or_append_left front back 0 k (omega arith))
-    ∙ ap (λ (l : List ℕ). get_or l k 0) (sym is)
-beside_both bytes front back new_front new_back middle stays later end k is long new_long back_long end_is same_front same_back (inr high) (inl low) few =
-    get_or-append_right new_front new_back middle k 0 new_long high ∙ same_back (k - middle) (omega arith)
-    ∙ sym (get_or-append_right front back middle k 0 long high) ∙ ap (λ (l : List ℕ). get_or l k 0) (sym is)
-beside_both bytes front back new_front new_back middle stays later end k is long new_long back_long end_is same_front same_back (inr high) (inr past) few =
-    get_or_past (new_front ++ new_back) k 0 (omega (arith, length-append new_front new_back, ap length is, length-append front back))
-    ∙ sym (get_or_past bytes k 0 (omega arith))
+beside_both bytes front back new_front new_back middle stays later end k is long new_long back_long end_is same_front same_back (inl low) older few = cc (get_or_append_left new_front new_back 0 k (omega arith), same_front k low, get_or_append_left front back 0 k (omega arith), is)
+beside_both bytes front back new_front new_back middle stays later end k is long new_long back_long end_is same_front same_back (inr high) (inl low) few = cc (get_or-append_right new_front new_back middle k 0 new_long high, same_back (k - middle) (omega arith), get_or-append_right front back middle k 0 long high, is)
+beside_both bytes front back new_front new_back middle stays later end k is long new_long back_long end_is same_front same_back (inr high) (inr past) few = cc (get_or_past (new_front ++ new_back) k 0 (omega (arith, length-append new_front new_back, ap length is, length-append front back)), get_or_past bytes k 0 (omega arith))
 
 -- ---- spans that were added
 

@@ -1,30 +1,6 @@
 -- A value that its bytes can stand for has bytes that no other such value has.
-use Rattle.std.proofs.Common.{◌≡◌, ◌∙◌, ◌++◌, ◌∷◌, ◌-◌, ◌^◌, ◌<◌, ◌≤◌, ℕ, List, [], sym, ap, refl, subst, get_or, drop, length, replicate, arith, length-append}
-use Rattle.std.specs.Prelude.{◌≤ℤ◌, ℤ, negsuc, pos, unsigned_abs, nat_lt, true, Option, Some, None}
-use Rattle.std.specs.List.{list_all}
-use Rattle.std.specs.Int.{w16, w32, w64, w128, from_be_bytes}
-use Rattle.std.proofs.lemmas.Bool.{leb-true}
-use Rattle.std.proofs.lemmas.Int.{ints}
-use Rattle.std.proofs.lemmas.Nat.{from_be_bytes-to_be_bytes_2, from_be_bytes-to_be_bytes_4, from_be_bytes-to_be_bytes_8}
-use mir.Val.{SFits}
-use Rattle.rrd_fixed.specs.declared.cell.Cell.{Cell}
-use Rattle.rrd_fixed.specs.declared.raw.Raw.{Raw}
-use Rattle.rrd_fixed.specs.declared.kind.Kind.{Kind}
-use Rattle.rrd_fixed.specs.declared.kind.Kind.TheVariants.{Gauge, Counter, Derive, Absolute}
-use Rattle.rrd_fixed.specs.declared.name.Name.{Name}
-use Rattle.rrd_fixed.specs.Names.{fits}
-use Rattle.rrd_fold.specs.declared.function.Function.{Function}
-use Rattle.rrd_fold.specs.declared.function.Function.TheVariants.{Average, Min, Max, Last}
-use Rattle.rrd_fold.specs.Parts.{Part}
-use Rattle.rrd_spec.specs.declared.settings.DsDef.{DsDef}
-use Rattle.rrd_spec.specs.declared.settings.RraDef.{RraDef}
-use Rattle.rrd_spec.specs.declared.entry.SavedSource.{SavedSource}
-use Rattle.rrd_spec.specs.declared.version.Version.{Version}
-use Rattle.rrd_spec.specs.declared.version.Version.TheVariants.{One, Two}
-use Rattle.rrd_spec.specs.Files.Filed.{Header, Source}
-use Rattle.rrd_file.specs.Layout.Pieces.{count_bytes, header_bytes}
-use Rattle.rrd_file.specs.Layout.Values.{archive_bytes, bound_bytes, bound_number, cell_bytes, eight_bytes, four_bytes, function_byte, kind_byte, least, name_bytes, part_bytes, raw_bytes, raw_number, signed_bytes, source_bytes, two_bytes}
-use Rattle.rrd_file.specs.Layout.Fitting.{counts, FitsArchive, FitsBound, FitsCell, FitsDef, FitsHeader, FitsSavedSource, FitsNumber, FitsPart, FitsRaw, FitsSource}
+use Rattle.std.specs.Prelude.{◌≡◌, ◌++◌, ◌∷◌, ◌-◌, ◌^◌, ◌<◌, ◌≤◌, ℕ, List, [], drop, length, replicate, ◌≤ℤ◌, ℤ, negsuc, pos, unsigned_abs, nat_lt, true, Option, Some, None}
+use Rattle.rrd_file.proofs.Names.{◌∙◌, sym, ap, refl, subst, get_or, arith, length-append, list_all, w16, w32, w64, w128, from_be_bytes, leb-true, ints, from_be_bytes-to_be_bytes_2, from_be_bytes-to_be_bytes_4, from_be_bytes-to_be_bytes_8, SFits, Cell, Raw, Kind, Gauge, Counter, Derive, Absolute, Name, fits, Function, Average, Min, Max, Last, Part, DsDef, RraDef, SavedSource, Version, One, Two, Header, Source, count_bytes, header_bytes, archive_bytes, bound_bytes, bound_number, cell_bytes, eight_bytes, four_bytes, function_byte, kind_byte, least, name_bytes, part_bytes, raw_bytes, raw_number, signed_bytes, source_bytes, two_bytes, counts, FitsArchive, FitsBound, FitsCell, FitsDef, FitsHeader, FitsSavedSource, FitsNumber, FitsPart, FitsRaw, FitsSource}
 use Rattle.rrd_file.proofs.SignedBytes.{signed_length, signed_one}
 use Rattle.rrd_file.proofs.Lengths.{name_length, source_length}
 use Rattle.rrd_file.proofs.Tests.{and_left}
@@ -33,14 +9,12 @@ use Rattle.rrd_file.proofs.Tests.{and_left}
 
 pub append_same : {A : Type 0} (a b c d : List A) → length a ≡ length c → a ++ b ≡ c ++ d → (a ≡ c) × (b ≡ d)
 append_same [] b [] d l e = (refl, e)
-append_same [] b (y ∷ c) d l e = absurd (omega (arith, l))
-append_same (x ∷ a) b [] d l e = absurd (omega (arith, l))
 append_same (x ∷ a) b (y ∷ c) d l e =
-    let whole : x ∷ (a ++ b) ≡ y ∷ (c ++ d) = e in
     let first : x ≡ y = cc in
     let later : a ++ b ≡ c ++ d = cc in
     let rest = append_same a b c d (omega (arith, l)) later in
     (λ i. first i ∷ rest.0 i, rest.1)
+append_same x b y d l e = absurd (omega (arith, l))
 
 pub head_same : (x y : ℕ) (a b : List ℕ) → x ∷ a ≡ y ∷ b → (x ≡ y) × (a ≡ b)
 head_same x y a b e = (ap (λ l. get_or l 0 0) e, ap (drop 1) e)

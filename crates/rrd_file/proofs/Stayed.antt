@@ -1,18 +1,6 @@
 -- The rows of an archive by slot, at an earlier time and now.
-use Rattle.std.proofs.Common.{◌≡◌, ◌∙◌, ◌+◌, ◌-◌, ◌%◌, ◌/◌, ◌<◌, ◌≤◌, ◌++◌, ℕ, zero, suc, List, [], ◌∷◌, Some, sym, ap, subst, refl, arith, length, get_or, take, drop, map, length-take}
-use Rattle.std.specs.Prelude.{slice_get}
-use Rattle.std.specs.List.{range_with_len}
-use Rattle.std.proofs.Math.Nat.{div-mul-le_self}
-use Rattle.std.proofs.lemmas.List.{get_or-drop, get_or-take, length-map}
-use Rattle.std.proofs.lemmas.List.FromFn.{get_or-map-range_with_len, length-range_with_len}
-use Rattle.std.proofs.lemmas.Nat.{le-div}
-use Rattle.rrd_fixed.specs.declared.cell.Cell.{Cell}
-use Rattle.rrd_spec.specs.Files.Places.{place_in}
-use Rattle.rrd_spec.specs.Files.Slots.{row_in}
-use Rattle.rrd_spec.specs.History.{Rra}
-use Rattle.rrd_spec.specs.Laws.Slots.{StandsInPlace, StaysInSlot}
-use Rattle.rrd_spec.specs.Laws.Updates.{MoveOn, MovesOn, dropped}
-use Rattle.rrd_spec.specs.Settings.{resolution}
+use Rattle.std.specs.Prelude.{◌≡◌, ◌+◌, ◌-◌, ◌%◌, ◌/◌, ◌<◌, ◌≤◌, ◌++◌, ℕ, zero, suc, List, [], ◌∷◌, Some, length, take, drop, map, slice_get}
+use Rattle.rrd_file.proofs.Names.{◌∙◌, sym, ap, subst, refl, arith, get_or, length-take, range_with_len, div-mul-le_self, get_or-drop, get_or-take, length-map, get_or-map-range_with_len, length-range_with_len, le-div, Cell, place_in, row_in, Rra, StandsInPlace, StaysInSlot, MoveOn, MovesOn, dropped, resolution}
 use Rattle.rrd_file.proofs.Turned.{turn}
 
 -- the rows of an archive in the order of their slots
@@ -84,17 +72,15 @@ pub record HasMoved (step from to : ℕ) (olds : List Rra) (i : ℕ) (new : Rra)
 
 pub moved_at : (step from to : ℕ) (olds news : List Rra) (i : ℕ) (new : Rra) → MoveOn step from to olds news → slice_get news i ≡ Some new → HasMoved step from to olds i new
 moved_at step from to [] [] i new all there = absurd cc
-moved_at step from to [] (x ∷ news) i new all there = absurd all
-moved_at step from to (old ∷ olds) [] i new all there = absurd all
 moved_at step from to (old ∷ olds) (x ∷ news) zero new all there =
     let same : x ≡ new = cc in
     record { old = old; there = refl; moved = subst (MovesOn step from to old) same all.0 }
 moved_at step from to (old ∷ olds) (x ∷ news) (suc i) new all there =
     let rest = moved_at step from to olds news i new all.1 there in
     record { old = rest.old; there = rest.there; moved = rest.moved }
+moved_at step from to y x i new all there = absurd all
 
 pub as_many_archives : (step from to : ℕ) (olds news : List Rra) → MoveOn step from to olds news → length news ≡ length olds
 as_many_archives step from to [] [] all = refl
-as_many_archives step from to [] (x ∷ news) all = absurd all
-as_many_archives step from to (old ∷ olds) [] all = absurd all
 as_many_archives step from to (old ∷ olds) (x ∷ news) all = ap suc (as_many_archives step from to olds news all.1)
+as_many_archives step from to y x all = absurd all

@@ -1,6 +1,6 @@
 -- What a test of two parts says of each.
-use Rattle.std.proofs.Common.{◌≡◌, Bool, refl}
-use Rattle.std.specs.Prelude.{true, false, ◌&&◌, ◌||◌}
+use Rattle.std.specs.Prelude.{◌≡◌, Bool, true, false, ◌&&◌, ◌||◌}
+use Rattle.rrd_file.proofs.Names.{refl}
 
 pub and_left : (a b : Bool) → (a && b) ≡ true → a ≡ true
 and_left Bool.true b e = refl

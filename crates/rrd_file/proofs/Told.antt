@@ -1,21 +1,6 @@
 -- What a database's readers tell, as items of its lists.
-use Rattle.std.proofs.Common.{◌≡◌, ◌∙◌, ◌<◌, ◌^◌, ℕ, zero, suc, ℤ, List, [], ◌∷◌, Some, sym, ap, refl, subst, length, get_or, arith, map, ◌/◌}
-use Rattle.std.specs.Prelude.{slice_get, slice_index_or, unsigned_abs}
-use Rattle.std.specs.List.{AllByRecursion}
-use Rattle.std.proofs.lemmas.Int.{ints}
-use Rattle.rrd_fixed.specs.declared.cell.Cell.TheVariants.{Unknown}
-use Rattle.rrd_fixed.specs.declared.raw.Raw.{Raw}
-use Rattle.rrd_fold.specs.Parts.{Part, nothing}
-use Rattle.rrd_spec.specs.declared.settings.DsDef.{DsDef}
-use Rattle.rrd_spec.specs.declared.settings.RraDef.{RraDef}
-use Rattle.rrd_spec.specs.Files.Filed.{Source, sources_of}
-use Rattle.rrd_spec.specs.History.{Rra, Content}
-use Rattle.std.proofs.lemmas.List.{length-map}
-use Rattle.rrd_fold.specs.Bounds.{Consolidating}
-use Rattle.rrd_spec.specs.History.Cells.{row_at, cell_in, prep_in}
-use Rattle.rrd_spec.specs.Validity.{AreAccepted, IsValid, IsValidArchive}
-use Rattle.rrd_file.specs.Layout.{raws_and_parts}
-use Rattle.rrd_file.specs.Layout.Pieces.{OfSource, OfRawAndPart}
+use Rattle.std.specs.Prelude.{◌≡◌, ◌<◌, ◌^◌, ℕ, zero, suc, ℤ, List, [], ◌∷◌, Some, length, map, ◌/◌, slice_get, slice_index_or, unsigned_abs}
+use Rattle.rrd_file.proofs.Names.{◌∙◌, sym, ap, refl, subst, get_or, arith, AllByRecursion, ints, Unknown, Raw, Part, nothing, DsDef, RraDef, Source, sources_of, Rra, Content, length-map, Consolidating, row_at, cell_in, prep_in, AreAccepted, IsValid, IsValidArchive, raws_and_parts, OfSource, OfRawAndPart}
 
 pub some_is : {A : Type 0} (x y : A) → Some x ≡ Some y → x ≡ y
 some_is x y e = cc
@@ -26,23 +11,15 @@ all_of P [] i x all e = absurd cc
 all_of P (y ∷ xs) zero x all e = subst P (some_is y x e) all.0
 all_of P (y ∷ xs) (suc i) x all e = all_of P xs i x all.1 e
 
--- the cell that a content shows of an archive
-pub cell_told : (d : Content) (archives : List Rra) (n : ℕ) (a : Rra) (time : ℤ) (source : ℕ) → slice_get archives n ≡ Some a → cell_in d archives n time source ≡ get_or (row_at d a time) source Unknown
-cell_told d [] n a time source e = absurd cc
-cell_told d (b ∷ archives) zero a time source e = ap (λ (x : Rra). get_or (row_at d x time) source Unknown) (some_is b a e)
-cell_told d (b ∷ archives) (suc n) a time source e = cell_told d archives n a time source e
-
 pub archive_at : (d : Content) (n : ℕ) (a : Rra) → IsValid d → slice_get d.archives n ≡ Some a → IsValidArchive (length d.sources) (d.last / d.step) a
 archive_at d n a v e = all_of (IsValidArchive (length d.sources) (d.last / d.step)) d.archives n a v.archives_are e
 
 -- a source by its place
 pub source_at : (defs : List DsDef) (raws : List Raw) (parts : List Part) (i : ℕ) (s : Source) (d : DsDef) → slice_get (sources_of defs raws parts) i ≡ Some s
     → s ≡ record { def = slice_index_or defs i d; raw = slice_index_or raws i Raw.Unknown; part = slice_index_or parts i nothing }
-source_at [] raws parts i s d e = absurd cc
-source_at (def ∷ defs) [] parts i s d e = absurd cc
-source_at (def ∷ defs) (raw ∷ raws) [] i s d e = absurd cc
 source_at (def ∷ defs) (raw ∷ raws) (part ∷ parts) zero s d e = sym (some_is _ s e)
 source_at (def ∷ defs) (raw ∷ raws) (part ∷ parts) (suc i) s d e = source_at defs raws parts i s d e
+source_at x raws parts i s d e = absurd cc
 
 -- an archive's settings are small numbers
 pub record HasSmallNumbers (def : RraDef) : Type 0 where
@@ -61,9 +38,8 @@ small_numbers sources passed (a ∷ archives) (suc i) def all e = small_numbers 
 
 pub accepted_length : (defs : List DsDef) (raws : List Raw) → AreAccepted defs raws → length raws ≡ length defs
 accepted_length [] [] h = refl
-accepted_length [] (raw ∷ raws) h = absurd h
-accepted_length (def ∷ defs) [] h = absurd h
 accepted_length (def ∷ defs) (raw ∷ raws) h = ap suc (accepted_length defs raws h.1)
+accepted_length x y h = absurd h
 
 pub record SameLengths (defs : List DsDef) (raws : List Raw) (parts : List Part) : Type 0 where
   pub raws_are : length raws ≡ length defs

@@ -1,41 +1,14 @@
 -- An archive's rows in the order of its slots: those from the place of the first slot on, and then those before it.
-use Rattle.std.proofs.Common.{◌≡◌, ◌∙◌, ◌+◌, ◌-◌, ◌%◌, ◌/◌, ◌*◌, ◌<◌, ◌≤◌, ◌⊎◌, ◌++◌, ℕ, zero, suc, List, [], Some, sym, ap, arith, inl, inr, length, get_or, take, drop, map, min, replicate, length-append, length-drop}
-use Rattle.std.specs.Prelude.{slice_get}
-use Rattle.std.specs.List.{flat_map, range_with_len, slice_range}
-use Rattle.std.proofs.Math.Seq.{drop-drop, take-add, take-take}
-use Rattle.std.proofs.lemmas.Bool.{cases_lt}
-use Rattle.std.proofs.lemmas.Grind.{flat_map-append}
-use Rattle.std.proofs.lemmas.List.{drop-replicate, drop-take, ext_get_or, get_or-append_right, get_or-drop, get_or-take, get_or_append_left, length-map, length-take, map-append, replicate-append-replicate, take-replicate, take_all, take_rest}
-use Rattle.std.proofs.lemmas.List.Concat.{flat_map-cons}
-use Rattle.std.proofs.lemmas.List.Folds.{flat_map-map}
-use Rattle.std.proofs.lemmas.List.FromFn.{get_or-map-range_with_len, length-range_with_len}
-use native.Mathlib.Nat as nat
-use Rattle.rrd_fixed.specs.declared.cell.Cell.{Cell}
-use Rattle.rrd_fixed.specs.declared.cell.Cell.TheVariants.{Unknown}
-use Rattle.rrd_spec.specs.Laws.Slots.{StandsInPlace}
-use Rattle.rrd_spec.specs.declared.settings.RraDef.{RraDef}
-use Rattle.rrd_spec.specs.History.{Rra, Content}
-use Rattle.rrd_spec.specs.Settings.{resolution}
-use Rattle.rrd_spec.specs.Files.Slots.{by_slot, cells_by_slot, row_in}
-use Rattle.rrd_spec.specs.Files.Places.{place_in}
-use Rattle.rrd_spec.specs.Validity.{IsValid}
-use Rattle.rrd_file.specs.Layout.{row_pieces, spelled}
-use Rattle.rrd_file.specs.Layout.Pieces.{OfCell, spell}
+use Rattle.std.specs.Prelude.{◌≡◌, ◌+◌, ◌-◌, ◌%◌, ◌/◌, ◌*◌, ◌<◌, ◌≤◌, ◌⊎◌, ◌++◌, ℕ, zero, suc, List, [], Some, length, take, drop, map, min, replicate, slice_get, slice_range}
+use Rattle.rrd_file.proofs.Names.{◌∙◌, sym, ap, arith, inl, inr, get_or, length-append, length-drop, flat_map, range_with_len, drop-drop, take-add, cases_lt, flat_map-append, drop-replicate, drop-take, ext_get_or, get_or-append_right, get_or-drop, get_or-take, get_or_append_left, length-map, length-take, map-append, replicate-append-replicate, take-replicate, take_all, take_rest, flat_map-cons, flat_map-map, get_or-map-range_with_len, length-range_with_len, Cell, Unknown, StandsInPlace, RraDef, Rra, Content, resolution, by_slot, cells_by_slot, row_in, place_in, IsValid, row_pieces, spelled, OfCell, spell}
+use Rattle.std.proofs.Math.Seq.{take-take}
 use Rattle.rrd_file.proofs.CellsFiled.{IsDefOf, cells_spelled, rows_are, same_def, small_def, some_size}
 use Rattle.rrd_file.proofs.CellRuns.{cells_bytes, spelled_so}
 use Rattle.rrd_file.proofs.Gathering.{flat_flat}
+use native.Mathlib.Nat as nat
+use Rattle.rrd_spec.proofs.Slotted.{mod_once}
 
 -- ---- the place of a slot, from that of the first
-
--- a number below twice another
-once : (n rows : ℕ) → 0 < rows → n < rows + rows → ((n < rows) × (n % rows ≡ n)) ⊎ ((rows ≤ n) × (n % rows ≡ n - rows))
-once n rows r h = elim (cases_lt n rows) [
-  | inl lt ↦ inl (lt, nat.mod-eq_of_lt lt)
-  | inr le ↦
-      let d = n - rows in
-      let is : n ≡ d + rows = omega (arith, le) in
-      inr (le, ap (λ x. x % rows) is ∙ (nat.add-mod_right d rows ∙ nat.mod-eq_of_lt (omega (arith, h, le))))
-]
 
 -- from the first place up to the newest, and on from the oldest
 pub record IsTurn (rows first slot place : ℕ) : Type 0 where
@@ -44,12 +17,12 @@ pub record IsTurn (rows first slot place : ℕ) : Type 0 where
   pub round : rows - first ≤ slot → place ≡ slot - (rows - first)
 
 pub turn : (left rows slot : ℕ) → left < rows → slot < rows → IsTurn rows ((0 + rows - left) % rows) slot ((slot + rows - left) % rows)
-turn left rows slot l s = elim (once (0 + rows - left) rows (omega (arith, l)) (omega (arith, l))) [
-  | inl some ↦ elim (once (slot + rows - left) rows (omega (arith, l)) (omega (arith, l, s))) [
+turn left rows slot l s = elim (mod_once (0 + rows - left) rows (omega (arith, l)) (omega (arith, l))) [
+  | inl some ↦ elim (mod_once (slot + rows - left) rows (omega (arith, l)) (omega (arith, l, s))) [
     | inl low ↦ record { inside = omega (arith, some.0, some.1); up = λ h. omega (arith, l, s, some.0, some.1, low.0, low.1, h); round = λ h. omega (arith, l, s, some.0, some.1, low.0, low.1, h) }
     | inr high ↦ record { inside = omega (arith, some.0, some.1); up = λ h. omega (arith, l, s, some.0, some.1, high.0, high.1, h); round = λ h. omega (arith, l, s, some.0, some.1, high.0, high.1, h) }
   ]
-  | inr none ↦ elim (once (slot + rows - left) rows (omega (arith, l)) (omega (arith, l, s))) [
+  | inr none ↦ elim (mod_once (slot + rows - left) rows (omega (arith, l)) (omega (arith, l, s))) [
     | inl low ↦ record { inside = omega (arith, l, none.0, none.1); up = λ h. omega (arith, l, s, none.0, none.1, low.0, low.1, h); round = λ h. omega (arith, l, s, none.0, none.1, low.0, low.1, h) }
     | inr high ↦ record { inside = omega (arith, l, none.0, none.1); up = λ h. omega (arith, l, s, none.0, none.1, high.0, high.1, h); round = λ h. omega (arith, l, s, none.0, none.1, high.0, high.1, h) }
   ]
@@ -88,9 +61,7 @@ turned stands size last rows some_size some_rows =
 -- ---- their bytes
 
 pub rows_joined : (xs ys : List (List Cell)) → spelled (row_pieces (xs ++ ys)) ≡ spelled (row_pieces xs) ++ spelled (row_pieces ys)
-rows_joined xs ys =
-    ap spelled (flat_map-append (λ (row : List Cell). map OfCell row) xs ys)
-    ∙ flat_map-append spell (row_pieces xs) (row_pieces ys)
+rows_joined xs ys = cc (flat_map-append (λ (row : List Cell). map OfCell row) xs ys, flat_map-append spell (row_pieces xs) (row_pieces ys))
 
 pub rows_spelled : (rows : List (List Cell)) → spelled (map OfCell (flat_map (λ (row : List Cell). row) rows)) ≡ spelled (row_pieces rows)
 rows_spelled rows = cells_spelled (λ (row : List Cell). row) rows ∙ sym (flat_flat spell (λ (row : List Cell). map OfCell row) rows)
@@ -129,9 +100,7 @@ abbrev pub unknown : ℕ → List ℕ
 unknown n = spelled (map OfCell (replicate n Unknown))
 
 pub unknown_more : (n m : ℕ) → unknown n ++ unknown m ≡ unknown (n + m)
-unknown_more n m =
-    sym (flat_map-append spell (map OfCell (replicate n Unknown)) (map OfCell (replicate m Unknown)))
-    ∙ ap spelled (sym (map-append OfCell (replicate n Unknown) (replicate m Unknown)) ∙ ap (map OfCell) (replicate-append-replicate n m Unknown))
+unknown_more n m = cc (flat_map-append spell (map OfCell (replicate n Unknown)) (map OfCell (replicate m Unknown)), sym (map-append OfCell (replicate n Unknown) (replicate m Unknown)) ∙ ap (map OfCell) (replicate-append-replicate n m Unknown))
 
 -- their cells
 unknown_rows : (rows sources : ℕ) → spelled (row_pieces (replicate rows (replicate sources Unknown))) ≡ unknown (rows * sources)

@@ -1,29 +1,8 @@
 -- What one more turn of a loop over an entry's pieces adds, and what is due then.
-use Rattle.std.proofs.Common.{◌≡◌, ◌∙◌, ◌++◌, ◌∷◌, ◌+◌, ◌-◌, ◌*◌, ◌<◌, ◌≤◌, ◌⊎◌, inl, inr, ℕ, zero, suc, List, [], Bool, sym, ap, subst, refl, length, take, drop, map, arith, append_assoc, append-nil}
-use Rattle.std.specs.Prelude.{Some, nat_lt, if◌then◌else◌, replicate, slice_get, slice_set}
-use Rattle.std.specs.List.{flat_map}
-use Rattle.std.proofs.lemmas.Bool.{le-ltb}
-use Rattle.std.proofs.lemmas.Grind.{flat_map-append}
-use Rattle.std.proofs.lemmas.List.{map-append, replicate-append-replicate, take_more_set}
-use Rattle.std.proofs.lemmas.List.Concat.{flat_map-cons}
-use native.Mathlib.Nat as nat
-use Rattle.rrd_fixed.specs.declared.cell.Cell.{Cell}
-use Rattle.rrd_fixed.specs.declared.raw.Raw.{Raw}
-use Rattle.rrd_fold.specs.Bounds.{Consolidating}
-use Rattle.rrd_fold.specs.Parts.{Part}
-use Rattle.rrd_fold.specs.declared.function.Function.{Function}
-use Rattle.rrd_spec.specs.Preparations.{AllOf, parts_in}
-use Rattle.rrd_spec.specs.declared.due.Due.TheVariants.{EntryDue, NothingDue}
-use Rattle.rrd_spec.specs.declared.outline.Outline.{Outline}
-use Rattle.rrd_spec.specs.declared.settings.RraDef.{RraDef}
-use Rattle.rrd_spec.specs.Journal.Entries.{Entry, SavedArchive}
-use Rattle.rrd_spec.specs.Files.Filed.{Filed}
-use Rattle.rrd_spec.specs.Files.Rebuilding.{due, rows_in_all, with_entry}
-use Rattle.rrd_file.specs.Layout.{raws_and_parts, row_pieces}
-use Rattle.rrd_file.specs.Layout.Pieces.{OfCell, OfPrep, OfRawAndPart, Piece}
-use Rattle.rrd_file.specs.Journal.{AreSavedShaped, IsSavedShaped}
-use Rattle.rrd_file.specs.Stages.{DueInEntry, NamedDue, RowCellDue, cells_due, named_due}
+use Rattle.std.specs.Prelude.{◌≡◌, ◌++◌, ◌∷◌, ◌+◌, ◌-◌, ◌*◌, ◌<◌, ◌≤◌, ◌⊎◌, ℕ, zero, suc, List, [], Bool, length, take, drop, map, Some, nat_lt, if◌then◌else◌, replicate, slice_get, slice_set}
+use Rattle.rrd_file.proofs.Names.{◌∙◌, inl, inr, sym, ap, subst, refl, arith, append_assoc, append-nil, flat_map, le-ltb, flat_map-append, map-append, replicate-append-replicate, take_more_set, flat_map-cons, Cell, Raw, Consolidating, Part, Function, AllOf, parts_in, EntryDue, NothingDue, Outline, RraDef, Entry, SavedArchive, Filed, due, rows_in_all, with_entry, raws_and_parts, row_pieces, OfCell, OfPrep, OfRawAndPart, Piece, AreSavedShaped, IsSavedShaped, DueInEntry, NamedDue, RowCellDue, cells_due, named_due}
 use Rattle.rrd_file.proofs.Order.{before_entry}
+use native.Mathlib.Nat as nat
 
 -- ---- entries
 
@@ -48,15 +27,12 @@ pub more_map : {A : Type 0} (p : A → Piece) (pieces : List Piece) (xs : List A
 more_map p pieces xs x = append_assoc pieces (map p xs) (p x ∷ []) ∙ ap (λ l. pieces ++ l) (sym (map-append p xs (x ∷ [])))
 
 pub more_flat : {A : Type 0} (p : A → List Piece) (pieces : List Piece) (xs : List A) (x : A) → (pieces ++ flat_map p xs) ++ p x ≡ pieces ++ flat_map p (xs ++ x ∷ [])
-more_flat p pieces xs x =
-    append_assoc pieces (flat_map p xs) (p x)
-    ∙ ap (λ l. pieces ++ l) (ap (λ l. flat_map p xs ++ l) (sym (flat_map-cons p x [] ∙ append-nil (p x))) ∙ sym (flat_map-append p xs (x ∷ [])))
+more_flat p pieces xs x = cc (append_assoc pieces (flat_map p xs) (p x), ap (λ l. flat_map p xs ++ l) (sym (flat_map-cons p x [] ∙ append-nil (p x))) ∙ sym (flat_map-append p xs (x ∷ [])))
 
 raws_end : (raws : List Raw) (parts : List Part) (raw : Raw) (part : Part) → length raws ≡ length parts → raws_and_parts raws parts ++ OfRawAndPart raw part ∷ [] ≡ raws_and_parts (raws ++ raw ∷ []) (parts ++ part ∷ [])
 raws_end [] [] raw part l = refl
-raws_end [] (p ∷ parts) raw part l = absurd (omega (arith, l))
-raws_end (r ∷ raws) [] raw part l = absurd (omega (arith, l))
 raws_end (r ∷ raws) (p ∷ parts) raw part l = ap (λ l. OfRawAndPart r p ∷ l) (raws_end raws parts raw part (omega (arith, l)))
+raws_end x y raw part l = absurd (omega (arith, l))
 
 pub more_raws : (pieces : List Piece) (raws : List Raw) (parts : List Part) (raw : Raw) (part : Part) → length raws ≡ length parts
     → (pieces ++ raws_and_parts raws parts) ++ OfRawAndPart raw part ∷ [] ≡ pieces ++ raws_and_parts (raws ++ raw ∷ []) (parts ++ part ∷ [])
@@ -82,8 +58,7 @@ row_less now n i later h =
     let width = length now.sources in
     let m = n - (i + 1) in
     let parts : (n - i) * width ≡ width + m * width = ap (λ k. k * width) (less n i h) ∙ nat.suc-mul m width ∙ nat.add_comm (m * width) width in
-    ap (λ k. replicate k RowCellDue ++ later) parts ∙ ap (λ l. l ++ later) (sym (replicate-append-replicate width (m * width) RowCellDue))
-    ∙ append_assoc (replicate width RowCellDue) (replicate (m * width) RowCellDue) later
+    cc (parts, replicate-append-replicate width (m * width) RowCellDue, append_assoc (replicate width RowCellDue) (replicate (m * width) RowCellDue) later)
 
 pub no_cells : (now : Outline) (n i : ℕ) (later : List DueInEntry) → n ≤ i → cells_due (n - i) now ++ later ≡ later
 no_cells now n i later h =
@@ -95,7 +70,7 @@ none_less d n i later h =
     let none : n - i ≡ 0 = omega arith in
     ap (λ k. replicate k d ++ later) none
 
-dropped_at : {A : Type 0} (xs : List A) (i : ℕ) (x : A) → slice_get xs i ≡ Some x → drop i xs ≡ x ∷ drop (i + 1) xs
+pub dropped_at : {A : Type 0} (xs : List A) (i : ℕ) (x : A) → slice_get xs i ≡ Some x → drop i xs ≡ x ∷ drop (i + 1) xs
 dropped_at [] i x e = absurd cc
 dropped_at (y ∷ xs) zero x e = let same : y ≡ x = cc in ap (λ z. z ∷ xs) same
 dropped_at (y ∷ xs) (suc i) x e = let next : suc i + 1 ≡ suc (i + 1) = omega arith in dropped_at xs i x e ∙ ap (λ l. x ∷ l) (sym (ap (λ n. drop n (y ∷ xs)) next))

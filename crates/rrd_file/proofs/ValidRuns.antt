@@ -1,42 +1,11 @@
 -- The layout of a valid database is a whole file, which says that database.
-use Rattle.std.proofs.Common.{◌≡◌, ◌∙◌, ◌++◌, ◌∷◌, ◌+◌, ◌*◌, ◌/◌, ◌%◌, ◌<◌, ◌≤◌, ℕ, List, [], Bool, sym, ap, subst, refl, length, arith, map, append_assoc, append-nil, length-append}
-use Rattle.std.proofs.Math.Nat.{mul-add, mul_comm}
-use Rattle.std.specs.Prelude.{cond, false, sum, Option, Some}
-use Rattle.std.specs.List.{AllByRecursion, enumerate_from, find, flat_map, range_with_len}
-use Rattle.std.specs.Option.{option_map_or}
-use Rattle.std.proofs.lemmas.List.{length-map}
-use Rattle.std.proofs.lemmas.List.Concat.{flat_map-cons}
-use Rattle.std.proofs.lemmas.List.Sums.{fold-append}
-use Rattle.std.proofs.lemmas.Nat.{mul-le}
-use Rattle.rrd_fixed.specs.declared.cell.Cell.{Cell}
-use Rattle.rrd_fixed.specs.declared.raw.Raw.{Raw}
-use Rattle.rrd_fixed.specs.Rate.{IsBounded}
-use Rattle.rrd_fold.specs.declared.function.Function.TheVariants.{Average}
-use Rattle.rrd_fold.specs.Parts.{Part}
-use Rattle.rrd_spec.specs.declared.outline.Outline.{Outline}
-use Rattle.rrd_spec.specs.declared.settings.DsDef.{DsDef}
-use Rattle.rrd_spec.specs.Journal.Entries.{Entry}
-use Rattle.rrd_spec.specs.declared.version.Version.{Version}
-use Rattle.rrd_spec.specs.Files.Filed.{Head, Header, Source, filed, head_of, header_of, sources_of}
-use Rattle.rrd_spec.specs.History.{Rra, Content}
-use Rattle.rrd_spec.specs.Laws.Outlines.{FiledOutline, MayUndoEach, OutlinesAreNeeded}
-use Rattle.rrd_spec.specs.Limits.{Limits, limits_of}
-use Rattle.rrd_spec.specs.Laws.Versions.{DatabaseIsWithin}
-use Rattle.rrd_spec.specs.Lemmas.Lists.{All-append}
-use Rattle.rrd_spec.specs.Journal.Outlines.{outline_of, outline_undone}
-use Rattle.rrd_spec.specs.Laws.Slots.{AsManyCells, HasOneEach}
-use Rattle.rrd_spec.specs.Files.Rebuilding.{IsArchiveDef, IsHeader, outline_filed, outline_left, rows_in_all}
-use Rattle.rrd_spec.specs.Settings.{is_double, names, resolution}
-use Rattle.rrd_spec.specs.Files.Slots.{all_cells, cells_by_slot, row_in, stands_in}
-use Rattle.rrd_spec.specs.Journal.Survivors.{Stored}
-use Rattle.rrd_spec.specs.Validity.{AreAccepted, IsPart, IsRow, IsSourceWithin, IsValid, IsValidArchive, IsValidArchiveWithin, IsValidDatabaseWithin}
-use Rattle.rrd_file.specs.Faults.{IsWhole}
-use Rattle.rrd_file.specs.Layout.{body_pieces, entry_pieces, head_pieces, layout_in, pieces_filed, spelled}
-use Rattle.rrd_file.specs.Layout.Pieces.{Piece, Mark, OfVersion, OfHeader, OfSource, OfCell}
-use Rattle.rrd_file.specs.Stages.{Start, Marked, Versioned, Body, Runs, Takes, body_size, size}
+use Rattle.std.specs.Prelude.{◌≡◌, ◌++◌, ◌∷◌, ◌+◌, ◌*◌, ◌/◌, ◌%◌, ◌<◌, ◌≤◌, ℕ, List, [], Bool, length, map, cond, false, sum, Option, Some}
+use Rattle.rrd_file.proofs.Names.{◌∙◌, sym, ap, subst, refl, arith, append_assoc, append-nil, length-append, mul-add, mul_comm, AllByRecursion, enumerate_from, find, flat_map, range_with_len, option_map_or, length-map, flat_map-cons, fold-append, mul-le, Cell, Raw, IsBounded, Average, Part, Outline, DsDef, Entry, Version, Head, Header, Source, filed, head_of, header_of, sources_of, Rra, Content, FiledOutline, MayUndoEach, OutlinesAreNeeded, Limits, limits_of, DatabaseIsWithin, All-append, outline_of, outline_undone, AsManyCells, HasOneEach, IsArchiveDef, IsHeader, outline_filed, outline_left, rows_in_all, is_double, names, resolution, all_cells, cells_by_slot, row_in, stands_in, Stored, AreAccepted, IsPart, IsRow, IsSourceWithin, IsValid, IsValidArchive, IsValidArchiveWithin, IsValidDatabaseWithin, IsWhole, body_pieces, entry_pieces, head_pieces, layout_in, pieces_filed, spelled, Piece, Mark, OfVersion, OfHeader, OfSource, OfCell, Start, Marked, Versioned, Body, Runs, Takes, body_size, size}
 use Rattle.rrd_file.proofs.BodyRuns.{AreHeadsThere, IsBodyIn, IsFiledHead, IsFiledSource, body, cells_run, defs_of, entry_due, heads_run, heads_there, nothing_due, rows_first, runs_append, sources_run}
 use Rattle.rrd_file.proofs.EntryRuns.{entry_runs}
 use Rattle.rrd_file.proofs.Told.{lengths}
+use Rattle.rrd_spec.proofs.ContentLemmas.{mul_positive}
+use Rattle.rrd_base.proofs.Dues.{one_each}
 
 -- ---- entries
 
@@ -112,22 +81,15 @@ cells_bounded d v =
     all_flat (IsValidArchive (length d.sources) (d.last / d.step)) (cells_by_slot d.step d.last) d.archives
     (λ archive is. archive_bounded (length d.sources) d.step d.last archive is.each_row) v.archives_are
 
-one_each : (sources : ℕ) (rows : List (List Cell)) → AllByRecursion (IsRow sources) rows → AllByRecursion (HasOneEach sources) rows
-one_each sources [] h = tt
-one_each sources (row ∷ rows) h = (h.0.one_each, one_each sources rows h.1)
-
 -- an archive has as many cells as rows and sources
 abbrev pub ManyCells : Type 0
 ManyCells = (resolution last sources : ℕ) (rows : List (List Cell)) → AsManyCells resolution last sources rows
-
-product : (a b : ℕ) → 0 < a → 0 < b → 0 < a * b
-product a b p q = omega (arith, mul-le 1 1 a b (omega (arith, p)) (omega (arith, q)))
 
 archives_cells : ManyCells → (sources step last steps : ℕ) (archives : List Rra) → 0 < step → AllByRecursion (IsValidArchive sources steps) archives → length (flat_map (cells_by_slot step last) archives) ≡ sources * rows_in_all (map head_of archives)
 archives_cells many sources step last steps [] some h = omega arith
 archives_cells many sources step last steps (archive ∷ archives) some h =
     let size = resolution step archive.def in
-    let first : length (cells_by_slot step last archive) ≡ length archive.rows * sources = many size last sources archive.rows (product step archive.def.steps some h.0.some_steps) (one_each sources archive.rows h.0.each_row) in
+    let first : length (cells_by_slot step last archive) ≡ length archive.rows * sources = many size last sources archive.rows (mul_positive step archive.def.steps some h.0.some_steps) (one_each sources archive.rows h.0.each_row) in
     let later = archives_cells many sources step last steps archives some h.1 in
     let all : length (flat_map (cells_by_slot step last) (archive ∷ archives)) ≡ length (cells_by_slot step last archive) + length (flat_map (cells_by_slot step last) archives) = ap length (flat_map-cons (cells_by_slot step last) archive archives) ∙ length-append (cells_by_slot step last archive) (flat_map (cells_by_slot step last) archives) in
     let rows : length archive.rows * sources ≡ sources * archive.def.rows = ap (λ n. n * sources) h.0.rows_are ∙ mul_comm archive.def.rows sources in
@@ -137,18 +99,7 @@ archives_cells many sources step last steps (archive ∷ archives) some h =
 -- ---- the whole
 
 header_is : (version : Version) (c : Content) (j : List Entry) → IsValidDatabaseWithin (limits_of version) c j → IsHeader (header_of version (record { content = c; journal = j }))
-header_is version c j v = record {
-  some_step = v.content_is.some_step;
-  small_step = v.content_is.small_step;
-  good_time = v.content_is.good_time;
-  some_depth = v.content_is.some_depth;
-  small_depth = v.content_is.small_depth;
-  some_source = v.content_is.some_source;
-  few_sources = v.content_is.few_sources;
-  some_archive = v.content_is.some_archive;
-  few_archives = v.content_is.few_archives;
-  few_entries = v.few;
-}
+header_is version c j v = assumption (v.content_is, v)
 
 begin_runs : (h : Header) → IsHeader h → Runs Start (Mark ∷ OfVersion h.version ∷ OfHeader h ∷ []) (Body (body h [] [] [] []))
 unfolding Takes
@@ -185,10 +136,9 @@ valid_is_whole laws version c j v =
     let e = cells_run h f.sources f.heads [] f.cells f.cells refl there many (cells_bounded c valid) in
     let g = entries_run h f.sources f.heads f.cells [] j j refl there many refl may in
     let s0 = Body (body h [] [] [] []) in
-    let s1 = Body (body h f.sources [] [] []) in
     let s2 = Body (body h f.sources f.heads [] []) in
     let s3 = Body (body h f.sources f.heads f.cells []) in
-    let ab = runs_append s0 s1 s2 (map OfSource f.sources) (flat_map head_pieces f.heads) a b in
+    let ab = runs_append s0 (Body (body h f.sources [] [] [])) s2 (map OfSource f.sources) (flat_map head_pieces f.heads) a b in
     let abe = runs_append s0 s2 s3 (map OfSource f.sources ++ flat_map head_pieces f.heads) (map OfCell f.cells) ab e in
     let all = runs_append s0 s3 (Body f) (body_pieces f) (flat_map entry_pieces j) abe g in
     record {

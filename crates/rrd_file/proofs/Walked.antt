@@ -1,13 +1,6 @@
 -- The steps of finding the end of a database.
-use Rattle.std.proofs.Common.{◌≡◌, ◌∙◌, ◌+◌, ◌-◌, ◌^◌, ◌<◌, ◌≤◌, ◌++◌, ◌∷◌, [], ℕ, suc, List, ap, refl, sym, length, get_or, drop, arith}
-use Rattle.std.specs.Prelude.{◌≢◌, ◌==◌, if◌then◌else◌}
-use Rattle.std.proofs.lemmas.Bool.Decides.{nat_tests}
-use Rattle.std.proofs.lemmas.Nat.{from_be_bytes-to_be_bytes_2, from_be_bytes-to_be_bytes_4}
-use Rattle.rrd_spec.specs.declared.version.Version.{Version}
-use Rattle.rrd_spec.specs.declared.version.Version.TheVariants.{One, Two}
-use Rattle.rrd_file.specs.End.{after_all_saved, after_cells, after_database, after_entries, after_rows, after_tag, after_version, archives_before, by_tag, by_version, four_in, head_size, parts_size, rows_size, two_in}
-use Rattle.rrd_file.specs.Layout.Values.{four_bytes, two_bytes}
-use Rattle.rrd_file.specs.Layout.Pieces.{Tag, AnUpdate, ATune, AResize, AnAddition, ARemoval, tag_byte, version_number}
+use Rattle.std.specs.Prelude.{◌≡◌, ◌+◌, ◌-◌, ◌^◌, ◌<◌, ◌≤◌, ◌++◌, ◌∷◌, [], ℕ, suc, List, length, drop, ◌≢◌, ◌==◌, if◌then◌else◌}
+use Rattle.rrd_file.proofs.Names.{◌∙◌, ap, refl, sym, get_or, arith, nat_tests, from_be_bytes-to_be_bytes_2, from_be_bytes-to_be_bytes_4, Version, One, Two, after_all_saved, after_cells, after_database, after_entries, after_rows, after_tag, after_version, archives_before, by_tag, by_version, four_in, head_size, parts_size, rows_size, two_in, four_bytes, two_bytes, Tag, AnUpdate, ATune, AResize, AnAddition, ARemoval, tag_byte, version_number}
 
 -- ---- numbers
 
@@ -21,17 +14,13 @@ four_first n x small = from_be_bytes-to_be_bytes_4 n small
 
 pub no_two : (bytes : List ℕ) → length bytes < 2 → two_in bytes ≡ 0
 unfolding two_in
-no_two [] few = refl
-no_two (a ∷ []) few = refl
 no_two (a ∷ b ∷ bytes) few = absurd (omega (arith, few))
+no_two x few = refl
 
 pub no_four : (bytes : List ℕ) → length bytes < 4 → four_in bytes ≡ 0
 unfolding four_in
-no_four [] few = refl
-no_four (a ∷ []) few = refl
-no_four (a ∷ b ∷ []) few = refl
-no_four (a ∷ b ∷ c ∷ []) few = refl
 no_four (a ∷ b ∷ c ∷ d ∷ bytes) few = absurd (omega (arith, few))
+no_four x few = refl
 
 -- ---- turns
 
@@ -63,10 +52,7 @@ saved_done n m i bytes h = ap (λ k. after_all_saved n k bytes) (left_none m i h
 
 pub by_right_tag : (t : Tag) (byte : ℕ) (after : Tag → List ℕ) → tag_byte t ≡ byte → by_tag byte after ≡ after t
 by_right_tag AnUpdate byte after e = ap (λ b. by_tag b after) (sym e)
-by_right_tag ATune byte after e = ap (λ b. by_tag b after) (sym e)
-by_right_tag AResize byte after e = ap (λ b. by_tag b after) (sym e)
-by_right_tag AnAddition byte after e = ap (λ b. by_tag b after) (sym e)
-by_right_tag ARemoval byte after e = ap (λ b. by_tag b after) (sym e)
+by_right_tag x byte after e = ap (λ b. by_tag b after) (sym e)
 
 other : (byte number : ℕ) (x y : List ℕ) → number ≢ byte → (if byte == number then x else y) ≡ y
 other byte number x y h = grind (arith, nat_tests)

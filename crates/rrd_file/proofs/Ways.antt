@@ -1,22 +1,7 @@
 -- The ways in which a file may go on: by stage and piece, and within an entry by what is due and piece.
-use Rattle.std.proofs.Common.{◌≡◌, ◌++◌, ◌∷◌, ◌%◌, ◌<◌, ◌≤◌, ℕ, List, [], sym, subst, length}
-use Rattle.rrd_fixed.specs.declared.cell.Cell.{Cell}
-use Rattle.rrd_fixed.specs.declared.raw.Raw.{Raw}
-use Rattle.rrd_fixed.specs.Rate.{IsAccepted, IsBounded}
-use Rattle.rrd_fold.specs.declared.function.Function.TheVariants.{Average}
-use Rattle.rrd_fold.specs.Parts.{Part}
-use Rattle.rrd_spec.specs.declared.entry.SavedSource.{SavedSource}
-use Rattle.rrd_spec.specs.declared.outline.Outline.{Outline}
-use Rattle.rrd_spec.specs.declared.settings.DsDef.{DsDef}
-use Rattle.rrd_spec.specs.declared.settings.RraDef.{RraDef}
-use Rattle.rrd_spec.specs.declared.version.Version.{Version}
-use Rattle.rrd_spec.specs.Files.Filed.{Filed, Header, Source}
-use Rattle.rrd_spec.specs.Limits.{Limits, max_tuned}
-use Rattle.rrd_spec.specs.Journal.Fitting.{AreOldRows, AreRemovedSettings, IsRemovedNumber, IsSavedSource}
-use Rattle.rrd_spec.specs.Files.Rebuilding.{IsHeader, IsRowPart, MayCell, MayHead, MayPrep, MaySource, begun, due, limits, outline_left, with_cell, with_head, with_prep, with_source}
-use Rattle.rrd_spec.specs.Validity.{IsPart}
-use Rattle.rrd_file.specs.Layout.Pieces.{Piece, Mark, OfVersion, OfHeader, OfSource, OfArchive, OfPrep, OfCell, Tag, OfTag, OfTime, OfRawAndPart, OfRows, OfCount, OfSavedSource, OfNumber}
-use Rattle.rrd_file.specs.Stages.{Stage, Start, Marked, Versioned, Body, Within, DueInEntry, TimeDue, BeforeDue, RowPrepDue, RowsDue, RowCellDue, CountDue, NamedDue, NumberDue, OldRowsDue, RemovedNumberDue, RemovedHeadDue, GoesOn, Keeps, MayTag, Takes, behind, first_due}
+use Rattle.std.specs.Prelude.{◌≡◌, ◌++◌, ◌∷◌, ◌%◌, ◌<◌, ◌≤◌, ℕ, List, [], length}
+use Rattle.rrd_file.proofs.Names.{sym, subst, Cell, Raw, IsAccepted, IsBounded, Average, Part, SavedSource, Outline, DsDef, RraDef, Version, Filed, Header, Source, Limits, max_tuned, AreOldRows, AreRemovedSettings, IsRemovedNumber, IsSavedSource, IsHeader, IsRowPart, MayCell, MayHead, MayPrep, MaySource, begun, due, limits, outline_left, with_cell, with_head, with_prep, with_source, IsPart, Piece, Mark, OfVersion, OfHeader, OfSource, OfArchive, OfPrep, OfCell, Tag, OfTag, OfTime, OfRawAndPart, OfRows, OfCount, OfSavedSource, OfNumber, Stage, Start, Marked, Versioned, Body, Within, DueInEntry, TimeDue, BeforeDue, RowPrepDue, RowsDue, RowCellDue, CountDue, NamedDue, NumberDue, OldRowsDue, RemovedNumberDue, RemovedHeadDue, GoesOn, MayTag, Takes, behind, first_due}
+use Rattle.rrd_file.specs.Stages.{Keeps}
 
 -- ---- within an entry
 

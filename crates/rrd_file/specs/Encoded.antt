@@ -1,15 +1,6 @@
 -- Definition: the bytes of a file that stay in memory; and, as glue, the rows and cells among them (own).
 use Rattle.std.specs.Prelude.{◌≡◌, ℕ, ◌+◌, ◌-◌, ◌<◌, List, [], ◌∷◌, ◌++◌, length, map, slice_index_or}
-use Rattle.std.specs.List.{AllByRecursion, flat_map}
-use Rattle.rrd_fixed.specs.declared.cell.Cell.{Cell}
-use Rattle.rrd_spec.specs.Files.Filed.{filed, header_of}
-use Rattle.rrd_spec.specs.Files.Slots.{all_cells, cells_by_slot}
-use Rattle.rrd_spec.specs.History.{Rra, Content}
-use Rattle.rrd_spec.specs.Journal.Survivors.{Stored}
-use Rattle.rrd_spec.specs.Laws.Slots.{HasOneEach}
-use Rattle.rrd_spec.specs.Laws.Updates.{IsLater, MovesOn}
-use Rattle.rrd_spec.specs.Limits.{newest}
-use Rattle.rrd_spec.specs.Validity.{IsValid}
+use Rattle.rrd_file.specs.Names.{AllByRecursion, flat_map, Cell, filed, header_of, all_cells, cells_by_slot, Rra, Content, Stored, HasOneEach, IsLater, MovesOn, newest, IsValid}
 use Rattle.rrd_file.specs.Layout.{entry_pieces, head_pieces, row_pieces, spelled}
 use Rattle.rrd_file.specs.Layout.Pieces.{Mark, OfCell, OfHeader, OfSource, OfVersion}
 use Rattle.rrd_file.specs.declared.encoded.Encoded.{Encoded}

@@ -2,9 +2,7 @@
 -- there, as the records of the layout have fixed sizes: no other value is read, and no record is judged. So bytes that begin
 -- with no database have an end too, within the bytes. `ends_are_found` says that it is the end of each database.
 use Rattle.std.specs.Prelude.{ℕ, zero, suc, ◌+◌, ◌-◌, ◌*◌, ◌==◌, if◌then◌else◌, List, [], ◌∷◌, length, drop}
-use Rattle.std.specs.Int.{w16, w32, from_be_bytes}
-use Rattle.rrd_spec.specs.declared.version.Version.{Version}
-use Rattle.rrd_spec.specs.declared.version.Version.TheVariants.{One, Two}
+use Rattle.rrd_file.specs.Names.{w16, w32, from_be_bytes, Version, One, Two}
 use Rattle.rrd_file.specs.Layout.Pieces.{Tag, AnUpdate, ATune, AResize, AnAddition, ARemoval, tag_byte, version_number}
 use Rattle.rrd_file.specs.Stages.{count_size, header_size}
 

@@ -1,17 +1,8 @@
 -- Example: two files, byte by byte: a new database of one gauge and one archive of four rows, and the same database
 -- after a sample of 1 at 10.
 use Rattle.std.specs.Prelude.{◌≡◌, ℕ, Bool, pos, None, List, [], ◌∷◌, ◌++◌, length, replicate}
-use Rattle.rrd_fixed.specs.declared.kind.Kind.TheVariants.{Gauge}
-use Rattle.rrd_fold.specs.declared.function.Function.TheVariants.{Last}
-use Rattle.rrd_spec.specs.declared.settings.DsDef.{DsDef}
-use Rattle.rrd_spec.specs.declared.requests.update.Given.{Given}
-use Rattle.rrd_spec.specs.declared.requests.update.Update.{Update}
-use Rattle.rrd_spec.specs.Commands.{Updating}
-use Rattle.rrd_spec.specs.Journal.Survivors.{Stored, changed}
-use Rattle.rrd_spec.specs.Examples.{created, archive}
+use Rattle.rrd_file.specs.Names.{Gauge, Last, DsDef, Given, Update, Updating, Stored, changed, created, archive, Version, One, Two}
 use Rattle.rrd_file.specs.Layout.{layout, layout_in}
-use Rattle.rrd_spec.specs.declared.version.Version.{Version}
-use Rattle.rrd_spec.specs.declared.version.Version.TheVariants.{One, Two}
 
 -- ---- the databases
 

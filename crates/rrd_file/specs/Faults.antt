@@ -1,14 +1,6 @@
 -- Definition: the result of reading a file: its database, or the first error in file order.
 use Rattle.std.specs.Prelude.{◌≡◌, ◌≢◌, ◌+◌, ◌<◌, ◌≤◌, ℕ, suc, List, [], ◌++◌, length, take, Result, Ok, Err, ⊤}
-use Rattle.std.specs.List.{flat_map}
-use Rattle.rrd_spec.specs.declared.version.Version.{Version}
-use Rattle.rrd_spec.specs.Files.Filed.{Filed, filed}
-use Rattle.rrd_spec.specs.declared.due.Due.TheVariants.{SourceDue, HeadDue, PrepDue, CellDue, EntryDue, NothingDue}
-use Rattle.rrd_spec.specs.Files.Rebuilding.{due}
-use Rattle.rrd_spec.specs.declared.due.Due.{Due}
-use Rattle.rrd_spec.specs.Journal.Survivors.{Stored}
-use Rattle.rrd_spec.specs.Limits.{limits_of}
-use Rattle.rrd_spec.specs.Validity.{IsValidDatabase, IsValidDatabaseWithin}
+use Rattle.rrd_file.specs.Names.{flat_map, Version, Filed, filed, SourceDue, HeadDue, PrepDue, CellDue, EntryDue, NothingDue, due, Due, Stored, limits_of, IsValidDatabase, IsValidDatabaseWithin}
 use Rattle.rrd_file.specs.declared.fault.FileFault.{FileFault}
 use Rattle.rrd_file.specs.declared.fault.FileFault.TheVariants.{NotOurs, Version as WrongVersion, Truncated, BadBlock, BadEntry, Trailing, Read, OutOfMemory}
 use Rattle.rrd_file.specs.Layout.Pieces.{Piece, spell}

@@ -1,18 +1,9 @@
 -- Glue: the properties of an entry that is written, and of one that was read record by record.
 use Rattle.std.specs.Prelude.{◌≡◌, ◌<◌, ℕ, List, [], ◌∷◌, length, ◌^◌}
-use Rattle.rrd_fixed.specs.declared.cell.Cell.{Cell}
-use Rattle.rrd_ring.specs.Rows.{HasWidth}
-use Rattle.rrd_spec.specs.declared.entry.SavedSource.{SavedSource}
-use Rattle.rrd_spec.specs.declared.outline.Outline.{Outline}
-use Rattle.rrd_spec.specs.declared.settings.RraDef.{RraDef}
-use Rattle.rrd_spec.specs.Journal.Entries.{Entry, BeforeUpdate, SavedArchive, UpdateEntry, TuneEntry, ResizeEntry, AddedEntry, RemovedEntry, undone}
-use Rattle.rrd_spec.specs.Files.Filed.{Filed}
-use Rattle.rrd_spec.specs.History.{Rra, Content}
-use Rattle.rrd_spec.specs.Files.Rebuilding.{with_entry}
+use Rattle.rrd_file.specs.Names.{Cell, HasWidth, SavedSource, Outline, RraDef, Entry, BeforeUpdate, SavedArchive, UpdateEntry, TuneEntry, ResizeEntry, AddedEntry, RemovedEntry, undone, Filed, Rra, Content, with_entry, Fits, IsValid}
 use Rattle.rrd_file.specs.Layout.Pieces.{Tag, AnUpdate, ATune, AResize, AnAddition, ARemoval}
 use Rattle.rrd_file.specs.declared.layout.Tag.{Tag as TagRead}
 use Rattle.rrd_file.specs.declared.layout.Tag.TheVariants as read
-use Rattle.rrd_spec.specs.Validity.{Fits, IsValid}
 
 -- ---- entries that are written
 

@@ -1,17 +1,6 @@
 -- Law: theorems on the layout, for any file.
 use Rattle.std.specs.Prelude.{◌≡◌, ℕ, ◌-◌, ◌<◌, ◌≤◌, List, [], ◌∷◌, ◌++◌, length, take, None, Result, Ok}
-use Rattle.rrd_fixed.specs.declared.cell.Cell.{Cell}
-use Rattle.rrd_fixed.specs.declared.raw.Raw.{Raw}
-use Rattle.rrd_fold.specs.Parts.{Part}
-use Rattle.rrd_spec.specs.declared.settings.RraDef.{RraDef}
-use Rattle.rrd_spec.specs.declared.entry.SavedSource.{SavedSource}
-use Rattle.rrd_spec.specs.Commands.{DatabaseChange}
-use Rattle.rrd_spec.specs.Journal.Entries.{Entry}
-use Rattle.rrd_spec.specs.Files.Filed.{Filed, Source}
-use Rattle.rrd_spec.specs.Files.Rebuilding.{MayEntry}
-use Rattle.rrd_spec.specs.Journal.Survivors.{Stored, changed, reverted}
-use Rattle.rrd_spec.specs.declared.version.Version.{Version}
-use Rattle.rrd_spec.specs.Commands.Verdict.{verdict}
+use Rattle.rrd_file.specs.Names.{Cell, Raw, Part, RraDef, SavedSource, DatabaseChange, Entry, Filed, Source, MayEntry, Stored, changed, reverted, Version, verdict}
 use Rattle.rrd_file.specs.Encoded.{Encodes, bytes_in}
 use Rattle.rrd_file.specs.declared.encoded.Encoded.{Encoded}
 use Rattle.rrd_file.specs.declared.fault.FileFault.{FileFault}

@@ -1,8 +1,6 @@
 -- Glue: the values and limits for counting the bytes of a database.
 use Rattle.std.specs.Prelude.{◌≡◌, ℕ, length}
-use Rattle.rrd_ring.specs.Rows.{HasWidth}
-use Rattle.rrd_spec.specs.History.{Rra}
-use Rattle.rrd_spec.specs.Journal.Entries.{SavedArchive}
+use Rattle.rrd_file.specs.Names.{HasWidth, Rra, SavedArchive}
 
 -- a partial row for each of `sources` data sources, and rows with a cell for each
 pub record IsWide (sources : ℕ) (old : SavedArchive) : Type 0 where

@@ -1,3 +1,5 @@
+pub mod Names
+pub mod Words
 pub mod Layout
 pub mod Stages
 pub mod Faults

@@ -1,9 +1,8 @@
 -- Glue: how far an input was read.
 use Rattle.std.specs.Prelude.{◌≡◌, ◌+◌, ◌<◌, ℕ, suc, List, [], ◌++◌, length, Some, Result, Ok, Err}
-use Rattle.rrd_spec.specs.Files.Filed.{Filed}
+use Rattle.rrd_file.specs.Names.{Filed, entry_of}
 use Rattle.rrd_file.specs.declared.fault.FileFault.{FileFault}
 use Rattle.rrd_file.specs.declared.fault.FileFault.TheVariants.{BadEntry}
-use Rattle.rrd_base.specs.Journal.{entry_of}
 use Rattle.rrd_base.specs.declared.journal.Entry.{Entry as EntryRead}
 use Rattle.rrd_file.specs.Faults.{Front, IsFault, IsWhole, bad_at}
 use Rattle.rrd_file.specs.Reader.{Input, left}

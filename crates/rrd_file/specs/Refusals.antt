@@ -1,8 +1,8 @@
 -- Glue: the error for a record that may not come.
 use Rattle.std.specs.Prelude.{ℕ}
+use Rattle.rrd_file.specs.Names.{PieceFault}
 use Rattle.rrd_file.specs.declared.fault.FileFault.{FileFault}
 use Rattle.rrd_file.specs.declared.fault.FileFault.TheVariants.{BadBlock, BadEntry, OutOfMemory}
-use Rattle.rrd_base.specs.declared.rebuild.PieceFault.{PieceFault}
 use Rattle.rrd_base.specs.declared.rebuild.PieceFault.TheVariants as refusal
 
 -- the error for a record that was refused

@@ -1,5 +1,5 @@
 -- Glue: the value that a record was read as.
-use Rattle.rrd_spec.specs.Files.Filed.{Source}
+use Rattle.rrd_file.specs.Names.{Source}
 use Rattle.rrd_file.specs.declared.source.SourceRead.{SourceRead}
 
 abbrev pub source_said : SourceRead → Source

@@ -1,6 +1,6 @@
 -- Definition: where two lists of bytes may differ (own).
 use Rattle.std.specs.Prelude.{◌≡◌, ◌⊎◌, ℕ, ◌<◌, ◌≤◌, List, length, slice_index}
-use Rattle.std.specs.List.{All}
+use Rattle.rrd_file.specs.Names.{All}
 use Rattle.rrd_file.specs.declared.span.Span.{Span}
 
 -- byte k is not in the span

@@ -1,22 +1,7 @@
 -- Definition: the stages of reading a file: which record is due at a stage, how many bytes it has, which record may
 -- come, and the stage that it leads to.
 use Rattle.std.specs.Prelude.{◌≡◌, ℕ, zero, suc, ◌+◌, ◌*◌, ◌%◌, ◌<◌, ◌≤◌, min, true, List, [], ◌∷◌, ◌++◌, length, map, replicate}
-use Rattle.std.specs.List.{flat_map}
-use Rattle.rrd_fixed.specs.Rate.{IsAccepted, IsBounded}
-use Rattle.rrd_fold.specs.declared.function.Function.TheVariants.{Average}
-use Rattle.rrd_spec.specs.declared.settings.DsDef.{DsDef}
-use Rattle.rrd_spec.specs.declared.settings.RraDef.{RraDef}
-use Rattle.rrd_spec.specs.declared.outline.Outline.{Outline}
-use Rattle.rrd_spec.specs.declared.due.Due.{Due}
-use Rattle.rrd_spec.specs.declared.due.Due.TheVariants.{SourceDue, HeadDue, PrepDue, CellDue, EntryDue, NothingDue}
-use Rattle.rrd_spec.specs.Limits.{Limits, max_tuned}
-use Rattle.rrd_spec.specs.Journal.Entries.{Entry, rows_between}
-use Rattle.rrd_spec.specs.declared.version.Version.{Version}
-use Rattle.rrd_spec.specs.declared.version.Version.TheVariants.{One, Two}
-use Rattle.rrd_spec.specs.Files.Filed.{Filed}
-use Rattle.rrd_spec.specs.Journal.Fitting.{AreOldRows, AreRemovedSettings, IsRemovedNumber, IsSavedSource}
-use Rattle.rrd_spec.specs.Files.Rebuilding.{IsHeader, MaySource, MayHead, MayPrep, MayCell, MayEntry, IsRowPart, begun, due, limits, outline_left, with_source, with_head, with_prep, with_cell, with_entry}
-use Rattle.rrd_spec.specs.Validity.{IsPart}
+use Rattle.rrd_file.specs.Names.{flat_map, IsAccepted, IsBounded, Average, DsDef, RraDef, Outline, Due, SourceDue, HeadDue, PrepDue, CellDue, EntryDue, NothingDue, Limits, max_tuned, Entry, rows_between, Version, One, Two, Filed, AreOldRows, AreRemovedSettings, IsRemovedNumber, IsSavedSource, IsHeader, MaySource, MayHead, MayPrep, MayCell, MayEntry, IsRowPart, begun, due, limits, outline_left, with_source, with_head, with_prep, with_cell, with_entry, IsPart}
 use Rattle.rrd_file.specs.Layout.Pieces.{Piece, Mark, OfVersion, OfHeader, OfSource, OfArchive, OfPrep, OfCell, Tag, OfTag, OfTime, OfRawAndPart, OfRows, OfCount, OfSavedSource, OfNumber, AnUpdate, ATune, AResize, AnAddition, ARemoval}
 use Rattle.rrd_file.specs.Layout.{entry_pieces}
 

@@ -1,8 +1,6 @@
 -- Glue: the bytes that a call adds to a writer in which bytes wait before they are written.
 use Rattle.std.specs.Prelude.{◌≡◌, ◌++◌, ℕ, List, Option, Result, Ok, Err}
-use Rattle.std.specs.Io.KnownBytes.{Appends}
-use Rattle.rrd_fixed.specs.Written.{AppendsFront}
-use Rattle.rrd_fixed.specs.declared.streams.WriteFault.{WriteFault}
+use Rattle.rrd_file.specs.Names.{Appends, AppendsFront, WriteFault}
 use Rattle.rrd_file.specs.declared.writer.PieceWriter.{PieceWriter}
 
 -- bs was added after the waiting bytes: a part of both was written, and the rest waits now

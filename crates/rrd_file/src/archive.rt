@@ -1,20 +1,7 @@
 //! The archive headers of a file: writing and reading. Each has the settings and the partial rows.
 ghost use Rattle.std.specs.Prelude.{◌≡◌, ◌+◌, ◌^◌, ◌<◌, ◌≤◌, ℕ, [], ◌∷◌, ◌++◌, ◌≢◌, IfOk, IfSome, List, None, OnOk, Some, length, map, replicate, slice_get, unsigned_abs};
-ghost use Rattle.std.specs.List.{flat_map};
-ghost use Rattle.rrd_spec.specs.Files.Filed.{filed, head_of};
-ghost use Rattle.rrd_spec.specs.Limits.{newest, present};
-ghost use Rattle.rrd_spec.specs.History.{Rra};
-ghost use Rattle.rrd_spec.specs.Preparations.{AllOf, parts_in};
-ghost use Rattle.rrd_spec.specs.declared.settings.RraDef.{RraDef};
-ghost use Rattle.rrd_spec.specs.Files.Rebuilding.{due, outline_left};
-ghost use Rattle.rrd_spec.specs.declared.due.Due.TheVariants.{EntryDue, HeadDue, PrepDue};
-ghost use Rattle.rrd_file.specs.Layout.{head_pieces, spelled};
-ghost use Rattle.rrd_file.specs.Layout.Pieces.{OfArchive, OfPrep, Piece, spell};
-ghost use Rattle.rrd_file.specs.Writer.{Gathers};
-ghost use Rattle.rrd_file.specs.Stages.{Body, DueInEntry, RowPrepDue};
-ghost use Rattle.rrd_file.specs.Layout.Fitting.{FitsArchive};
-ghost use Rattle.rrd_file.specs.Reader.{Advances};
-ghost use Rattle.rrd_file.specs.Progress.{Brings, Comes, Reaches, Stands};
+ghost use Rattle.rrd_file.specs.Names.{flat_map, filed, head_of, newest, present, Rra, AllOf, parts_in, RraDef, due, outline_left, EntryDue, HeadDue, PrepDue};
+ghost use Rattle.rrd_file.specs.Words.{head_pieces, spelled, OfArchive, OfPrep, Piece, spell, Gathers, Body, DueInEntry, RowPrepDue, FitsArchive, Advances, Brings, Comes, Reaches, Stands};
 ghost use Rattle.rrd_file.specs.Layout.Values as spelling;
 
 use crate::FileFault;

@@ -1,21 +1,8 @@
 //! Cells: writing and reading those of all archives, slot by slot; and the functions that entries share.
 ghost use Rattle.std.specs.Prelude.{◌*◌, ◌≡◌, ◌<◌, ◌≤◌, ℕ, ◌++◌, ◌+◌, IfErr, List, OnOk, Some, length, map, replicate, slice_get, slice_range, take, true};
-ghost use Rattle.std.specs.List.{AllByRecursion, flat_map};
-ghost use Rattle.rrd_fixed.specs.Rate.{IsBounded};
-ghost use Rattle.rrd_fixed.specs.declared.cell.Cell.TheVariants.{Unknown};
-ghost use Rattle.rrd_spec.specs.Files.Rebuilding.{due};
-ghost use Rattle.rrd_spec.specs.declared.due.Due.TheVariants.{CellDue};
-ghost use Rattle.rrd_spec.specs.Files.Slots.{all_cells, cells_by_slot};
-ghost use Rattle.rrd_spec.specs.History.{Rra};
-ghost use Rattle.rrd_file.specs.Writer.{Gathers};
-ghost use Rattle.rrd_file.specs.Layout.{row_pieces, spelled};
-ghost use Rattle.rrd_file.specs.Layout.Pieces.{OfCell};
-ghost use Rattle.std.specs.Io.KnownBytes.{Keeps};
+ghost use Rattle.rrd_file.specs.Names.{AllByRecursion, flat_map, IsBounded, Unknown, due, CellDue, all_cells, cells_by_slot, Rra, Keeps};
+ghost use Rattle.rrd_file.specs.Words.{Gathers, row_pieces, spelled, OfCell, Advances, left, Body, Reaches, Stands, FitsCell};
 ghost use Rattle.rrd_file.specs.declared.fault.FileFault.TheVariants.{Read as ReadFault};
-ghost use Rattle.rrd_file.specs.Reader.{Advances, left};
-ghost use Rattle.rrd_file.specs.Stages.{Body};
-ghost use Rattle.rrd_file.specs.Progress.{Reaches, Stands};
-ghost use Rattle.rrd_file.specs.Layout.Fitting.{FitsCell};
 ghost use Rattle.rrd_file.specs.Layout.Values as spelling;
 
 use crate::FileFault;

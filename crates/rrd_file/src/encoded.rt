@@ -1,17 +1,7 @@
 //! The bytes of a file that stay in memory, and the few of them that an update changes.
 ghost use Rattle.std.specs.Prelude.{◌≡◌, ◌+◌, ◌<◌, ◌≤◌, ◌++◌, ◌^◌, IfSome, IsTrue, List, OnOk, Some, length, map, slice_get, slice_index, slice_range, ℕ};
-ghost use Rattle.std.specs.List.{All, AllByRecursion};
-ghost use Rattle.rrd_fixed.specs.Written.{Writes};
-ghost use Rattle.rrd_spec.specs.Files.Slots.{cells_by_slot};
-ghost use Rattle.rrd_spec.specs.History.{Rra};
-ghost use Rattle.rrd_spec.specs.Journal.Survivors.{Stored};
-ghost use Rattle.rrd_spec.specs.Laws.Slots.{HasOneEach};
-ghost use Rattle.rrd_spec.specs.Limits.{newest, present};
-ghost use Rattle.rrd_spec.specs.declared.version.Version.{Version};
-ghost use Rattle.rrd_file.specs.Encoded.{HoldsBeforeJournal, HoldsCells, HoldsRows, HoldsSlots, cell_bytes, front_bytes, journal_bytes, row_bytes};
-ghost use Rattle.rrd_file.specs.Layout.{layout_in, spelled};
-ghost use Rattle.rrd_file.specs.Layout.Pieces.{OfCell};
-ghost use Rattle.rrd_file.specs.Spans.{IsBeside, IsWithin};
+ghost use Rattle.rrd_file.specs.Names.{All, AllByRecursion, Writes, cells_by_slot, Rra, Stored, HasOneEach, newest, present, Version};
+ghost use Rattle.rrd_file.specs.Words.{HoldsBeforeJournal, HoldsCells, HoldsRows, HoldsSlots, cell_bytes, front_bytes, journal_bytes, row_bytes, layout_in, spelled, OfCell, IsBeside, IsWithin};
 
 use crate::cells::write_cells;
 use crate::journal::write_entries;

@@ -2,8 +2,8 @@
 //!
 //! The numbers of data sources, archives, rows and entries lead there. No other value is read, and nothing is judged.
 ghost use Rattle.std.specs.Prelude.{◌≡◌, ◌+◌, ◌<◌, ◌≤◌, ◌^◌, drop};
+ghost use Rattle.rrd_file.specs.Words.{tag_said};
 ghost use Rattle.rrd_file.specs.End as end;
-ghost use Rattle.rrd_file.specs.Journal.{tag_said};
 ghost use Rattle.rrd_file.specs.Stages as stages;
 
 use crate::header::header_length;

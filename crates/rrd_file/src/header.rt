@@ -1,14 +1,7 @@
 //! The mark, the version and the header of a file: writing and reading.
 ghost use Rattle.std.specs.Prelude.{◌≡◌, ◌<◌, ◌≤◌, ◌∷◌, [], ◌+◌, ℕ, ◌++◌, List, length};
-ghost use Rattle.rrd_spec.specs.Files.Filed.{header_of};
-ghost use Rattle.rrd_spec.specs.Limits.{newest};
-ghost use Rattle.rrd_file.specs.Writer.{Gathers};
-ghost use Rattle.rrd_file.specs.Layout.{spelled};
-ghost use Rattle.rrd_file.specs.Layout.Pieces.{Mark, OfHeader, OfVersion, count_bytes, spell};
-ghost use Rattle.rrd_file.specs.Stages.{Body, Marked, Start, Versioned, count_size, header_size};
-ghost use Rattle.rrd_file.specs.Progress.{Reaches, Stands};
-ghost use Rattle.rrd_base.specs.Rebuild.Begins.{header_said};
-ghost use Rattle.rrd_file.specs.Layout.Fitting.{FitsHeader, counts};
+ghost use Rattle.rrd_file.specs.Names.{header_of, newest, header_said};
+ghost use Rattle.rrd_file.specs.Words.{Gathers, spelled, Mark, OfHeader, OfVersion, count_bytes, spell, Body, Marked, Start, Versioned, count_size, header_size, Reaches, Stands, FitsHeader, counts};
 
 use crate::FileFault;
 use crate::fault::block_fault;

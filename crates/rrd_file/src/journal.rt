@@ -1,15 +1,7 @@
 //! The entries of the journal, newest first: writing and reading.
-ghost use Rattle.std.specs.List.{flat_map};
 ghost use Rattle.std.specs.Prelude.{◌≡◌, ◌∷◌, [], ℕ, IfOk, List, OnOk, true};
-ghost use Rattle.rrd_spec.specs.Files.Rebuilding.{due, limits, outline_left};
-ghost use Rattle.rrd_spec.specs.declared.due.Due.TheVariants.{EntryDue};
-ghost use Rattle.rrd_base.specs.Journal.{entry_of};
-ghost use Rattle.rrd_file.specs.Writer.{Gathers};
-ghost use Rattle.rrd_file.specs.Journal.{HasOneMore, IsEntryOfSome, IsShaped, tag_said};
-ghost use Rattle.rrd_file.specs.Layout.{entry_pieces, spelled};
-ghost use Rattle.rrd_file.specs.Layout.Pieces.{OfTag};
-ghost use Rattle.rrd_file.specs.Stages.{Body, IsTagWithin, first_due};
-ghost use Rattle.rrd_file.specs.Progress.{Brings, Closes, Reaches, Stands};
+ghost use Rattle.rrd_file.specs.Names.{flat_map, due, limits, outline_left, EntryDue, entry_of};
+ghost use Rattle.rrd_file.specs.Words.{Gathers, HasOneMore, IsEntryOfSome, IsShaped, tag_said, entry_pieces, spelled, OfTag, Body, IsTagWithin, first_due, Brings, Closes, Reaches, Stands};
 
 use crate::FileFault;
 use crate::fault::{bad_entry, entry_fault};

@@ -1,10 +1,7 @@
 //! Theorems on the layout alone. Each is the contract of a function that does nothing at run time.
 ghost use Rattle.std.specs.Prelude.{ℕ, List};
-ghost use Rattle.rrd_spec.specs.Commands.{DatabaseChange};
-ghost use Rattle.rrd_spec.specs.Journal.Survivors.{Stored};
-ghost use Rattle.rrd_spec.specs.declared.version.Version.{Version};
-ghost use Rattle.rrd_file.specs.declared.encoded.Encoded.{Encoded};
-ghost use Rattle.rrd_file.specs.declared.fault.FileFault.{FileFault};
+ghost use Rattle.rrd_file.specs.Names.{DatabaseChange, Stored, Version};
+ghost use Rattle.rrd_file.specs.Words.{Encoded, FileFault};
 ghost use Rattle.rrd_file.specs.Laws as laws;
 ghost use Rattle.rrd_file.specs.Examples as worked;
 

@@ -1,11 +1,9 @@
 //! The constants that the writer and the reader of a file share: the mark, the versions, the sizes of pieces, the tags
 //! of entries, and the number that represents an absent value.
 ghost use Rattle.std.specs.Prelude.{◌≡◌, ◌≢◌, ◌*◌, ◌≤◌, IfSome, None, length, replicate};
-ghost use Rattle.std.specs.List.{flat_map};
-ghost use Rattle.rrd_fixed.specs.declared.cell.Cell.TheVariants.{Unknown};
+ghost use Rattle.rrd_file.specs.Names.{flat_map, Unknown};
+ghost use Rattle.rrd_file.specs.Words.{tag_said, FitsBound};
 ghost use Rattle.rrd_spec.specs.declared.version.Version.{Version as SomeVersion};
-ghost use Rattle.rrd_file.specs.Journal.{tag_said};
-ghost use Rattle.rrd_file.specs.Layout.Fitting.{FitsBound};
 ghost use Rattle.rrd_file.specs.Layout.Pieces as pieces;
 ghost use Rattle.rrd_file.specs.Layout.Values as spelling;
 

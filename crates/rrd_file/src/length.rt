@@ -1,15 +1,8 @@
 //! The size of a database's file. The size follows from the numbers of data sources, archives, rows and entries, so no
 //! cell is read.
 ghost use Rattle.std.specs.Prelude.{ℕ, ◌≡◌, ◌≤◌, ◌+◌, ◌*◌, length};
-ghost use Rattle.std.specs.List.{AllByRecursion, flat_map, sum_by};
-ghost use Rattle.rrd_base.specs.Journal.{entry_of, update_of};
-ghost use Rattle.rrd_file.specs.Journal.{IsEntryOfSome};
-ghost use Rattle.rrd_file.specs.Encoded.{cell_bytes, front_bytes};
-ghost use Rattle.rrd_file.specs.Layout.{entry_pieces, layout, saved_pieces, spelled};
-ghost use Rattle.rrd_file.specs.Length.{IsWide, most_of_all_saved, most_of_cells, most_of_entries, most_of_entry, most_of_front, most_of_rows, most_of_saved, max_rows_in_all, rows_of};
-ghost use Rattle.rrd_ring.specs.Rows.{max_rows, max_sources};
-ghost use Rattle.rrd_spec.specs.Journal.Entries.{RemovedEntry, ResizeEntry, TuneEntry, UpdateEntry};
-ghost use Rattle.rrd_spec.specs.Limits.{present};
+ghost use Rattle.rrd_file.specs.Names.{AllByRecursion, flat_map, sum_by, entry_of, update_of, max_rows, max_sources, RemovedEntry, ResizeEntry, TuneEntry, UpdateEntry, present};
+ghost use Rattle.rrd_file.specs.Words.{IsEntryOfSome, cell_bytes, front_bytes, entry_pieces, layout, saved_pieces, spelled, IsWide, most_of_all_saved, most_of_cells, most_of_entries, most_of_entry, most_of_front, most_of_rows, most_of_saved, max_rows_in_all, rows_of};
 
 use crate::Span;
 use crate::layout::{

@@ -4,16 +4,8 @@
 #![tactic(auto)]
 
 ghost use Rattle.std.specs.Prelude.{◌≡◌, ◌⊎◌, ℕ, List, OnOk, Some};
-ghost use Rattle.rrd_fixed.specs.Written.{Writes};
-ghost use Rattle.rrd_spec.specs.Files.Filed.{Filed};
-ghost use Rattle.rrd_spec.specs.Files.Rebuilding.{due};
-ghost use Rattle.rrd_spec.specs.declared.due.Due.TheVariants.{EntryDue, NothingDue};
-ghost use Rattle.rrd_file.specs.Writer.{Gathers};
-ghost use Rattle.rrd_file.specs.Encoded.{front_bytes};
-ghost use Rattle.rrd_file.specs.Layout.{layout};
-ghost use Rattle.rrd_file.specs.Faults.{IsAnswer};
-ghost use Rattle.rrd_file.specs.Stages.{Body};
-ghost use Rattle.rrd_file.specs.Progress.{Ends, Reaches, Stands};
+ghost use Rattle.rrd_file.specs.Names.{Writes, Filed, due, EntryDue, NothingDue};
+ghost use Rattle.rrd_file.specs.Words.{Gathers, front_bytes, layout, IsAnswer, Body, Ends, Reaches, Stands};
 
 use archive::{read_prep, read_settings, write_heads};
 use cells::{read_cells, write_cells};

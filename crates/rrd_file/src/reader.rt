@@ -1,8 +1,8 @@
 //! A reader of the pieces of an input.
 ghost use Rattle.std.specs.Prelude.{◌≡◌, ◌+◌, ◌^◌, ◌<◌, ◌≤◌, [], IfErr, IfOk, IfSome, OnOk, false, length, take, true};
-ghost use Rattle.std.specs.Io.KnownBytes.{Consumes, Keeps};
+ghost use Rattle.rrd_file.specs.Names.{Consumes, Keeps};
+ghost use Rattle.rrd_file.specs.Words.{FindsEnd, IsCut, ReadsPiece, left};
 ghost use Rattle.rrd_file.specs.declared.fault.FileFault.TheVariants.{Read as ReadFault};
-ghost use Rattle.rrd_file.specs.Reader.{FindsEnd, IsCut, ReadsPiece, left};
 
 use crate::FileFault;
 use crate::layout::SOURCE_SIZE;

@@ -1,18 +1,7 @@
 //! The data sources of a file: writing and reading. Each has its settings, its last raw value and its partial step.
 ghost use Rattle.std.specs.Prelude.{◌≡◌, ◌+◌, ◌<◌, ◌≤◌, ℕ, ◌++◌, ◌≢◌, IfSome, List, None, OnOk, Some, length, map, slice_get};
-ghost use Rattle.rrd_spec.specs.Files.Filed.{Source, filed};
-ghost use Rattle.rrd_spec.specs.Limits.{newest};
-ghost use Rattle.rrd_spec.specs.declared.settings.DsDef.{DsDef};
-ghost use Rattle.rrd_spec.specs.Files.Rebuilding.{due};
-ghost use Rattle.rrd_spec.specs.declared.due.Due.TheVariants.{SourceDue};
-ghost use Rattle.rrd_file.specs.Layout.{spelled};
-ghost use Rattle.rrd_file.specs.Layout.Pieces.{OfRawAndPart, OfSource, spell};
-ghost use Rattle.rrd_file.specs.Writer.{Gathers};
-ghost use Rattle.rrd_file.specs.Layout.Fitting.{FitsDef, FitsPart, FitsRaw, FitsSource};
-ghost use Rattle.rrd_file.specs.Stages.{Body};
-ghost use Rattle.rrd_file.specs.Said.{source_said};
-ghost use Rattle.rrd_file.specs.Reader.{Advances};
-ghost use Rattle.rrd_file.specs.Progress.{Reaches, Stands};
+ghost use Rattle.rrd_file.specs.Names.{Source, filed, newest, DsDef, due, SourceDue};
+ghost use Rattle.rrd_file.specs.Words.{spelled, OfRawAndPart, OfSource, spell, Gathers, FitsDef, FitsPart, FitsRaw, FitsSource, Body, source_said, Advances, Reaches, Stands};
 ghost use Rattle.rrd_file.specs.Layout.Values as spelling;
 
 use crate::FileFault;

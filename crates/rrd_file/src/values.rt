@@ -1,12 +1,8 @@
 //! Single values: writing and reading numbers, raw values, bounds, partial steps and rows, names, types and functions.
 //! Whole numbers have the highest byte first.
 ghost use Rattle.std.specs.Prelude.{◌≡◌, ◌++◌, ◌+◌, ◌^◌, ◌<◌, ◌≤◌, ℕ, [], ◌∷◌, ◌≢◌, ◌==◌, IfSome, None, length, replicate, true};
-ghost use Rattle.std.specs.List.{list_all};
-ghost use Rattle.rrd_fixed.specs.declared.kind.Kind.{Kind};
-ghost use Rattle.rrd_fixed.specs.declared.name.Name.{Name};
-ghost use Rattle.rrd_fixed.specs.Names.{fits};
-ghost use Rattle.rrd_fold.specs.declared.function.Function.{Function};
-ghost use Rattle.rrd_file.specs.Layout.Fitting.{FitsBound, FitsRaw};
+ghost use Rattle.rrd_file.specs.Names.{list_all, Kind, Name, fits, Function};
+ghost use Rattle.rrd_file.specs.Words.{FitsBound, FitsRaw};
 ghost use Rattle.rrd_file.specs.Layout.Values as spelling;
 
 use crate::layout::{CELL_SIZE, NAME_SIZE, PREP_SIZE, number_of, value_of};

@@ -1,7 +1,7 @@
 //! A writer of the pieces of an output.
 ghost use Rattle.std.specs.Prelude.{◌≡◌, ◌+◌, ◌≤◌, [], OnOk, length};
-ghost use Rattle.rrd_fixed.specs.Written.{Writes};
-ghost use Rattle.rrd_file.specs.Writer.{Gathers};
+ghost use Rattle.rrd_file.specs.Names.{Writes};
+ghost use Rattle.rrd_file.specs.Words.{Gathers};
 
 use rrd_fixed::{WriteFault, write_bytes};
 use std::io::Write;
@@ -10,7 +10,7 @@ mod block;
 
 pub(crate) use block::{BLOCK_SIZE, Block, MAX_PIECE_SIZE, put_cells};
 
-/// A writer with a block of 4,096 bytes, in which records wait until one write takes many pieces. Does not allocate.
+/// A writer with a block of 2,000 bytes, in which records wait until one write takes many pieces. Does not allocate.
 /// Pieces that wait are lost if `write_rest` is not called.
 #[derive(Drop)]
 pub(crate) struct PieceWriter<'a, W: Write> {

@@ -1,9 +1,7 @@
 -- What an argument or a subcommand more makes of a command's shape.
-use Rattle.std.proofs.Common.{◌≡◌, ◌∙◌, ap, ap₂, false, ◌||◌}
-use Rattle.clap.specs.Words.{AddsArg, AddsSubcommand, App, Rule, rule_of, with_rule, with_subcommand}
-use Rattle.clap.specs.declared.builder.arg.Arg.{Arg}
+use Rattle.std.specs.Prelude.{◌≡◌, false, ◌||◌}
+use Rattle.rrd_tool.proofs.Names.{◌∙◌, ap, ap₂, AddsArg, AddsSubcommand, App, Rule, rule_of, with_rule, with_subcommand, Arg, HasApp}
 use Rattle.clap.specs.declared.builder.command.Command.{Command}
-use Rattle.rrd_tool.specs.Arguments.Shapes.{HasApp}
 
 pub added : (old new : Command) (a : Arg) (app : App) (r : Rule) → AddsArg old a new
     → HasApp app old → rule_of a ≡ r → a.global ≡ false → HasApp (with_rule app r) new

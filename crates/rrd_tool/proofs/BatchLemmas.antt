@@ -1,14 +1,6 @@
 -- Runs one after another.
-use Rattle.std.proofs.Common.{◌≡◌, ◌∙◌, ◌++◌, ◌∷◌, ℕ, Bool, true, false, List, [], Option, Some, None, Result, Ok, Err, sym, ap, ap₂, refl, append_assoc, append-nil, map}
-use Rattle.std.specs.Io.KnownBytes.{Appends, Consumes, Keeps}
-use Rattle.std.proofs.KnownBytes.{Appends-trans, Consumes-trans}
-use Rattle.std.specs.Result.{is_err}
-use Rattle.rrd_tool.specs.Batch.{Ran, Stopped, Tally, Told, Turn, is_told, line_told, state_after, tallied, tally_after, text_of}
-use Rattle.rrd_tool.specs.Batch.Answers.{Answers, AppendsSome, Performs}
-use Rattle.rrd_tool.specs.Lines.{is_empty, last_part, lines_of, whole_lines}
-use Rattle.rrd_fixed.specs.Written.{AppendsFront}
-use Rattle.rrd_fixed.specs.declared.streams.WriteFault.{WriteFault}
-use Rattle.rrd_fixed.specs.Writing.{Appends-kept}
+use Rattle.std.specs.Prelude.{◌≡◌, ◌++◌, ◌∷◌, ℕ, Bool, true, false, List, [], Option, Some, None, Result, Ok, Err, map}
+use Rattle.rrd_tool.proofs.Names.{◌∙◌, sym, ap, ap₂, refl, append_assoc, append-nil, Appends, Consumes, Keeps, Appends-trans, Consumes-trans, is_err, Ran, Stopped, Tally, Told, Turn, is_told, line_told, state_after, tallied, tally_after, text_of, Answers, AppendsSome, Performs, is_empty, last_part, lines_of, whole_lines, AppendsFront, WriteFault, Appends-kept}
 use Rattle.rrd_tool.proofs.LineLemmas.{whole_append}
 
 lines-append : (xs ys : List Told) → map line_told (xs ++ ys) ≡ map line_told xs ++ map line_told ys

@@ -1,23 +1,6 @@
 -- What a fetch reads, in a database that is valid.
-use Rattle.std.proofs.Common.{◌≡◌, ◌+◌, ◌*◌, ◌/◌, ◌≤◌, ◌<◌, ℕ, Bool, true, false, List, [], ◌∷◌, Option, Some, None, Result, Ok, length, map, refl, subst, arith, ⊎_elim, nat_lt}
-use Rattle.std.specs.List.{AllByRecursion, find, filter, enumerate_from}
-use Rattle.std.specs.Option.{option_or}
-use Rattle.std.proofs.lemmas.Bool.{cases_Bool}
-use Rattle.std.proofs.lemmas.Bool.Decides.{nat_tests}
-use Rattle.std.proofs.Math.Nat.{mul-le-mul_left}
-use Rattle.rrd_fold.specs.declared.function.Function.{Function}
-use Rattle.rrd_spec.specs.declared.settings.RraDef.{RraDef}
-use Rattle.rrd_spec.specs.declared.requests.fetch.Candidate.{Candidate}
-use Rattle.rrd_spec.specs.declared.requests.fetch.Chosen.{Chosen}
-use Rattle.rrd_spec.specs.declared.requests.fetch.FetchRequest.{FetchRequest}
-use Rattle.rrd_spec.specs.declared.refusal.Refusal.{Refusal}
-use Rattle.rrd_spec.specs.declared.refusal.Refusal.TheVariants.{BadTime, BadSpan}
-use Rattle.rrd_spec.specs.History.{Rra, Content}
-use Rattle.rrd_spec.specs.Choice.{best, candidate, candidates, choice, covers, is_farther, is_nearer, same_function, span, span_of, span_rows, taken, unless_refused, choice_within}
-use Rattle.rrd_spec.specs.Validity.{IsValid, IsValidArchive}
-use Rattle.rrd_spec.specs.Commands.Verdict.{◌refuses◌, first_refusal}
-use Rattle.rrd_tool.specs.Commands.Fetched.{IsReadable}
-use Rattle.rrd_spec.specs.Limits.{present}
+use Rattle.std.specs.Prelude.{◌≡◌, ◌+◌, ◌*◌, ◌/◌, ◌≤◌, ◌<◌, ℕ, Bool, true, false, List, [], ◌∷◌, Option, Some, None, Result, Ok, length, map, nat_lt}
+use Rattle.rrd_tool.proofs.Names.{refl, subst, arith, ⊎_elim, AllByRecursion, find, filter, enumerate_from, option_or, cases_Bool, nat_tests, mul-le-mul_left, Function, RraDef, Candidate, Chosen, FetchRequest, Refusal, BadTime, BadSpan, Rra, Content, best, candidate, candidates, choice, covers, is_farther, is_nearer, same_function, span, span_of, span_rows, taken, unless_refused, choice_within, IsValid, IsValidArchive, ◌refuses◌, first_refusal, IsReadable, present}
 
 -- ---- lists
 
@@ -106,7 +89,6 @@ in_time end h = grind (arith, nat_tests)
 span_readable : (content : Content) (request : FetchRequest) (one : Candidate) → IsUsable (length content.archives) one → request.end ≤ 9999999999 → IsReadable content (span request one)
 span_readable content request one h end =
     let some = h.1 in
-    let few = h.2 in
     record { there = h.0; some = some; small = omega arith }
 
 -- what is chosen can be read

@@ -1,16 +1,8 @@
 -- The sources and the archives among the definitions that are read.
-use Rattle.std.proofs.Common.{◌≡◌, ◌∙◌, ◌+◌, ◌<◌, ◌++◌, ◌∷◌, ℕ, List, [], Result, Ok, Err, ap, refl, sym, length, drop, get_or}
-use Rattle.clap.specs.Words.{Text}
-use Rattle.rrd_spec.specs.declared.settings.DsDef.{DsDef}
-use Rattle.rrd_spec.specs.declared.settings.RraDef.{RraDef}
-use Rattle.rrd_tool.specs.Commands.Create.{definitions_of, archives_in, definition_of, sources_in}
-use Rattle.rrd_tool.specs.Fields.Answers.{Meets}
-use Rattle.rrd_tool.specs.Fields.Parts.{each_of, or_fault}
-use Rattle.rrd_tool.specs.declared.faults.LineFault.{LineFault}
-use Rattle.rrd_tool.specs.declared.faults.LineFault.TheVariants.{Usage, BadWord, OutOfMemory}
-use Rattle.rrd_tool.specs.declared.faults.Part.TheVariants as part
-use Rattle.rrd_tool.specs.declared.commands.create.Definition.{Definition}
+use Rattle.std.specs.Prelude.{◌≡◌, ◌+◌, ◌<◌, ◌++◌, ◌∷◌, ℕ, List, [], Result, Ok, Err, length, drop}
+use Rattle.rrd_tool.proofs.Names.{◌∙◌, ap, refl, sym, get_or, Text, DsDef, RraDef, definitions_of, archives_in, definition_of, sources_in, Meets, each_of, or_fault, LineFault, Usage, BadWord, OutOfMemory, Definition}
 use Rattle.rrd_tool.proofs.Each.{prepend, word_fails, word_more}
+use Rattle.rrd_tool.specs.declared.faults.Part.TheVariants as part
 
 sources_of_both : (xs ys : List Definition) → sources_in (xs ++ ys) ≡ sources_in xs ++ sources_in ys
 sources_of_both [] ys = refl

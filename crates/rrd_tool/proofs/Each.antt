@@ -1,12 +1,6 @@
 -- Reading texts one after another.
-use Rattle.std.proofs.Common.{◌≡◌, ◌∙◌, ◌+◌, ◌<◌, ◌++◌, ◌∷◌, ℕ, List, [], Option, Some, None, Result, Ok, Err, ap, refl, sym, length, drop, get_or, append_assoc, suc, add-one}
-use Rattle.std.proofs.Math.Seq.{drop-cons}
-use Rattle.clap.specs.Words.{Text}
-use Rattle.rrd_tool.specs.Fields.Answers.{Meets}
-use Rattle.rrd_tool.specs.Fields.Parts.{Unread, each_of, or_fault, ◌>>=◌}
-use Rattle.rrd_tool.specs.declared.faults.LineFault.{LineFault}
-use Rattle.rrd_tool.specs.declared.faults.LineFault.TheVariants.{Usage, BadWord, OutOfMemory}
-use Rattle.rrd_tool.specs.declared.faults.Part.{Part}
+use Rattle.std.specs.Prelude.{◌≡◌, ◌+◌, ◌<◌, ◌++◌, ◌∷◌, ℕ, List, [], Option, Some, None, Result, Ok, Err, length, drop, suc}
+use Rattle.rrd_tool.proofs.Names.{◌∙◌, ap, refl, sym, get_or, append_assoc, add-one, drop-cons, Text, Meets, Unread, each_of, or_fault, ◌>>=◌, LineFault, Usage, BadWord, OutOfMemory, Part}
 
 split : (words : List Text) (i : ℕ) (word : Text) → i < length words → get_or words i [] ≡ word → drop i words ≡ word ∷ drop (i + 1) words
 split words i word h e = rw add-one (drop-cons words i [] h ∙ ap (λ v. v ∷ drop (suc i) words) e)

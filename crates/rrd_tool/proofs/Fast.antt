@@ -1,34 +1,16 @@
 -- The command with only the named subcommand serves, and enters that subcommand.
-use Rattle.std.proofs.Common.{◌≡◌, ◌∙◌, ℕ, refl, List, ◌∷◌, [], Option, Some, None, IfSome, Result, drop, ap, true, option_map}
-use Rattle.std.specs.Str.{bytes_eq}
-use Rattle.std.proofs.lemmas.Slice.Eq.{bytes_eq-Decides}
-use Rattle.clap.specs.Words.{App, Row, Text, subcommand_of}
+use Rattle.std.specs.Prelude.{◌≡◌, ℕ, List, ◌∷◌, [], Option, Some, None, IfSome, Result, drop, true, option_map}
+use Rattle.rrd_tool.proofs.Names.{◌∙◌, refl, ap, bytes_eq, bytes_eq-Decides, App, Row, Text, subcommand_of, Serves, app_with, first_name, entered_of, line_of, rrdi_app, shape_of, values_of, command_names, name_in, name_text, Meets, Command, CommandName, LineFault}
 use Rattle.rrd_tool.proofs.OnLiterals.{shapes_on_literals}
-use Rattle.rrd_tool.specs.Arguments.Shapes.{Serves, app_with, first_name}
-use Rattle.rrd_tool.specs.Arguments.Taken.{entered_of}
-use Rattle.rrd_tool.specs.Commands.{line_of, rrdi_app, shape_of, values_of}
-use Rattle.rrd_tool.specs.Commands.Names.{command_names, name_in, name_text}
-use Rattle.rrd_tool.specs.Fields.Answers.{Meets}
-use Rattle.rrd_tool.specs.declared.commands.Command.{Command}
-use Rattle.rrd_tool.specs.declared.commands.name.CommandName.{CommandName}
-use Rattle.rrd_tool.specs.declared.commands.name.CommandName.TheVariants as verb
-use Rattle.rrd_tool.specs.declared.faults.LineFault.{LineFault}
 use Rattle.rrd_tool.proofs.Finding.{found_passes}
 use Rattle.rrd_tool.proofs.FirstWord.{entered_by, serves}
+use Rattle.rrd_tool.specs.declared.commands.name.CommandName.TheVariants as verb
 
 -- each name's command serves words that begin with the name
 named_serves : (name : CommandName) (rest : List Text) → Serves (app_with (shape_of name)) (name_text name ∷ rest)
 unfolding shapes_on_literals
 named_serves verb.Create = serves (app_with (shape_of verb.Create)) (name_text verb.Create) (refl, refl, refl, refl, refl, refl, refl)
-named_serves verb.Update = serves (app_with (shape_of verb.Update)) (name_text verb.Update) (refl, refl, refl, refl, refl, refl, refl)
-named_serves verb.Fetch = serves (app_with (shape_of verb.Fetch)) (name_text verb.Fetch) (refl, refl, refl, refl, refl, refl, refl)
-named_serves verb.Tune = serves (app_with (shape_of verb.Tune)) (name_text verb.Tune) (refl, refl, refl, refl, refl, refl, refl)
-named_serves verb.Resize = serves (app_with (shape_of verb.Resize)) (name_text verb.Resize) (refl, refl, refl, refl, refl, refl, refl)
-named_serves verb.First = serves (app_with (shape_of verb.First)) (name_text verb.First) (refl, refl, refl, refl, refl, refl, refl)
-named_serves verb.Last = serves (app_with (shape_of verb.Last)) (name_text verb.Last) (refl, refl, refl, refl, refl, refl, refl)
-named_serves verb.LastUpdate = serves (app_with (shape_of verb.LastUpdate)) (name_text verb.LastUpdate) (refl, refl, refl, refl, refl, refl, refl)
-named_serves verb.Info = serves (app_with (shape_of verb.Info)) (name_text verb.Info) (refl, refl, refl, refl, refl, refl, refl)
-named_serves verb.Revert = serves (app_with (shape_of verb.Revert)) (name_text verb.Revert) (refl, refl, refl, refl, refl, refl, refl)
+named_serves name = serves (app_with (shape_of name)) (name_text name) (refl, refl, refl, refl, refl, refl, refl)
 
 same_name : (a b : Text) → bytes_eq a b ≡ true → a ≡ b
 same_name a b t = (bytes_eq-Decides a b).0 t
@@ -56,29 +38,13 @@ entered_name entered = option_map (λ (e : Text × List Row). e.0) entered
 enters_named : (name : CommandName) (rest : List Text) → entered_name (subcommand_of rrdi_app (name_text name ∷ rest)) ≡ Some (name_text name)
 unfolding shapes_on_literals
 enters_named verb.Create rest = ap entered_name (entered_by rrdi_app (name_text verb.Create) rest refl refl)
-enters_named verb.Update rest = ap entered_name (entered_by rrdi_app (name_text verb.Update) rest refl refl)
-enters_named verb.Fetch rest = ap entered_name (entered_by rrdi_app (name_text verb.Fetch) rest refl refl)
-enters_named verb.Tune rest = ap entered_name (entered_by rrdi_app (name_text verb.Tune) rest refl refl)
-enters_named verb.Resize rest = ap entered_name (entered_by rrdi_app (name_text verb.Resize) rest refl refl)
-enters_named verb.First rest = ap entered_name (entered_by rrdi_app (name_text verb.First) rest refl refl)
-enters_named verb.Last rest = ap entered_name (entered_by rrdi_app (name_text verb.Last) rest refl refl)
-enters_named verb.LastUpdate rest = ap entered_name (entered_by rrdi_app (name_text verb.LastUpdate) rest refl refl)
-enters_named verb.Info rest = ap entered_name (entered_by rrdi_app (name_text verb.Info) rest refl refl)
-enters_named verb.Revert rest = ap entered_name (entered_by rrdi_app (name_text verb.Revert) rest refl refl)
+enters_named name rest = ap entered_name (entered_by rrdi_app (name_text name) rest refl refl)
 
 -- a name's text is the name's
 name_found : (name : CommandName) → name_in (name_text name) ≡ Some name
 unfolding shapes_on_literals
 name_found verb.Create = refl
-name_found verb.Update = refl
-name_found verb.Fetch = refl
-name_found verb.Tune = refl
-name_found verb.Resize = refl
-name_found verb.First = refl
-name_found verb.Last = refl
-name_found verb.LastUpdate = refl
-name_found verb.Info = refl
-name_found verb.Revert = refl
+name_found x = refl
 
 values_read : (name : CommandName) (now : ℕ) (entered : Option (Text × List Row)) (r : Result Command LineFault) → entered_name entered ≡ Some (name_text name)
     → IfSome entered (λ e. Meets (values_of name e.1 now) r) → IfSome (line_of entered now) (λ read. Meets read r)
@@ -93,5 +59,4 @@ pub read_as : (name : CommandName) (words : List Text) (now : ℕ) (entered : Op
     → first_name words ≡ Some name → entered ≡ entered_of words → IfSome entered (λ e. Meets (values_of name e.1 now) r) → IfSome (line_of entered now) (λ read. Meets read r)
 unfolding entered_of
 read_as name words now entered r h e meets =
-    let split = first_is words name h in
-    values_read name now entered r (ap entered_name (e ∙ ap (subcommand_of rrdi_app) split) ∙ enters_named name (drop 1 words)) meets
+    values_read name now entered r (ap entered_name (e ∙ ap (subcommand_of rrdi_app) (first_is words name h)) ∙ enters_named name (drop 1 words)) meets

@@ -1,16 +1,6 @@
 -- Where the first word names a subcommand, the other subcommands change nothing.
-use Rattle.std.proofs.Common.{◌≡◌, ◌∙◌, refl, ap, ap₂, sym, true, false, List, [], ◌∷◌, Option, Some, is_some, option_map}
-use Rattle.std.specs.Prelude.{find, fold}
-use Rattle.std.specs.Option.{option_map_or}
-use Rattle.clap.specs.Words.{App, Kinds, Shape, Text, fault_of, is_simple, is_simple_and_free, subcommand_of}
-use Rattle.clap.specs.Kinds.{or_else}
-use Rattle.clap.specs.Faults.{built_fault, check_fault, defaults_fault, entered_fault, is_free_app, level_fault, other_fault, settle_fault, step_fault, walk_fault}
-use Rattle.clap.specs.Walk.{Names, Walk, after_step, answers_to, finished, idle, nothing_held, settled, subcommand_met, subcommand_or_other, walk, walk_from, walked}
-use Rattle.clap.specs.Simple.{argument_words, built, entered, label_of, names_of, rows_at}
-use Rattle.clap.proofs.WalkLemmas.{both, walk_stopped}
-use Rattle.clap.proofs.FaultLemmas.{stopped_fault}
-use Rattle.rrd_tool.specs.Arguments.Shapes.{Serves}
-use Rattle.rrd_tool.specs.Commands.{rrdi_app}
+use Rattle.std.specs.Prelude.{◌≡◌, true, false, List, [], ◌∷◌, Option, Some, is_some, option_map, find}
+use Rattle.rrd_tool.proofs.Names.{◌∙◌, refl, ap, ap₂, sym, fold, option_map_or, App, Kinds, Shape, Text, fault_of, is_simple, is_simple_and_free, subcommand_of, or_else, built_fault, check_fault, defaults_fault, entered_fault, is_free_app, level_fault, other_fault, settle_fault, step_fault, walk_fault, Names, Walk, after_step, answers_to, finished, idle, nothing_held, settled, subcommand_met, subcommand_or_other, walk, walk_from, walked, argument_words, built, entered, label_of, names_of, rows_at, both, walk_stopped, stopped_fault, Serves, rrdi_app}
 
 -- the walk over a name and the words after it
 abbrev at_name : Text → List Text → Walk

@@ -1,3 +1,5 @@
+pub mod Names
+pub mod Common
 pub mod OnLiterals
 pub mod Added
 pub mod Simple

@@ -1,18 +1,11 @@
 -- What bytes more do to the lines of an input, and to an unfinished one.
-use Rattle.std.proofs.Common.{◌≡◌, ◌∙◌, ◌++◌, ◌∷◌, ◌&&◌, ◌||◌, ◌≤◌, ◌<◌, ℕ, zero, suc, get_or, take, ◌+◌, Bool, true, false, List, [], length, sym, ap, refl, append_assoc, append-nil, arith, nat_le, nat_eq, length-append, ⊎_elim, ◌⊎◌, inl, inr, if◌then◌else◌, Result, Ok, Err}
-use Rattle.std.specs.Result.{OnOk, is_err}
-use Rattle.std.proofs.lemmas.Bool.{cases_Bool}
-use Rattle.std.proofs.lemmas.Bool.Decides.{nat_tests}
-use Rattle.std.specs.List.{list_all}
-use Rattle.rrd_tool.specs.Lines.{has_end, is_empty, is_plain, is_text, last_part, whole_lines, without_cr}
-use Rattle.rrd_tool.specs.Lines.Buffer.{BuffersBy, IsLost}
-use Rattle.rrd_tool.specs.declared.lines.Ending.{Ending}
-use Rattle.rrd_tool.specs.declared.lines.Ending.TheVariants.{Plain, Cr, Lost}
+use Rattle.std.specs.Prelude.{◌≡◌, ◌++◌, ◌∷◌, ◌&&◌, ◌||◌, ◌≤◌, ◌<◌, ℕ, zero, suc, take, ◌+◌, Bool, true, false, List, [], length, nat_le, ◌⊎◌, if◌then◌else◌, Result, Ok, Err, OnOk}
+use Rattle.rrd_tool.proofs.Names.{◌∙◌, get_or, sym, ap, refl, append_assoc, append-nil, arith, nat_eq, length-append, ⊎_elim, inl, inr, is_err, cases_Bool, nat_tests, list_all, has_end, is_empty, is_plain, is_text, last_part, whole_lines, without_cr, BuffersBy, IsLost, Ending, Plain, Cr, Lost}
+use Rattle.rrd_tool.proofs.Finding.{both}
 
 cr_past : (xs : List ℕ) (b : ℕ) (more : List ℕ) → without_cr (xs ++ b ∷ more) ≡ xs ++ without_cr (b ∷ more)
-cr_past [] b more = refl
-cr_past (x ∷ []) b more = refl
 cr_past (x ∷ y ∷ xs) b more = ap (λ l. x ∷ l) (cr_past (y ∷ xs) b more)
+cr_past x b more = refl
 
 and_false : (x : Bool) → (x && false) ≡ false
 and_false true = refl
@@ -27,9 +20,7 @@ all-append [] ys = refl
 all-append (x ∷ xs) ys = ap (λ b. is_plain x && b) (all-append xs ys) ∙ sym (and_assoc (is_plain x) (list_all is_plain xs) (list_all is_plain ys))
 
 not_text : (xs ys : List ℕ) → list_all is_plain ys ≡ false → is_text (xs ++ ys) ≡ false
-not_text xs ys h =
-    ap (λ b. nat_le (length (xs ++ ys)) 65536 && b) (all-append xs ys ∙ ap (λ b. list_all is_plain xs && b) h ∙ and_false (list_all is_plain xs))
-    ∙ and_false (nat_le (length (xs ++ ys)) 65536)
+not_text xs ys h = cc (all-append xs ys ∙ ap (λ b. list_all is_plain xs && b) h ∙ and_false (list_all is_plain xs), and_false (nat_le (length (xs ++ ys)) 65536))
 
 too_long : (xs ys : List ℕ) → 65536 ≤ length xs → 1 ≤ length ys → is_text (xs ++ ys) ≡ false
 too_long xs ys h k =
@@ -65,10 +56,6 @@ some_left b (c ∷ more) n = omega arith
 pub lost_long : (bytes line : List ℕ) (b : ℕ) → line ≡ bytes → nat_eq b 13 ≡ false → 65536 ≤ length bytes → IsLost (line ++ b ∷ [])
 lost_long bytes line b e n h more = ap is_text (from_here bytes b more line e) ∙ too_long bytes (without_cr (b ∷ more)) h (some_left b more n)
 
-both : (x y : Bool) → (x && y) ≡ true → (x ≡ true) × (y ≡ true)
-both true y h = (refl, h)
-both false y h = cc
-
 plain_no_cr : (b : ℕ) → is_plain b ≡ true → nat_eq b 13 ≡ false
 plain_no_cr b h = grind (arith, nat_tests)
 
@@ -98,10 +85,6 @@ none_cr (b ∷ bytes) = refl
 
 pub cr_some : (bytes line : List ℕ) → BuffersBy Cr bytes line → is_empty line ≡ false
 cr_some bytes line h = ap is_empty h.0 ∙ none_cr bytes
-
-none_length : (bytes : List ℕ) → is_empty bytes ≡ nat_eq (length bytes) 0
-none_length [] = refl
-none_length (b ∷ bytes) = grind (arith, nat_tests)
 
 -- what is lost is no text
 pub lost_ended : (unfinished : List ℕ) → IsLost unfinished → is_text (without_cr unfinished) ≡ false
@@ -155,7 +138,7 @@ at_ok (Err f) e p = absurd (let bad : true ≡ false = e in cc)
 
 -- ---- lines that are found at once
 
-neither : (x y : Bool) → (x || y) ≡ false → (x ≡ false) × (y ≡ false)
+pub neither : (x y : Bool) → (x || y) ≡ false → (x ≡ false) × (y ≡ false)
 neither true y h = cc
 neither false y h = (refl, h)
 
@@ -186,12 +169,6 @@ no_whole unfinished part h = ap (whole_lines unfinished) (sym (append-nil part))
 pub no_part : (unfinished part : List ℕ) → has_end part ≡ false → last_part unfinished part ≡ unfinished ++ part
 no_part unfinished part h = ap (last_part unfinished) (sym (append-nil part)) ∙ part_run unfinished part [] h
 
--- no byte of them is LF
-pub no_end_at : (part : List ℕ) (i : ℕ) → has_end part ≡ false → i < length part → nat_eq (get_or part i 0) 10 ≡ false
-no_end_at [] i h inside = absurd (omega arith)
-no_end_at (b ∷ part) zero h inside = (neither (nat_eq b 10) (has_end part) h).0
-no_end_at (b ∷ part) (suc i) h inside = no_end_at part i (neither (nat_eq b 10) (has_end part) h).1 (omega arith)
-
 pub none_empty : (line : List ℕ) → is_empty line ≡ true → line ≡ []
 none_empty [] h = refl
 none_empty (b ∷ line) h = cc
@@ -202,11 +179,9 @@ on_ok (Err f) p = tt
 
 -- a CR at the end is dropped, and nothing else
 pub cr_dropped : (line : List ℕ) (n : ℕ) → length line ≡ n + 1 → get_or line n 0 ≡ 13 → without_cr line ≡ take n line
-cr_dropped [] n long is = absurd (omega (arith, long))
 cr_dropped (b ∷ []) zero long is = rw is refl
-cr_dropped (b ∷ []) (suc n) long is = absurd (omega (arith, long))
-cr_dropped (b ∷ c ∷ line) zero long is = absurd (omega (arith, long))
 cr_dropped (b ∷ c ∷ line) (suc n) long is = ap (λ l. b ∷ l) (cr_dropped (c ∷ line) n (omega (arith, long)) is)
+cr_dropped x n long is = absurd (omega (arith, long))
 
 pub cr_kept : (line : List ℕ) (n : ℕ) → length line ≡ n + 1 → nat_eq (get_or line n 0) 13 ≡ false → without_cr line ≡ line
 cr_kept [] n long other = refl

@@ -1,13 +1,6 @@
 -- What the database stands for after more lines.
-use Rattle.std.proofs.Common.{◌++◌, List, ℕ, Option, Result}
-use Rattle.rrd_fixed.specs.declared.streams.WriteFault.{WriteFault}
-use Rattle.rrd_spec.specs.Journal.Survivors.{State, Stored}
-use Rattle.rrd_tool.specs.Lines.{last_part, whole_lines}
-use Rattle.rrd_tool.specs.Batch.Answers.{Moves, Tallies}
-use Rattle.rrd_tool.specs.Batch.{Ran, Stopped, Tally}
-use Rattle.rrd_tool.specs.declared.refusals.Refusals.{Refusals}
-use Rattle.rrd_tool.specs.Effects.{StandsFor}
-use Rattle.rrd_tool.specs.Batch.Run.{turn}
+use Rattle.std.specs.Prelude.{◌++◌, List, ℕ, Option, Result}
+use Rattle.rrd_tool.proofs.Names.{WriteFault, State, Stored, last_part, whole_lines, Moves, Tallies, Ran, Stopped, Tally, Refusals, StandsFor, turn}
 use Rattle.rrd_tool.proofs.BatchLemmas.{answers_more, stopped_front}
 
 -- all of them, or some first ones

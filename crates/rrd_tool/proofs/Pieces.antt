@@ -1,8 +1,6 @@
 -- Texts that are cut at their colons.
-use Rattle.std.proofs.Common.{◌≡◌, ℕ, List, [], ◌∷◌, ◌++◌, Some, None, ap₂, refl, sym, arith, option_map}
-use Rattle.std.proofs.lemmas.Str.Pattern.{IsSplitOnceResult, split_parts}
-use Rattle.clap.proofs.CutLemmas.{Lacks, list_any-Lacks, list_any-at, before_first-at, after_first-at, slice_split-Lacks, slice_split-at}
-use Rattle.rrd_tool.specs.Fields.{cut_of, pieces}
+use Rattle.std.specs.Prelude.{◌≡◌, ℕ, List, [], ◌∷◌, ◌++◌, Some, None, option_map}
+use Rattle.rrd_tool.proofs.Names.{ap₂, refl, sym, arith, IsSplitOnceResult, split_parts, Lacks, list_any-Lacks, list_any-at, before_first-at, after_first-at, slice_split-Lacks, slice_split-at, cut_of, pieces}
 
 cut_none : (text : List ℕ) → Lacks 58 text → cut_of text ≡ None
 cut_none text lacks = rw (list_any-Lacks 58 text lacks) refl

@@ -1,16 +1,6 @@
 -- Texts one after another.
-use Rattle.std.proofs.Common.{◌≡◌, ◌∙◌, Ok, Err, ◌+◌, ◌-◌, ◌*◌, ◌/◌, ◌++◌, ℕ, List, Option, sym, ap, refl, append_assoc, append-nil, add-one, zero, suc, [], ◌∷◌, ◌≤◌, ◌<◌, arith, inl, inr, codes, take, length, get_or}
-use Rattle.std.proofs.Math.Nat.{mul-le-mul_left}
-use Rattle.std.proofs.lemmas.List.{take_more}
-use Rattle.std.proofs.lemmas.Bool.{cases_lt}
-use Rattle.std.proofs.lemmas.Option.{slice_get_read}
-use Rattle.std.specs.Io.KnownBytes.{Appends}
-use Rattle.std.specs.Option.{option_map_or}
-use Rattle.std.specs.Prelude.{slice_get}
-use Rattle.rrd_spec.specs.declared.settings.DsDef.{DsDef}
-use Rattle.rrd_fixed.specs.Written.{AppendsFront}
-use Rattle.rrd_fixed.specs.Writing.{writes_stop, writes_then}
-use Rattle.rrd_tool.specs.Commands.Fetch.{names_text, texts_below}
+use Rattle.std.specs.Prelude.{◌≡◌, Ok, Err, ◌+◌, ◌-◌, ◌*◌, ◌/◌, ◌++◌, ℕ, List, Option, zero, suc, [], ◌∷◌, ◌≤◌, ◌<◌, codes, take, length, slice_get}
+use Rattle.rrd_tool.proofs.Names.{◌∙◌, sym, ap, refl, append_assoc, append-nil, add-one, arith, inl, inr, get_or, mul-le-mul_left, take_more, cases_lt, slice_get_read, Appends, option_map_or, DsDef, AppendsFront, writes_stop, writes_then, names_text, texts_below}
 
 pub below_more : (f : ℕ → List ℕ) (n : ℕ) → texts_below f (n + 1) ≡ texts_below f n ++ f n
 below_more f n = rw add-one refl
@@ -52,10 +42,7 @@ names-append (x ∷ xs) ys = ap (λ l. codes " " ++ x.name ++ l) (names-append x
 -- one more name
 pub names_more : (sources : List DsDef) (i : ℕ) (source : DsDef) → i < length sources → source ≡ get_or sources i source
     → names_text (take (i + 1) sources) ≡ names_text (take i sources) ++ codes " " ++ source.name
-names_more sources i source inside is =
-    ap names_text (take_more sources i source inside) ∙ (names-append (take i sources) (get_or sources i source ∷ [])
-    ∙ (ap (λ (s : DsDef). names_text (take i sources) ++ names_text (s ∷ [])) (sym is)
-    ∙ (ap (λ l. names_text (take i sources) ++ l) (append-nil (codes " " ++ source.name)) ∙ sym (append_assoc (names_text (take i sources)) (codes " ") source.name))))
+names_more sources i source inside is = cc (take_more sources i source inside, names-append (take i sources) (get_or sources i source ∷ []), is, append-nil (codes " " ++ source.name), append_assoc (names_text (take i sources)) (codes " ") source.name)
 
 -- the rows up to the last one end by then
 pub within : (k res lo hi : ℕ) → 0 < res → k < (hi - lo) / res → lo + (k + 1) * res ≤ hi

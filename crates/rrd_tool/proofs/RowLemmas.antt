@@ -1,9 +1,6 @@
 -- Rows that are put from the last to the first.
-use Rattle.std.proofs.Common.{◌≡◌, ◌∙◌, ◌+◌, ◌-◌, ◌*◌, ◌/◌, ◌<◌, ◌≤◌, ◌++◌, ℕ, zero, suc, List, Option, Some, None, sym, ap, arith, append_assoc, min}
-use Rattle.std.proofs.lemmas.Nat.{le-div}
-use Rattle.std.specs.Prelude.{IfNone, IfSome, slice_index_or}
-use Rattle.rrd_fixed.specs.declared.cell.Cell.{Cell}
-use Rattle.rrd_tool.specs.Commands.Fetch.{texts_below}
+use Rattle.std.specs.Prelude.{◌≡◌, ◌+◌, ◌-◌, ◌*◌, ◌/◌, ◌<◌, ◌≤◌, ◌++◌, ℕ, zero, suc, List, Option, Some, None, min, IfNone, IfSome, slice_index_or}
+use Rattle.rrd_tool.proofs.Names.{◌∙◌, sym, ap, arith, append_assoc, le-div, Cell, texts_below}
 use Rattle.rrd_tool.proofs.PrintLemmas.{below_more}
 
 -- what a row has at a source, also where there is none

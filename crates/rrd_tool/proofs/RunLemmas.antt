@@ -1,45 +1,15 @@
 -- How a database keeps to the run, command by command and line by line.
-use Rattle.std.proofs.Common.{◌≡◌, ◌≢◌, ◌∙◌, ◌∷◌, [], ℕ, Bool, true, false, List, Option, Some, None, Result, Ok, Err, inl, inr, ap, ap₂, sym, refl, subst, append-nil, arith, length, option_map}
-use Rattle.std.specs.Io.KnownBytes.{Appends, Keeps}
-use Rattle.rrd_fixed.specs.declared.streams.WriteFault.{WriteFault}
-use Rattle.rrd_spec.specs.declared.requests.create.CreateSpec.{CreateSpec}
-use Rattle.rrd_spec.specs.declared.refusal.Refusal.{Refusal}
-use Rattle.rrd_spec.specs.Commands.Creating.{create_verdict, created}
-use Rattle.rrd_spec.specs.Laws.Validity.{CreatedIsValid}
-use Rattle.rrd_spec.specs.History.{Content}
-use Rattle.rrd_spec.specs.Journal.Entries.{Entry}
-use Rattle.rrd_spec.specs.Journal.Survivors.{State, Stored, Changed, Reverted, Stands, stored_after, Action}
-use Rattle.rrd_spec.specs.Commands.Verdict.{verdict}
-use Rattle.rrd_spec.specs.Laws.Journal.{ActsOn, Begins}
-use Rattle.clap.specs.Words.{fault_of}
-use Rattle.rrd_fixed.specs.Writing.{Appends-kept}
-use Rattle.rrd_tool.specs.Batch.{Turn}
-use Rattle.rrd_tool.specs.Effects.{Effect, Makes, Changes, Reverts, Shows, StandsFor, is_change, stored_next, stored_of, next, text_on, verdict_on, first_state}
-use Rattle.rrd_tool.specs.Execution.{Affects, Comes, IsFault, database_left, fault_left, has_changed}
-use Rattle.rrd_tool.specs.Batch.Answers.{Performs, Asks, line_turns}
-use Rattle.rrd_tool.specs.Execution.Printing.{Prints, PrintsBy}
-use Rattle.rrd_tool.specs.Faults.{fault_line}
-use Rattle.rrd_tool.specs.Lines.{is_empty, text_in, words_of}
+use Rattle.std.specs.Prelude.{◌≡◌, ◌≢◌, ◌∷◌, [], ℕ, Bool, true, false, List, Option, Some, None, Result, Ok, Err, length, option_map}
+use Rattle.rrd_tool.proofs.Names.{◌∙◌, inl, inr, ap, ap₂, sym, refl, subst, append-nil, arith, Appends, Keeps, WriteFault, CreateSpec, Refusal, create_verdict, created, CreatedIsValid, Content, Entry, State, Stored, Changed, Reverted, Stands, stored_after, Action, verdict, ActsOn, Begins, fault_of, Appends-kept, Turn, Effect, Makes, Changes, Reverts, Shows, StandsFor, is_change, stored_next, stored_of, next, text_on, verdict_on, first_state, Affects, Comes, IsFault, database_left, fault_left, has_changed, Performs, Asks, line_turns, Prints, PrintsBy, fault_line, is_empty, text_in, words_of, IsReading, command_of, effect_turn, reading_turn, refusal_turn, text_turn, turn, unless_short, words_turn, rrdi_app, Command, LineFault, Usage, BadWord, OutOfMemory, Part, Outcome, Fault, Line, Refused, NoDatabase, Output}
 use Rattle.rrd_tool.proofs.SaidLemmas.{unwritten_some}
-use Rattle.rrd_tool.specs.Commands.Reading.{IsReading}
-use Rattle.rrd_tool.specs.Batch.Run.{command_of, effect_turn, reading_turn, refusal_turn, text_turn, turn, unless_short, words_turn}
-use Rattle.rrd_tool.specs.Commands.{rrdi_app}
-use Rattle.rrd_tool.specs.declared.commands.Command.{Command}
-use Rattle.rrd_tool.specs.declared.faults.LineFault.{LineFault}
-use Rattle.rrd_tool.specs.declared.faults.LineFault.TheVariants.{Usage, BadWord, OutOfMemory}
-use Rattle.rrd_tool.specs.declared.faults.Part.{Part}
-use Rattle.rrd_tool.specs.declared.execution.Outcome.{Outcome}
-use Rattle.rrd_tool.specs.declared.faults.Fault.{Fault}
-use Rattle.rrd_tool.specs.declared.faults.Fault.TheVariants.{Line, Refused, NoDatabase, Output}
 
 -- ---- the database
 
 -- the database is the one that the state makes
 pub stands_kept : (kept : Option Stored) (state : Option State) → StandsFor kept state → kept ≡ option_map stored_of state
 stands_kept None None h = refl
-stands_kept None (Some state) h = absurd h
-stands_kept (Some kept) None h = absurd h
 stands_kept (Some kept) (Some state) h = ap₂ (λ now journal. let k : Stored = record { content = now; journal = journal } in Some k) h.content_is h.journal_is
+stands_kept x y h = absurd h
 
 no_refusal : (verdict : Option Refusal) → option_map Refused verdict ≡ None → verdict ≡ None
 no_refusal None h = refl
@@ -50,11 +20,10 @@ no_refusal (Some r) h = absurd cc
 -- what a command comes to, carried to facts that follow from those on the database
 comes_as : (verdict : Option Fault) (text : List ℕ) (effect : Effect) (Moved Moved' Same Same' : Type 0) (c0 c1 : Option (List ℕ)) (changed : Bool) (fault : Option Fault)
     → (verdict ≡ None → Moved → Moved') → (Same → Same') → Comes verdict text effect Moved Same c0 c1 changed fault → Comes verdict text effect Moved' Same' c0 c1 changed fault
-comes_as verdict text effect Moved Moved' Same Same' c0 c1 changed None f g h = (h.0, f h.0 h.1, h.2, h.3)
-comes_as verdict text effect Moved Moved' Same Same' c0 c1 changed (Some Output) f g h = (h.0, f h.0 h.1, h.2, h.3)
 comes_as verdict text effect Moved Moved' Same Same' c0 c1 changed (Some (Line fault)) f g h = (h.0, g h.1, h.2, h.3)
 comes_as verdict text effect Moved Moved' Same Same' c0 c1 changed (Some (Refused fault)) f g h = (h.0, g h.1, h.2, h.3)
 comes_as verdict text effect Moved Moved' Same Same' c0 c1 changed (Some NoDatabase) f g h = (h.0, g h.1, h.2, h.3)
+comes_as verdict text effect Moved Moved' Same Same' c0 c1 changed x f g h = (h.0, f h.0 h.1, h.2, h.3)
 
 -- by the laws of new databases, of those that begin a run, and of one action
 module _ (created_is_valid : (spec : CreateSpec) → CreatedIsValid spec) (database_begins : (base : Content) (brought : List Entry) → Begins base brought) (action_goes_on : (state : State) (kept : Stored) (action : Action) → ActsOn state kept action) where
@@ -201,11 +170,10 @@ some_length (word ∷ words) h = refl
 -- a text that was printed, or a front of it
 prints_comes : (verdict : Option Fault) (text : List ℕ) (effect : Effect) (Moved Same : Type 0) (c0 c1 : Option (List ℕ)) (changed : Bool) (fault : Option Fault)
     → verdict ≡ None → Moved → changed ≡ is_change effect → PrintsBy c0 c1 text fault → Comes verdict text effect Moved Same c0 c1 changed fault
-prints_comes verdict text effect Moved Same c0 c1 changed None v m e p = (v, m, e, p)
-prints_comes verdict text effect Moved Same c0 c1 changed (Some Output) v m e p = (v, m, e, p)
 prints_comes verdict text effect Moved Same c0 c1 changed (Some (Line fault)) v m e p = absurd p
 prints_comes verdict text effect Moved Same c0 c1 changed (Some (Refused fault)) v m e p = absurd p
 prints_comes verdict text effect Moved Same c0 c1 changed (Some NoDatabase) v m e p = absurd p
+prints_comes verdict text effect Moved Same c0 c1 changed x v m e p = (v, m, e, p)
 
 -- a command that shows a text which was printed
 pub shown_comes : (kept : Stored) (show : Stored → Result (List ℕ) Refusal) (text : List ℕ) (c0 c1 : Option (List ℕ)) (outcome : Outcome)

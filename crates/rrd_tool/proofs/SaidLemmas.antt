@@ -1,22 +1,7 @@
 -- Texts that aren't empty: what prints prints something.
-use Rattle.std.proofs.Common.{◌≡◌, ◌∙◌, ◌++◌, ◌∷◌, [], ℕ, Bool, false, List, Option, Some, None, Result, Ok, Err, ap, sym, refl, ℤ, codes, option_map, pos, unwrap_or}
-use Rattle.std.specs.Result.{result_map_both, result_ok, result_err}
-use Rattle.rrd_spec.specs.Choice.{choice}
-use Rattle.rrd_spec.specs.History.Cells.{oldest_time}
-use Rattle.rrd_spec.specs.Journal.Survivors.{Stored}
-use Rattle.rrd_spec.specs.declared.refusal.Refusal.{Refusal}
-use Rattle.rrd_tool.specs.Commands.{effect}
-use Rattle.rrd_tool.specs.Commands.Fetch.{fetch_text}
-use Rattle.rrd_tool.specs.Commands.Last.{time_line}
-use Rattle.rrd_tool.specs.Effects.{Effect, Makes, Changes, Reverts, Shows, is_change, text_on, verdict_on}
-use Rattle.rrd_tool.specs.Execution.{Comes, Executes, PrintsSome, fault_left, has_changed}
-use Rattle.rrd_tool.specs.Faults.{fault_line}
-use Rattle.rrd_tool.specs.Lines.{is_empty}
-use Rattle.rrd_tool.specs.declared.commands.Command.{Command}
+use Rattle.std.specs.Prelude.{◌≡◌, ◌++◌, ◌∷◌, [], ℕ, Bool, false, List, Option, Some, None, Result, Ok, Err, ℤ, codes, option_map, pos}
+use Rattle.rrd_tool.proofs.Names.{◌∙◌, ap, sym, refl, unwrap_or, result_map_both, result_ok, result_err, choice, oldest_time, Stored, Refusal, effect, fetch_text, time_line, Effect, Makes, Changes, Reverts, Shows, is_change, text_on, verdict_on, Comes, Executes, PrintsSome, fault_left, has_changed, fault_line, is_empty, Command, Outcome, Fault, Refused}
 use Rattle.rrd_tool.specs.declared.commands.Command.TheVariants as command
-use Rattle.rrd_tool.specs.declared.execution.Outcome.{Outcome}
-use Rattle.rrd_tool.specs.declared.faults.Fault.{Fault}
-use Rattle.rrd_tool.specs.declared.faults.Fault.TheVariants.{Refused}
 
 -- what stands behind something
 some_last : (xs ys : List ℕ) → is_empty ys ≡ false → is_empty (xs ++ ys) ≡ false
@@ -50,17 +35,13 @@ Says Reverts = Unit {0}
 Says (Shows show) = (kept : Stored) → result_err (show kept) ≡ None → is_empty (unwrap_or (result_ok (show kept)) []) ≡ false
 
 each_says : (asked : Command) → Says (effect asked)
-each_says (command.Create spec) = tt
-each_says (command.Update update) = tt
-each_says (command.Tune tuning) = tt
-each_says (command.Resize archive change rows) = tt
 each_says (command.Fetch request) =
     λ kept h. answer_says (fetch_text kept.content) (choice kept.content request.function request.asked request.start request.end) (λ chosen. refl) h
 each_says (command.First archive) = λ kept h. answer_says time_line (oldest_time kept.content archive) line_says h
 each_says command.Last = λ kept h. line_says (pos kept.content.last)
 each_says command.LastUpdate = λ kept h. refl
 each_says command.Info = λ kept h. refl
-each_says command.Revert = tt
+each_says x = tt
 
 no_fault : (refusal : Option Refusal) → option_map Refused refusal ≡ None → refusal ≡ None
 no_fault None h = refl

@@ -1,10 +1,6 @@
 -- What a search for a byte says of the bytes before it.
-use Rattle.std.proofs.Common.{◌≡◌, ◌∙◌, ◌+◌, ◌-◌, ◌<◌, ◌++◌, ◌∷◌, [], ℕ, zero, suc, Bool, true, false, List, Some, None, length, take, drop, get_or, slice_index, sym, ap, refl, arith}
-use Rattle.std.proofs.lemmas.Bool.{eqb-true}
-use Rattle.std.proofs.Math.Seq.{take-add}
-use Rattle.std.proofs.lemmas.List.{drop_more, take-append-drop, take_all, take_more}
-use Rattle.std.specs.List.{list_any}
-use Rattle.memchr.specs.Find.{IsFirstByte, is_byte}
+use Rattle.std.specs.Prelude.{◌≡◌, ◌+◌, ◌-◌, ◌<◌, ◌++◌, ◌∷◌, [], ℕ, zero, suc, Bool, true, false, List, Some, None, length, take, drop, slice_index}
+use Rattle.rrd_tool.proofs.Names.{◌∙◌, get_or, sym, ap, refl, arith, eqb-true, take-add, drop_more, take-append-drop, take_all, take_more, list_any, IsFirstByte, is_byte}
 
 not_true : (b : Bool) → ¬ (b ≡ true) → b ≡ false
 not_true true h = absurd (h refl)

@@ -1,28 +1,8 @@
 -- What the parts of a subcommand's matches say of the whole, and that there is one.
-use Rattle.std.proofs.Common.{◌≡◌, ◌∙◌, ℕ, ◌&&◌, Bool, List, Option, Some, None, [], ◌∷◌, ap, ap₂, refl, sym, true, false, is_some, option_map, not, Result, Ok, Err, IfSome}
-use Rattle.std.specs.Prelude.{Box}
-use Rattle.clap.specs.Words.{App, Kinds, Row, Shape, Text, built, fault_of, rows_of, found_of, subcommand_of, subcommand_rows}
-use Rattle.clap.specs.Kinds.{check_kinds, or_else}
-use Rattle.clap.specs.Faults.{check_fault, defaults_fault, entered_fault, level_fault, settle_fault, walk_fault}
-use Rattle.clap.specs.Walk.{Held, Names, answers_to, finished, nothing_held, settled, stop_after, walk, walk_from}
-use Rattle.clap.specs.Simple.{argument_words, entered, label_of, names_of, rows_at}
-use Rattle.clap.specs.Facts.{explicit_source}
-use Rattle.clap.specs.Takes.{is_given}
-use Rattle.std.specs.List.{AllByRecursion, find, list_any}
-use Rattle.clap.specs.declared.parser.matches.SubCommand.{SubCommand}
-use Rattle.clap.specs.declared.parser.matches.ArgMatches.TheViews.{out-SubCommand}
-use Rattle.std.specs.Box.{box_value}
+use Rattle.std.specs.Prelude.{◌≡◌, ℕ, ◌&&◌, Bool, List, Option, Some, None, [], ◌∷◌, true, false, is_some, option_map, not, Result, Ok, Err, IfSome, Box}
+use Rattle.rrd_tool.proofs.Names.{◌∙◌, ap, ap₂, refl, sym, App, Kinds, Row, Shape, Text, built, fault_of, rows_of, found_of, subcommand_of, subcommand_rows, check_kinds, or_else, check_fault, defaults_fault, entered_fault, level_fault, settle_fault, walk_fault, Held, Names, answers_to, finished, nothing_held, settled, stop_after, walk, walk_from, argument_words, entered, label_of, names_of, rows_at, explicit_source, is_given, AllByRecursion, find, list_any, SubCommand, out-SubCommand, box_value, rrdi_app, line_of, values_of, name_in, Unread, IsTaken, entered_of, IsReading, Meets, Command, LineFault, Usage, BadWord, OutOfMemory}
 use Rattle.rrd_tool.proofs.OnLiterals.{shapes_on_literals}
-use Rattle.rrd_tool.specs.Commands.{rrdi_app, line_of, values_of}
-use Rattle.rrd_tool.specs.Commands.Names.{name_in}
-use Rattle.rrd_tool.specs.Fields.Parts.{Unread}
 use Rattle.rrd_tool.proofs.Finding.{all_pass, found_among}
-use Rattle.rrd_tool.specs.Arguments.Taken.{IsTaken, entered_of}
-use Rattle.rrd_tool.specs.Commands.Reading.{IsReading}
-use Rattle.rrd_tool.specs.Fields.Answers.{Meets}
-use Rattle.rrd_tool.specs.declared.commands.Command.{Command}
-use Rattle.rrd_tool.specs.declared.faults.LineFault.{LineFault}
-use Rattle.rrd_tool.specs.declared.faults.LineFault.TheVariants.{Usage, BadWord, OutOfMemory}
 
 last_empty : (a b : Kinds) → or_else a b ≡ [] → b ≡ []
 last_empty [] b h = h

@@ -1,22 +1,8 @@
 -- Words whose first is no subcommand's name are refused.
-use Rattle.std.proofs.Common.{◌≡◌, ◌∙◌, ap, sym, refl, Bool, not, ◌&&◌, true, false, ℕ, List, [], ◌∷◌, Option, Some, None, IfSome, is_some, length, map, option_map}
-use Rattle.std.specs.Prelude.{drop, encode_utf8, slice_get}
-use Rattle.std.specs.List.{AllByRecursion, find}
-use Rattle.std.specs.Str.{bytes_eq, chars}
-use Rattle.std.proofs.lemmas.Slice.Eq.{bytes_eq-Decides}
-use Rattle.clap.specs.Words.{Kinds, Shape, Text, fault_of}
-use Rattle.clap.specs.Kinds.{or_else}
-use Rattle.clap.specs.Faults.{built_fault, bundle_fault, bundle_step_fault, flags_fault, long_fault, short_fault, stray_fault, step_fault, turn_fault, use_fault, walk_fault}
-use Rattle.clap.specs.Walk.{Held, Names, Outcome, Rule, after_flag, answers_to, arg_by_index, arg_by_long, arg_by_short, bundle, bundle_met, bundle_step, has_long, has_short, idle, nothing_held, plain, subcommand_met, takes_values, walk_from, walked}
-use Rattle.clap.specs.Lexer.{long_of, short_of}
-use Rattle.clap.specs.Simple.{built, names_of}
-use Rattle.clap.specs.declared.error.kind.ErrorKind.TheVariants.{DisplayHelp}
+use Rattle.std.specs.Prelude.{◌≡◌, Bool, not, ◌&&◌, true, false, ℕ, List, [], ◌∷◌, Option, Some, None, IfSome, is_some, length, map, option_map, drop, encode_utf8, slice_get}
+use Rattle.rrd_tool.proofs.Names.{◌∙◌, ap, sym, refl, AllByRecursion, find, bytes_eq, chars, bytes_eq-Decides, Kinds, Shape, Text, fault_of, or_else, built_fault, bundle_fault, bundle_step_fault, flags_fault, long_fault, short_fault, stray_fault, step_fault, turn_fault, use_fault, walk_fault, Held, Names, Rule, after_flag, answers_to, arg_by_index, arg_by_long, arg_by_short, bundle, bundle_met, bundle_step, has_long, has_short, idle, nothing_held, plain, subcommand_met, takes_values, walk_from, walked, long_of, short_of, built, names_of, DisplayHelp, IsRefused, first_name, entered_of, rrdi_app, command_names, name_in, name_text, CommandName}
+use Rattle.clap.specs.Walk.{Outcome}
 use Rattle.rrd_tool.proofs.OnLiterals.{shapes_on_literals}
-use Rattle.rrd_tool.specs.Arguments.Shapes.{IsRefused, first_name}
-use Rattle.rrd_tool.specs.Arguments.Taken.{entered_of}
-use Rattle.rrd_tool.specs.Commands.{rrdi_app}
-use Rattle.rrd_tool.specs.Commands.Names.{command_names, name_in, name_text}
-use Rattle.rrd_tool.specs.declared.commands.name.CommandName.{CommandName}
 use Rattle.rrd_tool.proofs.Finding.{found_among, none_passes}
 use Rattle.rrd_tool.proofs.Subcommand.{taken_enters}
 

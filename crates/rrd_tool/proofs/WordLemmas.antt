@@ -1,17 +1,10 @@
 -- The words of a text, word by word.
-use Rattle.std.proofs.Common.{◌≡◌, ◌∙◌, ◌<◌, ◌++◌, ◌∷◌, ◌&&◌, ◌||◌, [], ℕ, zero, suc, Bool, true, false, List, take, drop, sym, ap, refl, arith, append-nil, append_assoc, Result, Ok, Err}
-use Rattle.std.specs.Result.{OnErr}
-use Rattle.std.proofs.lemmas.Bool.Decides.{nat_tests}
-use Rattle.std.specs.List.{list_all, list_any}
-use Rattle.std.specs.Str.{IsAscii, IsUtf8}
-use Rattle.std.proofs.lemmas.Str.{IsUtf8-from_ascii}
-use Rattle.rrd_tool.specs.Lines.{if_some, is_empty, is_blank, is_plain, words_after}
+use Rattle.std.specs.Prelude.{◌≡◌, ◌<◌, ◌++◌, ◌∷◌, ◌&&◌, ◌||◌, [], ℕ, zero, suc, Bool, true, false, List, take, drop, Result, Ok, Err, OnErr}
+use Rattle.rrd_tool.proofs.Names.{◌∙◌, sym, ap, refl, arith, append-nil, append_assoc, nat_tests, list_all, list_any, IsAscii, IsUtf8, IsUtf8-from_ascii, if_some, is_empty, is_blank, is_plain, words_after}
+use Rattle.rrd_tool.proofs.Finding.{both}
+use Rattle.rrd_tool.proofs.LineLemmas.{neither}
 
 -- ---- plain bytes
-
-both : (x y : Bool) → (x && y) ≡ true → (x ≡ true) × (y ≡ true)
-both true y h = (refl, h)
-both false y h = cc
 
 pub plain_take : (n : ℕ) (bytes : List ℕ) → list_all is_plain bytes ≡ true → list_all is_plain (take n bytes) ≡ true
 plain_take zero bytes h = refl
@@ -37,10 +30,6 @@ pub plain_utf8 : (bytes : List ℕ) → list_all is_plain bytes ≡ true → IsU
 plain_utf8 bytes h = IsUtf8-from_ascii bytes (plain_ascii bytes h)
 
 -- ---- words
-
-neither : (x y : Bool) → (x || y) ≡ false → (x ≡ false) × (y ≡ false)
-neither true y h = cc
-neither false y h = (refl, h)
 
 -- letters go on with a word that is begun
 words_run : (begun part rest : List ℕ) → list_any is_blank part ≡ false → words_after begun (part ++ rest) ≡ words_after (begun ++ part) rest

@@ -1,7 +1,6 @@
 -- Definition: the arguments of a command, as clap parses them.
-use Rattle.std.specs.Prelude.{◌==◌, ◌∷◌, ℕ, Bool, List, [], Some, false, true, codes, unwrap_or}
-use Rattle.clap.specs.Words.{App, Row, Rule, Text, all_of, new_app, new_rule}
-use Rattle.clap.specs.declared.builder.action.ArgAction.TheVariants.{Append}
+use Rattle.std.specs.Prelude.{◌==◌, ◌∷◌, ℕ, Bool, List, [], Some, false, true, codes}
+use Rattle.rrd_tool.specs.Names.{unwrap_or, App, Row, Rule, Text, all_of, new_app, new_rule, Append}
 pub mod Taken
 pub mod Shapes
 

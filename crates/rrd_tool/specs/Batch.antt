@@ -1,6 +1,6 @@
 -- Definition: a run over lines; for each line the run may report that memory ran out (this project's rule).
 use Rattle.std.specs.Prelude.{◌≡◌, ◌+◌, ◌++◌, ◌∷◌, ◌&&◌, [], ℕ, Bool, List, Option, false, length, map, take, if◌then◌else◌}
-use Rattle.std.specs.Io.KnownBytes.{Appends}
+use Rattle.rrd_tool.specs.Names.{Appends}
 use Rattle.rrd_tool.specs.Lines.{is_empty}
 pub mod Run
 pub mod Answers

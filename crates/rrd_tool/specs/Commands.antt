@@ -1,8 +1,7 @@
 -- Definition: the commands: their names and shapes, how their values are parsed, and their effects (rrdcreate,
 -- rrdupdate, rrdtune, rrdresize, rrdfetch, rrdfirst, rrdlast, rrdlastupdate, rrdinfo; revert is this project's).
-use Rattle.std.specs.Prelude.{ℕ, List, Option, Result, Ok, fold, option_and_then, option_map}
-use Rattle.clap.specs.Words.{App, Row, Text, new_app, with_subcommand}
-use Rattle.rrd_spec.specs.Commands.{Resizing, TuningBy, Updating}
+use Rattle.std.specs.Prelude.{ℕ, List, Option, Result, Ok, option_and_then, option_map}
+use Rattle.rrd_tool.specs.Names.{fold, App, Row, Text, new_app, with_subcommand, Resizing, TuningBy, Updating}
 use Rattle.rrd_tool.specs.Arguments.{bare_top}
 use Rattle.rrd_tool.specs.Effects.{Effect, Makes, Changes, Reverts, Shows}
 use Rattle.rrd_tool.specs.Fields.Parts.{Unread}

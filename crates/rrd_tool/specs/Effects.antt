@@ -1,16 +1,7 @@
 -- Definition: the effects of commands, and the result of each kind of effect, on a database and in a run (this
 -- project's rule).
-use Rattle.std.specs.Prelude.{◌∷◌, [], ℕ, Bool, List, Option, Some, None, Result, true, false, option_map, unwrap_or}
-use Rattle.std.specs.Result.{result_err, result_ok}
-use Rattle.rrd_spec.specs.declared.requests.create.CreateSpec.{CreateSpec}
-use Rattle.rrd_spec.specs.declared.refusal.Refusal.{Refusal}
-use Rattle.rrd_spec.specs.declared.refusal.Refusal.TheVariants.{NothingToRevert}
-use Rattle.rrd_spec.specs.History.{Content}
-use Rattle.rrd_spec.specs.Commands.{DatabaseChange, Resizing, TuningBy, Updating, is_addition}
-use Rattle.rrd_spec.specs.Commands.Creating.{create_verdict, created}
-use Rattle.rrd_spec.specs.Journal.Entries.{Entry}
-use Rattle.rrd_spec.specs.Journal.Survivors.{State, Stored, Changed, Reverted, Stands, after, changed, journal_of, reverted, survived}
-use Rattle.rrd_spec.specs.Commands.Verdict.{verdict}
+use Rattle.std.specs.Prelude.{◌∷◌, [], ℕ, Bool, List, Option, Some, None, Result, true, false, option_map}
+use Rattle.rrd_tool.specs.Names.{unwrap_or, result_err, result_ok, CreateSpec, Refusal, NothingToRevert, Content, DatabaseChange, Resizing, TuningBy, Updating, is_addition, create_verdict, created, Entry, State, Stored, Changed, Reverted, Stands, after, changed, journal_of, reverted, survived, verdict}
 use Rattle.rrd_tool.specs.declared.faults.Fault.{Fault}
 use Rattle.rrd_tool.specs.declared.faults.Fault.TheVariants.{Refused, NoDatabase}
 

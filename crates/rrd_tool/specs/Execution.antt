@@ -1,9 +1,7 @@
 -- Definition: the result of running one command (this project's rule).
 use Rattle.std.specs.Prelude.{◌≡◌, ◌⊎◌, ℕ, Bool, List, Option, Some, None, true, false, option_map}
-use Rattle.std.specs.Io.KnownBytes.{Appends, Keeps}
-use Rattle.rrd_fixed.specs.Written.{AppendsFront}
+use Rattle.rrd_tool.specs.Names.{Appends, Keeps, AppendsFront, State, Stored}
 use Rattle.rrd_spec.specs.declared.refusal.Refusal.TheVariants as refusal
-use Rattle.rrd_spec.specs.Journal.Survivors.{State, Stored}
 use Rattle.rrd_tool.specs.Commands.{effect}
 use Rattle.rrd_tool.specs.Effects.{Effect, StandsFor, is_change, stored_next, stored_of, next, takes_memory, text_on, verdict_on}
 use Rattle.rrd_tool.specs.Lines.{is_empty}

@@ -1,6 +1,6 @@
 -- Definition: the texts of errors (this project's rule).
 use Rattle.std.specs.Prelude.{◌++◌, ℕ, Bool, List, codes, decimal, if◌then◌else◌, true, false}
-use Rattle.rrd_spec.specs.Commands.RefusalTexts.{refusal_text}
+use Rattle.rrd_tool.specs.Names.{refusal_text}
 use Rattle.rrd_tool.specs.declared.faults.LineFault.{LineFault}
 use Rattle.rrd_tool.specs.declared.faults.LineFault.TheVariants as line
 use Rattle.rrd_tool.specs.declared.faults.Part.{Part}

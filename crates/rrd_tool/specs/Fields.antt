@@ -1,13 +1,6 @@
 -- Definition: the values of texts (rrdcreate, "DS" and "RRA").
-use Rattle.std.specs.Prelude.{ℕ, ℤ, ◌==◌, Bool, List, [], ◌∷◌, Option, Some, None, codes, find, if◌then◌else◌}
-use Rattle.std.specs.List.{list_any, before_first, after_first, slice_split}
-use Rattle.std.specs.Str.{bytes_eq}
-use Rattle.clap.specs.Words.{Text}
-use Rattle.rrd_fixed.specs.Names.{fits}
-use Rattle.rrd_fixed.specs.Reading.{number_of}
-use Rattle.rrd_fixed.specs.declared.kind.Kind.{Kind}
-use Rattle.rrd_fixed.specs.declared.name.Name.{Name}
-use Rattle.rrd_fold.specs.declared.function.Function.{Function}
+use Rattle.std.specs.Prelude.{ℕ, ℤ, ◌==◌, Bool, List, [], ◌∷◌, Option, Some, None, codes, if◌then◌else◌}
+use Rattle.rrd_tool.specs.Names.{find, list_any, before_first, after_first, slice_split, bytes_eq, Text, fits, number_of, Kind, Name, Function}
 pub mod Parts
 pub mod Answers
 

@@ -1,3 +1,5 @@
+pub mod Names
+pub mod Words
 pub mod Arguments
 pub mod Fields
 pub mod Effects

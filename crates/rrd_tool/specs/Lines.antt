@@ -1,7 +1,7 @@
 -- Definition: the lines of an input, and the arguments on a line (this project's rule; RRDtool reads such lines in its
 -- command `-`).
 use Rattle.std.specs.Prelude.{◌==◌, ◌&&◌, ◌||◌, ◌++◌, ◌∷◌, [], ℕ, Bool, List, Option, Some, None, length, if◌then◌else◌, nat_le, true, false}
-use Rattle.std.specs.List.{list_all, list_any}
+use Rattle.rrd_tool.specs.Names.{list_all, list_any}
 pub mod Buffer
 
 -- a line without the CR at its end

@@ -1,8 +1,7 @@
 //! The arguments as clap takes them, and the words as clap parses them.
 ghost use Rattle.std.specs.Prelude.{◌≡◌, IfOk, false, map, option_map};
-ghost use Rattle.clap.specs.Words.{App, all_of, app_of, first_of, found_of, rows_of, rule_of};
-ghost use Rattle.rrd_tool.specs.Arguments.Shapes.{HasApp, IsParsedBy, Serves, app_with};
-ghost use Rattle.rrd_tool.specs.Arguments.{bare_top, letter_rule, many_rule, option_rule, required_rule, word_rule};
+ghost use Rattle.rrd_tool.specs.Names.{App, all_of, app_of, first_of, found_of, rows_of, rule_of};
+ghost use Rattle.rrd_tool.specs.Words.{HasApp, IsParsedBy, Serves, app_with, bare_top, letter_rule, many_rule, option_rule, required_rule, word_rule};
 
 use crate::{LineFault, Words};
 use clap::error::ErrorKind;

@@ -1,21 +1,13 @@
 //! A batch: runs each line of an input, and writes the output or the fault of the line.
 ghost use Rattle.std.specs.Prelude.{◌≡◌, ◌<◌, ◌≤◌, ◌+◌, ◌^◌, ◌∷◌, ◌++◌, [], ℕ, false, List, Option, OnOk, IfSome, true, length, option_map};
-ghost use Rattle.std.specs.List.{list_all};
-ghost use Rattle.std.specs.Result.{result_err};
-ghost use Rattle.std.specs.Io.KnownBytes.{Consumes};
-ghost use Rattle.rrd_spec.specs.Journal.Survivors.{State};
-ghost use Rattle.rrd_tool.specs.Effects.{StandsFor};
-ghost use Rattle.rrd_tool.specs.Lines.Buffer.{Buffers};
-ghost use Rattle.rrd_tool.specs.Lines.{has_end, is_plain, last_part, text_in, whole_lines};
-ghost use Rattle.rrd_tool.specs.Batch.{Counts, Tally, no_lines};
-ghost use Rattle.rrd_tool.specs.Batch.Answers.{Asks, Moves, MovesByCommand, MovesByLine, Tallies};
-ghost use Rattle.rrd_tool.specs.Batch.Run.{RunOver};
+ghost use Rattle.rrd_tool.specs.Names.{list_all, result_err, Consumes, State};
+ghost use Rattle.rrd_tool.specs.Words.{StandsFor, Buffers, has_end, is_plain, last_part, text_in, whole_lines, Counts, Tally, no_lines, Asks, Moves, MovesByCommand, MovesByLine, Tallies, RunOver};
 
 use crate::execution::{Outcome, execute};
 use crate::faults::{Fault, write_fault};
 use crate::lines::{LineBuffer, read_words, text_of_line};
 use crate::refusals::Refusals;
-use crate::{Command, LineFault, read_command};
+use crate::{Command, LineFault, Observer, read_command};
 use memchr::memchr;
 use rrd_base::Database;
 use rrd_fixed::{WriteFault, flush, read_some};
@@ -57,11 +49,12 @@ struct Context {
     now: u64,
 }
 
-// The values that change during a batch: the database, and the refused lines.
+// The values that change during a batch: the database, and the refused lines. The observer sees these lines.
 #[derive(Drop)]
-struct Batch {
+struct Batch<'a, V> {
     database: Option<Database>,
     refusals: Refusals,
+    observer: &'a V,
 }
 
 // Parses the text of a line. Returns `None` if the line has no words.
@@ -132,9 +125,9 @@ fn perform<W: Write>(
 }
 
 // Runs a line, and writes and flushes its text or the line of its fault.
-fn answer<W: Write>(
+fn answer<W: Write, V: Observer>(
     context: Context,
-    batch: &mut Batch,
+    batch: &mut Batch<'_, V>,
     out: &mut W,
     text: Option<&[u8]>,
 ) -> Result<(), WriteFault>
@@ -151,13 +144,16 @@ fn answer<W: Write>(
     };
     write_fault(out, &fault)?;
     batch.refusals.refuse();
+    batch
+        .observer
+        .line_refused(batch.refusals.lines, text, batch.database.as_ref(), fault);
     flush(out)
 }
 
 // Takes the bytes of a line up to its LF, and runs the line. Does not copy a line that is complete in the bytes.
-fn take_line<W: Write>(
+fn take_line<W: Write, V: Observer>(
     context: Context,
-    batch: &mut Batch,
+    batch: &mut Batch<'_, V>,
     out: &mut W,
     line: &mut LineBuffer,
     bytes: &[u8],
@@ -180,9 +176,9 @@ fn take_line<W: Write>(
 }
 
 // Takes the bytes, and runs each complete line.
-fn feed<W: Write>(
+fn feed<W: Write, V: Observer>(
     context: Context,
-    batch: &mut Batch,
+    batch: &mut Batch<'_, V>,
     out: &mut W,
     line: &mut LineBuffer,
     bytes: &[u8],
@@ -204,9 +200,9 @@ fn feed<W: Write>(
 }
 
 // Runs each line of the reader.
-fn run_lines<R: Read, W: Write>(
+fn run_lines<R: Read, W: Write, V: Observer>(
     context: Context,
-    batch: &mut Batch,
+    batch: &mut Batch<'_, V>,
     reader: &mut R,
     out: &mut W,
 ) -> Result<(), StreamFault>
@@ -247,14 +243,16 @@ fn run_lines<R: Read, W: Write>(
 /// counts. Spaces and tabs separate words, and a line without words is skipped. A line of more than 65,536 bytes, or
 /// with a byte that is neither tab nor printable ASCII, is a usage fault. Before reading, allocates 65,536 bytes for a
 /// line, and 8 bytes for each of the at most `numbered` numbers of refused lines; does not allocate for these later.
-/// Reads at most 8,192 bytes at once, and at most 2^40 times. `now` is the present time in seconds since 1970.
-pub fn run_batch<R: Read, W: Write>(
+/// Reads at most 8,192 bytes at once, and at most 2^40 times. `now` is the present time in seconds since 1970. `observer`
+/// sees each line whose fault was written.
+pub fn run_batch<R: Read, W: Write, V: Observer>(
     alloc: Global,
     database: Option<Database>,
     now: u64,
     numbered: usize,
     reader: &mut R,
     out: &mut W,
+    observer: &V,
 ) -> BatchEnd
     ensures { (s0 : Option State) → StandsFor database s0
         → (seen : List ℕ) × Consumes (R.remaining reader.old) (R.remaining reader.new) seen
@@ -271,7 +269,11 @@ pub fn run_batch<R: Read, W: Write>(
             stream: Some(StreamFault::OutOfMemory),
         };
     };
-    let mut batch = Batch { database, refusals };
+    let mut batch = Batch {
+        database,
+        refusals,
+        observer,
+    };
     let stream = run_lines(Context { alloc, now }, &mut batch, reader, out).err();
     BatchEnd {
         database: batch.database,

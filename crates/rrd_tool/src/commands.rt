@@ -1,12 +1,8 @@
 //! The commands, and the tables of them: the shape of each command for clap, its parsing and its run. The names are in
 //! `name`, and the parts of one command are in the file of its name.
 ghost use Rattle.std.specs.Prelude.{◌≡◌, IfOk, IfSome, List, None, Option, Some, is_some, true, ℕ};
-ghost use Rattle.clap.specs.Words.{found_of, rows_of, subcommand_rows_of};
-ghost use Rattle.rrd_tool.specs.Commands.{shape_of, values_of};
-ghost use Rattle.rrd_tool.specs.Arguments.Shapes.{HasApp, first_name};
-ghost use Rattle.rrd_tool.specs.Execution.{Executes};
-ghost use Rattle.rrd_tool.specs.Commands.Reading.{IsReading};
-ghost use Rattle.rrd_tool.specs.Fields.Answers.{Meets};
+ghost use Rattle.rrd_tool.specs.Names.{found_of, rows_of, subcommand_rows_of};
+ghost use Rattle.rrd_tool.specs.Words.{shape_of, values_of, HasApp, first_name, Executes, IsReading, Meets};
 
 mod create;
 mod fetch;

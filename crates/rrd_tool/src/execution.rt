@@ -1,10 +1,7 @@
 //! Runs commands.
 ghost use Rattle.std.specs.Prelude.{◌≡◌, ℕ, List, Option, Some, None};
-ghost use Rattle.rrd_spec.specs.Journal.Survivors.{State};
-ghost use Rattle.rrd_fixed.specs.Written.{Writes};
-ghost use Rattle.rrd_tool.specs.Execution.{Executes, PrintsSome, RunsOn};
-ghost use Rattle.rrd_tool.specs.Execution.Printing.{Prints};
-ghost use Rattle.rrd_tool.specs.Effects.{StandsFor};
+ghost use Rattle.rrd_tool.specs.Names.{State, Writes};
+ghost use Rattle.rrd_tool.specs.Words.{Executes, PrintsSome, RunsOn, Prints, StandsFor};
 
 use crate::commands::{run, run_without};
 use crate::{Command, Fault};

@@ -1,7 +1,7 @@
 //! The reasons why a line is refused, and the line that reports a reason.
 ghost use Rattle.std.specs.Prelude.{◌≡◌, ◌≤◌, length};
-ghost use Rattle.rrd_fixed.specs.Written.{Writes};
-ghost use Rattle.rrd_tool.specs.Faults.{error_line, fault_line, fault_text, is_numbered, line_fault_text, unread_text, word_of};
+ghost use Rattle.rrd_tool.specs.Names.{Writes};
+ghost use Rattle.rrd_tool.specs.Words.{error_line, fault_line, fault_text, is_numbered, line_fault_text, unread_text, word_of};
 
 use arrayvec::ArrayString;
 use itoa::Buffer;

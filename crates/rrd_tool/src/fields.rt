@@ -1,10 +1,7 @@
 //! Parses texts as values, and the parts of a command.
 ghost use Rattle.std.specs.Prelude.{◌≡◌, ◌∷◌, ◌<◌, [], IfSome, length, option_map};
-ghost use Rattle.std.specs.Option.{option_map_or};
-ghost use Rattle.rrd_tool.specs.Fields.{bound_of, cut_of, each_in, function_of, function_text, kind_of, kind_text, name_of, named, pieces};
-ghost use Rattle.rrd_tool.specs.Fields.Answers.{Meets};
-ghost use Rattle.rrd_tool.specs.Fields.Parts.{given, optional, or_fault, required};
-ghost use Rattle.rrd_fixed.specs.Reading.{whole_of};
+ghost use Rattle.rrd_tool.specs.Names.{option_map_or, whole_of};
+ghost use Rattle.rrd_tool.specs.Words.{bound_of, cut_of, each_in, function_of, function_text, kind_of, kind_text, name_of, named, pieces, Meets, given, optional, or_fault, required};
 
 use crate::{LineFault, Part};
 use rrd_base::List;

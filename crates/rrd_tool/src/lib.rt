@@ -9,6 +9,7 @@ mod execution;
 mod faults;
 mod fields;
 mod lines;
+mod observer;
 mod refusals;
 mod words;
 
@@ -16,4 +17,5 @@ pub use batch::{BatchEnd, StreamFault, run_batch};
 pub use commands::{Command, choose_rows, read_command};
 pub use execution::{Outcome, execute};
 pub use faults::{Fault, LineFault, Part, write_error, write_fault};
+pub use observer::{Observer, Unobserved};
 pub use words::{Words, begins_with_minus};

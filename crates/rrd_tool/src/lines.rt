@@ -1,6 +1,6 @@
 //! The lines of an input, and the words of a line.
 ghost use Rattle.std.specs.Prelude.{◌≡◌, ◌≢◌, ◌≤◌, List, ◌++◌, ◌∷◌, [], ℕ, option_map, IfOk, vec_capacity, true, false, IfSome, OnOk, OnErr};
-ghost use Rattle.std.specs.List.{list_all};
+ghost use Rattle.rrd_tool.specs.Names.{list_all};
 ghost use Rattle.rrd_tool.specs.Lines.{has_end, if_some, is_empty, is_plain, text_in, without_cr, words_of};
 
 use crate::Words;

@@ -1,6 +1,6 @@
 //! Words, and lists of them.
 ghost use Rattle.std.specs.Prelude.{◌≡◌, ◌++◌, ◌∷◌, [], length, map, is_ok, if◌then◌else◌, slice_get, option_map};
-ghost use Rattle.rrd_tool.specs.Arguments.{begins_with_minus};
+ghost use Rattle.rrd_tool.specs.Words.{begins_with_minus};
 
 use std::alloc::{AllocError, Global};
 use std::marker::Model;
@@ -58,8 +58,8 @@ impl<'a> Words<'a> {
         Some(self.items[0])
     }
 
-    /// Returns the words in the form that clap takes.
-    pub(crate) fn as_slice(&self) -> &[&'a str]
+    /// Returns the words as a slice.
+    pub fn as_slice(&self) -> &[&'a str]
         ensures { map (λ word. word.now) result.now ≡ self.now }
     {
         self.items.as_slice()

@@ -1,20 +1,7 @@
 -- What a valid database's numbers are, so that its bytes are counted.
-use Rattle.std.proofs.Common.{◌≡◌, ◌∙◌, ◌+◌, ◌*◌, ◌/◌, ◌<◌, ℕ, zero, suc, List, [], ◌∷◌, Some, ap, refl, sym, length, get_or, take, arith, length-append}
-use Rattle.std.specs.Prelude.{slice_get}
-use Rattle.std.specs.List.{AllByRecursion, flat_map, sum_by}
-use Rattle.std.proofs.Math.Nat.{add-mul}
-use Rattle.std.proofs.lemmas.List.Concat.{flat_map-cons}
-use Rattle.std.proofs.lemmas.List.Sums.{sum_by-cons, sum_by_more}
-use Rattle.std.proofs.lemmas.Option.{get_or_from_slice_get, slice_get_within}
-use Rattle.std.proofs.lemmas.Nat.{mul-le}
-use Rattle.rrd_fixed.specs.declared.cell.Cell.{Cell}
-use Rattle.rrd_spec.specs.Files.Slots.{all_cells, cells_by_slot}
-use Rattle.rrd_spec.specs.History.{Content, Rra}
-use Rattle.rrd_spec.specs.Journal.Entries.{SavedArchive}
-use Rattle.rrd_spec.specs.Laws.Slots.{AsManyCells, HasOneEach}
-use Rattle.rrd_spec.specs.Settings.{resolution}
-use Rattle.rrd_spec.specs.Validity.{FitEach, IsRow, IsValid, IsValidArchive}
-use Rattle.rrd_file.specs.Length.{IsWide, rows_of}
+use Rattle.std.specs.Prelude.{◌≡◌, ◌+◌, ◌*◌, ◌/◌, ◌<◌, ℕ, zero, suc, List, [], ◌∷◌, Some, length, take, slice_get}
+use Rattle.rrd_file.proofs.Names.{◌∙◌, ap, refl, sym, get_or, arith, length-append, AllByRecursion, flat_map, sum_by, add-mul, flat_map-cons, sum_by-cons, sum_by_more, get_or_from_slice_get, slice_get_within, mul-le, Cell, all_cells, cells_by_slot, Content, Rra, SavedArchive, AsManyCells, HasOneEach, resolution, FitEach, IsRow, IsValid, IsValidArchive, IsWide, rows_of}
+use Rattle.rrd_base.proofs.Dues.{one_each}
 
 -- the sum of one item more
 pub sum_next : {A : Type 0} (f : A → ℕ) (xs : List A) (i : ℕ) (x : A) → slice_get xs i ≡ Some x → sum_by f (take (i + 1) xs) ≡ sum_by f (take i xs) + f x
@@ -28,14 +15,13 @@ pub record AreWide (sources count : ℕ) (olds : List SavedArchive) : Type 0 whe
 
 pub saved_wide : (step sources from to : ℕ) (archives : List Rra) (olds : List SavedArchive) → FitEach step sources from to archives olds → AreWide sources (length archives) olds
 saved_wide step sources from to [] [] fit = record { many = refl; wide = tt }
-saved_wide step sources from to [] (old ∷ olds) fit = absurd fit
-saved_wide step sources from to (archive ∷ archives) [] fit = absurd fit
 saved_wide step sources from to (archive ∷ archives) (old ∷ olds) fit =
     let rest = saved_wide step sources from to archives olds fit.1 in
     record {
       many = ap suc rest.many;
       wide = (record { one_part_each = fit.0.one_part_each; one_cell_each = fit.0.one_cell_each }, rest.wide);
     }
+saved_wide step sources from to x y fit = absurd fit
 
 pub wide_at : (sources : ℕ) (olds : List SavedArchive) (i : ℕ) (d : SavedArchive) → i < length olds → AllByRecursion (IsWide sources) olds → IsWide sources (get_or olds i d)
 wide_at sources [] i d h are = absurd (omega arith)
@@ -48,10 +34,6 @@ wide_at sources (old ∷ olds) (suc i) d h are = wide_at sources olds i d (omega
 abbrev pub ManyCells : Type 0
 ManyCells = (resolution last sources : ℕ) (rows : List (List Cell)) → AsManyCells resolution last sources rows
 
-pub one_each : (sources : ℕ) (rows : List (List Cell)) → AllByRecursion (IsRow sources) rows → AllByRecursion (HasOneEach sources) rows
-one_each sources [] are = tt
-one_each sources (row ∷ rows) are = (are.0.one_each, one_each sources rows are.1)
-
 pub some_seconds : (step steps : ℕ) → 0 < step → 0 < steps → 0 < step * steps
 some_seconds step steps p q = omega (arith, mul-le 1 1 step steps (omega (arith, p)) (omega (arith, q)))
 
@@ -61,9 +43,8 @@ archives_cells many sources step last steps (archive ∷ archives) some are =
     let first : length (cells_by_slot step last archive) ≡ length archive.rows * sources = many (resolution step archive.def) last sources archive.rows (some_seconds step archive.def.steps some are.0.some_steps) (one_each sources archive.rows are.0.each_row) in
     let rows : length archive.rows * sources ≡ archive.def.rows * sources = ap (λ n. n * sources) are.0.rows_are in
     let all : length (flat_map (cells_by_slot step last) (archive ∷ archives)) ≡ length (cells_by_slot step last archive) + length (flat_map (cells_by_slot step last) archives) = ap length (flat_map-cons (cells_by_slot step last) archive archives) ∙ length-append (cells_by_slot step last archive) (flat_map (cells_by_slot step last) archives) in
-    let rest = archives_cells many sources step last steps archives some are.1 in
     let sum_is : sum_by rows_of (archive ∷ archives) * sources ≡ archive.def.rows * sources + sum_by rows_of archives * sources = ap (λ n. n * sources) (sum_by-cons rows_of archive archives) ∙ add-mul archive.def.rows (sum_by rows_of archives) sources in
-    all ∙ (λ i. (first ∙ rows) i + rest i) ∙ sym sum_is
+    all ∙ (λ i. (first ∙ rows) i + (archives_cells many sources step last steps archives some are.1) i) ∙ sym sum_is
 
 pub all_cells_are : ManyCells → (d : Content) → IsValid d → length (all_cells d) ≡ sum_by rows_of d.archives * length d.sources
 all_cells_are many d valid = archives_cells many (length d.sources) d.step d.last (d.last / d.step) d.archives valid.some_step valid.archives_are

@@ -1,27 +1,7 @@
 -- How many bytes runs of pieces have: so many each, as often as they come.
-use Rattle.std.proofs.Common.{◌≡◌, ◌∙◌, ◌+◌, ◌*◌, ◌≤◌, ◌++◌, ℕ, List, [], ◌∷◌, ap, refl, map, length, arith, length-append}
-use Rattle.std.proofs.Math.Nat.{suc-mul}
-use Rattle.std.specs.List.{AllByRecursion, flat_map, sum_by}
-use Rattle.std.proofs.lemmas.Grind.{flat_map-append}
-use Rattle.std.proofs.lemmas.List.Concat.{flat_map-cons, length-flat_map}
-use Rattle.rrd_fixed.specs.declared.cell.Cell.{Cell}
-use Rattle.rrd_fixed.specs.declared.raw.Raw.{Raw}
-use Rattle.rrd_fold.specs.Parts.{Part}
-use Rattle.rrd_ring.specs.Rows.{HasWidth}
-use Rattle.rrd_spec.specs.declared.settings.DsDef.{DsDef}
-use Rattle.rrd_spec.specs.declared.entry.SavedSource.{SavedSource}
-use Rattle.rrd_spec.specs.Files.Filed.{Source, filed, head_of, header_of, sources_of}
-use Rattle.rrd_spec.specs.History.{Rra}
-use Rattle.rrd_spec.specs.Journal.Entries.{BeforeUpdate, SavedArchive, UpdateEntry, TuneEntry, ResizeEntry, AddedEntry, RemovedEntry}
-use Rattle.rrd_spec.specs.Journal.Fitting.{IsSavedSource}
-use Rattle.rrd_spec.specs.Journal.Survivors.{Stored}
-use Rattle.rrd_spec.specs.Limits.{newest, present}
-use Rattle.rrd_spec.specs.Validity.{AreAccepted, IsSource, IsValidArchive}
-use Rattle.rrd_file.specs.Encoded.{cell_bytes, front_bytes, journal_bytes}
-use Rattle.rrd_file.specs.Layout.{entry_pieces, head_pieces, layout, raws_and_parts, row_pieces, saved_pieces, spelled}
-use Rattle.rrd_file.specs.Layout.Pieces.{Piece, Mark, OfVersion, OfHeader, OfSource, OfArchive, OfPrep, OfCell, OfTag, OfTime, OfRawAndPart, OfRows, OfCount, OfSavedSource, OfNumber, AnUpdate, ATune, AResize, ARemoval, spell}
-use Rattle.rrd_file.specs.Layout.Values.{cell_number, part_bytes, raw_bytes, raw_number, source_bytes}
-use Rattle.rrd_file.specs.Length.{IsWide}
+use Rattle.std.specs.Prelude.{◌≡◌, ◌+◌, ◌*◌, ◌≤◌, ◌++◌, ℕ, List, [], ◌∷◌, map, length}
+use Rattle.rrd_file.proofs.Names.{◌∙◌, ap, refl, arith, length-append, suc-mul, AllByRecursion, flat_map, sum_by, flat_map-append, flat_map-cons, length-flat_map, Cell, Raw, Part, HasWidth, DsDef, SavedSource, Source, filed, head_of, header_of, sources_of, Rra, BeforeUpdate, SavedArchive, UpdateEntry, TuneEntry, ResizeEntry, AddedEntry, RemovedEntry, IsSavedSource, Stored, newest, present, AreAccepted, IsSource, IsValidArchive, front_bytes, journal_bytes, entry_pieces, head_pieces, layout, raws_and_parts, row_pieces, saved_pieces, spelled, Piece, Mark, OfVersion, OfHeader, OfSource, OfArchive, OfPrep, OfCell, OfTag, OfTime, OfRawAndPart, OfRows, OfCount, OfSavedSource, OfNumber, AnUpdate, ATune, AResize, ARemoval, spell, cell_number, part_bytes, raw_bytes, raw_number, source_bytes, IsWide}
+use Rattle.rrd_file.specs.Encoded.{cell_bytes}
 use Rattle.rrd_file.proofs.Gathering.{flat_flat}
 use Rattle.rrd_file.proofs.Joined.{joined_layout}
 use Rattle.rrd_file.proofs.Lengths.{length_source, part_length, short_name, source_length}

@@ -1,6 +1,4 @@
-use Rattle.std.proofs.Common.{◌-◌, ◌^◌, ℕ, List}
-use Rattle.rrd_file.specs.Stages.{Body}
-use Rattle.rrd_file.specs.Progress.{Stands}
+use Rattle.rrd_file.proofs.Common.{◌-◌, ◌^◌, ℕ, List, Body, Stands}
 use Rattle.rrd_file.proofs.read_body.Given as goal
 
 abbrev pub invariant-loop-input : goal.invariant-loop-input

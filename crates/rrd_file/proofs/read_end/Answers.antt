@@ -1,8 +1,4 @@
-use Rattle.std.proofs.Common.{◌≡◌, ◌<◌, [], length}
-use Rattle.std.proofs.lemmas.Result.{err_from_is_err_and}
-use Rattle.rrd_file.specs.Reader.{left}
-use Rattle.rrd_file.proofs.Judged.{ended, trails}
-use Rattle.rrd_file.proofs.Reached.{if_some_at}
+use Rattle.rrd_file.proofs.Common.{◌≡◌, ◌<◌, [], length, err_from_is_err_and, left, ended, trails, if_some_at}
 use Rattle.rrd_file.proofs.read_end.Goals as goal
 
 pub returns-in_err-is_at_end : goal.returns-in_err-is_at_end

@@ -1,8 +1,4 @@
-use Rattle.std.proofs.Common.{◌≡◌, ◌∙◌, ◌⊎◌, ◌∷◌, [], sym, ap, subst, length, length-append, arith}
-use Rattle.rrd_spec.specs.declared.due.Due.TheVariants.{EntryDue, NothingDue}
-use Rattle.rrd_spec.specs.Files.Filed.{Filed}
-use Rattle.rrd_spec.specs.Files.Rebuilding.{due}
-use Rattle.rrd_file.proofs.Turns.{after_entry, more_entries}
+use Rattle.rrd_file.proofs.Common.{◌≡◌, ◌∙◌, ◌⊎◌, ◌∷◌, [], sym, ap, subst, length, length-append, arith, EntryDue, NothingDue, Filed, due, after_entry, more_entries}
 use Rattle.rrd_file.proofs.read_entries.Goals as goal
 
 pub loop-input-smaller : goal.loop-input-smaller

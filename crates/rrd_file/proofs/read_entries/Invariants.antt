@@ -1,8 +1,4 @@
-use Rattle.std.proofs.Common.{◌≡◌, ◌-◌, ◌⊎◌, ℕ, List, length}
-use Rattle.rrd_spec.specs.Files.Rebuilding.{due}
-use Rattle.rrd_spec.specs.declared.due.Due.TheVariants.{EntryDue, NothingDue}
-use Rattle.rrd_file.specs.Stages.{Body}
-use Rattle.rrd_file.specs.Progress.{Stands}
+use Rattle.rrd_file.proofs.Common.{◌≡◌, ◌-◌, ◌⊎◌, ℕ, List, length, due, EntryDue, NothingDue, Body, Stands}
 use Rattle.rrd_file.proofs.read_entries.Given as goal
 
 abbrev pub invariant-loop-input : goal.invariant-loop-input

@@ -1,11 +1,4 @@
-use Rattle.std.proofs.Common.{◌++◌, map}
-use Rattle.std.specs.List.{flat_map}
-use Rattle.rrd_spec.specs.Limits.{newest}
-use Rattle.rrd_spec.specs.Files.Filed.{filed}
-use Rattle.rrd_file.specs.Layout.{head_pieces, spelled}
-use Rattle.rrd_file.specs.Layout.Pieces.{OfSource}
-use Rattle.std.proofs.lemmas.Result.{err_from_is_err_and}
-use Rattle.rrd_file.proofs.Gathering.{breaks_stop, gathers_then, breaks_then}
+use Rattle.rrd_file.proofs.Common.{◌++◌, map, flat_map, newest, filed, head_pieces, spelled, OfSource, err_from_is_err_and, breaks_stop, gathers_then, breaks_then}
 use Rattle.rrd_file.proofs.write_front.Goals as goal
 
 pub returns-in_err-write_header : goal.returns-in_err-write_header

@@ -1,9 +1,5 @@
-use Rattle.std.proofs.Common.{◌++◌, sym, subst}
-use Rattle.std.proofs.lemmas.Result.{err_from_is_err_and}
-use Rattle.rrd_file.specs.Encoded.{cell_bytes, journal_bytes}
-use Rattle.rrd_file.specs.Writer.{Breaks, Gathers}
-use Rattle.rrd_file.proofs.Gathering.{breaks_stop, gathers_then, breaks_then}
-use Rattle.rrd_file.proofs.Joined.{joined_layout}
+use Rattle.rrd_file.proofs.Common.{◌++◌, sym, subst, err_from_is_err_and, journal_bytes, Breaks, Gathers, breaks_stop, gathers_then, breaks_then, joined_layout}
+use Rattle.rrd_file.specs.Encoded.{cell_bytes}
 use Rattle.rrd_file.proofs.write_layout.Goals as goal
 
 pub returns-in_err-write_front : goal.returns-in_err-write_front

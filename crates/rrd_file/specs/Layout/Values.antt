@@ -1,16 +1,6 @@
 -- Definition: the bytes of single values. Whole numbers have the highest byte first.
 use Rattle.std.specs.Prelude.{ℕ, ◌-◌, ◌^◌, ℤ, negsuc, unsigned_abs, List, ◌∷◌, ◌++◌, length, replicate, Option, Some, None}
-use Rattle.std.specs.Int.{w16, w32, w64, w128, to_be_bytes, cast_unsigned}
-use Rattle.rrd_fixed.specs.declared.cell.Cell.{Cell}
-use Rattle.rrd_fixed.specs.declared.raw.Raw.{Raw}
-use Rattle.rrd_fixed.specs.declared.kind.Kind.{Kind}
-use Rattle.rrd_fixed.specs.declared.kind.Kind.TheVariants.{Gauge, Counter, Derive, Absolute}
-use Rattle.rrd_fixed.specs.declared.name.Name.{Name}
-use Rattle.rrd_fold.specs.declared.function.Function.{Function}
-use Rattle.rrd_fold.specs.declared.function.Function.TheVariants.{Average, Min, Max, Last}
-use Rattle.rrd_fold.specs.Parts.{Part}
-use Rattle.rrd_spec.specs.declared.settings.DsDef.{DsDef}
-use Rattle.rrd_spec.specs.declared.settings.RraDef.{RraDef}
+use Rattle.rrd_file.specs.Names.{w16, w32, w64, w128, to_be_bytes, cast_unsigned, Cell, Raw, Kind, Gauge, Counter, Derive, Absolute, Name, Function, Average, Min, Max, Last, Part, DsDef, RraDef}
 
 -- ---- numbers
 

@@ -1,18 +1,7 @@
 //! The entries of archives that were added or removed: writing and reading.
 ghost use Rattle.std.specs.Prelude.{◌<◌, ◌^◌, ◌∷◌, [], ◌≡◌, ◌++◌, ℕ, IfOk, List, length, replicate};
-ghost use Rattle.rrd_spec.specs.Journal.Entries.{AddedEntry, RemovedEntry};
-ghost use Rattle.rrd_spec.specs.Files.Rebuilding.{due, outline_left};
-ghost use Rattle.rrd_spec.specs.Journal.Fitting.{IsArchiveDef};
-ghost use Rattle.rrd_spec.specs.Limits.{present};
-ghost use Rattle.rrd_spec.specs.declared.due.Due.TheVariants.{EntryDue};
-ghost use Rattle.rrd_base.specs.Journal.{entry_of};
-ghost use Rattle.rrd_file.specs.Layout.Fitting.{FitsArchive};
-ghost use Rattle.rrd_file.specs.Writer.{Gathers};
-ghost use Rattle.rrd_file.specs.Layout.{entry_pieces, spelled};
-ghost use Rattle.rrd_file.specs.Layout.Pieces.{ARemoval, OfArchive, OfNumber, OfTag, Piece};
-ghost use Rattle.rrd_file.specs.Journal.{IsShaped};
-ghost use Rattle.rrd_file.specs.Stages.{DueInEntry, RemovedHeadDue, RemovedNumberDue, RowPrepDue, cells_due, first_due};
-ghost use Rattle.rrd_file.specs.Progress.{Brings, Closes, Comes};
+ghost use Rattle.rrd_file.specs.Names.{AddedEntry, RemovedEntry, due, outline_left, IsArchiveDef, present, EntryDue, entry_of};
+ghost use Rattle.rrd_file.specs.Words.{FitsArchive, Gathers, entry_pieces, spelled, ARemoval, OfArchive, OfNumber, OfTag, Piece, IsShaped, DueInEntry, RemovedHeadDue, RemovedNumberDue, RowPrepDue, cells_due, first_due, Brings, Closes, Comes};
 
 use crate::FileFault;
 use crate::archive::{archive_of, read_row_preps, write_preps};

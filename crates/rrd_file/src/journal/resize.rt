@@ -1,16 +1,7 @@
 //! The entry of a resize: writing and reading.
 ghost use Rattle.std.specs.Prelude.{◌<◌, ◌≤◌, ◌^◌, ◌∷◌, [], ◌≡◌, ◌++◌, ℕ, IfOk, List, length};
-ghost use Rattle.rrd_spec.specs.Journal.Entries.{ResizeEntry};
-ghost use Rattle.rrd_spec.specs.Limits.{present};
-ghost use Rattle.rrd_spec.specs.Files.Rebuilding.{due, outline_left};
-ghost use Rattle.rrd_spec.specs.declared.due.Due.TheVariants.{EntryDue};
-ghost use Rattle.rrd_base.specs.Journal.{entry_of};
-ghost use Rattle.rrd_file.specs.Writer.{Gathers};
-ghost use Rattle.rrd_file.specs.Layout.{entry_pieces, spelled};
-ghost use Rattle.rrd_file.specs.Layout.Pieces.{AResize, OfNumber, OfRows, OfTag, Piece};
-ghost use Rattle.rrd_file.specs.Journal.{IsShaped};
-ghost use Rattle.rrd_file.specs.Stages.{DueInEntry, NumberDue, OldRowsDue, cells_due, first_due};
-ghost use Rattle.rrd_file.specs.Progress.{Brings, Closes, Comes};
+ghost use Rattle.rrd_file.specs.Names.{ResizeEntry, present, due, outline_left, EntryDue, entry_of};
+ghost use Rattle.rrd_file.specs.Words.{Gathers, entry_pieces, spelled, AResize, OfNumber, OfRows, OfTag, Piece, IsShaped, DueInEntry, NumberDue, OldRowsDue, cells_due, first_due, Brings, Closes, Comes};
 
 use crate::FileFault;
 use crate::cells::write_rows;

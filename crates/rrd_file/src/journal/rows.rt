@@ -1,14 +1,7 @@
 //! The rows of entries: reading. The module `cells` writes them.
 ghost use Rattle.std.specs.Prelude.{◌<◌, ◌≤◌, ◌∷◌, [], ◌≡◌, ◌++◌, ℕ, IfOk, List, length, map, replicate};
-ghost use Rattle.smallvec.specs.SmallVec.{small_vec_len};
-ghost use Rattle.rrd_spec.specs.Limits.{present};
-ghost use Rattle.rrd_spec.specs.Files.Rebuilding.{due, outline_left};
-ghost use Rattle.rrd_spec.specs.declared.due.Due.TheVariants.{EntryDue};
-ghost use Rattle.rrd_file.specs.Layout.{row_pieces};
-ghost use Rattle.rrd_file.specs.Layout.Pieces.{OfCell, Piece};
-ghost use Rattle.rrd_file.specs.Journal.{AreRows};
-ghost use Rattle.rrd_file.specs.Stages.{DueInEntry, RowCellDue, cells_due};
-ghost use Rattle.rrd_file.specs.Progress.{Brings, Comes};
+ghost use Rattle.rrd_file.specs.Names.{small_vec_len, present, due, outline_left, EntryDue};
+ghost use Rattle.rrd_file.specs.Words.{row_pieces, OfCell, Piece, AreRows, DueInEntry, RowCellDue, cells_due, Brings, Comes};
 
 use crate::FileFault;
 use crate::cells::cell_of;

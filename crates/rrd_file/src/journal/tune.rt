@@ -1,18 +1,7 @@
 //! The entry of a tune of data sources: writing and reading.
 ghost use Rattle.std.specs.Prelude.{◌≡◌, ◌<◌, ◌≤◌, ◌^◌, ◌∷◌, [], ◌≢◌, ◌+◌, ◌++◌, ℕ, IfOk, IfSome, List, None, length, map};
-ghost use Rattle.std.specs.List.{AllByRecursion};
-ghost use Rattle.rrd_spec.specs.Journal.Entries.{TuneEntry};
-ghost use Rattle.rrd_spec.specs.Limits.{max_tuned, present};
-ghost use Rattle.rrd_spec.specs.declared.entry.SavedSource.{SavedSource};
-ghost use Rattle.rrd_spec.specs.Files.Rebuilding.{outline_left};
-ghost use Rattle.rrd_base.specs.Journal.{entry_of};
-ghost use Rattle.rrd_file.specs.Writer.{Gathers};
-ghost use Rattle.rrd_file.specs.Journal.{HasSmallNumber, IsShaped};
-ghost use Rattle.rrd_file.specs.Layout.{entry_pieces, spelled};
-ghost use Rattle.rrd_file.specs.Layout.Pieces.{ATune, OfCount, OfSavedSource, OfTag, Piece, spell};
-ghost use Rattle.rrd_file.specs.Stages.{CountDue, DueInEntry, NamedDue, first_due, named_due};
-ghost use Rattle.rrd_file.specs.Layout.Fitting.{FitsSavedSource};
-ghost use Rattle.rrd_file.specs.Progress.{Brings, Closes, Comes};
+ghost use Rattle.rrd_file.specs.Names.{AllByRecursion, TuneEntry, max_tuned, present, SavedSource, outline_left, entry_of};
+ghost use Rattle.rrd_file.specs.Words.{Gathers, HasSmallNumber, IsShaped, entry_pieces, spelled, ATune, OfCount, OfSavedSource, OfTag, Piece, spell, CountDue, DueInEntry, NamedDue, first_due, named_due, FitsSavedSource, Brings, Closes, Comes};
 
 use crate::FileFault;
 use crate::fault::bad_entry;

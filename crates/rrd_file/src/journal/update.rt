@@ -1,20 +1,7 @@
 //! The entry of an update: writing and reading.
 ghost use Rattle.std.specs.Prelude.{◌≡◌, ◌≤◌, ◌∷◌, [], ◌<◌, ◌++◌, ℕ, IfOk, List, Some, length, map, min, slice_get};
-ghost use Rattle.std.specs.List.{flat_map};
-ghost use Rattle.rrd_spec.specs.Journal.Entries.{UpdateEntry, rows_between};
-ghost use Rattle.rrd_spec.specs.Journal.Fitting.{IsArchiveDef};
-ghost use Rattle.rrd_spec.specs.Limits.{present};
-ghost use Rattle.rrd_spec.specs.Files.Rebuilding.{due, outline_left};
-ghost use Rattle.rrd_spec.specs.declared.due.Due.TheVariants.{EntryDue};
-ghost use Rattle.rrd_spec.specs.declared.settings.DsDef.{DsDef};
-ghost use Rattle.rrd_spec.specs.declared.settings.RraDef.{RraDef};
-ghost use Rattle.rrd_base.specs.Journal.{entry_of, update_of};
-ghost use Rattle.rrd_file.specs.Writer.{Gathers};
-ghost use Rattle.rrd_file.specs.Layout.{entry_pieces, raws_and_parts, saved_pieces, spelled};
-ghost use Rattle.rrd_file.specs.Layout.Pieces.{AnUpdate, OfRawAndPart, OfRows, OfTag, OfTime, Piece, spell};
-ghost use Rattle.rrd_file.specs.Journal.{AreSavedShaped, IsSavedShaped, IsShaped};
-ghost use Rattle.rrd_file.specs.Stages.{BeforeDue, DueInEntry, RowsDue, TimeDue, archive_due, behind, first_due};
-ghost use Rattle.rrd_file.specs.Progress.{Brings, Closes, Comes};
+ghost use Rattle.rrd_file.specs.Names.{flat_map, UpdateEntry, rows_between, IsArchiveDef, present, due, outline_left, EntryDue, DsDef, RraDef, entry_of, update_of};
+ghost use Rattle.rrd_file.specs.Words.{Gathers, entry_pieces, raws_and_parts, saved_pieces, spelled, AnUpdate, OfRawAndPart, OfRows, OfTag, OfTime, Piece, spell, AreSavedShaped, IsSavedShaped, IsShaped, BeforeDue, DueInEntry, RowsDue, TimeDue, archive_due, behind, first_due, Brings, Closes, Comes};
 
 use crate::FileFault;
 use crate::archive::{read_row_preps, write_preps};

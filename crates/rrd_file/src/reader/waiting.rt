@@ -1,6 +1,6 @@
 //! The buffer of bytes that were read and wait to be taken.
 ghost use Rattle.std.specs.Prelude.{◌≡◌, ◌+◌, ◌-◌, ◌++◌, ◌<◌, ◌≤◌, [], IfOk, OnErr, drop, length, slice_range, take, vec_len};
-ghost use Rattle.std.specs.Io.KnownBytes.{Consumes, IsAtEnd, Keeps, prepend_known};
+ghost use Rattle.rrd_file.specs.Names.{Consumes, IsAtEnd, Keeps, prepend_known};
 
 use rrd_fixed::{ReadFault, read_some};
 use std::alloc::{AllocError, Global};

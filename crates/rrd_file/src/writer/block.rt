@@ -1,6 +1,6 @@
 //! Bytes that wait to be written, and how many cells are put among them at once.
 ghost use Rattle.std.specs.Prelude.{◌≡◌, ◌+◌, ◌*◌, ◌≤◌, [], ◌++◌, length, take, true};
-ghost use Rattle.std.specs.List.{flat_map};
+ghost use Rattle.rrd_file.specs.Names.{flat_map};
 ghost use Rattle.rrd_file.specs.Layout.Values as spelling;
 
 use crate::cells::cell_halves;
@@ -8,14 +8,14 @@ use crate::layout::{CELL_SIZE, MAX_ROW_CELLS};
 use rrd_fixed::Cell;
 use std::marker::Model;
 
-/// The number of bytes that fit into a block. A block is cleared before it is used, so a larger block would cost each
-/// file more; code that has to write more at once gathers blocks itself.
-pub(crate) const BLOCK_SIZE: usize = 4_096;
+/// The number of bytes that fit into a block: the widest row, and some pieces before it. A block is cleared before it is
+/// used, twice in each update, so a larger block would cost each update more.
+pub(crate) const BLOCK_SIZE: usize = 2_000;
 
 /// The number of bytes in the widest row. No piece has more.
 pub(crate) const MAX_PIECE_SIZE: usize = MAX_ROW_CELLS * CELL_SIZE;
 
-/// Bytes that wait to be written, at most 4,096. Contracts see their list.
+/// Bytes that wait to be written, at most 2,000. Contracts see their list.
 #[derive(Drop)]
 pub(crate) struct Block {
     // The first `len` of these wait.
@@ -30,7 +30,7 @@ impl Model for Block {
 
     ghost view = { λ b. take b.len b.bytes };
 
-    ghost invariant = { λ b. b.len ≤ 4096 };
+    ghost invariant = { λ b. b.len ≤ 2000 };
 }
 
 impl Block {

@@ -1,9 +1,6 @@
 -- Glue: the shape of a command that is built, and whether it reads words as the whole one does.
 use Rattle.std.specs.Prelude.{◌≡◌, List, [], Option, Result, Ok, Err, true, false, option_and_then, slice_get}
-use Rattle.clap.specs.Words.{App, Text, app_of, fault_of, is_simple, is_simple_and_free, subcommand_of, subcommand_rows_of, with_subcommand}
-use Rattle.clap.specs.declared.builder.command.Command.{Command}
-use Rattle.clap.specs.declared.builder.command.Command.TheViews.{out-Command}
-use Rattle.clap.specs.declared.parser.matches.ArgMatches.{ArgMatches}
+use Rattle.rrd_tool.specs.Names.{App, Text, app_of, fault_of, is_simple, is_simple_and_free, subcommand_of, subcommand_rows_of, with_subcommand, Command, out-Command, ArgMatches}
 use Rattle.rrd_tool.specs.Arguments.{bare_top}
 use Rattle.rrd_tool.specs.Commands.{rrdi_app}
 use Rattle.rrd_tool.specs.Commands.Names.{name_in}

@@ -1,6 +1,6 @@
 -- Definition: the arguments that clap states that it accepts, and the subcommand that they enter.
 use Rattle.std.specs.Prelude.{◌≡◌, List, [], Option}
-use Rattle.clap.specs.Words.{Row, Text, fault_of, subcommand_of}
+use Rattle.rrd_tool.specs.Names.{Row, Text, fault_of, subcommand_of}
 use Rattle.rrd_tool.specs.Commands.{rrdi_app}
 
 -- clap states that it accepts the arguments

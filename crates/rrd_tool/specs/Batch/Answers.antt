@@ -1,8 +1,6 @@
 -- Glue: the results of the functions of a batch by the state, which no value of the program holds.
 use Rattle.std.specs.Prelude.{◌≡◌, ◌++◌, [], ℕ, Bool, List, Option, Some, None, Result, Ok, Err, length, take}
-use Rattle.std.specs.Io.KnownBytes.{Appends, Keeps}
-use Rattle.rrd_fixed.specs.declared.streams.WriteFault.{WriteFault}
-use Rattle.rrd_spec.specs.Journal.Survivors.{State, Stored}
+use Rattle.rrd_tool.specs.Names.{Appends, Keeps, WriteFault, State, Stored}
 use Rattle.rrd_tool.specs.Batch.{Tally, Turn, Ran, Stopped, Told}
 use Rattle.rrd_tool.specs.Effects.{StandsFor}
 use Rattle.rrd_tool.specs.Faults.{fault_line}

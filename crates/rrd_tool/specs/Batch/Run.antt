@@ -1,9 +1,7 @@
 -- Definition: the run: the database that the lines of an input make, and the text that they print (this project's
 -- rule).
 use Rattle.std.specs.Prelude.{◌≡◌, ◌⊎◌, ◌∷◌, [], ℕ, Bool, List, Option, Some, None, Result, Ok, Err, true, false, option_map, if◌then◌else◌}
-use Rattle.std.specs.Io.KnownBytes.{IsAtEnd, Keeps}
-use Rattle.clap.specs.Words.{fault_of}
-use Rattle.rrd_spec.specs.Journal.Survivors.{State}
+use Rattle.rrd_tool.specs.Names.{IsAtEnd, Keeps, fault_of, State}
 use Rattle.rrd_tool.specs.Batch.{Tally, Told, Turn, Ran, Stopped, no_lines}
 use Rattle.rrd_tool.specs.Commands.{effect, rrdi_app}
 use Rattle.rrd_tool.specs.Effects.{Effect, stored_of, next, text_on, verdict_on}

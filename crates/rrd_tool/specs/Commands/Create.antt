@@ -1,10 +1,6 @@
 -- Definition: create: its shape, and how its values are parsed (rrdcreate; `--journal` is this project's).
 use Rattle.std.specs.Prelude.{◌-◌, ℕ, ℤ, List, [], ◌∷◌, Option, Some, None, Result, Ok, codes, if◌then◌else◌}
-use Rattle.std.specs.Str.{bytes_eq}
-use Rattle.clap.specs.Words.{App, Row, Text, first_of, new_app, with_rule}
-use Rattle.rrd_fixed.specs.Reading.{number_of, whole_of}
-use Rattle.rrd_spec.specs.declared.settings.DsDef.{DsDef}
-use Rattle.rrd_spec.specs.declared.settings.RraDef.{RraDef}
+use Rattle.rrd_tool.specs.Names.{bytes_eq, App, Row, Text, first_of, new_app, with_rule, number_of, whole_of, DsDef, RraDef}
 use Rattle.rrd_tool.specs.Arguments.{letter_rule, many_rule, option_rule, words_of}
 use Rattle.rrd_tool.specs.Fields.{◌>>?◌, bound_of, cut_of, field, function_of, kind_of, name_of}
 use Rattle.rrd_tool.specs.Fields.Parts.{Unread, ◌>>=◌, each_of, given}

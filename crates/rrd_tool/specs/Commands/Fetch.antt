@@ -1,17 +1,7 @@
 -- Definition: fetch: its shape, how its values are parsed, and the text that it prints (rrdfetch, "Output format", with
 -- cells in plain digits; `--resolution` as a whole number is this project's rule).
-use Rattle.std.specs.Prelude.{◌+◌, ◌-◌, ◌*◌, ◌/◌, ◌++◌, ◌∷◌, [], ℕ, ℤ, List, zero, suc, codes, pos, length, Result, Ok, unwrap_or}
-use Rattle.std.specs.Result.{result_map_both}
-use Rattle.clap.specs.Words.{App, Row, first_of, new_app, with_rule}
-use Rattle.rrd_fixed.specs.Reading.{whole_of}
-use Rattle.rrd_fixed.specs.Text.{cell_text, time_text}
-use Rattle.rrd_spec.specs.declared.requests.fetch.Chosen.{Chosen}
-use Rattle.rrd_spec.specs.declared.requests.fetch.FetchRequest.{FetchRequest}
-use Rattle.rrd_spec.specs.declared.settings.DsDef.{DsDef}
-use Rattle.rrd_spec.specs.declared.refusal.Refusal.{Refusal}
-use Rattle.rrd_spec.specs.Choice.{choice}
-use Rattle.rrd_spec.specs.History.{Content}
-use Rattle.rrd_spec.specs.History.Cells.{cell_at}
+use Rattle.std.specs.Prelude.{◌+◌, ◌-◌, ◌*◌, ◌/◌, ◌++◌, ◌∷◌, [], ℕ, ℤ, List, zero, suc, codes, pos, length, Result, Ok}
+use Rattle.rrd_tool.specs.Names.{unwrap_or, result_map_both, App, Row, first_of, new_app, with_rule, whole_of, cell_text, time_text, Chosen, FetchRequest, DsDef, Refusal, choice, Content, cell_at}
 use Rattle.rrd_tool.specs.Arguments.{letter_rule, required_rule}
 use Rattle.rrd_tool.specs.Fields.{function_of}
 use Rattle.rrd_tool.specs.Fields.Parts.{Unread, ◌>>=◌, given, optional, required}

@@ -1,7 +1,6 @@
 -- Glue: what a fetch may read.
 use Rattle.std.specs.Prelude.{◌+◌, ◌*◌, ◌<◌, ◌≤◌, ℕ, length}
-use Rattle.rrd_spec.specs.declared.requests.fetch.Chosen.{Chosen}
-use Rattle.rrd_spec.specs.History.{Content}
+use Rattle.rrd_tool.specs.Names.{Chosen, Content}
 
 -- an archive that exists, its resolution, and times within a limit
 pub record IsReadable (content : Content) (chosen : Chosen) : Type 0 where

@@ -1,11 +1,6 @@
 -- Definition: first: its shape, how its value is parsed, and the text that it prints (rrdfirst).
 use Rattle.std.specs.Prelude.{ℕ, List, Result, Ok, codes}
-use Rattle.std.specs.Result.{result_map_both}
-use Rattle.clap.specs.Words.{App, Row, first_of, new_app, with_rule}
-use Rattle.rrd_fixed.specs.Reading.{whole_of}
-use Rattle.rrd_spec.specs.declared.refusal.Refusal.{Refusal}
-use Rattle.rrd_spec.specs.History.Cells.{oldest_time}
-use Rattle.rrd_spec.specs.History.{Content}
+use Rattle.rrd_tool.specs.Names.{result_map_both, App, Row, first_of, new_app, with_rule, whole_of, Refusal, oldest_time, Content}
 use Rattle.rrd_tool.specs.Arguments.{option_rule}
 use Rattle.rrd_tool.specs.Commands.Last.{time_line}
 use Rattle.rrd_tool.specs.Fields.Parts.{Unread, ◌>>=◌, given}

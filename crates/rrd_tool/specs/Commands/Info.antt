@@ -1,14 +1,7 @@
 -- Definition: info: the text that it prints (rrdinfo, with values in plain digits; `journal`, `undoable` and `last_raw`
 -- are this project's).
 use Rattle.std.specs.Prelude.{◌++◌, [], ℕ, ℤ, List, Option, Some, None, Result, Ok, codes, decimal, length, pos, slice_get, slice_index_or}
-use Rattle.std.specs.Option.{option_map_or}
-use Rattle.rrd_fixed.specs.declared.raw.Raw.{Raw}
-use Rattle.rrd_fixed.specs.Text.{raw_text, signed_text, time_text}
-use Rattle.rrd_spec.specs.declared.refusal.Refusal.{Refusal}
-use Rattle.rrd_spec.specs.declared.settings.DsDef.{DsDef}
-use Rattle.rrd_spec.specs.declared.settings.RraDef.{RraDef}
-use Rattle.rrd_spec.specs.History.{Content, definitions}
-use Rattle.rrd_spec.specs.Journal.Survivors.{Stored}
+use Rattle.rrd_tool.specs.Names.{option_map_or, Raw, raw_text, signed_text, time_text, Refusal, DsDef, RraDef, Content, definitions, Stored}
 use Rattle.rrd_tool.specs.Commands.Fetch.{texts_below}
 use Rattle.rrd_tool.specs.Fields.{function_text, kind_text}
 

@@ -1,8 +1,6 @@
 -- Definition: last: the text that it prints (rrdlast).
 use Rattle.std.specs.Prelude.{◌++◌, ℕ, ℤ, List, Result, Ok, codes, pos}
-use Rattle.rrd_fixed.specs.Text.{time_text}
-use Rattle.rrd_spec.specs.declared.refusal.Refusal.{Refusal}
-use Rattle.rrd_spec.specs.History.{Content}
+use Rattle.rrd_tool.specs.Names.{time_text, Refusal, Content}
 
 abbrev pub time_line : ℤ → List ℕ
 time_line time = time_text time ++ codes "\n"

@@ -1,12 +1,7 @@
 -- Definition: lastupdate: the text that it prints (rrdlastupdate, with the header of fetch and raw values in plain
 -- digits).
 use Rattle.std.specs.Prelude.{◌++◌, [], ℕ, List, Result, Ok, codes, length, pos, slice_get, slice_index_or}
-use Rattle.std.specs.Option.{option_map_or}
-use Rattle.rrd_fixed.specs.declared.raw.Raw.TheVariants.{Unknown}
-use Rattle.rrd_fixed.specs.Text.{raw_text, time_text}
-use Rattle.rrd_spec.specs.declared.settings.DsDef.{DsDef}
-use Rattle.rrd_spec.specs.declared.refusal.Refusal.{Refusal}
-use Rattle.rrd_spec.specs.History.{Content}
+use Rattle.rrd_tool.specs.Names.{option_map_or, Unknown, raw_text, time_text, DsDef, Refusal, Content}
 use Rattle.rrd_tool.specs.Commands.Fetch.{header_text, texts_below}
 
 -- a space, and the raw value of data source `number`

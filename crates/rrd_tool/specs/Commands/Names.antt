@@ -1,6 +1,6 @@
 -- Definition: the names of the commands (RRDtool's; revert is this project's).
 use Rattle.std.specs.Prelude.{List, [], ◌∷◌, Option, codes}
-use Rattle.clap.specs.Words.{Text}
+use Rattle.rrd_tool.specs.Names.{Text}
 use Rattle.rrd_tool.specs.Fields.{named}
 use Rattle.rrd_tool.specs.declared.commands.name.CommandName.{CommandName}
 use Rattle.rrd_tool.specs.declared.commands.name.CommandName.TheVariants as verb

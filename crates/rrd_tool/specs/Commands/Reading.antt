@@ -1,7 +1,7 @@
 -- Definition: the command that a list of arguments means (the order in which the parts are parsed is this project's
 -- rule).
 use Rattle.std.specs.Prelude.{◌≡◌, ℕ, List, Option, Some, Result, Ok, Err}
-use Rattle.clap.specs.Words.{Text}
+use Rattle.rrd_tool.specs.Names.{Text}
 use Rattle.rrd_tool.specs.Commands.{line_of}
 use Rattle.rrd_tool.specs.Arguments.Taken.{IsTaken, entered_of}
 use Rattle.rrd_tool.specs.Fields.Parts.{Unread}

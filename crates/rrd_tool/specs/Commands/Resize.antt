@@ -1,9 +1,6 @@
 -- Definition: resize: its shape, and how its values are parsed (rrdresize).
 use Rattle.std.specs.Prelude.{List, Option, Some, None, Result, Ok, codes, if◌then◌else◌}
-use Rattle.std.specs.Str.{bytes_eq}
-use Rattle.clap.specs.Words.{App, Row, Text, first_of, new_app, with_rule}
-use Rattle.rrd_fixed.specs.Reading.{whole_of}
-use Rattle.rrd_spec.specs.declared.requests.resize.Change.{Change}
+use Rattle.rrd_tool.specs.Names.{bytes_eq, App, Row, Text, first_of, new_app, with_rule, whole_of, Change}
 use Rattle.rrd_tool.specs.Arguments.{required_rule}
 use Rattle.rrd_tool.specs.Fields.Parts.{Unread, ◌>>=◌, required}
 use Rattle.rrd_tool.specs.Commands.Names.{name_text}

@@ -1,12 +1,8 @@
 -- Definition: tune: its shape, and how its values are parsed (rrdtune).
 use Rattle.std.specs.Prelude.{List, Option, Some, None, Result, Ok, codes, if◌then◌else◌}
-use Rattle.std.specs.Str.{bytes_eq}
-use Rattle.clap.specs.Words.{App, Row, Text, first_of, new_app, with_rule}
-use Rattle.rrd_fixed.specs.Reading.{whole_of}
-use Rattle.rrd_fixed.specs.declared.name.Name.{Name}
+use Rattle.rrd_tool.specs.Names.{bytes_eq, App, Row, Text, first_of, new_app, with_rule, whole_of, Name, ArchiveTune}
 use Rattle.rrd_tool.specs.Arguments.{letter_rule, option_rule, word_rule}
 use Rattle.rrd_tool.specs.Fields.{◌>>?◌, bound_of, cut_of, field, kind_of, name_of}
-use Rattle.rrd_spec.specs.declared.requests.tune.ArchiveTune.{ArchiveTune}
 use Rattle.rrd_tool.specs.Commands.Create.{archive_of}
 use Rattle.rrd_tool.specs.Fields.Parts.{Unread, ◌>>=◌, optional}
 use Rattle.rrd_tool.specs.Commands.Names.{name_text}

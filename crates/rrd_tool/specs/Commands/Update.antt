@@ -1,11 +1,6 @@
 -- Definition: update: its shape, and how its values are parsed (rrdupdate).
 use Rattle.std.specs.Prelude.{ℕ, List, Option, Some, Result, Ok, codes, if◌then◌else◌}
-use Rattle.std.specs.Str.{bytes_eq}
-use Rattle.clap.specs.Words.{App, Row, Text, first_of, new_app, with_rule}
-use Rattle.rrd_fixed.specs.Reading.{number_of, whole_of}
-use Rattle.rrd_fixed.specs.declared.name.Name.{Name}
-use Rattle.rrd_spec.specs.declared.requests.update.Given.{Given}
-use Rattle.rrd_spec.specs.declared.requests.update.Sample.{Sample}
+use Rattle.rrd_tool.specs.Names.{bytes_eq, App, Row, Text, first_of, new_app, with_rule, number_of, whole_of, Name, Given, Sample}
 use Rattle.rrd_tool.specs.Arguments.{letter_rule, many_rule, words_of}
 use Rattle.rrd_tool.specs.Fields.{◌>>?◌, each_in, field, is_unknown, name_of, pieces}
 use Rattle.rrd_tool.specs.Fields.Parts.{Unread, ◌>>=◌, each_of, optional}

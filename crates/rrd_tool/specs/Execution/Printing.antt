@@ -1,8 +1,6 @@
 -- Glue: the result of a command that prints.
 use Rattle.std.specs.Prelude.{◌≡◌, ℕ, List, Option, Some, None, false}
-use Rattle.std.specs.Io.KnownBytes.{Appends}
-use Rattle.rrd_fixed.specs.Written.{AppendsFront}
-use Rattle.rrd_spec.specs.Journal.Survivors.{Stored}
+use Rattle.rrd_tool.specs.Names.{Appends, AppendsFront, Stored}
 use Rattle.rrd_tool.specs.Execution.{database_left, fault_left, has_changed}
 use Rattle.rrd_tool.specs.declared.execution.Outcome.{Outcome}
 use Rattle.rrd_tool.specs.declared.faults.Fault.{Fault}

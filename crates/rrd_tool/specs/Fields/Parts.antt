@@ -1,6 +1,6 @@
 -- Definition: parsing that may stop at a part that cannot be parsed (this project's rule).
 use Rattle.std.specs.Prelude.{◌+◌, ℕ, List, [], ◌∷◌, Option, Some, None, Result, Ok, Err}
-use Rattle.clap.specs.Words.{Text}
+use Rattle.rrd_tool.specs.Names.{Text}
 use Rattle.rrd_tool.specs.declared.faults.Part.{Part}
 
 -- the part that cannot be parsed, and its number

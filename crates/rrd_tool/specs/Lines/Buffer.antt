@@ -1,6 +1,6 @@
 -- Glue: the line that the buffer of an unfinished line represents.
 use Rattle.std.specs.Prelude.{◌≡◌, ◌≤◌, ◌++◌, ◌∷◌, [], ℕ, List, length, true, false}
-use Rattle.std.specs.List.{list_all}
+use Rattle.rrd_tool.specs.Names.{list_all}
 use Rattle.rrd_tool.specs.Lines.{is_plain, is_text, without_cr}
 use Rattle.rrd_tool.specs.declared.lines.Ending.{Ending}
 use Rattle.rrd_tool.specs.declared.lines.Ending.TheVariants.{Plain, Cr, Lost}

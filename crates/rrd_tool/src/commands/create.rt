@@ -1,10 +1,7 @@
 //! `create`: makes a database (rrdcreate).
 ghost use Rattle.std.specs.Prelude.{IfOk, List, Option, map, ℕ};
-ghost use Rattle.clap.specs.Words.{found_of, rows_of};
-ghost use Rattle.rrd_tool.specs.Arguments.Shapes.{HasApp};
-ghost use Rattle.rrd_tool.specs.Commands.Create.{archive_of, create_app, create_of, definition_of, definitions_of, share_of, source_of};
-ghost use Rattle.rrd_tool.specs.Execution.{Executes};
-ghost use Rattle.rrd_tool.specs.Fields.Answers.{Meets};
+ghost use Rattle.rrd_tool.specs.Names.{found_of, rows_of};
+ghost use Rattle.rrd_tool.specs.Words.{HasApp, archive_of, create_app, create_of, definition_of, definitions_of, share_of, source_of, Executes, Meets};
 
 use super::name::CommandName;
 use crate::arguments::{letter_arg, many_arg, option_arg, text_of, texts_of};

@@ -1,17 +1,9 @@
 //! `fetch`: prints rows of an archive (rrdfetch). Puts the lines of several rows into a buffer without allocating, and
 //! writes the lines from the buffer.
 ghost use Rattle.std.specs.Prelude.{◌≡◌, ◌<◌, ◌≤◌, ◌+◌, ◌-◌, ◌*◌, ◌/◌, ◌++◌, IfNone, IfOk, IfSome, Ok, Option, Some, codes, drop, length, slice_index_or, ℕ};
-ghost use Rattle.clap.specs.Words.{found_of, rows_of};
+ghost use Rattle.rrd_tool.specs.Names.{found_of, rows_of, Puts, Writes, Function, choice};
+ghost use Rattle.rrd_tool.specs.Words.{HasApp, IsReadable, row_room, fetch_app, fetch_of, fetch_text, header_text, row_of, row_text, rows_text, texts_below, Executes, Meets};
 ghost use Rattle.rrd_fixed.specs.declared.cell.Cell.TheVariants.{Unknown};
-ghost use Rattle.rrd_fixed.specs.Puts.{Puts};
-ghost use Rattle.rrd_fixed.specs.Written.{Writes};
-ghost use Rattle.rrd_fold.specs.declared.function.Function.{Function};
-ghost use Rattle.rrd_spec.specs.Choice.{choice};
-ghost use Rattle.rrd_tool.specs.Arguments.Shapes.{HasApp};
-ghost use Rattle.rrd_tool.specs.Commands.Fetched.{IsReadable, row_room};
-ghost use Rattle.rrd_tool.specs.Commands.Fetch.{fetch_app, fetch_of, fetch_text, header_text, row_of, row_text, rows_text, texts_below};
-ghost use Rattle.rrd_tool.specs.Execution.{Executes};
-ghost use Rattle.rrd_tool.specs.Fields.Answers.{Meets};
 
 use super::name::CommandName;
 use crate::arguments::{letter_arg, required_arg, text_of};

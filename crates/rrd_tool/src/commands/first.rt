@@ -1,10 +1,7 @@
 //! `first`: prints the time of an archive's oldest row (rrdfirst).
 ghost use Rattle.std.specs.Prelude.{IfOk, Some};
-ghost use Rattle.clap.specs.Words.{found_of, rows_of};
-ghost use Rattle.rrd_tool.specs.Arguments.Shapes.{HasApp};
-ghost use Rattle.rrd_tool.specs.Commands.First.{first_app, first_from};
-ghost use Rattle.rrd_tool.specs.Execution.{Executes};
-ghost use Rattle.rrd_tool.specs.Fields.Answers.{Meets};
+ghost use Rattle.rrd_tool.specs.Names.{found_of, rows_of};
+ghost use Rattle.rrd_tool.specs.Words.{HasApp, first_app, first_from, Executes, Meets};
 
 use super::last::write_line;
 use super::name::CommandName;

@@ -1,10 +1,8 @@
 //! `info`: prints the settings of a database, and the number of changes that can be reverted (rrdinfo). Builds the
 //! lines of each data source and archive without allocating, and then writes them at once.
 ghost use Rattle.std.specs.Prelude.{◌≡◌, ◌≤◌, ◌+◌, ◌++◌, Some, codes, decimal, length};
-ghost use Rattle.rrd_fixed.specs.Written.{Writes};
-ghost use Rattle.rrd_tool.specs.Commands.Fetch.{texts_below};
-ghost use Rattle.rrd_tool.specs.Commands.Info.{archive_at, archive_text, bound_text, head_text, numbered, setting, source_at, source_text};
-ghost use Rattle.rrd_tool.specs.Execution.{Executes};
+ghost use Rattle.rrd_tool.specs.Names.{Writes};
+ghost use Rattle.rrd_tool.specs.Words.{texts_below, archive_at, archive_text, bound_text, head_text, numbered, setting, source_at, source_text, Executes};
 
 use crate::Command;
 use crate::execution::Outcome;

@@ -1,7 +1,7 @@
 //! `last`: prints the time of the last update (rrdlast).
 ghost use Rattle.std.specs.Prelude.{Some, ◌++◌, ◌≤◌, codes, length};
-ghost use Rattle.rrd_fixed.specs.Written.{Writes};
-ghost use Rattle.rrd_tool.specs.Execution.{Executes};
+ghost use Rattle.rrd_tool.specs.Names.{Writes};
+ghost use Rattle.rrd_tool.specs.Words.{Executes};
 
 use crate::Command;
 use crate::execution::Outcome;

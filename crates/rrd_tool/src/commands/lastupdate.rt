@@ -1,11 +1,8 @@
 //! `lastupdate`: prints the last raw value of each data source (rrdlastupdate). Builds each line without allocating,
 //! and then writes the line at once.
 ghost use Rattle.std.specs.Prelude.{◌≡◌, ◌≤◌, ◌+◌, ◌++◌, Some, codes, length};
-ghost use Rattle.rrd_fixed.specs.Text.{raw_text};
-ghost use Rattle.rrd_fixed.specs.Written.{Writes};
-ghost use Rattle.rrd_tool.specs.Commands.Fetch.{header_text};
-ghost use Rattle.rrd_tool.specs.Commands.LastUpdate.{raws_text};
-ghost use Rattle.rrd_tool.specs.Execution.{Executes};
+ghost use Rattle.rrd_tool.specs.Names.{raw_text, Writes};
+ghost use Rattle.rrd_tool.specs.Words.{header_text, raws_text, Executes};
 
 use super::fetch::header_string;
 use crate::Command;

@@ -1,8 +1,7 @@
 //! The names of the commands.
 ghost use Rattle.std.specs.Prelude.{◌≡◌};
-ghost use Rattle.clap.specs.Words.{new_app};
-ghost use Rattle.rrd_tool.specs.Arguments.Shapes.{HasApp};
-ghost use Rattle.rrd_tool.specs.Commands.Names.{name_in, name_text};
+ghost use Rattle.rrd_tool.specs.Names.{new_app};
+ghost use Rattle.rrd_tool.specs.Words.{HasApp, name_in, name_text};
 
 use crate::fields::{Worded, named};
 use std::alloc::Global;

@@ -1,10 +1,7 @@
 //! `resize`: changes the number of rows of an archive (rrdresize).
 ghost use Rattle.std.specs.Prelude.{IfOk, List, Option, Some, ℕ};
-ghost use Rattle.clap.specs.Words.{found_of, rows_of};
-ghost use Rattle.rrd_tool.specs.Arguments.Shapes.{HasApp};
-ghost use Rattle.rrd_tool.specs.Commands.Resize.{change_of, resize_app, resize_of};
-ghost use Rattle.rrd_tool.specs.Execution.{Executes};
-ghost use Rattle.rrd_tool.specs.Fields.Answers.{Meets};
+ghost use Rattle.rrd_tool.specs.Names.{found_of, rows_of};
+ghost use Rattle.rrd_tool.specs.Words.{HasApp, change_of, resize_app, resize_of, Executes, Meets};
 
 use super::name::CommandName;
 use crate::arguments::{required_arg, text_of};

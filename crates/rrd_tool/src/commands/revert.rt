@@ -1,6 +1,6 @@
 //! `revert`: undoes the newest change (this project's own command).
 ghost use Rattle.std.specs.Prelude.{List, Option, Some, ℕ};
-ghost use Rattle.rrd_tool.specs.Execution.{Executes};
+ghost use Rattle.rrd_tool.specs.Words.{Executes};
 
 use crate::Command;
 use crate::execution::Outcome;

@@ -1,10 +1,7 @@
 //! `tune`: changes the settings of sources, or adds or removes an archive (rrdtune).
 ghost use Rattle.std.specs.Prelude.{IfOk, List, Option, Some, ℕ};
-ghost use Rattle.clap.specs.Words.{found_of, rows_of};
-ghost use Rattle.rrd_tool.specs.Arguments.Shapes.{HasApp};
-ghost use Rattle.rrd_tool.specs.Commands.Tune.{archive_tune_of, setting_of, tune_app, tune_of};
-ghost use Rattle.rrd_tool.specs.Execution.{Executes};
-ghost use Rattle.rrd_tool.specs.Fields.Answers.{Meets};
+ghost use Rattle.rrd_tool.specs.Names.{found_of, rows_of};
+ghost use Rattle.rrd_tool.specs.Words.{HasApp, archive_tune_of, setting_of, tune_app, tune_of, Executes, Meets};
 
 use super::name::CommandName;
 use crate::arguments::{letter_arg, option_arg, text_of, word_arg};

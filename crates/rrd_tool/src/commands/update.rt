@@ -1,11 +1,7 @@
 //! `update`: adds samples (rrdupdate).
 ghost use Rattle.std.specs.Prelude.{◌≡◌, IfOk, List, Option, Some, map, ℕ};
-ghost use Rattle.clap.specs.Words.{found_of, rows_of};
-ghost use Rattle.rrd_tool.specs.Arguments.Shapes.{HasApp};
-ghost use Rattle.rrd_tool.specs.Commands.Update.{sample_of, time_of, update_app, update_of, value_of};
-ghost use Rattle.rrd_tool.specs.Execution.{Executes};
-ghost use Rattle.rrd_tool.specs.Fields.Answers.{Meets};
-ghost use Rattle.rrd_tool.specs.Fields.Parts.{each_of, or_fault};
+ghost use Rattle.rrd_tool.specs.Names.{found_of, rows_of};
+ghost use Rattle.rrd_tool.specs.Words.{HasApp, sample_of, time_of, update_app, update_of, value_of, Executes, Meets, each_of, or_fault};
 
 use super::name::CommandName;
 use crate::arguments::{letter_arg, many_arg, text_of, texts_of};

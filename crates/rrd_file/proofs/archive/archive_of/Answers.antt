@@ -1,7 +1,4 @@
-use Rattle.std.proofs.Common.{◌≡◌, ◌<◌, ◌^◌, ◌+◌, length, pos, to_z, rules, arith}
-use Rattle.std.specs.Int.{w128}
-use Rattle.std.proofs.lemmas.Int.{ints}
-use Rattle.rrd_file.proofs.ReadBack.{archive_back, archive_none, archive_some}
+use Rattle.rrd_file.proofs.Common.{◌≡◌, ◌<◌, ◌^◌, ◌+◌, length, pos, to_z, rules, arith, w128, ints, archive_back, archive_none, archive_some}
 use Rattle.rrd_file.proofs.archive.archive_of.Goals as goal
 
 pub returns-in_default-clause-none : goal.returns-in_default-clause-none

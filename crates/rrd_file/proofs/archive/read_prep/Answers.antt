@@ -1,12 +1,4 @@
-use Rattle.std.proofs.Common.{◌≡◌, ◌∙◌, sym, ap, length, rules, to_z-of_z, FitsSigned}
-use Rattle.std.proofs.lemmas.Result.{err_from_is_err_and}
-use Rattle.rrd_file.specs.Stages.{body_size}
-use Rattle.std.specs.Int.{w128}
-use Rattle.rrd_fold.specs.Parts.{Part}
-use Rattle.rrd_file.specs.Layout.Pieces.{spell}
-use Rattle.rrd_file.specs.Layout.Values.{part_bytes}
-use Rattle.rrd_file.proofs.Judged.{cut_body, prep_refused, prep_taken, refusal_is}
-use Rattle.rrd_file.proofs.Whole.{whole}
+use Rattle.rrd_file.proofs.Common.{◌≡◌, ◌∙◌, sym, ap, length, rules, to_z-of_z, FitsSigned, err_from_is_err_and, body_size, w128, Part, spell, part_bytes, cut_body, prep_refused, prep_taken, refusal_is, whole}
 use Rattle.rrd_file.proofs.archive.read_prep.Goals as goal
 
 pub returns-in_err-piece-clause-steps : goal.returns-in_err-piece-clause-steps

@@ -1,17 +1,4 @@
-use Rattle.std.proofs.Common.{◌≡◌, sym, length, rules, ◌++◌, ◌∷◌, [], ap, subst, to_z-of_z, FitsSigned}
-use Rattle.std.proofs.lemmas.Result.{err_from_is_err_and}
-use Rattle.rrd_base.specs.Rebuild.Validators.{EntryValidator}
-use Rattle.rrd_file.specs.Layout.Pieces.{spell, OfPrep}
-use Rattle.std.specs.Int.{w128}
-use Rattle.rrd_fold.specs.Bounds.{Consolidating}
-use Rattle.rrd_fold.specs.Parts.{Part}
-use Rattle.rrd_spec.specs.Files.Rebuilding.{IsRowPart}
-use Rattle.rrd_file.specs.Layout.Values.{part_bytes}
-use Rattle.rrd_file.specs.Stages.{RowPrepDue}
-use Rattle.rrd_file.specs.Progress.{Comes}
-use Rattle.rrd_file.proofs.Coming.{cut_within}
-use Rattle.rrd_file.proofs.Kept.{ReadRowPrep, broken, kept}
-use Rattle.rrd_file.proofs.Whole.{whole}
+use Rattle.rrd_file.proofs.Common.{◌≡◌, sym, length, rules, ◌++◌, ◌∷◌, [], ap, subst, to_z-of_z, FitsSigned, err_from_is_err_and, EntryValidator, spell, OfPrep, w128, Consolidating, Part, IsRowPart, part_bytes, RowPrepDue, Comes, cut_within, ReadRowPrep, broken, kept, whole}
 use Rattle.rrd_file.proofs.archive.read_row_prep.Goals as goal
 
 pub returns-in_err-piece-clause-brings : goal.returns-in_err-piece-clause-brings

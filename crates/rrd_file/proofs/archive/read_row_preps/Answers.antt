@@ -1,12 +1,4 @@
-use Rattle.std.proofs.Common.{◌≡◌, ◌∙◌, ◌+◌, ◌-◌, ◌<◌, ◌≤◌, ◌++◌, ◌∷◌, [], List, sym, ap, arith, length-append, length, map, replicate, subst, rules}
-use Rattle.std.proofs.lemmas.Result.{err_from_is_err_and}
-use Rattle.rrd_fold.specs.Bounds.{Consolidating}
-use Rattle.rrd_spec.specs.Preparations.{AllOf, parts_in}
-use Rattle.rrd_spec.specs.Files.Rebuilding.{outline_left}
-use Rattle.rrd_file.specs.Layout.Pieces.{OfPrep, Piece}
-use Rattle.rrd_file.specs.Stages.{DueInEntry, RowPrepDue}
-use Rattle.rrd_file.specs.Progress.{Comes}
-use Rattle.rrd_file.proofs.Turns.{all_more, more_preps, none_less, one_less}
+use Rattle.rrd_file.proofs.Common.{◌≡◌, ◌∙◌, ◌+◌, ◌-◌, ◌<◌, ◌≤◌, ◌++◌, ◌∷◌, [], List, sym, ap, arith, length-append, length, map, replicate, subst, rules, err_from_is_err_and, Consolidating, AllOf, parts_in, outline_left, OfPrep, Piece, DueInEntry, RowPrepDue, Comes, all_more, more_preps, none_less, one_less}
 use Rattle.rrd_file.proofs.archive.read_row_preps.Goals as goal
 
 pub returns-in_err-prep-clause-brings : goal.returns-in_err-prep-clause-brings

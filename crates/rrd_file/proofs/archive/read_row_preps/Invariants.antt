@@ -1,9 +1,4 @@
-use Rattle.std.proofs.Common.{◌≡◌, ◌++◌, ◌-◌, ℕ, List, length, map, replicate}
-use Rattle.rrd_spec.specs.Preparations.{AllOf, parts_in}
-use Rattle.rrd_spec.specs.Files.Rebuilding.{outline_left}
-use Rattle.rrd_file.specs.Layout.Pieces.{OfPrep, Piece}
-use Rattle.rrd_file.specs.Stages.{DueInEntry, RowPrepDue}
-use Rattle.rrd_file.specs.Progress.{Comes}
+use Rattle.rrd_file.proofs.Common.{◌≡◌, ◌++◌, ◌-◌, ℕ, List, length, map, replicate, AllOf, parts_in, outline_left, OfPrep, Piece, DueInEntry, RowPrepDue, Comes}
 use Rattle.rrd_file.proofs.archive.read_row_preps.Given as goal
 
 abbrev pub invariant-loop : goal.invariant-loop

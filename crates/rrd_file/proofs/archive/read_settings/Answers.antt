@@ -1,7 +1,4 @@
-use Rattle.std.proofs.Common.{◌≡◌, ◌∙◌, sym, ap, length, rules}
-use Rattle.std.proofs.lemmas.Result.{err_from_is_err_and}
-use Rattle.rrd_file.specs.Stages.{body_size}
-use Rattle.rrd_file.proofs.Judged.{cut_body, head_refused, head_taken, head_unread, refusal_is}
+use Rattle.rrd_file.proofs.Common.{◌≡◌, ◌∙◌, sym, ap, length, rules, err_from_is_err_and, body_size, cut_body, head_refused, head_taken, head_unread, refusal_is}
 use Rattle.rrd_file.proofs.archive.read_settings.Goals as goal
 
 pub returns-in_err-piece-clause-steps : goal.returns-in_err-piece-clause-steps
@@ -17,7 +14,6 @@ returns-in_default-clause-steps g c = λ bytes st.
 
 pub returns-in-Ok-clause-steps : goal.returns-in-Ok-clause-steps
 returns-in-Ok-clause-steps g c = λ bytes st.
-    let len : length c.piece.new.piece ≡ 13 = search rules in
     head_taken bytes c.piece.new.piece c.args.input.now c.piece.new.self c.args.build.now c.archive.new.self c.in-Some.def st c.in_ok-piece.ensures.read c.in-Some.ensures.some.1 c.in-Ok.ensures.ok
 
 pub returns-in-Err-clause-steps : goal.returns-in-Err-clause-steps

@@ -1,10 +1,4 @@
-use Rattle.std.proofs.Common.{◌∙◌, map, arith}
-use Rattle.std.proofs.lemmas.List.{length-map}
-use Rattle.rrd_fold.specs.Parts.{nothing}
-use Rattle.rrd_file.specs.Layout.Pieces.{OfPrep, spell}
-use Rattle.rrd_file.proofs.Told.{prep_is, parts_length}
-use Rattle.std.proofs.lemmas.Result.{err_from_is_err_and}
-use Rattle.rrd_file.proofs.Gathering.{all_added, item_added, item_at, item_broken, mapped_at}
+use Rattle.rrd_file.proofs.Common.{◌∙◌, map, arith, length-map, nothing, OfPrep, spell, prep_is, parts_length, err_from_is_err_and, all_added, item_added, item_at, item_broken, mapped_at}
 use Rattle.rrd_file.proofs.archive.write_archive_preps.Goals as goal
 
 pub returns-in_err-write_prep : goal.returns-in_err-write_prep

@@ -1,9 +1,4 @@
-use Rattle.std.proofs.Common.{◌≡◌, Some, map, take}
-use Rattle.std.specs.Prelude.{slice_get}
-use Rattle.std.specs.List.{flat_map}
-use Rattle.rrd_spec.specs.History.{Rra}
-use Rattle.rrd_file.specs.Layout.Pieces.{OfPrep, spell}
-use Rattle.rrd_file.specs.Writer.{Adds}
+use Rattle.rrd_file.proofs.Common.{◌≡◌, Some, map, take, slice_get, flat_map, Rra, OfPrep, spell, Adds}
 use Rattle.rrd_file.proofs.archive.write_archive_preps.Given as goal
 
 abbrev pub invariant-loop-source : goal.invariant-loop-source

@@ -1,10 +1,4 @@
-use Rattle.std.proofs.Common.{sym, subst, map}
-use Rattle.rrd_file.specs.Layout.{spelled}
-use Rattle.rrd_file.specs.Layout.Pieces.{OfPrep}
-use Rattle.rrd_file.proofs.Joined.{joined_head}
-use Rattle.std.proofs.lemmas.Result.{err_from_is_err_and}
-use Rattle.rrd_file.specs.Writer.{Breaks, Gathers}
-use Rattle.rrd_file.proofs.Gathering.{breaks_stop, gathers_then}
+use Rattle.rrd_file.proofs.Common.{sym, subst, map, spelled, OfPrep, joined_head, err_from_is_err_and, Breaks, Gathers, breaks_stop, gathers_then}
 use Rattle.rrd_file.proofs.archive.write_head.Goals as goal
 
 pub returns-in_err-write_settings : goal.returns-in_err-write_settings

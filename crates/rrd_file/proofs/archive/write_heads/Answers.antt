@@ -1,12 +1,4 @@
-use Rattle.std.proofs.Common.{sym, subst, map, arith}
-use Rattle.std.proofs.lemmas.List.{length-map}
-use Rattle.rrd_spec.specs.Files.Filed.{Head, head_of}
-use Rattle.rrd_file.specs.Layout.{head_pieces, spelled}
-use Rattle.rrd_file.specs.Layout.Pieces.{spell}
-use Rattle.rrd_file.specs.Writer.{Adds}
-use Rattle.rrd_file.proofs.Told.{there}
-use Rattle.std.proofs.lemmas.Result.{err_from_is_err_and}
-use Rattle.rrd_file.proofs.Gathering.{all_added, flat_flat, item_added, item_broken, mapped_at}
+use Rattle.rrd_file.proofs.Common.{sym, subst, map, arith, length-map, Head, head_of, head_pieces, spelled, spell, Adds, there, err_from_is_err_and, all_added, flat_flat, item_added, item_broken, mapped_at}
 use Rattle.rrd_file.proofs.archive.write_heads.Goals as goal
 
 pub returns-in_err-write_head : goal.returns-in_err-write_head

@@ -1,8 +1,4 @@
-use Rattle.std.proofs.Common.{map, take}
-use Rattle.std.specs.List.{flat_map}
-use Rattle.rrd_spec.specs.Files.Filed.{Head, head_of}
-use Rattle.rrd_file.specs.Layout.{head_pieces, spelled}
-use Rattle.rrd_file.specs.Writer.{Adds}
+use Rattle.rrd_file.proofs.Common.{map, take, flat_map, Head, head_of, head_pieces, spelled, Adds}
 use Rattle.rrd_file.proofs.archive.write_heads.Given as goal
 
 abbrev pub invariant-loop-archive : goal.invariant-loop-archive

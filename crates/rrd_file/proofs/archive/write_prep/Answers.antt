@@ -1,19 +1,9 @@
-use Rattle.std.proofs.Common.{◌≡◌, ◌∙◌, ◌++◌, ap, arith}
-use Rattle.std.specs.Int.{w128}
-use Rattle.std.proofs.lemmas.Int.{ints}
-use mir.Facts.{to_z-of_z}
-use mir.Val.{SFits, of_z, to_z}
-use Rattle.rrd_fold.specs.Parts.{Part}
-use Rattle.rrd_file.specs.Layout.Pieces.{OfPrep, spell}
-use Rattle.rrd_file.specs.Layout.Values.{part_bytes}
-use Rattle.std.proofs.lemmas.Result.{err_from_is_err_and}
-use Rattle.rrd_file.proofs.Gathering.{no_room, piece_added}
+use Rattle.rrd_file.proofs.Common.{◌≡◌, ◌∙◌, ◌++◌, ap, arith, w128, ints, to_z-of_z, SFits, of_z, to_z, Part, OfPrep, spell, part_bytes, err_from_is_err_and, no_room, piece_added}
 use Rattle.rrd_file.proofs.archive.write_prep.Goals as goal
 
 pub returns-in_err-make_room : goal.returns-in_err-make_room
 returns-in_err-make_room g c =
-    let p = err_from_is_err_and c.from_residual.result c.from_residual.ensures.1 in
-    rw p.1 (no_room (spell (OfPrep c.args.prep.part)) c.in_err-make_room.ensures.added)
+    rw (err_from_is_err_and c.from_residual.result c.from_residual.ensures.1).1 (no_room (spell (OfPrep c.args.prep.part)) c.in_err-make_room.ensures.added)
 
 pub returns : goal.returns
 unfolding spell

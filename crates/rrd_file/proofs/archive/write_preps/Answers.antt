@@ -1,9 +1,4 @@
-use Rattle.std.proofs.Common.{◌∙◌, Some, ap, sym, map}
-use Rattle.rrd_fold.specs.Bounds.{Consolidating}
-use Rattle.rrd_spec.specs.Preparations.{parts_in}
-use Rattle.rrd_file.specs.Layout.Pieces.{OfPrep, spell}
-use Rattle.std.proofs.lemmas.Result.{err_from_is_err_and}
-use Rattle.rrd_file.proofs.Gathering.{item_added, item_at, item_broken, mapped_at}
+use Rattle.rrd_file.proofs.Common.{◌∙◌, Some, ap, sym, map, Consolidating, parts_in, OfPrep, spell, err_from_is_err_and, item_added, item_at, item_broken, mapped_at}
 use Rattle.rrd_file.proofs.archive.write_preps.Goals as goal
 
 pub returns-in_err-write_prep : goal.returns-in_err-write_prep

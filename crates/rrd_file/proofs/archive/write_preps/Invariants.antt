@@ -1,8 +1,4 @@
-use Rattle.std.proofs.Common.{map, take}
-use Rattle.std.specs.List.{flat_map}
-use Rattle.rrd_spec.specs.Preparations.{parts_in}
-use Rattle.rrd_file.specs.Layout.Pieces.{OfPrep, spell}
-use Rattle.rrd_file.specs.Writer.{Adds}
+use Rattle.rrd_file.proofs.Common.{map, take, flat_map, parts_in, OfPrep, spell, Adds}
 use Rattle.rrd_file.proofs.archive.write_preps.Given as goal
 
 abbrev pub invariant-loop-i : goal.invariant-loop-i

@@ -1,6 +1,4 @@
-use Rattle.std.proofs.Common.{ap, sym}
-use Rattle.rrd_fixed.specs.declared.cell.Cell.{Cell}
-use Rattle.rrd_file.specs.Layout.Values.{cell_bytes, signed_bytes}
+use Rattle.rrd_file.proofs.Common.{ap, sym, Cell, cell_bytes, signed_bytes}
 use Rattle.rrd_file.proofs.cells.cell_halves.Goals as goal
 
 pub returns-in-Unknown : goal.returns-in-Unknown

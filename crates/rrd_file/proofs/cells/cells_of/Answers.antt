@@ -1,7 +1,4 @@
-use Rattle.std.proofs.Common.{◌∙◌, ◌++◌, ◌<◌, ℕ, List, ap, sym, arith, rules, length, length-set, to_z-of_z, FitsSigned}
-use Rattle.std.specs.Int.{w128}
-use Rattle.rrd_file.specs.Layout.Values.{signed_bytes}
-use Rattle.rrd_file.proofs.CellRuns.{all_read, first_bytes, one_bounded, one_read}
+use Rattle.rrd_file.proofs.Common.{◌∙◌, ◌++◌, ◌<◌, ℕ, List, ap, sym, arith, rules, length, length-set, to_z-of_z, FitsSigned, w128, signed_bytes, all_read, first_bytes, one_bounded, one_read}
 use Rattle.rrd_file.proofs.cells.cells_of.Goals as goal
 
 pub loop-i-preserved : goal.loop-i-preserved

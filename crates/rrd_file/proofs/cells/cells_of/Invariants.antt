@@ -1,7 +1,4 @@
-use Rattle.std.proofs.Common.{◌≡◌, ◌+◌, ◌*◌, ◌++◌, length, take}
-use Rattle.std.specs.List.{AllByRecursion, flat_map}
-use Rattle.rrd_fixed.specs.Rate.{IsBounded}
-use Rattle.rrd_file.specs.Layout.Values.{cell_bytes}
+use Rattle.rrd_file.proofs.Common.{◌≡◌, ◌+◌, ◌*◌, ◌++◌, length, take, AllByRecursion, flat_map, IsBounded, cell_bytes}
 use Rattle.rrd_file.proofs.cells.cells_of.Given as goal
 
 abbrev pub invariant-loop-i : goal.invariant-loop-i

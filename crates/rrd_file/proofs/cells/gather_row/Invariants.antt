@@ -1,6 +1,4 @@
-use Rattle.std.proofs.Common.{◌≡◌, ◌≤◌, length}
-use Rattle.std.specs.Io.KnownBytes.{Keeps}
-use Rattle.rrd_file.specs.Reader.{left}
+use Rattle.rrd_file.proofs.Common.{◌≡◌, ◌≤◌, length, Keeps, left}
 use Rattle.rrd_file.proofs.cells.gather_row.Given as goal
 
 abbrev pub invariant-loop-before : goal.invariant-loop-before

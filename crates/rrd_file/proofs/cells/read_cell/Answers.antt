@@ -1,10 +1,4 @@
-use Rattle.std.proofs.Common.{◌≡◌, ◌-◌, sym, subst, arith}
-use Rattle.std.specs.Io.KnownBytes.{Consumes}
-use Rattle.rrd_file.specs.Reader.{Gives, left}
-use Rattle.rrd_file.specs.Layout.Pieces.{spell}
-use Rattle.rrd_file.specs.Layout.Values.{cell_bytes}
-use Rattle.rrd_file.proofs.Judged.{cell_refused, cell_taken, refusal_is}
-use Rattle.rrd_file.proofs.Whole.{whole}
+use Rattle.rrd_file.proofs.Common.{◌≡◌, ◌-◌, sym, subst, arith, Consumes, Gives, left, spell, cell_bytes, cell_refused, cell_taken, refusal_is, whole}
 use Rattle.rrd_file.proofs.cells.read_cell.Goals as goal
 
 pub returns-in-Ok-clause-steps : goal.returns-in-Ok-clause-steps

@@ -1,8 +1,4 @@
-use Rattle.std.proofs.Common.{ap, arith, inl, inr}
-use Rattle.std.proofs.lemmas.Result.{err_from_is_err_and}
-use Rattle.rrd_file.specs.Stages.{Body, body_size}
-use Rattle.rrd_file.proofs.Judged.{cut_body}
-use Rattle.rrd_file.proofs.Reached.{came_on, waited_for}
+use Rattle.rrd_file.proofs.Common.{ap, arith, inl, inr, err_from_is_err_and, Body, body_size, cut_body, came_on, waited_for}
 use Rattle.rrd_file.proofs.cells.read_cells.Goals as goal
 
 pub returns-in_err-wait_for-clause-steps : goal.returns-in_err-wait_for-clause-steps

@@ -1,7 +1,4 @@
-use Rattle.std.proofs.Common.{◌-◌, ◌^◌, ℕ, List}
-use Rattle.rrd_file.specs.Stages.{Body}
-use Rattle.rrd_file.specs.Progress.{Stands}
-use Rattle.rrd_file.proofs.Reached.{CellCame}
+use Rattle.rrd_file.proofs.Common.{◌-◌, ◌^◌, ℕ, List, Body, Stands, CellCame}
 use Rattle.rrd_file.proofs.cells.read_cells.Given as goal
 
 abbrev pub invariant-loop-input : goal.invariant-loop-input

@@ -1,6 +1,4 @@
-use Rattle.std.proofs.Common.{◌≡◌, ◌≤◌, arith, length, take}
-use Rattle.std.proofs.lemmas.List.{length-take-le}
-use Rattle.rrd_file.proofs.CellRuns.{some_taken}
+use Rattle.rrd_file.proofs.Common.{◌≡◌, ◌≤◌, arith, length, take, length-take-le, some_taken}
 use Rattle.rrd_file.proofs.cells.take_rows.Goals as goal
 
 pub returns-then-taken-gt0-clause-steps : goal.returns-then-taken-gt0-clause-steps

@@ -1,8 +1,4 @@
-use Rattle.std.proofs.Common.{◌∙◌, ap, sym, subst, replicate}
-use Rattle.std.proofs.lemmas.List.{length-replicate, take-replicate}
-use Rattle.rrd_fixed.specs.declared.cell.Cell.TheVariants.{Unknown}
-use Rattle.rrd_base.specs.Rebuild.Runs.{MayCells, with_cells}
-use Rattle.rrd_file.proofs.CellRuns.{some_taken}
+use Rattle.rrd_file.proofs.Common.{◌∙◌, ap, sym, subst, replicate, length-replicate, take-replicate, Unknown, MayCells, with_cells, some_taken}
 use Rattle.rrd_file.proofs.cells.take_unknown.Goals as goal
 
 pub returns-then-taken-gt0-clause-steps : goal.returns-then-taken-gt0-clause-steps

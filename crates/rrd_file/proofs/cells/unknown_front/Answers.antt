@@ -1,8 +1,4 @@
-use Rattle.std.proofs.Common.{◌*◌, ◌≡◌, ◌∙◌, ◌++◌, ℕ, List, ap, sym, arith, length, length-append, append_assoc, replicate}
-use Rattle.std.proofs.lemmas.List.{length-replicate, take-append-drop}
-use Rattle.rrd_fixed.specs.declared.cell.Cell.TheVariants.{Unknown}
-use Rattle.rrd_file.proofs.CellRuns.{bytes_count, cells_bytes, unknown_bytes_on, unknown_read}
-use Rattle.rrd_file.proofs.Judged.{same_bytes}
+use Rattle.rrd_file.proofs.Common.{◌*◌, ◌≡◌, ◌∙◌, ◌++◌, ℕ, List, ap, sym, arith, length, length-append, append_assoc, replicate, length-replicate, take-append-drop, Unknown, bytes_count, cells_bytes, unknown_bytes_on, unknown_read, same_bytes}
 use Rattle.rrd_file.proofs.cells.unknown_front.Goals as goal
 
 pub returns-then-ne-clause-few : goal.returns-then-ne-clause-few
@@ -28,10 +24,7 @@ loop-rest-preserved c =
     let some = cells_bytes (replicate n Unknown) in
     let front_is : front ≡ some = same_bytes front c.unknown_bytes.result.now c.if-ne.ensures ∙ c.unknown_bytes.ensures.bytes in
     let parts : front ++ more ≡ rest = (λ i. c.split_at.ensures.front i ++ c.split_at.ensures.back i) ∙ take-append-drop (n * 16) rest in
-    c.loop-rest.invariant
-    ∙ ap (λ (l : List ℕ). before ++ l) (sym parts ∙ ap (λ (l : List ℕ). l ++ more) front_is)
-    ∙ sym (append_assoc before some more)
-    ∙ ap (λ (l : List ℕ). l ++ more) (unknown_bytes_on c.loop-rest.count n)
+    cc (c.loop-rest.invariant, sym parts ∙ ap (λ (l : List ℕ). l ++ more) front_is, append_assoc before some more, unknown_bytes_on c.loop-rest.count n)
 
 pub returns-clause-few : goal.returns-clause-few
 returns-clause-few c =

@@ -1,7 +1,4 @@
-use Rattle.std.proofs.Common.{◌≡◌, ◌++◌, length, replicate}
-use Rattle.std.specs.List.{flat_map}
-use Rattle.rrd_fixed.specs.declared.cell.Cell.TheVariants.{Unknown}
-use Rattle.rrd_file.specs.Layout.Values.{cell_bytes}
+use Rattle.rrd_file.proofs.Common.{◌≡◌, ◌++◌, length, replicate, flat_map, Unknown, cell_bytes}
 use Rattle.rrd_file.proofs.cells.unknown_front.Given as goal
 
 abbrev pub invariant-loop-rest : goal.invariant-loop-rest

@@ -1,4 +1,4 @@
-use Rattle.std.proofs.Common.{◌≤◌, length}
+use Rattle.rrd_file.proofs.Common.{◌≤◌, length}
 use Rattle.rrd_file.proofs.cells.without_unknown_end.Given as goal
 
 abbrev pub invariant-loop-end : goal.invariant-loop-end

@@ -1,13 +1,4 @@
-use Rattle.std.proofs.Common.{sym, subst, map, arith}
-use Rattle.rrd_spec.specs.History.{Rra}
-use Rattle.rrd_spec.specs.Files.Slots.{cells_by_slot}
-use Rattle.rrd_file.specs.Layout.{spelled}
-use Rattle.rrd_file.specs.Layout.Pieces.{OfCell}
-use Rattle.rrd_file.specs.Writer.{Adds}
-use Rattle.rrd_file.proofs.Told.{there}
-use Rattle.rrd_file.proofs.CellsFiled.{cells_spelled}
-use Rattle.std.proofs.lemmas.Result.{err_from_is_err_and}
-use Rattle.rrd_file.proofs.Gathering.{all_added, item_added, item_broken}
+use Rattle.rrd_file.proofs.Common.{sym, subst, map, arith, Rra, cells_by_slot, spelled, OfCell, Adds, there, cells_spelled, err_from_is_err_and, all_added, item_added, item_broken}
 use Rattle.rrd_file.proofs.cells.write_cells.Goals as goal
 
 pub returns-in_err-write_slots : goal.returns-in_err-write_slots

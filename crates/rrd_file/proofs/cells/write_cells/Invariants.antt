@@ -1,10 +1,4 @@
-use Rattle.std.proofs.Common.{map, take}
-use Rattle.std.specs.List.{flat_map}
-use Rattle.rrd_spec.specs.History.{Rra}
-use Rattle.rrd_spec.specs.Files.Slots.{cells_by_slot}
-use Rattle.rrd_file.specs.Layout.{spelled}
-use Rattle.rrd_file.specs.Layout.Pieces.{OfCell}
-use Rattle.rrd_file.specs.Writer.{Adds}
+use Rattle.rrd_file.proofs.Common.{map, take, flat_map, Rra, cells_by_slot, spelled, OfCell, Adds}
 use Rattle.rrd_file.proofs.cells.write_cells.Given as goal
 
 abbrev pub invariant-loop-archive : goal.invariant-loop-archive

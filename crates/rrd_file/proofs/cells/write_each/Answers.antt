@@ -1,8 +1,4 @@
-use Rattle.std.proofs.Common.{◌≡◌, ◌∙◌, ◌++◌, ◌+◌, ◌-◌, ap, subst, arith, take, drop}
-use Rattle.rrd_file.specs.Writer.{Adds, Breaks}
-use Rattle.std.proofs.lemmas.Result.{err_from_is_err_and}
-use Rattle.rrd_file.proofs.CellRuns.{cells_bytes, more_spelled, rest_spelled}
-use Rattle.rrd_file.proofs.Gathering.{adds_then, breaks_then, no_room, piece_added}
+use Rattle.rrd_file.proofs.Common.{◌≡◌, ◌∙◌, ◌++◌, ◌+◌, ◌-◌, ap, subst, arith, take, drop, Adds, Breaks, err_from_is_err_and, cells_bytes, more_spelled, rest_spelled, adds_then, breaks_then, no_room, piece_added}
 use Rattle.rrd_file.proofs.cells.write_each.Goals as goal
 
 pub returns-in_err-make_room : goal.returns-in_err-make_room

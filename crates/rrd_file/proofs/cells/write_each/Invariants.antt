@@ -1,7 +1,4 @@
-use Rattle.std.proofs.Common.{◌≤◌, ◌-◌, length, map, take}
-use Rattle.std.specs.List.{flat_map}
-use Rattle.rrd_file.specs.Layout.Pieces.{OfCell, spell}
-use Rattle.rrd_file.specs.Writer.{Adds}
+use Rattle.rrd_file.proofs.Common.{◌≤◌, ◌-◌, length, map, take, flat_map, OfCell, spell, Adds}
 use Rattle.rrd_file.proofs.cells.write_each.Given as goal
 
 abbrev pub invariant-loop-done : goal.invariant-loop-done

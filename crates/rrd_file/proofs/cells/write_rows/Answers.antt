@@ -1,6 +1,4 @@
-use Rattle.std.proofs.Common.{subst}
-use Rattle.rrd_file.specs.Writer.{Gathers}
-use Rattle.rrd_file.proofs.Turned.{all_rows}
+use Rattle.rrd_file.proofs.Common.{subst, Gathers, all_rows}
 use Rattle.rrd_file.proofs.cells.write_rows.Goals as goal
 
 pub returns : goal.returns

@@ -1,11 +1,4 @@
-use Rattle.std.proofs.Common.{◌≡◌, ◌≤◌, ◌∙◌, ◌+◌, ◌-◌, ◌++◌, List, ap, subst, map, drop, take, arith}
-use Rattle.rrd_fixed.specs.declared.cell.Cell.{Cell}
-use Rattle.rrd_file.specs.Writer.{Adds, Breaks}
-use Rattle.rrd_file.specs.Layout.{row_pieces, spelled}
-use Rattle.rrd_file.specs.Layout.Pieces.{OfCell}
-use Rattle.std.proofs.lemmas.Result.{err_from_is_err_and}
-use Rattle.rrd_file.proofs.Gathering.{adds_then, breaks_stop, breaks_then}
-use Rattle.rrd_file.proofs.Turned.{rows_on, rows_spelled}
+use Rattle.rrd_file.proofs.Common.{◌≡◌, ◌≤◌, ◌∙◌, ◌+◌, ◌-◌, ◌++◌, List, ap, subst, map, drop, take, arith, Cell, Adds, Breaks, row_pieces, spelled, OfCell, err_from_is_err_and, adds_then, breaks_stop, breaks_then, rows_on, rows_spelled}
 use Rattle.rrd_file.proofs.cells.write_rows_between.Goals as goal
 
 pub returns-in_err-write_each : goal.returns-in_err-write_each
@@ -33,14 +26,9 @@ loop-index-preserved g c =
     let n = c.together-count.result.0 in
     let after : from ≤ index = c.loop-index.invariant.after in
     let same = ap (λ (cells : List Cell). spelled (map OfCell cells)) c.together-count.ensures.cells ∙ rows_spelled (take n (drop index rows)) in
-    record {
-      after = omega (arith, after);
-      most = omega (arith, after, c.together-count.ensures.few, c.loop-index-test.true);
-      added = subst (Adds _ _ _) (ap (λ l. spelled (row_pieces (take (index - from) (drop from rows))) ++ l) same ∙ rows_on rows from index n after) (adds_then c.loop-index.invariant.added c.in_ok-write_each.ensures);
-    }
+    grind (arith, subst (Adds _ _ _) (ap (λ l. spelled (row_pieces (take (index - from) (drop from rows))) ++ l) same ∙ rows_on rows from index n after) (adds_then c.loop-index.invariant.added c.in_ok-write_each.ensures))
 
 pub returns : goal.returns
 returns g c =
-    let rows = g.T.Table.table c.args.rows.now in
     let all : c.loop-index.index - c.args.from ≡ c.args.to - c.args.from = omega (arith, c.loop-index.invariant.most, c.loop-index-test.false) in
-    subst (Adds _ _ _) (ap (λ k. spelled (row_pieces (take k (drop c.args.from rows)))) all) c.loop-index.invariant.added
+    subst (Adds _ _ _) (ap (λ k. spelled (row_pieces (take k (drop c.args.from (g.T.Table.table c.args.rows.now))))) all) c.loop-index.invariant.added

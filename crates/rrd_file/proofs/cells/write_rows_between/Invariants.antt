@@ -1,6 +1,4 @@
-use Rattle.std.proofs.Common.{◌≤◌, ◌-◌, drop, take}
-use Rattle.rrd_file.specs.Layout.{row_pieces, spelled}
-use Rattle.rrd_file.specs.Writer.{Adds}
+use Rattle.rrd_file.proofs.Common.{◌≤◌, ◌-◌, drop, take, row_pieces, spelled, Adds}
 use Rattle.rrd_file.proofs.cells.write_rows_between.Given as goal
 
 abbrev pub invariant-loop-index : goal.invariant-loop-index

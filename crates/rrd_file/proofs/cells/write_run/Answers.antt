@@ -1,13 +1,4 @@
-use Rattle.std.proofs.Common.{List, ◌≡◌, ◌≤◌, ◌+◌, ◌-◌, ◌*◌, ◌++◌, ◌∙◌, sym, subst, arith, length, min, ap}
-use Rattle.std.specs.List.{slice_range}
-use Rattle.std.proofs.lemmas.Nat.{mul-le}
-use Rattle.std.proofs.lemmas.Result.{err_from_is_err_and}
-use Rattle.rrd_fixed.specs.declared.cell.Cell.{Cell}
-use Rattle.rrd_file.specs.Writer.{Breaks, Gathers}
-use Rattle.rrd_file.specs.Layout.{row_pieces, spelled}
-use Rattle.rrd_file.proofs.Gathering.{breaks_stop, gathers_then}
-use Rattle.rrd_file.proofs.Told.{archive_at, there}
-use Rattle.rrd_file.proofs.Turned.{run_spelled, unknown}
+use Rattle.rrd_file.proofs.Common.{List, ◌≡◌, ◌≤◌, ◌+◌, ◌-◌, ◌*◌, ◌++◌, ◌∙◌, sym, subst, arith, length, min, ap, slice_range, mul-le, err_from_is_err_and, Cell, Breaks, Gathers, row_pieces, spelled, breaks_stop, gathers_then, archive_at, there, run_spelled, unknown}
 use Rattle.rrd_file.proofs.cells.write_run.Goals as goal
 
 pub overflow_mul-unwritten : goal.overflow_mul-unwritten

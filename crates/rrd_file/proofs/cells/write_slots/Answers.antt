@@ -1,12 +1,4 @@
-use Rattle.std.proofs.Common.{◌≡◌, ◌∙◌, ap, sym, subst, arith}
-use Rattle.std.specs.List.{slice_range}
-use Rattle.std.proofs.lemmas.Result.{err_from_is_err_and}
-use Rattle.rrd_spec.specs.Settings.{resolution}
-use Rattle.rrd_file.specs.Writer.{Breaks, Gathers}
-use Rattle.rrd_file.specs.Layout.{row_pieces, spelled}
-use Rattle.rrd_file.proofs.CellsFiled.{def_of, rows_are, small_def}
-use Rattle.rrd_file.proofs.Gathering.{breaks_stop, gathers_then}
-use Rattle.rrd_file.proofs.Turned.{archive_spelled}
+use Rattle.rrd_file.proofs.Common.{◌≡◌, ◌∙◌, ap, sym, subst, arith, slice_range, err_from_is_err_and, resolution, Breaks, Gathers, row_pieces, spelled, def_of, rows_are, small_def, breaks_stop, gathers_then, archive_spelled}
 use Rattle.rrd_file.proofs.cells.write_slots.Goals as goal
 
 pub resolution-requires : goal.resolution-requires

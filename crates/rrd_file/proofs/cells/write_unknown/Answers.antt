@@ -1,10 +1,4 @@
-use Rattle.std.proofs.Common.{◌≡◌, ◌∙◌, ◌+◌, ◌-◌, ap, replicate, subst, arith}
-use Rattle.rrd_fixed.specs.declared.cell.Cell.TheVariants.{Unknown}
-use Rattle.rrd_file.specs.Writer.{Adds, Breaks}
-use Rattle.std.proofs.lemmas.Result.{err_from_is_err_and}
-use Rattle.rrd_file.proofs.CellRuns.{cells_bytes}
-use Rattle.rrd_file.proofs.Gathering.{adds_then, breaks_then, no_room, piece_added}
-use Rattle.rrd_file.proofs.Turned.{unknown, unknown_more, unknown_on}
+use Rattle.rrd_file.proofs.Common.{◌≡◌, ◌∙◌, ◌+◌, ◌-◌, ap, replicate, subst, arith, Unknown, Adds, Breaks, err_from_is_err_and, cells_bytes, adds_then, breaks_then, no_room, piece_added, unknown, unknown_more, unknown_on}
 use Rattle.rrd_file.proofs.cells.write_unknown.Goals as goal
 
 pub returns-in_err-make_room : goal.returns-in_err-make_room
@@ -17,11 +11,10 @@ returns-in_err-make_room g c =
 
 pub loop-done-preserved : goal.loop-done-preserved
 loop-done-preserved g c =
-    let done = c.loop-done.done in
     let more = c.min-more.result in
     record {
       few = omega (arith, c.min-more.ensures, c.loop-done-test.true);
-      added = subst (Adds _ _ _) (unknown_on done more) (adds_then c.loop-done.invariant.added (piece_added (cells_bytes (replicate more Unknown)) c.in_ok-make_room.ensures.added c.unknown.ensures));
+      added = subst (Adds _ _ _) (unknown_on c.loop-done.done more) (adds_then c.loop-done.invariant.added (piece_added (cells_bytes (replicate more Unknown)) c.in_ok-make_room.ensures.added c.unknown.ensures));
     }
 
 pub returns : goal.returns

@@ -1,6 +1,4 @@
-use Rattle.std.proofs.Common.{◌≤◌, ◌-◌}
-use Rattle.rrd_file.specs.Writer.{Adds}
-use Rattle.rrd_file.proofs.Turned.{unknown}
+use Rattle.rrd_file.proofs.Common.{◌≤◌, ◌-◌, Adds, unknown}
 use Rattle.rrd_file.proofs.cells.write_unknown.Given as goal
 
 abbrev pub invariant-loop-done : goal.invariant-loop-done

@@ -1,6 +1,4 @@
-use Rattle.std.proofs.Common.{rules}
-use Rattle.std.proofs.lemmas.Result.{err_from_is_err_and}
-use Rattle.rrd_file.proofs.Gathering.{all_written, front_written}
+use Rattle.rrd_file.proofs.Common.{rules, err_from_is_err_and, all_written, front_written}
 use Rattle.rrd_file.proofs.encoded.encode_journal.Goals as goal
 
 pub returns-in_err-write_entries : goal.returns-in_err-write_entries

@@ -1,6 +1,4 @@
-use Rattle.std.proofs.Common.{◌≡◌, ◌∙◌, ap, refl, true, false, Bool}
-use Rattle.rrd_spec.specs.declared.version.Version.TheVariants.{One, Two}
-use Rattle.rrd_file.proofs.Fronts.{first_begins}
+use Rattle.rrd_file.proofs.Common.{◌≡◌, ◌∙◌, ap, refl, true, false, Bool, One, Two, first_begins}
 use Rattle.rrd_file.proofs.encoded.is_newest.Goals as goal
 
 pub returns : goal.returns

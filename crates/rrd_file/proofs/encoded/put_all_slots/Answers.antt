@@ -1,15 +1,5 @@
-use Rattle.std.proofs.Common.{◌≡◌, ◌∙◌, ◌++◌, ◌+◌, ◌-◌, ◌*◌, [], ◌∷◌, rules, arith, ap, drop, get_or, length, refl, subst, sym, take}
-use Rattle.std.specs.List.{All}
-use Rattle.std.proofs.Math.Seq.{drop-drop}
-use Rattle.std.proofs.lemmas.List.{get_or-drop, get_or-take}
-use Rattle.std.proofs.lemmas.Nat.{mul-le}
-use Rattle.rrd_spec.specs.History.{Rra}
-use Rattle.rrd_file.specs.Encoded.{HoldsSlots}
-use Rattle.rrd_file.specs.Spans.{IsBeside}
-use Rattle.rrd_file.proofs.CellsFiled.{def_of, same_def, small_def}
-use Rattle.rrd_file.proofs.CellsHeld.{ArePutBefore, archive_bytes, archives_begin, archives_end, turn_of}
-use Rattle.rrd_file.proofs.Spanned.{add_span, beside_earlier, beside_part}
-use Rattle.rrd_file.proofs.Told.{some_is, there}
+use Rattle.rrd_file.proofs.Common.{◌≡◌, ◌∙◌, ◌++◌, ◌+◌, ◌-◌, ◌*◌, [], ◌∷◌, rules, arith, ap, drop, get_or, length, refl, subst, sym, take, All, drop-drop, get_or-drop, get_or-take, mul-le, Rra, HoldsSlots, IsBeside, def_of, same_def, small_def, ArePutBefore, archives_begin, archives_end, turn_of, add_span, beside_earlier, beside_part, some_is, there}
+use Rattle.rrd_file.proofs.CellsHeld.{archive_bytes}
 use Rattle.rrd_file.proofs.encoded.put_all_slots.Goals as goal
 
 pub loop-archive-init : goal.loop-archive-init
@@ -33,25 +23,23 @@ overflow_mul-end c =
 pub overflow_add-end : goal.overflow_add-end
 overflow_add-end c =
     let d = c.args.database.now.content in
-    let at = c.loop-archive.at in
     let size = 16 * (c.archive.result.rows * c.sources.result) in
     let found = there d.archives c.loop-archive.archive (omega (arith, c.archives-archive-end.ensures.count, c.loop-archive-test.true)) in
     let a = found.0 in
     let same = same_def d c.loop-archive.archive c.archive.result a (def_of d c.loop-archive.archive c.archive.result c.archive.ensures) found.1 in
     let size_is : size ≡ 16 * (a.def.rows * length d.sources) = λ i. 16 * ((sym same i).rows * c.sources.ensures.count i) in
-    let turn = turn_of c.rows_stand_in_slots.ensures.row d c.database_is_valid.ensures.content_is c.loop-archive.cells c.args.last at c.loop-archive.archive size a c.loop-archive.invariant.put found.1 size_is in
+    let turn = turn_of c.rows_stand_in_slots.ensures.row d c.database_is_valid.ensures.content_is c.loop-archive.cells c.args.last c.loop-archive.at c.loop-archive.archive size a c.loop-archive.invariant.put found.1 size_is in
     omega (arith, turn.within, c.loop-archive.auto.cells)
 
 pub slice_bounds-put_slots-end : goal.slice_bounds-put_slots-end
 slice_bounds-put_slots-end c =
     let d = c.args.database.now.content in
-    let at = c.loop-archive.at in
     let size = 16 * (c.archive.result.rows * c.sources.result) in
     let found = there d.archives c.loop-archive.archive (omega (arith, c.archives-archive-end.ensures.count, c.loop-archive-test.true)) in
     let a = found.0 in
     let same = same_def d c.loop-archive.archive c.archive.result a (def_of d c.loop-archive.archive c.archive.result c.archive.ensures) found.1 in
     let size_is : size ≡ 16 * (a.def.rows * length d.sources) = λ i. 16 * ((sym same i).rows * c.sources.ensures.count i) in
-    let turn = turn_of c.rows_stand_in_slots.ensures.row d c.database_is_valid.ensures.content_is c.loop-archive.cells c.args.last at c.loop-archive.archive size a c.loop-archive.invariant.put found.1 size_is in
+    let turn = turn_of c.rows_stand_in_slots.ensures.row d c.database_is_valid.ensures.content_is c.loop-archive.cells c.args.last c.loop-archive.at c.loop-archive.archive size a c.loop-archive.invariant.put found.1 size_is in
     omega (arith, turn.within)
 
 pub put_slots-requires-clause-held : goal.put_slots-requires-clause-held

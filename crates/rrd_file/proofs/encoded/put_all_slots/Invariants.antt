@@ -1,7 +1,4 @@
-use Rattle.std.proofs.Common.{◌≡◌, ◌+◌, ℕ, get_or}
-use Rattle.std.specs.List.{All}
-use Rattle.rrd_file.specs.Spans.{IsBeside}
-use Rattle.rrd_file.proofs.CellsHeld.{ArePutBefore}
+use Rattle.rrd_file.proofs.Common.{◌≡◌, ◌+◌, ℕ, get_or, All, IsBeside, ArePutBefore}
 use Rattle.rrd_file.proofs.encoded.put_all_slots.Given as goal
 
 abbrev pub invariant-loop-archive : goal.invariant-loop-archive

@@ -1,9 +1,4 @@
-use Rattle.std.proofs.Common.{◌≡◌, ◌∙◌, ◌+◌, ◌-◌, ◌≤◌, ◌++◌, ℕ, List, ap, arith, drop, get_or, length, length-append, subst, sym}
-use Rattle.std.specs.List.{All}
-use Rattle.std.proofs.lemmas.List.{drop_at, get_or-append_right}
-use Rattle.rrd_file.specs.Encoded.{HoldsCells}
-use Rattle.rrd_file.specs.Spans.{IsBeside}
-use Rattle.rrd_file.proofs.Spanned.{on_ok}
+use Rattle.rrd_file.proofs.Common.{◌≡◌, ◌∙◌, ◌+◌, ◌-◌, ◌≤◌, ◌++◌, ℕ, List, ap, arith, drop, get_or, length, length-append, subst, sym, All, drop_at, get_or-append_right, HoldsCells, IsBeside, on_ok}
 use Rattle.rrd_file.proofs.encoded.put_before_journal.Goals as goal
 
 pub split_at_mut-old_front-requires : goal.split_at_mut-old_front-requires

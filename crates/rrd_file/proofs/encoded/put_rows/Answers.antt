@@ -1,19 +1,8 @@
-use Rattle.std.proofs.Common.{◌≡◌, ◌∙◌, ◌++◌, ◌+◌, ◌-◌, ◌*◌, ◌≤◌, arith, ap, drop, length, refl, take}
-use Rattle.std.proofs.Math.Seq.{drop-drop}
-use Rattle.std.proofs.lemmas.Nat.{mul-le}
-use Rattle.rrd_file.specs.Encoded.{row_bytes}
-use Rattle.rrd_file.proofs.CellRuns.{cells_bytes}
-use Rattle.rrd_file.proofs.Overwritten.{cells_of_rows, many_cells, put_begins, put_ends, put_goes_on, put_within}
-use Rattle.rrd_file.proofs.Spanned.{before_part}
+use Rattle.rrd_file.proofs.Common.{◌≡◌, ◌∙◌, ◌++◌, ◌+◌, ◌-◌, ◌*◌, ◌≤◌, arith, ap, drop, length, refl, take, drop-drop, mul-le, row_bytes, cells_bytes, cells_of_rows, many_cells, put_begins, put_ends, put_goes_on, put_within, before_part}
 use Rattle.rrd_file.proofs.encoded.put_rows.Goals as goal
 
 pub loop-index-init : goal.loop-index-init
-loop-index-init g c =
-    record {
-      put = put_begins c.args.into.now (g.T.Table.table c.args.rows.now) c.args.sources c.args.from c.args.to c.args.kept c.requires.order c.requires.there c.requires.wide c.min-index.result (omega (arith, c.min-index.ensures, c.max.ensures)) c.requires.held;
-      same = λ k low. refl;
-      later = omega arith;
-    }
+loop-index-init g c = grind (arith, put_begins c.args.into.now (g.T.Table.table c.args.rows.now) c.args.sources c.args.from c.args.to c.args.kept c.requires.order c.requires.there c.requires.wide c.min-index.result (omega (arith, c.min-index.ensures, c.max.ensures)) c.requires.held)
 
 pub overflow_mul-stays : goal.overflow_mul-stays
 overflow_mul-stays g c =

@@ -1,5 +1,4 @@
-use Rattle.std.proofs.Common.{◌≡◌, ◌-◌, ◌*◌, ◌<◌, ◌≤◌, ℕ, get_or}
-use Rattle.rrd_file.proofs.Overwritten.{ArePut}
+use Rattle.rrd_file.proofs.Common.{◌≡◌, ◌-◌, ◌*◌, ◌<◌, ◌≤◌, ℕ, get_or, ArePut}
 use Rattle.rrd_file.proofs.encoded.put_rows.Given as goal
 
 -- the rows below the index are there; the bytes of the rows below the first that was written stay

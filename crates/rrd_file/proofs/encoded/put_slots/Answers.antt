@@ -1,16 +1,4 @@
-use Rattle.std.proofs.Common.{◌≡◌, ◌∙◌, ◌-◌, ◌*◌, ◌/◌, ◌<◌, ◌++◌, List, arith, ap, length, sym, refl}
-use Rattle.std.specs.List.{slice_range}
-use Rattle.std.proofs.lemmas.Nat.{mul-le}
-use Rattle.rrd_fixed.specs.declared.cell.Cell.{Cell}
-use Rattle.rrd_spec.specs.Files.Places.{place_in}
-use Rattle.rrd_spec.specs.Lemmas.Validity.{rows_wide}
-use Rattle.rrd_spec.specs.Settings.{resolution}
-use Rattle.rrd_file.specs.Encoded.{row_bytes}
-use Rattle.rrd_file.proofs.CellsFiled.{def_of, rows_are, same_def, small_def}
-use Rattle.rrd_file.proofs.SlotsHeld.{are_held, rows_held}
-use Rattle.rrd_file.proofs.Spanned.{beside_both}
-use Rattle.rrd_file.proofs.Told.{archive_at, there}
-use Rattle.rrd_file.proofs.Turned.{archive_spelled}
+use Rattle.rrd_file.proofs.Common.{◌≡◌, ◌∙◌, ◌-◌, ◌*◌, ◌/◌, ◌<◌, ◌++◌, List, arith, ap, length, sym, refl, slice_range, mul-le, Cell, place_in, rows_wide, resolution, row_bytes, def_of, rows_are, same_def, small_def, are_held, rows_held, beside_both, archive_at, there, archive_spelled}
 use Rattle.rrd_file.proofs.encoded.put_slots.Goals as goal
 
 pub resolution-resolution-requires : goal.resolution-resolution-requires
@@ -18,8 +6,7 @@ resolution-resolution-requires c =
     let d = c.args.database.now.content in
     let def = c.archive-def.result in
     let valid = c.database_is_valid.ensures.content_is in
-    let is = def_of d c.args.archive def c.archive-def.ensures in
-    let small = small_def d c.args.archive def valid is in
+    let small = small_def d c.args.archive def valid (def_of d c.args.archive def c.archive-def.ensures) in
     record {
       some_step = rw c.step.ensures valid.some_step;
       small_step = rw c.step.ensures valid.small_step;
@@ -32,8 +19,7 @@ first_slot_row-first-requires c =
     let d = c.args.database.now.content in
     let def = c.archive-def.result in
     let valid = c.database_is_valid.ensures.content_is in
-    let is = def_of d c.args.archive def c.archive-def.ensures in
-    let small = small_def d c.args.archive def valid is in
+    let small = small_def d c.args.archive def valid (def_of d c.args.archive def c.archive-def.ensures) in
     record {
       some_seconds = c.resolution-resolution.ensures.some;
       in_time = rw c.last.ensures valid.good_time;
@@ -45,18 +31,14 @@ pub overflow_mul-middle : goal.overflow_mul-middle
 overflow_mul-middle c =
     let d = c.args.database.now.content in
     let def = c.archive-def.result in
-    let valid = c.database_is_valid.ensures.content_is in
-    let is = def_of d c.args.archive def c.archive-def.ensures in
-    let small = small_def d c.args.archive def valid is in
+    let small = small_def d c.args.archive def c.database_is_valid.ensures.content_is (def_of d c.args.archive def c.archive-def.ensures) in
     omega (arith, mul-le (def.rows - c.first_slot_row-first.result) c.sources-sources.result 1000000 64 (omega (arith, small.few_rows)) c.sources-sources.ensures.few)
 
 pub overflow_mul-middle-2 : goal.overflow_mul-middle-2
 overflow_mul-middle-2 c =
     let d = c.args.database.now.content in
     let def = c.archive-def.result in
-    let valid = c.database_is_valid.ensures.content_is in
-    let is = def_of d c.args.archive def c.archive-def.ensures in
-    let small = small_def d c.args.archive def valid is in
+    let small = small_def d c.args.archive def c.database_is_valid.ensures.content_is (def_of d c.args.archive def c.archive-def.ensures) in
     omega (arith, mul-le (def.rows - c.first_slot_row-first.result) c.sources-sources.result 1000000 64 (omega (arith, small.few_rows)) c.sources-sources.ensures.few)
 
 pub split_at_mut-newer-requires : goal.split_at_mut-newer-requires
@@ -65,12 +47,9 @@ split_at_mut-newer-requires c =
     let def = c.archive-def.result in
     let valid = c.database_is_valid.ensures.content_is in
     let is = def_of d c.args.archive def c.archive-def.ensures in
-    let small = small_def d c.args.archive def valid is in
     let found = there d.archives c.args.archive c.requires.archive_there in
     let a = found.0 in
-    let archive = archive_at d c.args.archive a valid found.1 in
     let rows : length a.rows ≡ def.rows = rows_are d c.args.archive def a valid is found.1 in
-    let table : c.rows-rows.result.now ≡ a.rows = c.rows-rows.ensures a found.1 in
     let same : a.def ≡ def = same_def d c.args.archive def a is found.1 in
     let sources : c.sources-sources.result ≡ length d.sources = c.sources-sources.ensures.count in
     let size : c.resolution-resolution.result ≡ resolution d.step a.def = c.resolution-resolution.ensures.value ∙ ap (λ n. resolution n def) c.step.ensures ∙ ap (λ x. resolution d.step x) (sym same) in
@@ -78,7 +57,7 @@ split_at_mut-newer-requires c =
     let ended : c.saturating_sub-ended.result ≡ d.last / c.resolution-resolution.result - c.args.last / c.resolution-resolution.result = c.saturating_sub-ended.ensures ∙ ap (λ t. t / c.resolution-resolution.result - c.args.last / c.resolution-resolution.result) c.last-2.ensures in
     let kept : c.saturating_sub-kept.result ≡ length a.rows - (d.last / c.resolution-resolution.result - c.args.last / c.resolution-resolution.result) = c.saturating_sub-kept.ensures ∙ (λ i. sym rows i - ended i) in
     let mid : 16 * ((def.rows - c.first_slot_row-first.result) * c.sources-sources.result) ≡ 16 * ((length a.rows - c.first_slot_row-first.result) * length d.sources) = λ i. 16 * ((sym rows i - c.first_slot_row-first.result) * sources i) in
-    let some : 0 < length a.rows = omega (arith, rows, small.some_rows) in
+    let some : 0 < length a.rows = omega (arith, rows, (small_def d c.args.archive def valid is).some_rows) in
     let held = are_held c.rows_stand_in_slots.ensures.row c.rows_stay_in_slots.ensures.row c.args.cells.now d c.args.last a c.resolution-resolution.result c.first_slot_row-first.result c.saturating_sub-kept.result (16 * ((def.rows - c.first_slot_row-first.result) * c.sources-sources.result)) (c.requires.held a found.1) c.resolution-resolution.ensures.some size some first kept mid in
     held.within
 
@@ -91,7 +70,6 @@ put_rows-newer_stays-requires c =
     let small = small_def d c.args.archive def valid is in
     let found = there d.archives c.args.archive c.requires.archive_there in
     let a = found.0 in
-    let archive = archive_at d c.args.archive a valid found.1 in
     let rows : length a.rows ≡ def.rows = rows_are d c.args.archive def a valid is found.1 in
     let table : c.rows-rows.result.now ≡ a.rows = c.rows-rows.ensures a found.1 in
     let same : a.def ≡ def = same_def d c.args.archive def a is found.1 in
@@ -108,7 +86,7 @@ put_rows-newer_stays-requires c =
       there = omega (arith, ap length table, rows);
       few_rows = small.few_rows;
       few_sources = c.sources-sources.ensures.few;
-      wide = rw (table, sources) (rows_wide (length d.sources) a.rows archive.each_row);
+      wide = rw (table, sources) (rows_wide (length d.sources) a.rows (archive_at d c.args.archive a valid found.1).each_row);
       held = rows_held c.split_at_mut-newer.result.0.now _ c.rows-rows.result.now a.rows c.sources-sources.result (length d.sources) c.first_slot_row-first.result def.rows (length a.rows) c.saturating_sub-kept.result c.split_at_mut-newer.ensures.front table sources (sym rows) held.newer;
     }
 
@@ -121,7 +99,6 @@ put_rows-older_stays-requires c =
     let small = small_def d c.args.archive def valid is in
     let found = there d.archives c.args.archive c.requires.archive_there in
     let a = found.0 in
-    let archive = archive_at d c.args.archive a valid found.1 in
     let rows : length a.rows ≡ def.rows = rows_are d c.args.archive def a valid is found.1 in
     let table : c.rows-rows.result.now ≡ a.rows = c.rows-rows.ensures a found.1 in
     let same : a.def ≡ def = same_def d c.args.archive def a is found.1 in
@@ -138,7 +115,7 @@ put_rows-older_stays-requires c =
       there = omega (arith, ap length table, rows, c.first_slot_row-first.ensures.there);
       few_rows = omega (arith, small.few_rows, c.first_slot_row-first.ensures.there);
       few_sources = c.sources-sources.ensures.few;
-      wide = rw (table, sources) (rows_wide (length d.sources) a.rows archive.each_row);
+      wide = rw (table, sources) (rows_wide (length d.sources) a.rows (archive_at d c.args.archive a valid found.1).each_row);
       held = rows_held c.split_at_mut-newer.result.1.now _ c.rows-rows.result.now a.rows c.sources-sources.result (length d.sources) 0 c.first_slot_row-first.result c.first_slot_row-first.result c.saturating_sub-kept.result c.split_at_mut-newer.ensures.back table sources refl held.older;
     }
 

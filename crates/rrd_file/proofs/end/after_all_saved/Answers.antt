@@ -1,6 +1,4 @@
-use Rattle.std.proofs.Common.{◌∙◌, ◌-◌, ◌+◌, ap, sym}
-use Rattle.rrd_file.specs.End.{after_all_saved}
-use Rattle.rrd_file.proofs.Walked.{saved_done, saved_more}
+use Rattle.rrd_file.proofs.Common.{◌∙◌, ◌-◌, ◌+◌, ap, sym, after_all_saved, saved_done, saved_more}
 use Rattle.rrd_file.proofs.end.after_all_saved.Goals as goal
 
 pub loop-preserved : goal.loop-preserved

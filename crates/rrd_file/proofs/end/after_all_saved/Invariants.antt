@@ -1,5 +1,4 @@
-use Rattle.std.proofs.Common.{◌≡◌, ◌-◌}
-use Rattle.rrd_file.specs.End.{after_all_saved}
+use Rattle.rrd_file.proofs.Common.{◌≡◌, ◌-◌, after_all_saved}
 use Rattle.rrd_file.proofs.end.after_all_saved.Given as goal
 
 abbrev pub invariant-loop : goal.invariant-loop

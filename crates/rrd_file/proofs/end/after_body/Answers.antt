@@ -1,5 +1,4 @@
-use Rattle.std.proofs.Common.{◌∙◌, ◌*◌, ap, drop}
-use Rattle.rrd_file.specs.End.{after_body, after_cells, after_entries, head_size}
+use Rattle.rrd_file.proofs.Common.{◌∙◌, ◌*◌, ap, drop, after_body, after_cells, after_entries, head_size}
 use Rattle.rrd_file.proofs.end.after_body.Goals as goal
 
 pub returns : goal.returns

@@ -1,6 +1,4 @@
-use Rattle.std.proofs.Common.{◌∙◌, ◌-◌, ◌+◌, ap, sym, drop}
-use Rattle.rrd_file.specs.End.{after_cells, four_in, head_size, rows_size}
-use Rattle.rrd_file.proofs.Walked.{cells_done, cells_more}
+use Rattle.rrd_file.proofs.Common.{◌∙◌, ◌-◌, ◌+◌, ap, sym, drop, after_cells, four_in, head_size, rows_size, cells_done, cells_more}
 use Rattle.rrd_file.proofs.end.after_cells.Goals as goal
 
 pub loop-preserved : goal.loop-preserved

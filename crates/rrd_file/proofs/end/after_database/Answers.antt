@@ -1,6 +1,4 @@
-use Rattle.std.proofs.Common.{◌∙◌, ap, sym}
-use Rattle.rrd_file.specs.End.{after_version, two_in}
-use Rattle.rrd_file.proofs.Walked.{no_version, right_version}
+use Rattle.rrd_file.proofs.Common.{◌∙◌, ap, sym, after_version, two_in, no_version, right_version}
 use Rattle.rrd_file.proofs.end.after_database.Goals as goal
 
 pub returns-in-Some : goal.returns-in-Some

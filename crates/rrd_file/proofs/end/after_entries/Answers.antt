@@ -1,8 +1,4 @@
-use Rattle.std.proofs.Common.{◌≡◌, ◌∙◌, ◌+◌, ◌-◌, ◌<◌, ap, sym, length, arith}
-use Rattle.std.proofs.lemmas.Bool.Decides.{nat_tests}
-use Rattle.rrd_file.specs.End.{after_entries, after_tag}
-use Rattle.rrd_file.specs.Journal.{tag_said}
-use Rattle.rrd_file.proofs.Walked.{entries_bad, entries_done, entries_more, entries_short}
+use Rattle.rrd_file.proofs.Common.{◌≡◌, ◌∙◌, ◌+◌, ◌-◌, ◌<◌, ap, sym, length, arith, nat_tests, after_entries, after_tag, tag_said, entries_bad, entries_done, entries_more, entries_short}
 use Rattle.rrd_file.proofs.end.after_entries.Goals as goal
 
 pub returns-then-is_empty : goal.returns-then-is_empty
@@ -18,12 +14,11 @@ returns-in_default c =
 pub loop-preserved : goal.loop-preserved
 loop-preserved c =
     let n = c.args.sources in
-    let left = c.args.entries - (c.loop.counter + 1) in
     let tag = tag_said c.in-Some.tag in
     let some : 0 < length c.loop.rest.now = grind (arith, nat_tests) in
     let rest = c.after_tag-rest.ensures ∙ ap (after_tag n c.loop.count tag) c.after.ensures in
     record {
-      follows = (λ i. after_entries n (c.archives_before-count.ensures.number i) left (rest i))
+      follows = (λ i. after_entries n (c.archives_before-count.ensures.number i) (c.args.entries - (c.loop.counter + 1)) (rest i))
           ∙ entries_more n c.loop.count c.args.entries c.loop.counter tag c.loop.rest.now c.loop-test.true some c.in-Some.ensures.some ∙ c.loop.invariant.follows;
       few = omega (arith, c.archives_before-count.ensures.small, c.loop.invariant.few);
     }

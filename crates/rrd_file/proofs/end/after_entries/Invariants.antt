@@ -1,5 +1,4 @@
-use Rattle.std.proofs.Common.{◌≡◌, ◌+◌, ◌-◌, ◌^◌, ◌≤◌}
-use Rattle.rrd_file.specs.End.{after_entries}
+use Rattle.rrd_file.proofs.Common.{◌≡◌, ◌+◌, ◌-◌, ◌^◌, ◌≤◌, after_entries}
 use Rattle.rrd_file.proofs.end.after_entries.Given as goal
 
 abbrev pub invariant-loop : goal.invariant-loop

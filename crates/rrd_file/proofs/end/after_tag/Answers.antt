@@ -1,19 +1,13 @@
-use Rattle.std.proofs.Common.{◌∙◌, ◌+◌, ◌*◌, ap, sym, drop}
-use Rattle.rrd_file.specs.End.{after_all_saved, after_tag}
-use Rattle.rrd_file.specs.Journal.{tag_said}
+use Rattle.rrd_file.proofs.Common.{◌∙◌, ◌+◌, ◌*◌, ap, sym, drop, after_all_saved, after_tag, tag_said}
 use Rattle.rrd_file.proofs.end.after_tag.Goals as goal
 
 pub returns-in-AnUpdate : goal.returns-in-AnUpdate
 unfolding after_tag
-returns-in-AnUpdate c =
-    c.after_all_saved.ensures ∙ ap (after_all_saved c.args.sources c.args.archives) c.after.ensures
-    ∙ ap (λ t. after_tag c.args.sources c.args.archives (tag_said t) c.args.bytes.now) (sym c.in-AnUpdate.is)
+returns-in-AnUpdate c = cc (c.after_all_saved.ensures, c.after.ensures, c.in-AnUpdate.is)
 
 pub returns-in-ATune : goal.returns-in-ATune
 unfolding after_tag
-returns-in-ATune c =
-    c.after-in-ATune.ensures ∙ ap (λ k. drop (2 + 79 * k) c.args.bytes.now) c.two_in.ensures.number
-    ∙ ap (λ t. after_tag c.args.sources c.args.archives (tag_said t) c.args.bytes.now) (sym c.in-ATune.is)
+returns-in-ATune c = cc (c.after-in-ATune.ensures, c.two_in.ensures.number, c.in-ATune.is)
 
 pub returns-in-AResize : goal.returns-in-AResize
 unfolding after_tag

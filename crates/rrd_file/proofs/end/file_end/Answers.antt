@@ -1,5 +1,4 @@
-use Rattle.std.proofs.Common.{ap, length, arith}
-use Rattle.rrd_file.specs.End.{file_end}
+use Rattle.rrd_file.proofs.Common.{ap, length, arith, file_end}
 use Rattle.rrd_file.proofs.end.file_end.Goals as goal
 
 pub returns : goal.returns

@@ -1,6 +1,4 @@
-use Rattle.std.proofs.Common.{◌∙◌, ap, sym}
-use Rattle.rrd_file.specs.End.{four_in}
-use Rattle.rrd_file.proofs.Walked.{four_first, no_four}
+use Rattle.rrd_file.proofs.Common.{◌∙◌, ap, sym, four_in, four_first, no_four}
 use Rattle.rrd_file.proofs.end.four_in.Goals as goal
 
 pub returns-then-bytes-lt4-clause-number : goal.returns-then-bytes-lt4-clause-number

@@ -1,6 +1,4 @@
-use Rattle.std.proofs.Common.{◌∙◌, ap, sym}
-use Rattle.rrd_file.specs.End.{two_in}
-use Rattle.rrd_file.proofs.Walked.{no_two, two_first}
+use Rattle.rrd_file.proofs.Common.{◌∙◌, ap, sym, two_in, no_two, two_first}
 use Rattle.rrd_file.proofs.end.two_in.Goals as goal
 
 pub returns-then-bytes-lt2-clause-number : goal.returns-then-bytes-lt2-clause-number

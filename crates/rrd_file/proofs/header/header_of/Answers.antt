@@ -1,5 +1,4 @@
-use Rattle.std.proofs.Common.{rules}
-use Rattle.rrd_file.proofs.ReadBack.{header_back}
+use Rattle.rrd_file.proofs.Common.{rules, header_back}
 use Rattle.rrd_file.proofs.header.header_of.Goals as goal
 
 pub returns-clause-spelled : goal.returns-clause-spelled

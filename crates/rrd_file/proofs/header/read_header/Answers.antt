@@ -1,10 +1,4 @@
-use Rattle.std.proofs.Common.{◌≡◌, length, rules, subst, sym}
-use Rattle.std.proofs.lemmas.Result.{err_from_is_err_and}
-use Rattle.rrd_base.specs.Rebuild.Begins.{header_said}
-use Rattle.rrd_spec.specs.declared.version.Version.{Version}
-use Rattle.rrd_file.specs.Stages.{Versioned, header_size}
-use Rattle.rrd_file.specs.Progress.{Stands}
-use Rattle.rrd_file.proofs.Judged.{cut_header, header_refused, header_taken, refusal_is}
+use Rattle.rrd_file.proofs.Common.{◌≡◌, length, rules, subst, sym, err_from_is_err_and, header_said, Version, Versioned, header_size, Stands, cut_header, header_refused, header_taken, refusal_is}
 use Rattle.rrd_file.proofs.header.read_header.Goals as goal
 
 pub returns-in_err-piece : goal.returns-in_err-piece

@@ -1,7 +1,4 @@
-use Rattle.std.proofs.Common.{◌≡◌, length, rules}
-use Rattle.std.proofs.lemmas.Result.{err_from_is_err_and}
-use Rattle.rrd_file.specs.Layout.Pieces.{Mark, spell}
-use Rattle.rrd_file.proofs.Judged.{cut_mark, mark_refused, mark_taken, other_bytes, same_bytes}
+use Rattle.rrd_file.proofs.Common.{◌≡◌, length, rules, err_from_is_err_and, Mark, spell, cut_mark, mark_refused, mark_taken, other_bytes, same_bytes}
 use Rattle.rrd_file.proofs.header.read_mark.Goals as goal
 
 pub returns-in_err-piece : goal.returns-in_err-piece

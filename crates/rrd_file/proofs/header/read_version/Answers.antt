@@ -1,8 +1,4 @@
-use Rattle.std.proofs.Common.{◌≡◌, length, rules, sym}
-use Rattle.std.proofs.lemmas.Result.{err_from_is_err_and}
-use Rattle.rrd_file.specs.Layout.Values.{two_bytes}
-use Rattle.rrd_file.proofs.Judged.{cut_version, version_refused, version_taken}
-use Rattle.rrd_file.proofs.Whole.{whole}
+use Rattle.rrd_file.proofs.Common.{◌≡◌, length, rules, sym, err_from_is_err_and, two_bytes, cut_version, version_refused, version_taken, whole}
 use Rattle.rrd_file.proofs.header.read_version.Goals as goal
 
 pub returns-in_err-piece : goal.returns-in_err-piece

@@ -1,12 +1,4 @@
-use Rattle.std.proofs.Common.{◌≡◌, ◌∙◌, ◌++◌, [], ◌∷◌}
-use Rattle.rrd_spec.specs.Limits.{newest}
-use Rattle.rrd_spec.specs.Files.Filed.{header_of}
-use Rattle.rrd_file.specs.Layout.Pieces.{Mark, OfVersion, OfHeader, header_bytes, spell}
-use Rattle.rrd_file.specs.Layout.{spelled}
-use Rattle.rrd_file.specs.Layout.Values.{eight_bytes, four_bytes, two_bytes}
-use Rattle.std.proofs.lemmas.Result.{err_from_is_err_and}
-use Rattle.rrd_file.proofs.Joined.{head_parts, six_parts}
-use Rattle.rrd_file.proofs.Gathering.{no_room, piece_added}
+use Rattle.rrd_file.proofs.Common.{◌≡◌, ◌∙◌, ◌++◌, [], ◌∷◌, newest, header_of, Mark, OfVersion, OfHeader, header_bytes, spell, spelled, eight_bytes, four_bytes, two_bytes, err_from_is_err_and, head_parts, six_parts, no_room, piece_added}
 use Rattle.rrd_file.proofs.header.write_header.Goals as goal
 
 pub returns-in_err-make_room : goal.returns-in_err-make_room

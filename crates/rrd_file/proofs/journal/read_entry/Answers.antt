@@ -1,10 +1,4 @@
-use Rattle.std.proofs.Common.{ℕ, subst, arith}
-use Rattle.std.proofs.lemmas.Result.{err_from_is_err_and}
-use Rattle.rrd_base.specs.Journal.{entry_of}
-use Rattle.rrd_file.specs.declared.fault.FileFault.TheVariants.{BadEntry}
-use Rattle.rrd_file.specs.Faults.{IsBad}
-use Rattle.rrd_file.proofs.Coming.{closed, denied}
-use Rattle.rrd_file.proofs.Judged.{entry_refusal_is}
+use Rattle.rrd_file.proofs.Common.{ℕ, subst, arith, err_from_is_err_and, entry_of, BadEntry, IsBad, closed, denied, entry_refusal_is}
 use Rattle.rrd_file.proofs.journal.read_entry.Goals as goal
 
 pub returns-in_err-entry-clause-steps : goal.returns-in_err-entry-clause-steps

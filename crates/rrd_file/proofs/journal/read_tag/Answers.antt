@@ -1,12 +1,4 @@
-use Rattle.std.proofs.Common.{◌≡◌, ◌∙◌, sym, ap, get_or, length, rules, subst}
-use Rattle.std.specs.Prelude.{false, true}
-use Rattle.rrd_spec.specs.Files.Rebuilding.{limits}
-use Rattle.rrd_file.specs.Stages.{IsTagWithin}
-use Rattle.std.proofs.lemmas.Result.{err_from_is_err_and}
-use Rattle.rrd_file.specs.Layout.Pieces.{spell, tag_byte}
-use Rattle.rrd_file.specs.Journal.{tag_said}
-use Rattle.rrd_file.proofs.Coming.{came_first, cut_tag, tag_same, wrong_tag}
-use Rattle.rrd_file.proofs.Whole.{one_byte}
+use Rattle.rrd_file.proofs.Common.{◌≡◌, ◌∙◌, sym, ap, get_or, length, rules, subst, false, true, limits, IsTagWithin, err_from_is_err_and, spell, tag_byte, tag_said, came_first, cut_tag, tag_one, wrong_tag, one_byte}
 use Rattle.rrd_file.proofs.journal.read_tag.Goals as goal
 
 pub returns-in_err-piece : goal.returns-in_err-piece
@@ -28,7 +20,7 @@ returns-then-not-is_within g c = λ bytes st.
     let tag = tag_said c.in-Some.tag in
     rw c.bad_entry-then-not-is_within.ensures (wrong_tag bytes c.args.build.now c.args.input.now c.piece.new.self c.piece.new.piece c.requires st c.in_ok-piece.ensures.read len (λ u within e.
     let byte : tag_byte u ≡ tag_byte tag = ap (λ l. get_or l 0 0) e ∙ sym c.in-Some.ensures.some in
-    let bad : false ≡ true = sym c.if-not-is_within.true ∙ c.is_within.ensures.bad (subst (IsTagWithin (limits c.args.build.now)) (tag_same u tag byte) within) in absurd cc))
+    let bad : false ≡ true = sym c.if-not-is_within.true ∙ c.is_within.ensures.bad (subst (IsTagWithin (limits c.args.build.now)) (tag_one u tag byte) within) in absurd cc))
 
 pub returns : goal.returns
 unfolding spell

@@ -1,10 +1,5 @@
-use Rattle.std.proofs.Common.{◌∷◌, [], subst}
-use Rattle.std.proofs.lemmas.Result.{err_from_is_err_and}
+use Rattle.rrd_file.proofs.Common.{◌∷◌, [], subst, err_from_is_err_and, OfTag, tag_said, first_due, Comes}
 use Rattle.rrd_file.specs.declared.layout.Tag.{Tag}
-use Rattle.rrd_file.specs.Layout.Pieces.{OfTag}
-use Rattle.rrd_file.specs.Journal.{tag_said}
-use Rattle.rrd_file.specs.Stages.{first_due}
-use Rattle.rrd_file.specs.Progress.{Comes}
 use Rattle.rrd_file.proofs.journal.read_untaken.Goals as goal
 
 pub returns-in_err-read_tag-clause-closes : goal.returns-in_err-read_tag-clause-closes

@@ -1,11 +1,4 @@
-use Rattle.std.proofs.Common.{sym, subst, arith}
-use Rattle.rrd_spec.specs.Journal.Entries.{Entry}
-use Rattle.rrd_file.specs.Layout.{entry_pieces, spelled}
-use Rattle.rrd_file.specs.Layout.Pieces.{spell}
-use Rattle.rrd_file.specs.Writer.{Adds}
-use Rattle.rrd_file.proofs.Entering.{entry_of_some}
-use Rattle.std.proofs.lemmas.Result.{err_from_is_err_and}
-use Rattle.rrd_file.proofs.Gathering.{all_added, flat_flat, item_added, item_broken}
+use Rattle.rrd_file.proofs.Common.{sym, subst, arith, Entry, entry_pieces, spelled, spell, Adds, entry_of_some, err_from_is_err_and, all_added, flat_flat, item_added, item_broken}
 use Rattle.rrd_file.proofs.journal.write_entries.Goals as goal
 
 pub write_entry-requires : goal.write_entry-requires

@@ -1,8 +1,4 @@
-use Rattle.std.proofs.Common.{take}
-use Rattle.std.specs.List.{flat_map}
-use Rattle.rrd_spec.specs.Journal.Entries.{Entry}
-use Rattle.rrd_file.specs.Layout.{entry_pieces, spelled}
-use Rattle.rrd_file.specs.Writer.{Adds}
+use Rattle.rrd_file.proofs.Common.{take, flat_map, Entry, entry_pieces, spelled, Adds}
 use Rattle.rrd_file.proofs.journal.write_entries.Given as goal
 
 abbrev pub invariant-loop-number : goal.invariant-loop-number

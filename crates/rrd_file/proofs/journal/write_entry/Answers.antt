@@ -1,5 +1,5 @@
-use Rattle.std.proofs.Common.{length}
-use Rattle.rrd_file.proofs.Entering.{removed_fits, small_numbers}
+use Rattle.rrd_file.proofs.Common.{length, removed_fits}
+use Rattle.rrd_file.proofs.Entering.{small_numbers}
 use Rattle.rrd_file.proofs.journal.write_entry.Goals as goal
 
 pub write_tune-requires-clause-numbers : goal.write_tune-requires-clause-numbers

@@ -1,5 +1,4 @@
-use Rattle.std.proofs.Common.{◌∙◌, sym}
-use Rattle.rrd_file.proofs.Joined.{joined_layout}
+use Rattle.rrd_file.proofs.Common.{◌∙◌, sym, joined_layout}
 use Rattle.rrd_file.proofs.laws.encoded_is_layout.Goals as goal
 
 pub returns : goal.returns

@@ -1,4 +1,4 @@
-use Rattle.rrd_file.proofs.Ended.{end_is_found}
+use Rattle.rrd_file.proofs.Common.{end_is_found}
 use Rattle.rrd_file.proofs.laws.ends_are_found.Goals as goal
 
 pub returns : goal.returns

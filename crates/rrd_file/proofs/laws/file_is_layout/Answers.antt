@@ -1,4 +1,4 @@
-use Rattle.rrd_file.proofs.OneAnswer.{file_is_layout}
+use Rattle.rrd_file.proofs.Common.{file_is_layout}
 use Rattle.rrd_file.proofs.laws.file_is_layout.Goals as goal
 
 pub returns : goal.returns

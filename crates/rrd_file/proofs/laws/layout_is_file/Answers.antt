@@ -1,4 +1,4 @@
-use Rattle.rrd_file.proofs.OneAnswer.{layout_is_file, layout_is_no_other}
+use Rattle.rrd_file.proofs.Common.{layout_is_file, layout_is_no_other}
 use Rattle.rrd_file.proofs.laws.layout_is_file.Goals as goal
 
 pub returns-clause-read : goal.returns-clause-read

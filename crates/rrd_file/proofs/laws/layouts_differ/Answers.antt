@@ -1,4 +1,4 @@
-use Rattle.rrd_file.proofs.OneAnswer.{layouts_differ}
+use Rattle.rrd_file.proofs.Common.{layouts_differ}
 use Rattle.rrd_file.proofs.laws.layouts_differ.Goals as goal
 
 pub returns : goal.returns

@@ -1,4 +1,4 @@
-use Rattle.rrd_file.proofs.OneAnswer.{one_answer}
+use Rattle.rrd_file.proofs.Common.{one_answer}
 use Rattle.rrd_file.proofs.laws.one_answer.Goals as goal
 
 pub returns : goal.returns

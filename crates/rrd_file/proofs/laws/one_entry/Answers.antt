@@ -1,4 +1,4 @@
-use Rattle.rrd_file.proofs.OneEntry.{one_entry}
+use Rattle.rrd_file.proofs.Common.{one_entry}
 use Rattle.rrd_file.proofs.laws.one_entry.Goals as goal
 
 pub returns : goal.returns

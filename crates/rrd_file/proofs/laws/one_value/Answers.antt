@@ -1,5 +1,4 @@
-use Rattle.rrd_file.specs.Layout.Pieces.{spell}
-use Rattle.rrd_file.proofs.Spelled.{archive_one, cell_one, part_one, raw_and_part_one, saved_source_one, source_one}
+use Rattle.rrd_file.proofs.Common.{spell, archive_one, cell_one, part_one, raw_and_part_one, saved_source_one, source_one}
 use Rattle.rrd_file.proofs.laws.one_value.Goals as goal
 
 pub returns : goal.returns

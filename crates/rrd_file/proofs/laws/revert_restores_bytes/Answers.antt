@@ -1,4 +1,4 @@
-use Rattle.rrd_file.proofs.OneAnswer.{revert_restores_bytes, revert_restores_bytes_but_oldest}
+use Rattle.rrd_file.proofs.Common.{revert_restores_bytes, revert_restores_bytes_but_oldest}
 use Rattle.rrd_file.proofs.laws.revert_restores_bytes.Goals as goal
 
 pub returns-clause-whole : goal.returns-clause-whole

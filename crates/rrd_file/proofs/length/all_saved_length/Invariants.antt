@@ -1,8 +1,4 @@
-use Rattle.std.proofs.Common.{◌≡◌, ◌*◌, ◌≤◌, length, take}
-use Rattle.std.specs.List.{sum_by}
-use Rattle.rrd_spec.specs.Journal.Entries.{SavedArchive}
-use Rattle.rrd_file.specs.Layout.{saved_pieces, spelled}
-use Rattle.rrd_file.specs.Length.{most_of_saved}
+use Rattle.rrd_file.proofs.Common.{◌≡◌, ◌*◌, ◌≤◌, length, take, sum_by, SavedArchive, saved_pieces, spelled, most_of_saved}
 use Rattle.rrd_file.proofs.length.all_saved_length.Given as goal
 
 abbrev pub invariant-loop-archive : goal.invariant-loop-archive

@@ -1,5 +1,4 @@
-use Rattle.std.proofs.Common.{arith}
-use Rattle.rrd_file.proofs.length.Pieces.{layout_has}
+use Rattle.rrd_file.proofs.Common.{arith, layout_has}
 use Rattle.rrd_file.proofs.length.encoded_length.Goals as goal
 
 pub returns : goal.returns

@@ -1,11 +1,4 @@
-use Rattle.std.proofs.Common.{ap, length, sym, arith}
-use Rattle.std.specs.List.{sum_by}
-use Rattle.std.proofs.lemmas.List.{take_all}
-use Rattle.rrd_spec.specs.Journal.Entries.{Entry}
-use Rattle.rrd_file.specs.Layout.{entry_pieces, spelled}
-use Rattle.rrd_file.proofs.Entering.{entry_of_some}
-use Rattle.rrd_file.proofs.length.Numbers.{sum_next}
-use Rattle.rrd_file.proofs.length.Pieces.{items_have}
+use Rattle.rrd_file.proofs.Common.{ap, length, sym, arith, sum_by, take_all, Entry, entry_pieces, spelled, entry_of_some, sum_next, items_have}
 use Rattle.rrd_file.proofs.length.entries_length.Goals as goal
 
 pub entry_length-length-requires : goal.entry_length-length-requires

@@ -1,8 +1,4 @@
-use Rattle.std.proofs.Common.{◌≡◌, ◌*◌, ◌≤◌, length, take}
-use Rattle.std.specs.List.{sum_by}
-use Rattle.rrd_spec.specs.Journal.Entries.{Entry}
-use Rattle.rrd_file.specs.Layout.{entry_pieces, spelled}
-use Rattle.rrd_file.specs.Length.{most_of_entry}
+use Rattle.rrd_file.proofs.Common.{◌≡◌, ◌*◌, ◌≤◌, length, take, sum_by, Entry, entry_pieces, spelled, most_of_entry}
 use Rattle.rrd_file.proofs.length.entries_length.Given as goal
 
 abbrev pub invariant-loop-number : goal.invariant-loop-number

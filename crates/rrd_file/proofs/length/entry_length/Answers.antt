@@ -1,8 +1,5 @@
-use Rattle.std.proofs.Common.{◌∙◌, ap, length, sym}
+use Rattle.rrd_file.proofs.Common.{◌∙◌, ap, length, sym, entry_of, entry_pieces, spelled, added_has}
 use Rattle.rrd_base.specs.declared.journal.Entry.{Entry}
-use Rattle.rrd_base.specs.Journal.{entry_of}
-use Rattle.rrd_file.specs.Layout.{entry_pieces, spelled}
-use Rattle.rrd_file.proofs.length.Pieces.{added_has}
 use Rattle.rrd_file.proofs.length.entry_length.Goals as goal
 
 pub returns-in-Added-clause-count : goal.returns-in-Added-clause-count

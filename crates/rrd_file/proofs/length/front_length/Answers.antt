@@ -1,5 +1,4 @@
-use Rattle.std.proofs.Common.{◌≡◌, ◌+◌, ◌*◌, ◌/◌, length, arith}
-use Rattle.rrd_file.proofs.length.Pieces.{front_has, heads_have, sources_have}
+use Rattle.rrd_file.proofs.Common.{◌≡◌, ◌+◌, ◌*◌, ◌/◌, length, arith, front_has, heads_have, sources_have}
 use Rattle.rrd_file.proofs.length.front_length.Goals as goal
 
 pub returns-clause-count : goal.returns-clause-count

@@ -1,5 +1,4 @@
-use Rattle.std.proofs.Common.{sym}
-use Rattle.rrd_file.proofs.Entering.{entry_of_some}
+use Rattle.rrd_file.proofs.Common.{sym, entry_of_some}
 use Rattle.rrd_file.proofs.length.newest_entry_length.Goals as goal
 
 pub entry_length-requires : goal.entry_length-requires

@@ -1,9 +1,4 @@
-use Rattle.std.proofs.Common.{◌≡◌, ◌∙◌, ◌*◌, List, ap, length, subst, sym, arith}
-use Rattle.std.proofs.lemmas.List.{length-map}
-use Rattle.rrd_fixed.specs.declared.cell.Cell.{Cell}
-use Rattle.rrd_fold.specs.Bounds.{Consolidating}
-use Rattle.rrd_ring.specs.Rows.{HasWidth}
-use Rattle.rrd_file.proofs.length.Pieces.{removed_has}
+use Rattle.rrd_file.proofs.Common.{◌≡◌, ◌∙◌, ◌*◌, List, ap, length, subst, sym, arith, length-map, Cell, Consolidating, HasWidth, removed_has}
 use Rattle.rrd_file.proofs.length.removed_length.Goals as goal
 
 pub returns-clause-count : goal.returns-clause-count

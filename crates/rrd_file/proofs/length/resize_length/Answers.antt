@@ -1,5 +1,4 @@
-use Rattle.std.proofs.Common.{◌*◌, ap, arith}
-use Rattle.rrd_file.proofs.length.Pieces.{resize_has}
+use Rattle.rrd_file.proofs.Common.{◌*◌, ap, arith, resize_has}
 use Rattle.rrd_file.proofs.length.resize_length.Goals as goal
 
 pub returns-clause-count : goal.returns-clause-count

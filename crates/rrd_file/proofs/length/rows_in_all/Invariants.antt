@@ -1,6 +1,4 @@
-use Rattle.std.proofs.Common.{◌≡◌, ◌*◌, ◌≤◌, take}
-use Rattle.std.specs.List.{sum_by}
-use Rattle.rrd_file.specs.Length.{rows_of}
+use Rattle.rrd_file.proofs.Common.{◌≡◌, ◌*◌, ◌≤◌, take, sum_by, rows_of}
 use Rattle.rrd_file.proofs.length.rows_in_all.Given as goal
 
 abbrev pub invariant-loop-archive : goal.invariant-loop-archive

@@ -1,5 +1,4 @@
-use Rattle.std.proofs.Common.{◌≡◌, ◌∙◌, ◌*◌, ap, length, arith}
-use Rattle.rrd_file.proofs.length.Pieces.{saved_has}
+use Rattle.rrd_file.proofs.Common.{◌≡◌, ◌∙◌, ◌*◌, ap, length, arith, saved_has}
 use Rattle.rrd_file.proofs.length.saved_length.Goals as goal
 
 pub returns-clause-count : goal.returns-clause-count

@@ -1,7 +1,4 @@
-use Rattle.std.proofs.Common.{arith}
-use Rattle.rrd_spec.specs.Journal.Entries.{TuneEntry}
-use Rattle.rrd_spec.specs.Limits.{present}
-use Rattle.rrd_file.proofs.length.Pieces.{tune_has}
+use Rattle.rrd_file.proofs.Common.{arith, TuneEntry, present, tune_has}
 use Rattle.rrd_file.proofs.length.tune_length.Goals as goal
 
 pub returns-clause-count : goal.returns-clause-count

@@ -1,6 +1,4 @@
-use Rattle.std.proofs.Common.{◌≡◌, ◌+◌, length, arith, rules, to_z-of_z, FitsSigned}
-use Rattle.std.specs.Int.{w128}
-use Rattle.rrd_file.proofs.ReadBack.{before_back}
+use Rattle.rrd_file.proofs.Common.{◌≡◌, ◌+◌, length, arith, rules, to_z-of_z, FitsSigned, w128, before_back}
 use Rattle.rrd_file.proofs.source.before_of.Goals as goal
 
 pub returns-clause-spelled : goal.returns-clause-spelled

@@ -1,5 +1,4 @@
-use Rattle.std.proofs.Common.{◌∙◌, sym, ap, rules, take, get_or}
-use Rattle.rrd_file.proofs.ReadBack.{def_said}
+use Rattle.rrd_file.proofs.Common.{◌∙◌, sym, ap, rules, take, get_or, def_said}
 use Rattle.rrd_file.proofs.source.def_of.Goals as goal
 
 pub returns-in_default-clause-none : goal.returns-in_default-clause-none

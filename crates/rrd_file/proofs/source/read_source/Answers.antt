@@ -1,9 +1,4 @@
-use Rattle.std.proofs.Common.{◌≡◌, ◌∙◌, sym, ap, length, rules, to_z-of_z, FitsSigned}
-use Rattle.std.specs.Int.{w128}
-use Rattle.std.proofs.lemmas.Result.{err_from_is_err_and}
-use Rattle.rrd_file.specs.Stages.{body_size}
-use Rattle.rrd_file.specs.Said.{source_said}
-use Rattle.rrd_file.proofs.Judged.{cut_body, refusal_is, source_refused, source_taken, source_unread}
+use Rattle.rrd_file.proofs.Common.{◌≡◌, ◌∙◌, sym, ap, length, rules, to_z-of_z, FitsSigned, w128, err_from_is_err_and, body_size, source_said, cut_body, refusal_is, source_refused, source_taken, source_unread}
 use Rattle.rrd_file.proofs.source.read_source.Goals as goal
 
 pub returns-in_err-piece-clause-steps : goal.returns-in_err-piece-clause-steps
@@ -20,7 +15,6 @@ returns-in_default-clause-steps g c = λ bytes st.
 pub returns-in-Ok-clause-steps : goal.returns-in-Ok-clause-steps
 returns-in-Ok-clause-steps g c = λ bytes st.
     let fits : FitsSigned w128 c.in-Some.field-0.sum = c.in-Some.ensures.some.0.part.value in
-    let len : length c.piece.new.piece ≡ 97 = search rules in
     source_taken bytes c.piece.new.piece c.args.input.now c.piece.new.self c.args.build.now c.source.new.self (source_said c.in-Some.field-0) st c.in_ok-piece.ensures.read c.in-Some.ensures.some.1 (simp (to_z-of_z {w = w128} fits) at c.in-Ok.ensures.ok)
 
 pub returns-in-Err-clause-steps : goal.returns-in-Err-clause-steps

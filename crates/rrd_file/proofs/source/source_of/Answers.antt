@@ -1,7 +1,5 @@
-use Rattle.std.proofs.Common.{◌∙◌, sym, rules, to_z-of_z, FitsSigned}
-use Rattle.std.specs.Int.{w128}
-use Rattle.rrd_spec.specs.Files.Filed.{Source}
-use Rattle.rrd_file.proofs.ReadBack.{source_back, source_said}
+use Rattle.rrd_file.proofs.Common.{◌∙◌, sym, rules, to_z-of_z, FitsSigned, w128, Source, source_back}
+use Rattle.rrd_file.proofs.ReadBack.{source_said}
 use Rattle.rrd_file.proofs.source.source_of.Goals as goal
 
 pub returns-in_default-clause-none : goal.returns-in_default-clause-none

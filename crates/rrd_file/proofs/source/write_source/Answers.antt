@@ -1,22 +1,9 @@
-use Rattle.std.proofs.Common.{◌≡◌, ◌∙◌, ◌++◌, sym, ap, arith}
-use Rattle.std.specs.Int.{w128}
-use Rattle.std.proofs.lemmas.Int.{ints}
-use mir.Facts.{to_z-of_z}
-use mir.Val.{SFits, of_z, to_z}
-use Rattle.rrd_fold.specs.Parts.{Part}
-use Rattle.rrd_spec.specs.Files.Filed.{Source}
-use Rattle.rrd_file.specs.Layout.Pieces.{OfSource, spell}
-use Rattle.rrd_file.specs.Layout.Values.{part_bytes, raw_bytes, source_bytes}
-use Rattle.std.proofs.lemmas.Result.{err_from_is_err_and}
-use Rattle.rrd_file.proofs.Told.{source_at}
-use Rattle.rrd_file.proofs.Joined.{two_parts}
-use Rattle.rrd_file.proofs.Gathering.{no_room, piece_added}
+use Rattle.rrd_file.proofs.Common.{◌≡◌, ◌∙◌, ◌++◌, sym, ap, arith, w128, ints, to_z-of_z, SFits, of_z, to_z, Part, Source, OfSource, spell, part_bytes, raw_bytes, source_bytes, err_from_is_err_and, source_at, two_parts, no_room, piece_added}
 use Rattle.rrd_file.proofs.source.write_source.Goals as goal
 
 pub returns-in_err-make_room : goal.returns-in_err-make_room
 returns-in_err-make_room g c = λ s e.
-    let p = err_from_is_err_and c.from_residual.result c.from_residual.ensures.1 in
-    rw p.1 (no_room (spell (OfSource s)) c.in_err-make_room.ensures.added)
+    rw (err_from_is_err_and c.from_residual.result c.from_residual.ensures.1).1 (no_room (spell (OfSource s)) c.in_err-make_room.ensures.added)
 
 pub returns : goal.returns
 unfolding spell

@@ -1,9 +1,4 @@
-use Rattle.std.proofs.Common.{map, arith}
-use Rattle.rrd_spec.specs.Files.Filed.{sources_of}
-use Rattle.rrd_file.specs.Layout.Pieces.{OfSource, spell}
-use Rattle.rrd_file.proofs.Told.{source_there, length_sources, lengths}
-use Rattle.std.proofs.lemmas.Result.{err_from_is_err_and}
-use Rattle.rrd_file.proofs.Gathering.{all_added, item_added, item_broken, mapped_at}
+use Rattle.rrd_file.proofs.Common.{map, arith, sources_of, OfSource, spell, source_there, length_sources, lengths, err_from_is_err_and, all_added, item_added, item_broken, mapped_at}
 use Rattle.rrd_file.proofs.source.write_sources.Goals as goal
 
 pub returns-in_err-write_source : goal.returns-in_err-write_source

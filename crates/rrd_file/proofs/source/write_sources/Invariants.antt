@@ -1,8 +1,4 @@
-use Rattle.std.proofs.Common.{map, take}
-use Rattle.std.specs.List.{flat_map}
-use Rattle.rrd_spec.specs.Files.Filed.{sources_of}
-use Rattle.rrd_file.specs.Layout.Pieces.{OfSource, spell}
-use Rattle.rrd_file.specs.Writer.{Adds}
+use Rattle.rrd_file.proofs.Common.{map, take, flat_map, sources_of, OfSource, spell, Adds}
 use Rattle.rrd_file.proofs.source.write_sources.Given as goal
 
 abbrev pub invariant-loop-number : goal.invariant-loop-number

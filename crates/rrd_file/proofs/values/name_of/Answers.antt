@@ -1,7 +1,4 @@
-use Rattle.std.proofs.Common.{◌≡◌, ◌∙◌, sym, refl, arith, ℕ}
-use Rattle.std.specs.Prelude.{◌==◌, false, true}
-use Rattle.std.specs.List.{list_all}
-use Rattle.rrd_file.proofs.ReadBack.{fit_some, name_back, zeros_said}
+use Rattle.rrd_file.proofs.Common.{◌≡◌, ◌∙◌, sym, refl, arith, ℕ, ◌==◌, false, true, list_all, fit_some, name_back, zeros_said}
 use Rattle.rrd_file.proofs.values.name_of.Goals as goal
 
 pub returns-then-not-all_zero-clause-none : goal.returns-then-not-all_zero-clause-none

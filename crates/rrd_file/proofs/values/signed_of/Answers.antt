@@ -1,7 +1,4 @@
-use Rattle.std.proofs.Common.{◌∙◌, ◌++◌, ◌*◌, ◌+◌, ◌^◌, arith, ap, sym, to_z-of_z, FitsSigned, rules}
-use Rattle.std.specs.Int.{w128}
-use Rattle.rrd_file.specs.Layout.Values.{signed_bytes}
-use Rattle.rrd_file.proofs.ReadBack.{halves_back}
+use Rattle.rrd_file.proofs.Common.{◌∙◌, ◌++◌, ◌*◌, ◌+◌, ◌^◌, arith, ap, sym, to_z-of_z, FitsSigned, rules, w128, signed_bytes, halves_back}
 use Rattle.rrd_file.proofs.values.signed_of.Goals as goal
 
 pub returns-clause-spelled : goal.returns-clause-spelled

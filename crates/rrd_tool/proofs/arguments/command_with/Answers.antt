@@ -1,5 +1,4 @@
-use Rattle.std.proofs.lemmas.Result.{IfOk-weaker}
-use Rattle.rrd_tool.proofs.Added.{nested}
+use Rattle.rrd_tool.proofs.Common.{IfOk-weaker, nested}
 use Rattle.rrd_tool.proofs.arguments.command_with.Goals as goal
 
 pub returns : goal.returns

@@ -1,8 +1,5 @@
-use Rattle.std.proofs.Common.{◌≡◌, ◌∙◌, ap, sym, true, false}
+use Rattle.rrd_tool.proofs.Common.{◌≡◌, ◌∙◌, ap, sym, true, false, app_of, fault_of, subcommand_of, entered_of, refused}
 use Rattle.clap.specs.declared.error.kind.ErrorKind.TheVariants.{OutOfMemory}
-use Rattle.clap.specs.Words.{app_of, fault_of, subcommand_of}
-use Rattle.rrd_tool.specs.Arguments.Taken.{entered_of}
-use Rattle.rrd_tool.proofs.Simple.{refused}
 use Rattle.rrd_tool.proofs.arguments.parse.Goals as goal
 
 pub returns-in-Ok : goal.returns-in-Ok
@@ -19,8 +16,7 @@ pub returns : goal.returns
 returns c =
     let serves = c.requires in
     let app = app_of c.args.command in
-    let parse = c.in-Err.ensures in
-    let kinds = parse.kinds serves.3 in
+    let kinds = c.in-Err.ensures.kinds serves.3 in
     λ taken. refused _ c.in-Err.error kinds (λ k.
     let same : c.kind.result ≡ OutOfMemory = c.kind.ensures ∙ k in
     let bad : false ≡ true = rw same at c.if-eq.ensures in cc) (ap (fault_of app) c.as_slice.ensures ∙ (serves.0 ∙ taken))

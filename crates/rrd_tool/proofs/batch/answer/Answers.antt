@@ -1,10 +1,4 @@
-use Rattle.std.proofs.Common.{false, true}
-use Rattle.std.proofs.lemmas.Result.{err_from_is_err_and}
-use Rattle.rrd_tool.specs.Faults.{fault_line}
-use Rattle.rrd_tool.specs.Batch.{tallied}
-use Rattle.rrd_tool.specs.Batch.Run.{turn}
-use Rattle.rrd_tool.proofs.SaidLemmas.{fault_says}
-use Rattle.rrd_tool.proofs.BatchLemmas.{performed_stopped, performed_text, refused_answers, refused_stopped}
+use Rattle.rrd_tool.proofs.Common.{false, true, err_from_is_err_and, fault_line, tallied, turn, fault_says, performed_stopped, performed_text, refused_answers, refused_stopped}
 use Rattle.rrd_tool.proofs.batch.answer.Goals as goal
 
 pub returns-in_err-fault-clause-told : goal.returns-in_err-fault-clause-told

@@ -1,18 +1,9 @@
-use Rattle.std.proofs.Common.{◌≡◌, ◌∙◌, ◌++◌, ◌∷◌, ◌+◌, ◌-◌, [], List, ℕ, Some, Ok, Err, false, take, drop, sym, ap, append-nil, arith}
-use Rattle.std.proofs.lemmas.List.{length-drop, take-append-drop, take_rest}
-use Rattle.std.proofs.lemmas.Result.{err_from_is_err_and}
-use Rattle.memchr.specs.Find.{IsFirstByte, is_byte}
-use Rattle.rrd_tool.specs.Lines.{has_end, last_part, whole_lines}
-use Rattle.rrd_tool.proofs.MoveLemmas.{MovesStopped, moves_front, moves_more}
-use Rattle.rrd_tool.proofs.LineLemmas.{no_part, no_whole, part_append, whole_append}
-use Rattle.rrd_tool.proofs.SearchLemmas.{found_line, found_none, line_inner}
+use Rattle.rrd_tool.proofs.Common.{◌≡◌, ◌∙◌, ◌++◌, ◌∷◌, ◌+◌, ◌-◌, [], List, ℕ, Some, Ok, Err, false, take, drop, sym, ap, append-nil, arith, length-drop, take-append-drop, take_rest, err_from_is_err_and, IsFirstByte, is_byte, has_end, last_part, whole_lines, MovesStopped, moves_front, moves_more, no_part, no_whole, part_append, whole_append, found_line, found_none, line_inner}
 use Rattle.rrd_tool.proofs.batch.feed.Goals as goal
 
 -- where no LF is left the lines are those before, and the rest goes on with the last one
 rest_lines : (bytes unfinished : List ℕ) (from : ℕ) → has_end (drop from bytes) ≡ false → whole_lines unfinished bytes ≡ whole_lines unfinished (take from bytes)
-rest_lines bytes unfinished from none =
-    ap (whole_lines unfinished) (sym (take-append-drop from bytes)) ∙ (whole_append unfinished (take from bytes) (drop from bytes)
-    ∙ (ap (λ l. whole_lines unfinished (take from bytes) ++ l) (no_whole (last_part unfinished (take from bytes)) (drop from bytes) none) ∙ append-nil (whole_lines unfinished (take from bytes))))
+rest_lines bytes unfinished from none = cc (take-append-drop from bytes, whole_append unfinished (take from bytes) (drop from bytes), no_whole (last_part unfinished (take from bytes)) (drop from bytes) none, append-nil (whole_lines unfinished (take from bytes)))
 
 rest_part : (bytes unfinished : List ℕ) (from : ℕ) → has_end (drop from bytes) ≡ false → last_part unfinished bytes ≡ last_part unfinished (take from bytes) ++ drop from bytes
 rest_part bytes unfinished from none =
@@ -24,7 +15,6 @@ take_line-requires-clause-inner g c =
 
 pub returns-in_err-take_line-clause-told : goal.returns-in_err-take_line-clause-told
 returns-in_err-take_line-clause-told g c unfinished h =
-    let p = err_from_is_err_and c.from_residual.result c.from_residual.ensures.1 in
     let bytes = c.args.bytes.now in
     let from = c.loop-length.from in
     let n = c.in-Some.length in
@@ -41,7 +31,7 @@ returns-in_err-take_line-clause-told g c unfinished h =
     let more : Stops (whole_lines unfinished (take m bytes)) = rw (found_line bytes from n found) here in
     let whole : Stops (whole_lines unfinished (take m bytes ++ drop m bytes)) =
     moves_front c.args.context.now _ _ c.args.batch.now.refusals c.take_line.new.batch.refusals _ _ unfinished (take m bytes) (drop m bytes) more in
-    rw p.1 (rw (take-append-drop m bytes) at whole, tt)
+    rw (err_from_is_err_and c.from_residual.result c.from_residual.ensures.1).1 (rw (take-append-drop m bytes) at whole, tt)
 
 pub loop-length-preserved : goal.loop-length-preserved
 loop-length-preserved g c =
@@ -58,9 +48,7 @@ loop-length-preserved g c =
             moves_more {T = Unit {0}} c.args.context.now _ _ _ c.args.batch.now.refusals c.loop-length.batch.refusals c.take_line.new.batch.refusals _ _ _ unfinished (take from bytes) (part ++ 10 ∷ []) inv.0 (Ok (tt {0})) good.0,
             rw (part_append unfinished (take from bytes) (part ++ 10 ∷ [])) good.1,
           ),
-      let old = c.loop-length.invariant.1 in
-          let one = c.take_line.ensures.count in
-          omega (arith, old, one),
+      omega (arith, c.loop-length.invariant.1, c.take_line.ensures.count),
       omega (arith, inside, length-drop from bytes),
     )
 

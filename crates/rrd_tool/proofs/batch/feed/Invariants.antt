@@ -1,7 +1,4 @@
-use Rattle.std.proofs.Common.{List, ℕ, take, length, ◌≤◌, ◌+◌, ◌-◌}
-use Rattle.rrd_tool.specs.Lines.Buffer.{Buffers}
-use Rattle.rrd_tool.specs.Lines.{last_part, whole_lines}
-use Rattle.rrd_tool.proofs.MoveLemmas.{MovesRan}
+use Rattle.rrd_tool.proofs.Common.{List, ℕ, take, length, ◌≤◌, ◌+◌, ◌-◌, Buffers, last_part, whole_lines, MovesRan}
 use Rattle.rrd_tool.proofs.batch.feed.Given as goal
 
 abbrev pub invariant-loop-length : goal.invariant-loop-length

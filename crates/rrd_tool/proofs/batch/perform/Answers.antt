@@ -1,6 +1,4 @@
-use Rattle.rrd_tool.specs.Batch.Answers.{line_turns}
-use Rattle.rrd_tool.specs.Batch.Run.{command_turn, unless_short}
-use Rattle.rrd_tool.proofs.RunLemmas.{performs_as}
+use Rattle.rrd_tool.proofs.Common.{line_turns, command_turn, unless_short, performs_as}
 use Rattle.rrd_tool.proofs.batch.perform.Goals as goal
 
 pub returns-in-Ok-Some : goal.returns-in-Ok-Some

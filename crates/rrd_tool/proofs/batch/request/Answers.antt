@@ -1,7 +1,4 @@
-use Rattle.std.proofs.lemmas.Result.{err_from_is_err_and}
-use Rattle.std.proofs.Common.{◌≡◌, ◌∙◌, [], sym, false, Some}
-use Rattle.rrd_tool.specs.Lines.{is_empty, text_in, words_of}
-use Rattle.rrd_tool.proofs.RunLemmas.{asks_command, asks_fault, asks_nothing, asks_short, asks_usage, no_length, some_length}
+use Rattle.rrd_tool.proofs.Common.{err_from_is_err_and, ◌≡◌, ◌∙◌, [], sym, false, Some, is_empty, text_in, words_of, asks_command, asks_fault, asks_nothing, asks_short, asks_usage, no_length, some_length}
 use Rattle.rrd_tool.proofs.batch.request.Goals as goal
 
 pub returns-in_default : goal.returns-in_default

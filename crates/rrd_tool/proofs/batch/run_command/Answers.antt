@@ -1,9 +1,4 @@
-use Rattle.std.proofs.Common.{Some, false, true, option_map}
-use Rattle.std.proofs.lemmas.Result.{err_from_is_err_and}
-use Rattle.rrd_tool.specs.Commands.{effect}
-use Rattle.rrd_tool.specs.Effects.{stored_of}
-use Rattle.rrd_tool.proofs.RunLemmas.{done_performs, flushed_performs, refused_performs, unflushed_performs, unwritten_performs}
-use Rattle.rrd_tool.proofs.SaidLemmas.{shown_says}
+use Rattle.rrd_tool.proofs.Common.{Some, false, true, option_map, err_from_is_err_and, effect, stored_of, done_performs, flushed_performs, refused_performs, unflushed_performs, unwritten_performs, shown_says}
 use Rattle.rrd_tool.proofs.batch.run_command.Goals as goal
 
 pub returns-in-Changed : goal.returns-in-Changed

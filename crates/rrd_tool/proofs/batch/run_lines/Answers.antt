@@ -1,11 +1,4 @@
-use Rattle.std.proofs.Common.{◌≡◌, ◌∙◌, ◌++◌, [], take, sym, ap, false, true, inl, inr, arith}
-use Rattle.rrd_tool.specs.Lines.{is_empty, last_part}
-use Rattle.rrd_tool.specs.Batch.{no_lines}
-use Rattle.rrd_tool.specs.Batch.Run.{turn}
-use Rattle.std.proofs.KnownBytes.{Consumes-nil}
-use Rattle.rrd_tool.proofs.BatchLemmas.{feed_fails, feed_goes, last_fails, last_goes, none_left, ran_none}
-use Rattle.rrd_tool.proofs.RunLemmas.{appends_nothing}
-use Rattle.rrd_tool.proofs.LineLemmas.{at_ok, part_append}
+use Rattle.rrd_tool.proofs.Common.{◌≡◌, ◌∙◌, ◌++◌, [], take, sym, ap, false, true, inl, inr, arith, is_empty, last_part, no_lines, turn, Consumes-nil, feed_fails, feed_goes, last_fails, last_goes, none_left, ran_none, appends_nothing, at_ok, part_append}
 use Rattle.rrd_tool.proofs.batch.run_lines.Goals as goal
 
 pub returns-then-is_empty : goal.returns-then-is_empty
@@ -54,8 +47,7 @@ returns-then-is_err-2 g c h0 s most tallies =
     let inv = c.reads.invariant.0 h0 s most tallies in
     let seen = inv.0 in
     let more = take c.in-Ok-read_some.count c.read_some.new.buffer in
-    let fed = c.feed.ensures.told (last_part [] seen) inv.7 in
-    let told = fed.0 inv.2 inv.3 most inv.4 inv.5 in
+    let told = (c.feed.ensures.told (last_part [] seen) inv.7).0 inv.2 inv.3 most inv.4 inv.5 in
     let failed = feed_fails (turn c.args.context.now) h0 inv.2 told.0 no_lines inv.4 told.2
     (g.R.Read.remaining c.args.reader.now) (g.R.Read.remaining c.reads.reader) (g.R.Read.remaining c.read_some.new.reader)
     (g.W.Write.contents c.args.out.now) (g.W.Write.contents c.reads.out) (g.W.Write.contents c.feed.new.out)
@@ -75,10 +67,8 @@ reads-preserved g c = (
       (g.W.Write.contents c.args.out.now) (g.W.Write.contents c.reads.out) (g.W.Write.contents c.feed.new.out)
       seen more inv.1 c.in-Ok-read_some.ensures.ok inv.6 c.feed.result (sym c.if-is_err-2.ensures.value) told.4 in
       (seen ++ more, on.0, told.0, told.1, told.2, told.3, on.1, rw (part_append [] seen more) (at_ok c.feed.result (sym c.if-is_err-2.ensures.value) fed.1)),
-  let count = c.feed.ensures.count in
-      let bound = c.in-Ok-read_some.ensures.bound in
-      let before = c.reads.invariant.1 in
-      omega (arith, count, bound.0, bound.1, before),
+  let bound = c.in-Ok-read_some.ensures.bound in
+      omega (arith, c.feed.ensures.count, bound.0, bound.1, c.reads.invariant.1),
 )
 
 pub reads-init : goal.reads-init

@@ -1,12 +1,4 @@
-use Rattle.std.proofs.Common.{List, ℕ, Option, [], ◌≤◌, ◌*◌}
-use Rattle.std.specs.Io.KnownBytes.{Consumes}
-use Rattle.rrd_spec.specs.Journal.Survivors.{State}
-use Rattle.rrd_tool.specs.Lines.Buffer.{Buffers}
-use Rattle.rrd_tool.specs.Lines.{last_part, whole_lines}
-use Rattle.rrd_tool.specs.Batch.{Ran, Tally, no_lines}
-use Rattle.rrd_tool.specs.Batch.Answers.{Tallies}
-use Rattle.rrd_tool.specs.Effects.{StandsFor}
-use Rattle.rrd_tool.specs.Batch.Run.{turn}
+use Rattle.rrd_tool.proofs.Common.{List, ℕ, Option, [], ◌≤◌, ◌*◌, Consumes, State, Buffers, last_part, whole_lines, Ran, Tally, no_lines, Tallies, StandsFor, turn}
 use Rattle.rrd_tool.proofs.batch.run_lines.Given as goal
 
 abbrev pub invariant-reads : goal.invariant-reads

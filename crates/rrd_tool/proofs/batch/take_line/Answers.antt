@@ -1,7 +1,4 @@
-use Rattle.std.proofs.Common.{◌≡◌, ◌∙◌, ◌++◌, [], sym}
-use Rattle.std.proofs.lemmas.Result.{err_from_is_err_and}
-use Rattle.rrd_tool.specs.Lines.{without_cr}
-use Rattle.rrd_tool.proofs.LineLemmas.{none_empty, on_ok, one_part, one_whole}
+use Rattle.rrd_tool.proofs.Common.{◌≡◌, ◌∙◌, ◌++◌, [], sym, err_from_is_err_and, without_cr, none_empty, on_ok, one_part, one_whole}
 use Rattle.rrd_tool.proofs.batch.take_line.Goals as goal
 
 pub returns-then-is_empty-clause-told : goal.returns-then-is_empty-clause-told
@@ -14,9 +11,8 @@ returns-then-is_empty-clause-told g c unfinished h =
 
 pub returns-in_err-answer-clause-told : goal.returns-in_err-answer-clause-told
 returns-in_err-answer-clause-told g c unfinished h =
-    let p = err_from_is_err_and c.from_residual.result c.from_residual.ensures.1 in
     let bytes = c.args.bytes.now in
-    rw (p.1, one_whole unfinished bytes c.requires.inner)
+    rw ((err_from_is_err_and c.from_residual.result c.from_residual.ensures.1).1, one_whole unfinished bytes c.requires.inner)
     (c.in_err-answer.ensures.told (without_cr (unfinished ++ bytes)) (c.whole_line.ensures.text (unfinished ++ bytes) (c.extend.ensures unfinished h)), tt)
 
 pub returns-clause-told : goal.returns-clause-told

@@ -1,9 +1,4 @@
-use Rattle.std.proofs.Common.{◌∙◌, ap, is_some, sym}
-use Rattle.clap.specs.Words.{subcommand_rows_of}
-use Rattle.rrd_tool.specs.Commands.{shape_of}
-use Rattle.rrd_tool.proofs.Fast.{read_as, serves_as}
-use Rattle.rrd_tool.proofs.Subcommand.{read_from, taken_enters}
-use Rattle.rrd_tool.proofs.Unknown.{unnamed_refused}
+use Rattle.rrd_tool.proofs.Common.{◌∙◌, ap, is_some, sym, subcommand_rows_of, shape_of, read_as, serves_as, read_from, taken_enters, unnamed_refused}
 use Rattle.rrd_tool.proofs.commands.read_command.Goals as goal
 
 pub returns-in_default : goal.returns-in_default
@@ -21,7 +16,6 @@ read_entered-requires c =
 pub returns : goal.returns
 returns c =
     let got = c.in_ok-matches.ensures in
-    let name = sym c.name_of.ensures ∙ c.in-Some.is in
     let entered = subcommand_rows_of c.in_ok-matches.matches in
     read_from c.args.words.now c.args.now entered c.read_entered.result got.0 got.1
-    (read_as c.in-Some.name c.args.words.now c.args.now entered c.read_entered.result name got.1 c.read_entered.ensures)
+    (read_as c.in-Some.name c.args.words.now c.args.now entered c.read_entered.result (sym c.name_of.ensures ∙ c.in-Some.is) got.1 c.read_entered.ensures)

@@ -1,7 +1,4 @@
-use Rattle.rrd_tool.specs.Execution.{database_left, fault_left, has_changed}
-use Rattle.rrd_tool.specs.Commands.{effect}
-use Rattle.rrd_tool.proofs.RunLemmas.{runs_on}
-use Rattle.rrd_tool.proofs.SaidLemmas.{prints_some}
+use Rattle.rrd_tool.proofs.Common.{database_left, fault_left, has_changed, effect, runs_on, prints_some}
 use Rattle.rrd_tool.proofs.execution.execute.Goals as goal
 
 pub returns-in-None-clause-kept : goal.returns-in-None-clause-kept

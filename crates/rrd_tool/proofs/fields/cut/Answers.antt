@@ -1,4 +1,4 @@
-use Rattle.rrd_tool.proofs.Pieces.{cut_is}
+use Rattle.rrd_tool.proofs.Common.{cut_is}
 use Rattle.rrd_tool.proofs.fields.cut.Goals as goal
 
 pub returns : goal.returns

@@ -1,4 +1,4 @@
-use Rattle.rrd_tool.proofs.Pieces.{pieces_none, pieces_some}
+use Rattle.rrd_tool.proofs.Common.{pieces_none, pieces_some}
 use Rattle.rrd_tool.proofs.fields.first_piece.Goals as goal
 
 pub returns-in-Some-clause-split : goal.returns-in-Some-clause-split

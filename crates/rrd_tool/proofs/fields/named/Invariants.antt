@@ -1,5 +1,4 @@
-use Rattle.std.proofs.Common.{◌≡◌, drop}
-use Rattle.rrd_tool.specs.Fields.{named}
+use Rattle.rrd_tool.proofs.Common.{◌≡◌, drop, named}
 use Rattle.rrd_tool.proofs.fields.named.Given as goal
 
 abbrev pub invariant-loop-item : goal.invariant-loop-item

@@ -1,6 +1,4 @@
-use Rattle.std.proofs.Common.{◌≡◌, ◌+◌, [], length}
-use Rattle.std.specs.Option.{option_map_or}
-use Rattle.rrd_tool.specs.Fields.{each_in, pieces}
+use Rattle.rrd_tool.proofs.Common.{◌≡◌, ◌+◌, [], length, option_map_or, each_in, pieces}
 use Rattle.rrd_tool.proofs.Each.{joined}
 use Rattle.rrd_tool.proofs.fields.read_list.Given as goal
 

@@ -1,6 +1,4 @@
-use Rattle.std.proofs.Common.{◌≡◌, take}
-use Rattle.std.specs.List.{list_all}
-use Rattle.rrd_tool.specs.Lines.{is_plain}
+use Rattle.rrd_tool.proofs.Common.{◌≡◌, take, list_all, is_plain}
 use Rattle.rrd_tool.proofs.lines.all_plain.Given as goal
 
 abbrev pub invariant-loop-byte : goal.invariant-loop-byte

@@ -1,6 +1,4 @@
-use Rattle.std.proofs.Common.{◌≡◌, ◌+◌, sym, nat_eq, get_or, false, arith, length}
-use Rattle.std.proofs.lemmas.Bool.Decides.{nat_tests}
-use Rattle.rrd_tool.proofs.LineLemmas.{cr_dropped, cr_kept}
+use Rattle.rrd_tool.proofs.Common.{◌≡◌, ◌+◌, sym, nat_eq, get_or, false, arith, length, nat_tests, cr_dropped, cr_kept}
 use Rattle.rrd_tool.proofs.lines.drop_cr.Goals as goal
 
 pub returns-then-line-last-eq13 : goal.returns-then-line-last-eq13

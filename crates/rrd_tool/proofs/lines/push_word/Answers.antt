@@ -1,4 +1,4 @@
-use Rattle.rrd_tool.proofs.WordLemmas.{plain_utf8}
+use Rattle.rrd_tool.proofs.Common.{plain_utf8}
 use Rattle.rrd_tool.proofs.lines.push_word.Goals as goal
 
 pub unreachable-requires : goal.unreachable-requires

@@ -1,9 +1,4 @@
-use Rattle.std.proofs.Common.{◌≡◌, ◌∙◌, ◌+◌, ◌-◌, ◌≤◌, ◌++◌, [], ℕ, List, Some, None, sym, ap, append-nil, append_assoc, arith, length, drop, take, slice_index}
-use Rattle.std.proofs.lemmas.List.{drop-drop, length-drop, take_all, take_rest}
-use Rattle.memchr.specs.Find.{IsFirstByte, is_byte2}
-use Rattle.rrd_tool.specs.Lines.{if_some, words_after, words_of}
-use Rattle.rrd_tool.proofs.SearchLemmas.{found_first, found_none, found_parts}
-use Rattle.rrd_tool.proofs.WordLemmas.{on_err, plain_take, plain_drop, some_words, words_first, words_last}
+use Rattle.rrd_tool.proofs.Common.{◌≡◌, ◌∙◌, ◌+◌, ◌-◌, ◌≤◌, ◌++◌, [], ℕ, List, Some, None, sym, ap, append-nil, append_assoc, arith, length, drop, take, slice_index, drop-drop, length-drop, take_all, take_rest, IsFirstByte, is_byte2, if_some, words_after, words_of, found_first, found_none, found_parts, on_err, plain_take, plain_drop, some_words, words_first, words_last}
 use Rattle.rrd_tool.proofs.lines.read_words.Goals as goal
 
 -- the words from a place on where a blank is found, and where none is

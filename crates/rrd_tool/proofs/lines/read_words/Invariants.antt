@@ -1,5 +1,4 @@
-use Rattle.std.proofs.Common.{◌≡◌, ◌≤◌, ◌-◌, ◌++◌, [], drop, length}
-use Rattle.rrd_tool.specs.Lines.{words_after, words_of}
+use Rattle.rrd_tool.proofs.Common.{◌≡◌, ◌≤◌, ◌-◌, ◌++◌, [], drop, length, words_after, words_of}
 use Rattle.rrd_tool.proofs.lines.read_words.Given as goal
 
 abbrev pub invariant-loop-length : goal.invariant-loop-length

@@ -1,5 +1,4 @@
-use Rattle.std.proofs.Common.{◌∙◌, sym}
-use Rattle.rrd_file.proofs.Joined.{joined_layout}
+use Rattle.rrd_file.proofs.Common.{◌∙◌, sym, joined_layout}
 use Rattle.rrd_file.proofs.encoded.Encoded.as_slice.Goals as goal
 
 pub returns-clause-layout : goal.returns-clause-layout

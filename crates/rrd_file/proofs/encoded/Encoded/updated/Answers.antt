@@ -1,10 +1,5 @@
-use Rattle.std.specs.List.{All}
-use Rattle.std.proofs.Common.{rules, ◌≡◌, ◌∙◌, ◌++◌, ◌≤◌, List, [], ◌∷◌, ◌+◌, Some, get_or, length-take, ℕ, ap, append_assoc, arith, drop, length, length-append, refl, subst, sym, take}
-use Rattle.std.proofs.lemmas.List.{take_at}
-use Rattle.rrd_fixed.specs.Written.{Writes}
-use Rattle.rrd_file.specs.Encoded.{cell_bytes, front_bytes, journal_bytes}
-use Rattle.rrd_file.specs.Spans.{IsBeside}
-use Rattle.rrd_file.proofs.Spanned.{span, updated_agrees}
+use Rattle.rrd_file.proofs.Common.{All, rules, ◌≡◌, ◌∙◌, ◌++◌, ◌≤◌, List, [], ◌∷◌, ◌+◌, Some, get_or, length-take, ℕ, ap, append_assoc, arith, drop, length, length-append, refl, subst, sym, take, take_at, Writes, front_bytes, journal_bytes, IsBeside, span, updated_agrees}
+use Rattle.rrd_file.specs.Encoded.{cell_bytes}
 use Rattle.rrd_file.proofs.encoded.Encoded.updated.Goals as goal
 
 pub put_before_journal-requires : goal.put_before_journal-requires
@@ -18,23 +13,10 @@ put_before_journal-requires c =
     let both : length (front ++ cells) ≡ c.args.self.cells_end = omega (arith, length-append front cells, e.cells_begin, e.cells_end) in
     let left : c.truncate.new.self.items ≡ front ++ cells =
     c.truncate.ensures.items ∙ ap (take c.args.self.cells_end) (same ∙ e.bytes_are ∙ sym (append_assoc front cells journal)) ∙ take_at (front ++ cells) journal c.args.self.cells_end both in
-    record {
-      old_front = front;
-      cells = cells;
-      bytes_are = c.deref_mut.ensures.value ∙ left;
-      as_long = omega (arith, e.cells_begin, c.if-len-cells_at.false, c.len.ensures, c.deref.ensures.len);
-      held = record {
-        before = before.content;
-        bytes_are = refl;
-        valid = c.requires.valid;
-        last_is = e.last_is;
-        later = c.requires.later;
-      };
-    }
+    grind (arith, front, cells, c.deref_mut.ensures.value ∙ left)
 
-pub returns-clause-encodes : goal.returns-clause-encodes
-returns-clause-encodes c =
-    let same : c.make_room.new.bytes.items ≡ c.args.self.bytes.items = search rules in
+pub returns : goal.returns
+returns c =
     let before = c.requires.before in
     let now = c.args.database.now in
     let e = c.requires.encodes in
@@ -42,50 +24,48 @@ returns-clause-encodes c =
     let journal = journal_bytes now in
     let front_is : c.encode_front.new.out.items ≡ front_bytes now = search rules in
     let put_it : c.put_before_journal.new.bytes ≡ c.deref.result.now ++ cells = search rules in
-    let put : c.put_before_journal.new.bytes ≡ front_bytes now ++ cells = put_it ∙ ap (λ (l : List ℕ). l ++ cells) (c.deref.ensures.value ∙ front_is) in
     let bytes = c.put_before_journal.new.bytes in
-    let room : length bytes ≡ c.truncate.new.self.len = omega (arith, c.put_before_journal.auto.bytes, c.deref_mut.ensures.len) in
-    let had : take c.truncate.new.self.len (bytes ++ drop (length bytes) c.truncate.new.self.items) ≡ bytes = take_at bytes (drop (length bytes) c.truncate.new.self.items) c.truncate.new.self.len room in
-    let added : Writes (Some bytes) (Some c.encode_journal.new.out.items) journal c.encode_journal.result = subst (λ (l : List ℕ). Writes (Some l) (Some c.encode_journal.new.out.items) journal c.encode_journal.result) had c.encode_journal.ensures in
-    let all : c.encode_journal.new.out.items ≡ bytes ++ journal = search rules in
     let front_long : c.args.self.cells_at ≡ length (front_bytes now) = omega (arith, c.if-len-cells_at.false, c.len.ensures, c.deref.ensures.len, ap length (c.deref.ensures.value ∙ front_is)) in
-    let front = front_bytes before in
-    let old = cell_bytes before.content in
-    let was : length (front ++ old) ≡ c.args.self.cells_end = omega (arith, length-append front old, e.cells_begin, e.cells_end) in
-    let left : c.truncate.new.self.items ≡ front ++ old =
-    c.truncate.ensures.items ∙ ap (take c.args.self.cells_end) (same ∙ e.bytes_are ∙ sym (append_assoc front old (journal_bytes before))) ∙ take_at (front ++ old) (journal_bytes before) c.args.self.cells_end was in
-    record {
-      bytes_are = all ∙ ap (λ (l : List ℕ). l ++ journal) put ∙ append_assoc (front_bytes now) cells journal;
-      cells_begin = front_long;
-      cells_end = omega (arith, was, ap length (c.deref_mut.ensures.value ∙ left), c.put_before_journal.auto.bytes, ap length put, length-append (front_bytes now) cells, front_long);
-      last_is = c.last.ensures;
-    }
-
-pub returns-clause-agrees : goal.returns-clause-agrees
-returns-clause-agrees c =
-    let same : c.make_room.new.bytes.items ≡ c.args.self.bytes.items = search rules in
-    let before = c.requires.before in
-    let now = c.args.database.now in
-    let e = c.requires.encodes in
-    let journal = journal_bytes now in
-    let old = c.args.self.bytes.items in
     let at = c.args.self.cells_at in
     let end = c.args.self.cells_end in
-    let put = c.put_before_journal.new.bytes in
-    let long : length old ≡ end + length (journal_bytes before) =
-    ap length e.bytes_are ∙ length-append (front_bytes before) (cell_bytes before.content ++ journal_bytes before)
-    ∙ omega (arith, length-append (cell_bytes before.content) (journal_bytes before), e.cells_begin, e.cells_end) in
-    let cut : c.deref_mut.result.now ≡ take end old = c.deref_mut.ensures.value ∙ c.truncate.ensures.items ∙ ap (take end) same in
-    let cut_long : length put ≡ end = omega (arith, c.put_before_journal.auto.bytes, ap length cut, length-take end old, long) in
-    let room : length put ≡ c.truncate.new.self.len = omega (arith, c.put_before_journal.auto.bytes, c.deref_mut.ensures.len) in
-    let had : take c.truncate.new.self.len (put ++ drop (length put) c.truncate.new.self.items) ≡ put = take_at put (drop (length put) c.truncate.new.self.items) c.truncate.new.self.len room in
-    let added : Writes (Some put) (Some c.encode_journal.new.out.items) journal c.encode_journal.result = subst (λ (l : List ℕ). Writes (Some l) (Some c.encode_journal.new.out.items) journal c.encode_journal.result) had c.encode_journal.ensures in
-    let all : c.encode_journal.new.out.items ≡ put ++ journal = search rules in
     let first : c.push.new.self.items ≡ c.put_before_journal.new.changed.items ++ span 0 at ∷ [] = search rules in
     let second : c.push-2.new.self.items ≡ c.push.new.self.items ++ span end c.len-2.result ∷ [] = search rules in
     let few : length c.encode_journal.new.out.items ≤ c.len-2.result = omega (arith, c.len-2.ensures, c.encode_journal.new.out.ok) in
-    let same : (k : ℕ) → length c.deref.result.now ≤ k → All (IsBeside k) c.put_before_journal.new.changed.items → get_or put k 0 ≡ get_or c.deref_mut.result.now k 0 = search rules in
-    let front : length c.deref.result.now ≡ at = omega (arith, c.if-len-cells_at.false, c.len.ensures, c.deref.ensures.len) in
-    updated_agrees old c.deref_mut.result.now put c.encode_journal.new.out.items journal c.put_before_journal.new.changed.items c.push.new.self.items c.push-2.new.self.items at end c.len-2.result
-    (omega (arith, long)) cut cut_long all few first second
-    (λ k past beside. same k (omega (arith, front, past)) beside)
+    record {
+      encodes =
+          let same : c.make_room.new.bytes.items ≡ c.args.self.bytes.items = search rules in
+          let put : c.put_before_journal.new.bytes ≡ front_bytes now ++ cells = put_it ∙ ap (λ (l : List ℕ). l ++ cells) (c.deref.ensures.value ∙ front_is) in
+          let room : length bytes ≡ c.truncate.new.self.len = omega (arith, c.put_before_journal.auto.bytes, c.deref_mut.ensures.len) in
+          let had : take c.truncate.new.self.len (bytes ++ drop (length bytes) c.truncate.new.self.items) ≡ bytes = take_at bytes (drop (length bytes) c.truncate.new.self.items) c.truncate.new.self.len room in
+          let added : Writes (Some bytes) (Some c.encode_journal.new.out.items) journal c.encode_journal.result = subst (λ (l : List ℕ). Writes (Some l) (Some c.encode_journal.new.out.items) journal c.encode_journal.result) had c.encode_journal.ensures in
+          let all : c.encode_journal.new.out.items ≡ bytes ++ journal = search rules in
+          let front = front_bytes before in
+          let old = cell_bytes before.content in
+          let was : length (front ++ old) ≡ c.args.self.cells_end = omega (arith, length-append front old, e.cells_begin, e.cells_end) in
+          let left : c.truncate.new.self.items ≡ front ++ old =
+          c.truncate.ensures.items ∙ ap (take c.args.self.cells_end) (same ∙ e.bytes_are ∙ sym (append_assoc front old (journal_bytes before))) ∙ take_at (front ++ old) (journal_bytes before) c.args.self.cells_end was in
+          record {
+            bytes_are = all ∙ ap (λ (l : List ℕ). l ++ journal) put ∙ append_assoc (front_bytes now) cells journal;
+            cells_begin = front_long;
+            cells_end = omega (arith, was, ap length (c.deref_mut.ensures.value ∙ left), c.put_before_journal.auto.bytes, ap length put, length-append (front_bytes now) cells, front_long);
+            last_is = c.last.ensures;
+          };
+      agrees =
+          let same : c.make_room.new.bytes.items ≡ c.args.self.bytes.items = search rules in
+          let old = c.args.self.bytes.items in
+          let put = c.put_before_journal.new.bytes in
+          let long : length old ≡ end + length (journal_bytes before) =
+          ap length e.bytes_are ∙ length-append (front_bytes before) (cell_bytes before.content ++ journal_bytes before)
+          ∙ omega (arith, length-append (cell_bytes before.content) (journal_bytes before), e.cells_begin, e.cells_end) in
+          let cut : c.deref_mut.result.now ≡ take end old = c.deref_mut.ensures.value ∙ c.truncate.ensures.items ∙ ap (take end) same in
+          let cut_long : length put ≡ end = omega (arith, c.put_before_journal.auto.bytes, ap length cut, length-take end old, long) in
+          let room : length put ≡ c.truncate.new.self.len = omega (arith, c.put_before_journal.auto.bytes, c.deref_mut.ensures.len) in
+          let had : take c.truncate.new.self.len (put ++ drop (length put) c.truncate.new.self.items) ≡ put = take_at put (drop (length put) c.truncate.new.self.items) c.truncate.new.self.len room in
+          let added : Writes (Some put) (Some c.encode_journal.new.out.items) journal c.encode_journal.result = subst (λ (l : List ℕ). Writes (Some l) (Some c.encode_journal.new.out.items) journal c.encode_journal.result) had c.encode_journal.ensures in
+          let all : c.encode_journal.new.out.items ≡ put ++ journal = search rules in
+          let same : (k : ℕ) → length c.deref.result.now ≤ k → All (IsBeside k) c.put_before_journal.new.changed.items → get_or put k 0 ≡ get_or c.deref_mut.result.now k 0 = search rules in
+          let front : length c.deref.result.now ≡ at = omega (arith, c.if-len-cells_at.false, c.len.ensures, c.deref.ensures.len) in
+          updated_agrees old c.deref_mut.result.now put c.encode_journal.new.out.items journal c.put_before_journal.new.changed.items c.push.new.self.items c.push-2.new.self.items at end c.len-2.result
+          (omega (arith, long)) cut cut_long all few first second
+          (λ k past beside. same k (omega (arith, front, past)) beside);
+    }

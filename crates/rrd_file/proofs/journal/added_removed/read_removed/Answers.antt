@@ -1,15 +1,4 @@
-use Rattle.std.proofs.Common.{◌∙◌, ◌++◌, ◌∷◌, [], List, sym, subst, append_assoc, length, map, replicate}
-use Rattle.std.proofs.lemmas.Result.{err_from_is_err_and}
-use Rattle.rrd_fold.specs.Bounds.{Consolidating}
-use Rattle.rrd_spec.specs.declared.outline.Outline.{Outline}
-use Rattle.rrd_spec.specs.History.{Rra}
-use Rattle.rrd_spec.specs.Preparations.{parts_in}
-use Rattle.rrd_spec.specs.Journal.Entries.{RemovedEntry}
-use Rattle.rrd_spec.specs.Files.Rebuilding.{outline_left}
-use Rattle.rrd_file.specs.Layout.{entry_pieces, row_pieces}
-use Rattle.rrd_file.specs.Layout.Pieces.{ARemoval, OfArchive, OfNumber, OfPrep, OfTag, Piece}
-use Rattle.rrd_file.specs.Progress.{Comes}
-use Rattle.rrd_file.specs.Stages.{DueInEntry, RowPrepDue, cells_due}
+use Rattle.rrd_file.proofs.Common.{◌∙◌, ◌++◌, ◌∷◌, [], List, sym, subst, append_assoc, length, map, replicate, err_from_is_err_and, Consolidating, Outline, Rra, parts_in, RemovedEntry, outline_left, entry_pieces, row_pieces, ARemoval, OfArchive, OfNumber, OfPrep, OfTag, Piece, Comes, DueInEntry, RowPrepDue, cells_due}
 use Rattle.rrd_file.proofs.journal.added_removed.read_removed.Goals as goal
 
 pub returns-in_err-archive-clause-closes : goal.returns-in_err-archive-clause-closes
@@ -49,9 +38,8 @@ returns-in_err-rows-clause-closes g c = λ bytes st.
     let s2 = c.in_ok-def.ensures.brings bytes (OfTag ARemoval ∷ OfNumber c.in_ok-archive.archive ∷ []) [] s1 in
     let s3 = subst (λ (l : List DueInEntry). Comes bytes f first l c.read_removed_settings.new.input) (append_assoc (replicate (length now.sources) (RowPrepDue now.last def)) cells []) s2 in
     let s4 = subst (λ (o : Outline). Comes bytes f first (replicate (length now.sources) (RowPrepDue o.last def) ++ (cells ++ [])) c.read_removed_settings.new.input) (sym c.undone.ensures) s3 in
-    let parts = map OfPrep (parts_in c.in_ok-preps.preps.items) in
     let s5 = c.in_ok-preps.ensures.brings bytes first (cells ++ []) s4 in
-    rw (p.1, p.2) (c.in_err-rows.ensures.brings bytes (first ++ parts) [] s5)
+    rw (p.1, p.2) (c.in_err-rows.ensures.brings bytes (first ++ (map OfPrep (parts_in c.in_ok-preps.preps.items))) [] s5)
 
 pub returns-clause-closes : goal.returns-clause-closes
 returns-clause-closes g c = λ bytes st.
@@ -66,8 +54,7 @@ returns-clause-closes g c = λ bytes st.
     let s4 = subst (λ (o : Outline). Comes bytes f first (replicate (length now.sources) (RowPrepDue o.last def) ++ (cells ++ [])) c.read_removed_settings.new.input) (sym c.undone.ensures) s3 in
     let parts = map OfPrep (parts_in c.in_ok-preps.preps.items) in
     let rows = c.in_ok-rows.rows in
-    let s5 = c.in_ok-preps.ensures.brings bytes first (cells ++ []) s4 in
-    let s6 = c.in_ok-rows.ensures.brings bytes (first ++ parts) [] s5 in
+    let s6 = c.in_ok-rows.ensures.brings bytes (first ++ parts) [] (c.in_ok-preps.ensures.brings bytes first (cells ++ []) s4) in
     subst (λ (a : Rra). Comes bytes f (entry_pieces (RemovedEntry c.in_ok-archive.archive a)) [] c.read_old_rows.new.input) (sym c.from_parts-old.ensures)
     (subst (λ (ps : List Consolidating). Comes bytes f (first ++ (map OfPrep (parts_in ps) ++ row_pieces rows)) [] c.read_old_rows.new.input) (sym (c.in_ok-preps-2.ensures.items ∙ c.as_slice.ensures))
     (subst (λ (l : List Piece). Comes bytes f l [] c.read_old_rows.new.input) (append_assoc first parts (row_pieces rows)) s6))

@@ -1,12 +1,4 @@
-use Rattle.std.proofs.Common.{◌≡◌, ◌∙◌, sym, length, rules}
-use Rattle.std.proofs.lemmas.Result.{err_from_is_err_and}
-use Rattle.rrd_file.specs.Layout.Pieces.{spell, OfNumber}
-use Rattle.std.specs.Prelude.{false, true}
-use Rattle.rrd_file.specs.Layout.Values.{two_bytes}
-use Rattle.rrd_file.proofs.Coming.{cut_within}
-use Rattle.rrd_file.proofs.Kept.{broken, kept, ReadRemovedNumber, validated, validates}
-use Rattle.rrd_file.proofs.Whole.{whole}
-use Rattle.rrd_file.specs.Stages.{RemovedNumberDue}
+use Rattle.rrd_file.proofs.Common.{◌≡◌, ◌∙◌, sym, length, rules, err_from_is_err_and, spell, OfNumber, false, true, two_bytes, cut_within, broken, kept, ReadRemovedNumber, validated, validates, whole, RemovedNumberDue}
 use Rattle.rrd_file.proofs.journal.added_removed.read_removed_number.Goals as goal
 
 pub returns-in_err-piece : goal.returns-in_err-piece

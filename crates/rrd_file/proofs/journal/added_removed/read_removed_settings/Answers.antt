@@ -1,10 +1,4 @@
-use Rattle.std.proofs.Common.{◌≡◌, ◌∙◌, sym, length, rules}
-use Rattle.std.proofs.lemmas.Result.{err_from_is_err_and}
-use Rattle.std.specs.Prelude.{false, true}
-use Rattle.rrd_file.specs.Layout.Pieces.{OfArchive}
-use Rattle.rrd_file.specs.Stages.{RemovedHeadDue}
-use Rattle.rrd_file.proofs.Coming.{cut_within}
-use Rattle.rrd_file.proofs.Kept.{ReadRemovedHead, broken, kept, unread_head, validated, validates}
+use Rattle.rrd_file.proofs.Common.{◌≡◌, ◌∙◌, sym, length, rules, err_from_is_err_and, false, true, OfArchive, RemovedHeadDue, cut_within, ReadRemovedHead, broken, kept, unread_head, validated, validates}
 use Rattle.rrd_file.proofs.journal.added_removed.read_removed_settings.Goals as goal
 
 pub returns-in_err-piece-clause-brings : goal.returns-in_err-piece-clause-brings

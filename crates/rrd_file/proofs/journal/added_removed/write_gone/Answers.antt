@@ -1,10 +1,4 @@
-use Rattle.std.proofs.Common.{◌∷◌, []}
-use Rattle.std.proofs.lemmas.Result.{err_from_is_err_and}
-use Rattle.rrd_file.specs.Layout.{spelled}
-use Rattle.rrd_file.specs.Layout.Pieces.{ARemoval, OfArchive, OfNumber, OfTag, spell}
-use Rattle.rrd_file.specs.Layout.Values.{archive_bytes, two_bytes}
-use Rattle.rrd_file.proofs.Gathering.{no_room, piece_added}
-use Rattle.rrd_file.proofs.Joined.{three_parts}
+use Rattle.rrd_file.proofs.Common.{◌∷◌, [], err_from_is_err_and, spelled, ARemoval, OfArchive, OfNumber, OfTag, spell, archive_bytes, two_bytes, no_room, piece_added, three_parts}
 use Rattle.rrd_file.proofs.journal.added_removed.write_gone.Goals as goal
 
 pub returns-in_err-make_room : goal.returns-in_err-make_room

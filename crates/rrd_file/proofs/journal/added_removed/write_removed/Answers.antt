@@ -1,10 +1,4 @@
-use Rattle.std.proofs.Common.{◌++◌, ◌∷◌, [], map, sym, subst}
-use Rattle.std.proofs.lemmas.Result.{err_from_is_err_and}
-use Rattle.rrd_file.specs.Writer.{Breaks, Gathers}
-use Rattle.rrd_file.specs.Layout.{row_pieces, spelled}
-use Rattle.rrd_file.specs.Layout.Pieces.{ARemoval, OfArchive, OfNumber, OfPrep, OfTag}
-use Rattle.rrd_file.proofs.Gathering.{breaks_stop, breaks_then, gathers_then}
-use Rattle.rrd_file.proofs.Joined.{joined_three}
+use Rattle.rrd_file.proofs.Common.{◌++◌, ◌∷◌, [], map, sym, subst, err_from_is_err_and, Breaks, Gathers, row_pieces, spelled, ARemoval, OfArchive, OfNumber, OfPrep, OfTag, breaks_stop, breaks_then, gathers_then, joined_three}
 use Rattle.rrd_file.proofs.journal.added_removed.write_removed.Goals as goal
 
 pub returns-in_err-write_gone : goal.returns-in_err-write_gone

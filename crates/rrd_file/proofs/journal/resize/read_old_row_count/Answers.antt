@@ -1,12 +1,4 @@
-use Rattle.std.proofs.Common.{◌≡◌, ◌∙◌, sym, length, rules}
-use Rattle.std.proofs.lemmas.Result.{err_from_is_err_and}
-use Rattle.rrd_file.specs.Layout.Pieces.{spell, OfRows}
-use Rattle.std.specs.Prelude.{false, true}
-use Rattle.rrd_file.specs.Layout.Values.{four_bytes}
-use Rattle.rrd_file.proofs.Coming.{cut_within}
-use Rattle.rrd_file.proofs.Kept.{broken, kept, ReadOldRows, validated, validates}
-use Rattle.rrd_file.proofs.Whole.{whole}
-use Rattle.rrd_file.specs.Stages.{OldRowsDue}
+use Rattle.rrd_file.proofs.Common.{◌≡◌, ◌∙◌, sym, length, rules, err_from_is_err_and, spell, OfRows, false, true, four_bytes, cut_within, broken, kept, ReadOldRows, validated, validates, whole, OldRowsDue}
 use Rattle.rrd_file.proofs.journal.resize.read_old_row_count.Goals as goal
 
 pub returns-in_err-piece-clause-brings : goal.returns-in_err-piece-clause-brings

@@ -1,8 +1,4 @@
-use Rattle.std.proofs.Common.{◌∷◌, [], ℕ, sym, subst}
-use Rattle.std.proofs.lemmas.Result.{err_from_is_err_and}
-use Rattle.rrd_file.specs.Layout.{row_pieces}
-use Rattle.rrd_file.specs.Layout.Pieces.{AResize, OfNumber, OfRows, OfTag}
-use Rattle.rrd_file.specs.Progress.{Comes}
+use Rattle.rrd_file.proofs.Common.{◌∷◌, [], ℕ, sym, subst, err_from_is_err_and, row_pieces, AResize, OfNumber, OfRows, OfTag, Comes}
 use Rattle.rrd_file.proofs.journal.resize.read_resize.Goals as goal
 
 pub returns-in_err-archive-clause-closes : goal.returns-in_err-archive-clause-closes

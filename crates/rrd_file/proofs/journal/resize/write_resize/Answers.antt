@@ -1,10 +1,4 @@
-use Rattle.std.proofs.Common.{◌∷◌, [], sym, subst, length}
-use Rattle.rrd_file.specs.Layout.{row_pieces, spelled}
-use Rattle.rrd_file.specs.Layout.Pieces.{OfTag, OfNumber, OfRows, AResize}
-use Rattle.rrd_file.proofs.Joined.{joined_two}
-use Rattle.std.proofs.lemmas.Result.{err_from_is_err_and}
-use Rattle.rrd_file.specs.Writer.{Breaks, Gathers}
-use Rattle.rrd_file.proofs.Gathering.{breaks_stop, gathers_then}
+use Rattle.rrd_file.proofs.Common.{◌∷◌, [], sym, subst, length, row_pieces, spelled, OfTag, OfNumber, OfRows, AResize, joined_two, err_from_is_err_and, Breaks, Gathers, breaks_stop, gathers_then}
 use Rattle.rrd_file.proofs.journal.resize.write_resize.Goals as goal
 
 pub returns-in_err-write_resized : goal.returns-in_err-write_resized

@@ -1,10 +1,4 @@
-use Rattle.std.proofs.Common.{◌∷◌, []}
-use Rattle.rrd_file.specs.Layout.{spelled}
-use Rattle.rrd_file.specs.Layout.Values.{four_bytes, two_bytes}
-use Rattle.rrd_file.proofs.Joined.{three_parts}
-use Rattle.rrd_file.specs.Layout.Pieces.{AResize, OfTag, OfNumber, OfRows, spell}
-use Rattle.std.proofs.lemmas.Result.{err_from_is_err_and}
-use Rattle.rrd_file.proofs.Gathering.{no_room, piece_added}
+use Rattle.rrd_file.proofs.Common.{◌∷◌, [], spelled, four_bytes, two_bytes, three_parts, AResize, OfTag, OfNumber, OfRows, spell, err_from_is_err_and, no_room, piece_added}
 use Rattle.rrd_file.proofs.journal.resize.write_resized.Goals as goal
 
 pub returns-in_err-make_room : goal.returns-in_err-make_room

@@ -1,10 +1,4 @@
-use Rattle.std.proofs.Common.{◌∙◌, ◌+◌, ◌-◌, ◌<◌, ◌++◌, ℕ, sym, ap, length, replicate, subst, take, arith}
-use Rattle.std.proofs.lemmas.Result.{err_from_is_err_and}
-use Rattle.rrd_spec.specs.Files.Rebuilding.{outline_left}
-use Rattle.rrd_file.specs.Layout.{row_pieces}
-use Rattle.rrd_file.specs.Stages.{RowCellDue, cells_due}
-use Rattle.rrd_file.specs.Progress.{Comes}
-use Rattle.rrd_file.proofs.Rowed.{next_due, next_width, rows_all, rows_go_on, rows_new}
+use Rattle.rrd_file.proofs.Common.{◌∙◌, ◌+◌, ◌-◌, ◌<◌, ◌++◌, ℕ, sym, ap, length, replicate, subst, take, arith, err_from_is_err_and, outline_left, row_pieces, RowCellDue, cells_due, Comes, next_due, next_width, rows_all, rows_go_on, rows_new}
 use Rattle.rrd_file.proofs.journal.rows.read_old_rows.Goals as goal
 
 pub loop-i-init : goal.loop-i-init

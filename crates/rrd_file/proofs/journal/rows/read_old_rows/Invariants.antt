@@ -1,4 +1,4 @@
-use Rattle.rrd_file.proofs.Rowed.{Rowed}
+use Rattle.rrd_file.proofs.Common.{Rowed}
 use Rattle.rrd_file.proofs.journal.rows.read_old_rows.Given as goal
 
 abbrev pub invariant-loop-i : goal.invariant-loop-i

@@ -1,10 +1,4 @@
-use Rattle.std.proofs.Common.{◌+◌, ◌-◌, ◌<◌, ◌≤◌, ◌++◌, List, length, length-set, map, replicate, subst, take, arith}
-use Rattle.std.proofs.lemmas.Result.{err_from_is_err_and}
-use Rattle.rrd_fixed.specs.declared.cell.Cell.{Cell}
-use Rattle.rrd_file.specs.Layout.Pieces.{OfCell, Piece}
-use Rattle.rrd_file.specs.Stages.{DueInEntry, RowCellDue}
-use Rattle.rrd_file.specs.Progress.{Comes}
-use Rattle.rrd_file.proofs.Turns.{more_cell, none_less, one_less, taken_all}
+use Rattle.rrd_file.proofs.Common.{◌+◌, ◌-◌, ◌<◌, ◌≤◌, ◌++◌, List, length, length-set, map, replicate, subst, take, arith, err_from_is_err_and, Cell, OfCell, Piece, DueInEntry, RowCellDue, Comes, more_cell, none_less, one_less, taken_all}
 use Rattle.rrd_file.proofs.journal.rows.read_row.Goals as goal
 
 pub returns-in_err-row-clause-brings : goal.returns-in_err-row-clause-brings

@@ -1,12 +1,4 @@
-use Rattle.std.proofs.Common.{◌≡◌, ◌∙◌, sym, length, rules}
-use Rattle.std.proofs.lemmas.Result.{err_from_is_err_and}
-use Rattle.rrd_file.specs.Layout.Pieces.{spell, OfCell}
-use Rattle.std.specs.Prelude.{false, true}
-use Rattle.rrd_file.specs.Layout.Values.{cell_bytes}
-use Rattle.rrd_file.proofs.Coming.{cut_within}
-use Rattle.rrd_file.proofs.Kept.{broken, kept, ReadRowCell}
-use Rattle.rrd_file.proofs.Whole.{whole}
-use Rattle.rrd_file.specs.Stages.{RowCellDue}
+use Rattle.rrd_file.proofs.Common.{◌≡◌, ◌∙◌, sym, length, rules, err_from_is_err_and, spell, OfCell, false, true, cell_bytes, cut_within, broken, kept, ReadRowCell, whole, RowCellDue}
 use Rattle.rrd_file.proofs.journal.rows.read_row_cell.Goals as goal
 
 pub returns-in_err-piece : goal.returns-in_err-piece

@@ -1,10 +1,4 @@
-use Rattle.std.proofs.Common.{◌≡◌, ◌∙◌, ◌+◌, ◌-◌, ◌<◌, ◌≤◌, ◌++◌, ◌∷◌, [], List, sym, ap, arith, length-append, length, map, replicate, subst, rules}
-use Rattle.std.proofs.lemmas.Result.{err_from_is_err_and}
-use Rattle.rrd_fixed.specs.declared.cell.Cell.{Cell}
-use Rattle.rrd_file.specs.Layout.Pieces.{OfCell, Piece}
-use Rattle.rrd_file.specs.Stages.{DueInEntry, RowCellDue}
-use Rattle.rrd_file.specs.Progress.{Comes}
-use Rattle.rrd_file.proofs.Turns.{more_map, none_less, one_less}
+use Rattle.rrd_file.proofs.Common.{◌≡◌, ◌∙◌, ◌+◌, ◌-◌, ◌<◌, ◌≤◌, ◌++◌, ◌∷◌, [], List, sym, ap, arith, length-append, length, map, replicate, subst, rules, err_from_is_err_and, Cell, OfCell, Piece, DueInEntry, RowCellDue, Comes, more_map, none_less, one_less}
 use Rattle.rrd_file.proofs.journal.rows.read_saved_cells.Goals as goal
 
 pub returns-in_err-cell-clause-brings : goal.returns-in_err-cell-clause-brings

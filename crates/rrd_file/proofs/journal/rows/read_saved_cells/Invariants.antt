@@ -1,7 +1,4 @@
-use Rattle.std.proofs.Common.{◌≡◌, ◌++◌, ◌-◌, ℕ, List, length, map, replicate}
-use Rattle.rrd_file.specs.Layout.Pieces.{OfCell, Piece}
-use Rattle.rrd_file.specs.Stages.{DueInEntry, RowCellDue}
-use Rattle.rrd_file.specs.Progress.{Comes}
+use Rattle.rrd_file.proofs.Common.{◌≡◌, ◌++◌, ◌-◌, ℕ, List, length, map, replicate, OfCell, Piece, DueInEntry, RowCellDue, Comes}
 use Rattle.rrd_file.proofs.journal.rows.read_saved_cells.Given as goal
 
 abbrev pub invariant-loop : goal.invariant-loop

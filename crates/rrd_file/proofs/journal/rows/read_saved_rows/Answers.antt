@@ -1,9 +1,4 @@
-use Rattle.std.proofs.Common.{◌∙◌, ◌*◌, ◌++◌, ℕ, List, sym, ap, map, replicate, subst}
-use Rattle.std.proofs.lemmas.Result.{err_from_is_err_and}
-use Rattle.rrd_file.specs.Layout.Pieces.{OfCell, Piece}
-use Rattle.rrd_file.specs.Stages.{RowCellDue}
-use Rattle.rrd_file.specs.Progress.{Comes}
-use Rattle.rrd_file.proofs.Rowed.{pieces_of_cells}
+use Rattle.rrd_file.proofs.Common.{◌∙◌, ◌*◌, ◌++◌, ℕ, List, sym, ap, map, replicate, subst, err_from_is_err_and, OfCell, Piece, RowCellDue, Comes, pieces_of_cells}
 use Rattle.rrd_file.proofs.journal.rows.read_saved_rows.Goals as goal
 
 pub returns-in_err-cells-clause-brings : goal.returns-in_err-cells-clause-brings
@@ -15,9 +10,7 @@ returns-in_err-cells-clause-brings g c = λ bytes pieces later st.
 pub returns-clause-brings : goal.returns-clause-brings
 returns-clause-brings g c = λ bytes pieces later st.
     let f = c.args.build.now in
-    let rows = c.from_cells.result in
-    let cells = c.in_ok-cells.cells.items in
-    let same = ap (map OfCell) (sym c.from_cells.ensures.cells) ∙ pieces_of_cells rows in
+    let same = ap (map OfCell) (sym c.from_cells.ensures.cells) ∙ pieces_of_cells c.from_cells.result in
     subst (λ (l : List Piece). Comes bytes f (pieces ++ l) later c.read_saved_cells.new.input) same
     (c.in_ok-cells.ensures.brings bytes pieces later
     (subst (λ (k : ℕ). Comes bytes f pieces (replicate (c.args.count * k) RowCellDue ++ later) c.args.input.now) (sym c.sources-sources.ensures.count) st))

@@ -1,12 +1,4 @@
-use Rattle.std.proofs.Common.{◌≡◌, ◌∙◌, sym, length, rules}
-use Rattle.std.proofs.lemmas.Result.{err_from_is_err_and}
-use Rattle.rrd_file.specs.Layout.Pieces.{spell, OfCount}
-use Rattle.std.specs.Prelude.{false, true}
-use Rattle.rrd_file.specs.Layout.Values.{two_bytes}
-use Rattle.rrd_file.proofs.Coming.{cut_within}
-use Rattle.rrd_file.proofs.Kept.{broken, kept, ReadCount}
-use Rattle.rrd_file.proofs.Whole.{whole}
-use Rattle.rrd_file.specs.Stages.{CountDue}
+use Rattle.rrd_file.proofs.Common.{◌≡◌, ◌∙◌, sym, length, rules, err_from_is_err_and, spell, OfCount, false, true, two_bytes, cut_within, broken, kept, ReadCount, whole, CountDue}
 use Rattle.rrd_file.proofs.journal.tune.read_count.Goals as goal
 
 pub returns-in_err-piece-clause-brings : goal.returns-in_err-piece-clause-brings

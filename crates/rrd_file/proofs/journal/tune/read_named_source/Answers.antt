@@ -1,11 +1,4 @@
-use Rattle.std.proofs.Common.{◌≡◌, ◌∙◌, sym, length, rules, ◌+◌, ◌++◌, ◌∷◌, [], List, append-nil, subst}
-use Rattle.std.proofs.lemmas.Result.{err_from_is_err_and}
-use Rattle.rrd_file.specs.Layout.Pieces.{spell, OfSavedSource}
-use Rattle.std.specs.Prelude.{false, true}
-use Rattle.rrd_file.specs.Stages.{DueInEntry, NamedDue, named_due}
-use Rattle.rrd_file.specs.Progress.{Comes}
-use Rattle.rrd_file.proofs.Coming.{cut_within}
-use Rattle.rrd_file.proofs.Kept.{ReadNamed, broken, kept, unread, validated, validates}
+use Rattle.rrd_file.proofs.Common.{◌≡◌, ◌∙◌, sym, length, rules, ◌+◌, ◌++◌, ◌∷◌, [], List, append-nil, subst, err_from_is_err_and, spell, OfSavedSource, false, true, DueInEntry, NamedDue, named_due, Comes, cut_within, ReadNamed, broken, kept, unread, validated, validates}
 use Rattle.rrd_file.proofs.journal.tune.read_named_source.Goals as goal
 
 pub returns-in_err-piece-clause-brings : goal.returns-in_err-piece-clause-brings

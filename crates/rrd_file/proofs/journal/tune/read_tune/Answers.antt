@@ -1,10 +1,4 @@
-use Rattle.std.proofs.Common.{◌≡◌, ◌∙◌, ◌+◌, ◌-◌, ◌<◌, ◌≤◌, ◌++◌, ◌∷◌, [], ℕ, List, sym, ap, subst, length, length-append, map, arith, rules}
-use Rattle.std.proofs.lemmas.Result.{err_from_is_err_and}
-use Rattle.rrd_spec.specs.declared.entry.SavedSource.{SavedSource}
-use Rattle.rrd_file.specs.Layout.Pieces.{ATune, OfCount, OfSavedSource, OfTag, Piece}
-use Rattle.rrd_file.specs.Stages.{DueInEntry, named_due}
-use Rattle.rrd_file.specs.Progress.{Comes}
-use Rattle.rrd_file.proofs.Turns.{more_map, named_less, none_named}
+use Rattle.rrd_file.proofs.Common.{◌≡◌, ◌∙◌, ◌+◌, ◌-◌, ◌<◌, ◌≤◌, ◌++◌, ◌∷◌, [], ℕ, List, sym, ap, subst, length, length-append, map, arith, rules, err_from_is_err_and, SavedSource, ATune, OfCount, OfSavedSource, OfTag, Piece, DueInEntry, named_due, Comes, more_map, named_less, none_named}
 use Rattle.rrd_file.proofs.journal.tune.read_tune.Goals as goal
 
 pub returns-in_err-count-clause-closes : goal.returns-in_err-count-clause-closes

@@ -1,7 +1,4 @@
-use Rattle.std.proofs.Common.{◌≡◌, ◌∷◌, ◌-◌, ◌≤◌, [], ℕ, List, length, map}
-use Rattle.rrd_file.specs.Layout.Pieces.{ATune, OfCount, OfSavedSource, OfTag}
-use Rattle.rrd_file.specs.Stages.{first_due, named_due}
-use Rattle.rrd_file.specs.Progress.{Comes}
+use Rattle.rrd_file.proofs.Common.{◌≡◌, ◌∷◌, ◌-◌, ◌≤◌, [], ℕ, List, length, map, ATune, OfCount, OfSavedSource, OfTag, first_due, named_due, Comes}
 use Rattle.rrd_file.proofs.journal.tune.read_tune.Given as goal
 
 abbrev pub invariant-loop : goal.invariant-loop

@@ -1,5 +1,4 @@
-use Rattle.std.proofs.Common.{◌∙◌, sym, rules}
-use Rattle.rrd_file.proofs.ReadBack.{saved_source_back, saved_source_said}
+use Rattle.rrd_file.proofs.Common.{◌∙◌, sym, rules, saved_source_back, saved_source_said}
 use Rattle.rrd_file.proofs.journal.tune.saved_source_of.Goals as goal
 
 pub returns-in_default-clause-none : goal.returns-in_default-clause-none

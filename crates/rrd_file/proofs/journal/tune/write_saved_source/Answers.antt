@@ -1,9 +1,4 @@
-use Rattle.std.proofs.Common.{◌++◌}
-use Rattle.rrd_file.specs.Layout.Values.{raw_bytes, source_bytes, two_bytes}
-use Rattle.rrd_file.proofs.Joined.{two_parts}
-use Rattle.rrd_file.specs.Layout.Pieces.{OfSavedSource, spell}
-use Rattle.std.proofs.lemmas.Result.{err_from_is_err_and}
-use Rattle.rrd_file.proofs.Gathering.{no_room, piece_added}
+use Rattle.rrd_file.proofs.Common.{◌++◌, raw_bytes, source_bytes, two_bytes, two_parts, OfSavedSource, spell, err_from_is_err_and, no_room, piece_added}
 use Rattle.rrd_file.proofs.journal.tune.write_saved_source.Goals as goal
 
 pub returns-in_err-make_room : goal.returns-in_err-make_room

@@ -1,10 +1,4 @@
-use Rattle.std.proofs.Common.{◌∙◌, Some, ap, sym, map, arith}
-use Rattle.std.proofs.lemmas.List.{length-map}
-use Rattle.rrd_spec.specs.declared.entry.SavedSource.{SavedSource}
-use Rattle.rrd_file.specs.Layout.Pieces.{OfSavedSource, spell}
-use Rattle.rrd_file.proofs.Entering.{small_at}
-use Rattle.std.proofs.lemmas.Result.{err_from_is_err_and}
-use Rattle.rrd_file.proofs.Gathering.{all_added, item_added, item_at, item_broken, mapped_at}
+use Rattle.rrd_file.proofs.Common.{◌∙◌, Some, ap, sym, map, arith, length-map, SavedSource, OfSavedSource, spell, small_at, err_from_is_err_and, all_added, item_added, item_at, item_broken, mapped_at}
 use Rattle.rrd_file.proofs.journal.tune.write_saved_sources.Goals as goal
 
 pub write_saved_source-requires : goal.write_saved_source-requires

@@ -1,10 +1,4 @@
-use Rattle.std.proofs.Common.{◌∷◌, [], sym, subst, map, length}
-use Rattle.rrd_file.specs.Layout.{spelled}
-use Rattle.rrd_file.specs.Layout.Pieces.{OfTag, OfCount, OfSavedSource, ATune}
-use Rattle.rrd_file.proofs.Joined.{joined_two}
-use Rattle.std.proofs.lemmas.Result.{err_from_is_err_and}
-use Rattle.rrd_file.specs.Writer.{Breaks, Gathers}
-use Rattle.rrd_file.proofs.Gathering.{breaks_stop, gathers_then}
+use Rattle.rrd_file.proofs.Common.{◌∷◌, [], sym, subst, map, length, spelled, OfTag, OfCount, OfSavedSource, ATune, joined_two, err_from_is_err_and, Breaks, Gathers, breaks_stop, gathers_then}
 use Rattle.rrd_file.proofs.journal.tune.write_tune.Goals as goal
 
 pub returns-in_err-write_tuned : goal.returns-in_err-write_tuned

@@ -1,16 +1,4 @@
-use Rattle.std.proofs.Common.{◌≡◌, ◌∙◌, ◌+◌, ◌<◌, ◌≤◌, ◌++◌, ◌∷◌, [], List, sym, ap, take, drop, length, subst, rules}
-use Rattle.std.specs.List.{flat_map}
-use Rattle.std.proofs.lemmas.Result.{err_from_is_err_and}
-use Rattle.rrd_spec.specs.declared.settings.RraDef.{RraDef}
-use Rattle.rrd_spec.specs.Journal.Entries.{SavedArchive}
-use Rattle.rrd_spec.specs.Files.Rebuilding.{outline_left}
-use Rattle.rrd_file.specs.Layout.{saved_pieces}
-use Rattle.rrd_file.specs.Layout.Pieces.{Piece}
-use Rattle.rrd_file.specs.Journal.{AreSavedShaped}
-use Rattle.rrd_file.specs.Stages.{DueInEntry, archive_due}
-use Rattle.rrd_file.specs.Progress.{Comes}
-use Rattle.rrd_file.proofs.Told.{there}
-use Rattle.rrd_file.proofs.Turns.{dropped_all, more_flat, next_archive, shaped_more, taken_all}
+use Rattle.rrd_file.proofs.Common.{◌≡◌, ◌∙◌, ◌+◌, ◌<◌, ◌≤◌, ◌++◌, ◌∷◌, [], List, sym, ap, take, drop, length, subst, rules, flat_map, err_from_is_err_and, RraDef, SavedArchive, outline_left, saved_pieces, Piece, AreSavedShaped, DueInEntry, archive_due, Comes, there, dropped_all, more_flat, next_archive, shaped_more, taken_all}
 use Rattle.rrd_file.proofs.journal.update.read_all_saved.Goals as goal
 
 pub returns-in_err-old-clause-brings : goal.returns-in_err-old-clause-brings

@@ -1,11 +1,4 @@
-use Rattle.std.proofs.Common.{◌++◌, ℕ, List, drop, length, take}
-use Rattle.std.specs.List.{flat_map}
-use Rattle.rrd_spec.specs.Files.Rebuilding.{outline_left}
-use Rattle.rrd_file.specs.Layout.{saved_pieces}
-use Rattle.rrd_file.specs.Layout.Pieces.{Piece}
-use Rattle.rrd_file.specs.Journal.{AreSavedShaped}
-use Rattle.rrd_file.specs.Stages.{DueInEntry, archive_due}
-use Rattle.rrd_file.specs.Progress.{Comes}
+use Rattle.rrd_file.proofs.Common.{◌++◌, ℕ, List, drop, length, take, flat_map, outline_left, saved_pieces, Piece, AreSavedShaped, DueInEntry, archive_due, Comes}
 use Rattle.rrd_file.proofs.journal.update.read_all_saved.Given as goal
 
 abbrev pub invariant-loop-archive : goal.invariant-loop-archive

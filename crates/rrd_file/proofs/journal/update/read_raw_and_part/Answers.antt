@@ -1,21 +1,4 @@
-use Rattle.std.proofs.Common.{◌≡◌, ◌∙◌, ◌%◌, ◌++◌, ◌∷◌, [], ap, sym, subst, length, rules, to_z-of_z, FitsSigned}
-use Rattle.std.specs.Prelude.{false, slice_index_or, true}
-use Rattle.std.specs.Int.{w128}
-use Rattle.std.proofs.lemmas.Option.{get_or_from_slice_get}
-use Rattle.std.proofs.lemmas.Result.{err_from_is_err_and}
-use Rattle.rrd_fixed.specs.Rate.{IsAccepted}
-use Rattle.rrd_fold.specs.declared.function.Function.TheVariants.{Average}
-use Rattle.rrd_fold.specs.Parts.{Part}
-use Rattle.rrd_spec.specs.declared.settings.DsDef.{DsDef}
-use Rattle.rrd_spec.specs.Files.Rebuilding.{outline_left}
-use Rattle.rrd_spec.specs.Validity.{IsPart}
-use Rattle.rrd_base.specs.Rebuild.Validators.{EntryValidator}
-use Rattle.rrd_file.specs.Layout.Pieces.{OfRawAndPart, spell}
-use Rattle.rrd_file.specs.Stages.{BeforeDue}
-use Rattle.rrd_file.specs.Progress.{Comes}
-use Rattle.rrd_file.specs.Layout.Fitting.{FitsPart}
-use Rattle.rrd_file.proofs.Coming.{cut_within}
-use Rattle.rrd_file.proofs.Kept.{ReadRawAndPart, broken, kept}
+use Rattle.rrd_file.proofs.Common.{◌≡◌, ◌∙◌, ◌%◌, ◌++◌, ◌∷◌, [], ap, sym, subst, length, rules, to_z-of_z, FitsSigned, false, slice_index_or, true, w128, get_or_from_slice_get, err_from_is_err_and, IsAccepted, Average, Part, DsDef, outline_left, IsPart, EntryValidator, OfRawAndPart, spell, BeforeDue, Comes, FitsPart, cut_within, ReadRawAndPart, broken, kept}
 use Rattle.rrd_file.proofs.journal.update.read_raw_and_part.Goals as goal
 
 pub returns-in_err-piece : goal.returns-in_err-piece
@@ -27,7 +10,6 @@ returns-in_err-piece g c = λ bytes pieces later def e st.
 pub returns-then-not-accepts_raw : goal.returns-then-not-accepts_raw
 returns-then-not-accepts_raw g c = λ bytes pieces later def e st.
     let len : length c.piece.new.piece ≡ 36 = search rules in
-    let fits : FitsSigned w128 c.before_of-raw.result.2 = search rules in
     let raw = c.before_of-raw.result.0 in
     let part : Part = record { known = c.before_of-raw.result.1; value = c.before_of-raw.result.2 } in
     let is : spell (OfRawAndPart raw part) ≡ c.piece.new.piece = c.before_of-raw.ensures.spelled in

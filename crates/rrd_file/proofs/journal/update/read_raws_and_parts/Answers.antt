@@ -1,13 +1,4 @@
-use Rattle.std.proofs.Common.{◌≡◌, ◌∙◌, ◌+◌, ◌<◌, ◌≤◌, ◌++◌, ◌∷◌, [], List, sym, ap, arith, length-append, drop, length, map, subst, rules}
-use Rattle.std.proofs.lemmas.Result.{err_from_is_err_and}
-use Rattle.rrd_spec.specs.declared.settings.DsDef.{DsDef}
-use Rattle.rrd_spec.specs.Files.Rebuilding.{outline_left}
-use Rattle.rrd_file.specs.Layout.{raws_and_parts}
-use Rattle.rrd_file.specs.Layout.Pieces.{Piece}
-use Rattle.rrd_file.specs.Stages.{BeforeDue, DueInEntry}
-use Rattle.rrd_file.specs.Progress.{Comes}
-use Rattle.rrd_file.proofs.Told.{there}
-use Rattle.rrd_file.proofs.Turns.{dropped_all, more_raws, next_source}
+use Rattle.rrd_file.proofs.Common.{◌≡◌, ◌∙◌, ◌+◌, ◌<◌, ◌≤◌, ◌++◌, ◌∷◌, [], List, sym, ap, arith, length-append, drop, length, map, subst, rules, err_from_is_err_and, DsDef, outline_left, raws_and_parts, Piece, BeforeDue, DueInEntry, Comes, there, dropped_all, more_raws, next_source}
 use Rattle.rrd_file.proofs.journal.update.read_raws_and_parts.Goals as goal
 
 pub returns-in_err-raw-clause-brings : goal.returns-in_err-raw-clause-brings

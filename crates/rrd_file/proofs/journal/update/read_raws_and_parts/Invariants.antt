@@ -1,9 +1,4 @@
-use Rattle.std.proofs.Common.{◌≡◌, ◌++◌, ℕ, List, drop, length, map}
-use Rattle.rrd_spec.specs.Files.Rebuilding.{outline_left}
-use Rattle.rrd_file.specs.Layout.{raws_and_parts}
-use Rattle.rrd_file.specs.Layout.Pieces.{Piece}
-use Rattle.rrd_file.specs.Stages.{BeforeDue, DueInEntry}
-use Rattle.rrd_file.specs.Progress.{Comes}
+use Rattle.rrd_file.proofs.Common.{◌≡◌, ◌++◌, ℕ, List, drop, length, map, outline_left, raws_and_parts, Piece, BeforeDue, DueInEntry, Comes}
 use Rattle.rrd_file.proofs.journal.update.read_raws_and_parts.Given as goal
 
 abbrev pub invariant-loop-source : goal.invariant-loop-source

@@ -1,14 +1,4 @@
-use Rattle.std.proofs.Common.{◌≡◌, ◌∙◌, ap, sym, length, rules, arith, min}
-use Rattle.std.proofs.lemmas.Result.{err_from_is_err_and}
-use Rattle.rrd_base.specs.Rebuild.Validators.{EntryValidator}
-use Rattle.rrd_file.specs.Layout.Pieces.{spell, OfRows}
-use Rattle.rrd_spec.specs.Journal.Entries.{rows_between}
-use Rattle.rrd_spec.specs.Files.Rebuilding.{outline_left}
-use Rattle.rrd_file.specs.Layout.Values.{four_bytes}
-use Rattle.rrd_file.specs.Stages.{RowsDue}
-use Rattle.rrd_file.proofs.Coming.{cut_within}
-use Rattle.rrd_file.proofs.Kept.{ReadRows, broken, kept}
-use Rattle.rrd_file.proofs.Whole.{whole}
+use Rattle.rrd_file.proofs.Common.{◌≡◌, ◌∙◌, ap, sym, length, rules, arith, min, err_from_is_err_and, EntryValidator, spell, OfRows, rows_between, outline_left, four_bytes, RowsDue, cut_within, ReadRows, broken, kept, whole}
 use Rattle.rrd_file.proofs.journal.update.read_row_count.Goals as goal
 
 pub returns-in_err-piece-clause-brings : goal.returns-in_err-piece-clause-brings

@@ -1,19 +1,4 @@
-use Rattle.std.proofs.Common.{◌≡◌, ◌∙◌, ◌++◌, ◌∷◌, [], ℕ, List, Some, sym, ap, subst, append_assoc, length, map, min, replicate}
-use Rattle.std.specs.Prelude.{slice_get}
-use Rattle.std.proofs.lemmas.List.{length-map}
-use Rattle.std.proofs.lemmas.Result.{err_from_is_err_and}
-use Rattle.rrd_fold.specs.Bounds.{Consolidating}
-use Rattle.rrd_spec.specs.declared.settings.RraDef.{RraDef}
-use Rattle.rrd_spec.specs.Preparations.{parts_in}
-use Rattle.rrd_spec.specs.Journal.Entries.{SavedArchive, rows_between}
-use Rattle.rrd_spec.specs.Files.Rebuilding.{outline_left}
-use Rattle.rrd_base.specs.Rebuild.Validators.{EntryValidator}
-use Rattle.rrd_file.specs.Layout.{row_pieces, saved_pieces}
-use Rattle.rrd_file.specs.Layout.Pieces.{OfPrep, OfRows, Piece}
-use Rattle.rrd_file.specs.Journal.{IsSavedShaped}
-use Rattle.rrd_file.specs.Stages.{DueInEntry, RowPrepDue, RowsDue, archive_due, cells_due}
-use Rattle.rrd_file.specs.Progress.{Comes}
-use Rattle.rrd_file.proofs.Told.{some_is}
+use Rattle.rrd_file.proofs.Common.{◌≡◌, ◌∙◌, ◌++◌, ◌∷◌, [], ℕ, List, Some, sym, ap, subst, append_assoc, length, map, min, replicate, slice_get, length-map, err_from_is_err_and, Consolidating, RraDef, parts_in, SavedArchive, rows_between, outline_left, EntryValidator, row_pieces, saved_pieces, OfPrep, OfRows, Piece, IsSavedShaped, DueInEntry, RowPrepDue, RowsDue, archive_due, cells_due, Comes, some_is}
 use Rattle.rrd_file.proofs.journal.update.read_saved.Goals as goal
 
 pub returns-in_err-preps-clause-brings : goal.returns-in_err-preps-clause-brings
@@ -23,8 +8,7 @@ returns-in_err-preps-clause-brings g c = λ bytes pieces later asked at came.
     let st = subst (λ (d : RraDef). Comes bytes c.args.build.now pieces (archive_due c.args.build.now.header.step (outline_left c.args.build.now) c.args.last d ++ later) c.args.input.now) (some_is asked def (sym at ∙ e)) came in
     let p = err_from_is_err_and c.from_residual.result c.from_residual.ensures.1 in
     let now = outline_left c.args.build.now in
-    let step = c.args.build.now.header.step in
-    let r = min (rows_between step def c.args.last now.last) def.rows in
+    let r = min (rows_between c.args.build.now.header.step def c.args.last now.last) def.rows in
     let s0 = subst (λ (l : List DueInEntry). Comes bytes c.args.build.now pieces l c.args.input.now) (append_assoc (replicate (length now.sources) (RowPrepDue c.args.last def)) (RowsDue r ∷ cells_due r now) later) st in
     rw (p.1, p.2) (c.in_err-preps.ensures.brings bytes pieces (RowsDue r ∷ (cells_due r now ++ later)) s0)
 
@@ -35,8 +19,7 @@ returns-in_err-count-clause-brings g c = λ bytes pieces later asked at came.
     let st = subst (λ (d : RraDef). Comes bytes c.args.build.now pieces (archive_due c.args.build.now.header.step (outline_left c.args.build.now) c.args.last d ++ later) c.args.input.now) (some_is asked def (sym at ∙ e)) came in
     let p = err_from_is_err_and c.from_residual-in_err-count.result c.from_residual-in_err-count.ensures.1 in
     let now = outline_left c.args.build.now in
-    let step = c.args.build.now.header.step in
-    let r = min (rows_between step def c.args.last now.last) def.rows in
+    let r = min (rows_between c.args.build.now.header.step def c.args.last now.last) def.rows in
     let s0 = subst (λ (l : List DueInEntry). Comes bytes c.args.build.now pieces l c.args.input.now) (append_assoc (replicate (length now.sources) (RowPrepDue c.args.last def)) (RowsDue r ∷ cells_due r now) later) st in
     let s1 = c.in_ok-preps.ensures.brings bytes pieces (RowsDue r ∷ (cells_due r now ++ later)) s0 in
     rw (p.1, p.2) (c.in_err-count.ensures.brings bytes (pieces ++ map OfPrep (parts_in c.in_ok-preps.preps.items)) (cells_due r now ++ later) s1)
@@ -48,8 +31,7 @@ returns-in_err-rows-clause-brings g c = λ bytes pieces later asked at came.
     let st = subst (λ (d : RraDef). Comes bytes c.args.build.now pieces (archive_due c.args.build.now.header.step (outline_left c.args.build.now) c.args.last d ++ later) c.args.input.now) (some_is asked def (sym at ∙ e)) came in
     let p = err_from_is_err_and c.from_residual-in_err-rows.result c.from_residual-in_err-rows.ensures.1 in
     let now = outline_left c.args.build.now in
-    let step = c.args.build.now.header.step in
-    let r = min (rows_between step def c.args.last now.last) def.rows in
+    let r = min (rows_between c.args.build.now.header.step def c.args.last now.last) def.rows in
     let s0 = subst (λ (l : List DueInEntry). Comes bytes c.args.build.now pieces l c.args.input.now) (append_assoc (replicate (length now.sources) (RowPrepDue c.args.last def)) (RowsDue r ∷ cells_due r now) later) st in
     let s1 = c.in_ok-preps.ensures.brings bytes pieces (RowsDue r ∷ (cells_due r now ++ later)) s0 in
     let s2 = c.in_ok-count.ensures.brings bytes (pieces ++ map OfPrep (parts_in c.in_ok-preps.preps.items)) (cells_due r now ++ later) s1 in
@@ -62,8 +44,7 @@ returns-clause-brings g c = λ bytes pieces later asked at came.
     let e : slice_get (outline_left c.args.build.now).archives c.args.archive ≡ Some def = subst (λ (j : EntryValidator). slice_get j.outline.archives c.args.archive ≡ Some def) c.validator.ensures c.archive-def.ensures.value in
     let st = subst (λ (d : RraDef). Comes bytes c.args.build.now pieces (archive_due c.args.build.now.header.step (outline_left c.args.build.now) c.args.last d ++ later) c.args.input.now) (some_is asked def (sym at ∙ e)) came in
     let now = outline_left c.args.build.now in
-    let step = c.args.build.now.header.step in
-    let r = min (rows_between step def c.args.last now.last) def.rows in
+    let r = min (rows_between c.args.build.now.header.step def c.args.last now.last) def.rows in
     let s0 = subst (λ (l : List DueInEntry). Comes bytes c.args.build.now pieces l c.args.input.now) (append_assoc (replicate (length now.sources) (RowPrepDue c.args.last def)) (RowsDue r ∷ cells_due r now) later) st in
     let s1 = c.in_ok-preps.ensures.brings bytes pieces (RowsDue r ∷ (cells_due r now ++ later)) s0 in
     let s2 = c.in_ok-count.ensures.brings bytes (pieces ++ map OfPrep (parts_in c.in_ok-preps.preps.items)) (cells_due r now ++ later) s1 in

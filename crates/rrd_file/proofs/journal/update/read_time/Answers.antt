@@ -1,12 +1,4 @@
-use Rattle.std.proofs.Common.{◌≡◌, ◌∙◌, sym, length, rules}
-use Rattle.std.proofs.lemmas.Result.{err_from_is_err_and}
-use Rattle.rrd_file.specs.Layout.Pieces.{spell, OfTime}
-use Rattle.std.specs.Prelude.{false, true}
-use Rattle.rrd_file.specs.Layout.Values.{eight_bytes}
-use Rattle.rrd_file.proofs.Coming.{cut_within}
-use Rattle.rrd_file.proofs.Kept.{broken, kept, ReadTime, validated, validates}
-use Rattle.rrd_file.proofs.Whole.{whole}
-use Rattle.rrd_file.specs.Stages.{TimeDue}
+use Rattle.rrd_file.proofs.Common.{◌≡◌, ◌∙◌, sym, length, rules, err_from_is_err_and, spell, OfTime, false, true, eight_bytes, cut_within, broken, kept, ReadTime, validated, validates, whole, TimeDue}
 use Rattle.rrd_file.proofs.journal.update.read_time.Goals as goal
 
 pub returns-in_err-piece : goal.returns-in_err-piece

@@ -1,10 +1,4 @@
-use Rattle.std.proofs.Common.{◌++◌, ◌∷◌, [], List, append_assoc, map, subst}
-use Rattle.std.specs.List.{flat_map}
-use Rattle.std.proofs.lemmas.Result.{err_from_is_err_and}
-use Rattle.rrd_spec.specs.Files.Rebuilding.{outline_left}
-use Rattle.rrd_file.specs.Layout.Pieces.{AnUpdate, OfTag, OfTime}
-use Rattle.rrd_file.specs.Stages.{BeforeDue, DueInEntry, archive_due}
-use Rattle.rrd_file.specs.Progress.{Comes}
+use Rattle.rrd_file.proofs.Common.{◌++◌, ◌∷◌, [], List, append_assoc, map, subst, flat_map, err_from_is_err_and, outline_left, AnUpdate, OfTag, OfTime, BeforeDue, DueInEntry, archive_due, Comes}
 use Rattle.rrd_file.proofs.journal.update.read_update.Goals as goal
 
 pub returns-in_err-last-clause-closes : goal.returns-in_err-last-clause-closes
@@ -30,8 +24,7 @@ returns-in_err-archives-clause-closes g c = λ bytes st.
     let firsts = map (BeforeDue last) now.sources in
     let others = flat_map (archive_due c.args.build.now.header.step now last) now.archives in
     let s1 = subst (λ (l : List DueInEntry). Comes bytes c.args.build.now (OfTag AnUpdate ∷ OfTime last ∷ []) l c.read_time.new.input) (append_assoc firsts others []) (c.in_ok-last.ensures bytes (OfTag AnUpdate ∷ []) [] st) in
-    let s2 = c.in_ok-raws.ensures.brings bytes (OfTag AnUpdate ∷ OfTime last ∷ []) (others ++ []) s1 in
-    rw (p.1, p.2) (c.in_err-archives.ensures.brings bytes _ [] s2)
+    rw (p.1, p.2) (c.in_err-archives.ensures.brings bytes _ [] (c.in_ok-raws.ensures.brings bytes (OfTag AnUpdate ∷ OfTime last ∷ []) (others ++ []) s1))
 
 pub returns-clause-closes : goal.returns-clause-closes
 returns-clause-closes g c = λ bytes st.
@@ -40,5 +33,4 @@ returns-clause-closes g c = λ bytes st.
     let firsts = map (BeforeDue last) now.sources in
     let others = flat_map (archive_due c.args.build.now.header.step now last) now.archives in
     let s1 = subst (λ (l : List DueInEntry). Comes bytes c.args.build.now (OfTag AnUpdate ∷ OfTime last ∷ []) l c.read_time.new.input) (append_assoc firsts others []) (c.in_ok-last.ensures bytes (OfTag AnUpdate ∷ []) [] st) in
-    let s2 = c.in_ok-raws.ensures.brings bytes (OfTag AnUpdate ∷ OfTime last ∷ []) (others ++ []) s1 in
-    c.in_ok-archives.ensures.brings bytes _ [] s2
+    c.in_ok-archives.ensures.brings bytes _ [] (c.in_ok-raws.ensures.brings bytes (OfTag AnUpdate ∷ OfTime last ∷ []) (others ++ []) s1)

@@ -1,10 +1,4 @@
-use Rattle.std.proofs.Common.{◌∙◌, Some, ap, sym, subst, arith}
-use Rattle.rrd_spec.specs.Journal.Entries.{SavedArchive}
-use Rattle.rrd_file.specs.Layout.{saved_pieces, spelled}
-use Rattle.rrd_file.specs.Layout.Pieces.{spell}
-use Rattle.rrd_file.specs.Writer.{Adds}
-use Rattle.std.proofs.lemmas.Result.{err_from_is_err_and}
-use Rattle.rrd_file.proofs.Gathering.{all_added, flat_flat, item_added, item_at, item_broken}
+use Rattle.rrd_file.proofs.Common.{◌∙◌, Some, ap, sym, subst, arith, SavedArchive, saved_pieces, spelled, spell, Adds, err_from_is_err_and, all_added, flat_flat, item_added, item_at, item_broken}
 use Rattle.rrd_file.proofs.journal.update.write_all_saved.Goals as goal
 
 pub returns-in_err-write_saved : goal.returns-in_err-write_saved

@@ -1,14 +1,4 @@
-use Rattle.std.proofs.Common.{◌≡◌, ◌∙◌, ◌++◌, ap, arith}
-use Rattle.std.specs.Int.{w128}
-use Rattle.std.proofs.lemmas.Int.{ints}
-use mir.Facts.{to_z-of_z}
-use mir.Val.{SFits, of_z, to_z}
-use Rattle.rrd_fold.specs.Parts.{Part}
-use Rattle.rrd_file.specs.Layout.Pieces.{OfRawAndPart, spell}
-use Rattle.rrd_file.specs.Layout.Values.{part_bytes, raw_bytes}
-use Rattle.rrd_file.proofs.Joined.{two_parts}
-use Rattle.std.proofs.lemmas.Result.{err_from_is_err_and}
-use Rattle.rrd_file.proofs.Gathering.{no_room, piece_added}
+use Rattle.rrd_file.proofs.Common.{◌≡◌, ◌∙◌, ◌++◌, ap, arith, w128, ints, to_z-of_z, SFits, of_z, to_z, Part, OfRawAndPart, spell, part_bytes, raw_bytes, two_parts, err_from_is_err_and, no_room, piece_added}
 use Rattle.rrd_file.proofs.journal.update.write_raw_and_part.Goals as goal
 
 pub returns-in_err-make_room : goal.returns-in_err-make_room

@@ -1,11 +1,4 @@
-use Rattle.std.proofs.Common.{◌∙◌, Some, ap, sym, get_or, arith}
-use Rattle.rrd_fixed.specs.declared.raw.Raw.{Raw}
-use Rattle.rrd_fold.specs.Parts.{Part}
-use Rattle.rrd_file.specs.Layout.{raws_and_parts}
-use Rattle.rrd_file.specs.Layout.Pieces.{OfRawAndPart, spell}
-use Rattle.rrd_file.proofs.Told.{before_at, length_before}
-use Rattle.std.proofs.lemmas.Result.{err_from_is_err_and}
-use Rattle.rrd_file.proofs.Gathering.{all_added, item_added, item_broken}
+use Rattle.rrd_file.proofs.Common.{◌∙◌, Some, ap, sym, get_or, arith, Raw, Part, raws_and_parts, OfRawAndPart, spell, before_at, length_before, err_from_is_err_and, all_added, item_added, item_broken}
 use Rattle.rrd_file.proofs.journal.update.write_raws_and_parts.Goals as goal
 
 pub returns-in_err-write_raw_and_part : goal.returns-in_err-write_raw_and_part

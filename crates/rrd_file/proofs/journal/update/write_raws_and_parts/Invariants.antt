@@ -1,8 +1,4 @@
-use Rattle.std.proofs.Common.{take}
-use Rattle.std.specs.List.{flat_map}
-use Rattle.rrd_file.specs.Layout.{raws_and_parts}
-use Rattle.rrd_file.specs.Layout.Pieces.{spell}
-use Rattle.rrd_file.specs.Writer.{Adds}
+use Rattle.rrd_file.proofs.Common.{take, flat_map, raws_and_parts, spell, Adds}
 use Rattle.rrd_file.proofs.journal.update.write_raws_and_parts.Given as goal
 
 abbrev pub invariant-loop-i : goal.invariant-loop-i

@@ -1,10 +1,4 @@
-use Rattle.std.proofs.Common.{◌∙◌, ◌++◌, sym, subst, ap, length}
-use Rattle.rrd_file.specs.Layout.{row_pieces, spelled}
-use Rattle.rrd_file.specs.Layout.Pieces.{OfRows, spell}
-use Rattle.rrd_file.proofs.Joined.{joined_saved}
-use Rattle.std.proofs.lemmas.Result.{err_from_is_err_and}
-use Rattle.rrd_file.specs.Writer.{Breaks, Gathers}
-use Rattle.rrd_file.proofs.Gathering.{breaks_stop, gathers_then, breaks_then}
+use Rattle.rrd_file.proofs.Common.{◌∙◌, ◌++◌, sym, subst, ap, length, row_pieces, spelled, OfRows, spell, joined_saved, err_from_is_err_and, Breaks, Gathers, breaks_stop, gathers_then, breaks_then}
 use Rattle.rrd_file.proofs.journal.update.write_saved.Goals as goal
 
 pub returns-in_err-write_preps : goal.returns-in_err-write_preps

@@ -1,10 +1,4 @@
-use Rattle.std.proofs.Common.{◌∷◌, []}
-use Rattle.rrd_file.specs.Layout.{spelled}
-use Rattle.rrd_file.specs.Layout.Values.{eight_bytes}
-use Rattle.rrd_file.proofs.Joined.{two_parts}
-use Rattle.rrd_file.specs.Layout.Pieces.{AnUpdate, OfTag, OfTime, spell}
-use Rattle.std.proofs.lemmas.Result.{err_from_is_err_and}
-use Rattle.rrd_file.proofs.Gathering.{no_room, piece_added}
+use Rattle.rrd_file.proofs.Common.{◌∷◌, [], spelled, eight_bytes, two_parts, AnUpdate, OfTag, OfTime, spell, err_from_is_err_and, no_room, piece_added}
 use Rattle.rrd_file.proofs.journal.update.write_time.Goals as goal
 
 pub returns-in_err-make_room : goal.returns-in_err-make_room

@@ -1,11 +1,4 @@
-use Rattle.std.proofs.Common.{◌++◌, ◌∷◌, [], sym, subst}
-use Rattle.std.specs.List.{flat_map}
-use Rattle.rrd_file.specs.Layout.{saved_pieces, raws_and_parts, spelled}
-use Rattle.rrd_file.specs.Layout.Pieces.{OfTag, OfTime, AnUpdate}
-use Rattle.rrd_file.proofs.Joined.{joined_three}
-use Rattle.std.proofs.lemmas.Result.{err_from_is_err_and}
-use Rattle.rrd_file.specs.Writer.{Breaks, Gathers}
-use Rattle.rrd_file.proofs.Gathering.{breaks_stop, gathers_then, breaks_then}
+use Rattle.rrd_file.proofs.Common.{◌++◌, ◌∷◌, [], sym, subst, flat_map, saved_pieces, raws_and_parts, spelled, OfTag, OfTime, AnUpdate, joined_three, err_from_is_err_and, Breaks, Gathers, breaks_stop, gathers_then, breaks_then}
 use Rattle.rrd_file.proofs.journal.update.write_update.Goals as goal
 
 pub returns-in_err-write_time : goal.returns-in_err-write_time

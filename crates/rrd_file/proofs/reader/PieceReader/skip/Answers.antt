@@ -1,7 +1,4 @@
-use Rattle.std.proofs.Common.{◌≡◌, ◌∙◌, ◌+◌, ◌-◌, ◌≤◌, List, ℕ, sym, ap, subst, arith, length, take, length-drop}
-use Rattle.std.specs.Io.KnownBytes.{Consumes, prepend_known}
-use Rattle.rrd_file.specs.Reader.{Input, left}
-use Rattle.rrd_file.proofs.Filled.{consumed}
+use Rattle.rrd_file.proofs.Common.{◌≡◌, ◌∙◌, ◌+◌, ◌-◌, ◌≤◌, List, ℕ, sym, ap, subst, arith, length, take, length-drop, Consumes, prepend_known, Input, left, consumed}
 use Rattle.rrd_file.proofs.reader.PieceReader.skip.Goals as goal
 
 pub returns-clause-consumed : goal.returns-clause-consumed

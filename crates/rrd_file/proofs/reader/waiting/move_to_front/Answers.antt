@@ -1,5 +1,4 @@
-use Rattle.std.proofs.Common.{◌≤◌, length, arith}
-use Rattle.rrd_file.proofs.Filled.{moved_to_front}
+use Rattle.rrd_file.proofs.Common.{◌≤◌, length, arith, moved_to_front}
 use Rattle.rrd_file.proofs.reader.waiting.move_to_front.Goals as goal
 
 pub returns-clause-front : goal.returns-clause-front

@@ -1,6 +1,4 @@
-use Rattle.std.proofs.Common.{◌≡◌, ◌*◌, ◌++◌, drop, take}
-use Rattle.std.specs.List.{flat_map}
-use Rattle.rrd_file.specs.Layout.Values.{cell_bytes}
+use Rattle.rrd_file.proofs.Common.{◌≡◌, ◌*◌, ◌++◌, drop, take, flat_map, cell_bytes}
 use Rattle.rrd_file.proofs.writer.block.put_cells.Given as goal
 
 abbrev pub invariant-loop-i : goal.invariant-loop-i

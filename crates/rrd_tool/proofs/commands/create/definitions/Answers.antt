@@ -1,13 +1,8 @@
-use Rattle.std.proofs.Common.{◌≡◌, ◌∙◌, ◌+◌, ◌<◌, subst, ◌++◌, ◌∷◌, [], map, get_or, length, ap, sym, true, Ok, Err, arith, is_ok}
-use Rattle.std.proofs.lemmas.List.{append-nil, get_or-map, length-map}
-use Rattle.std.proofs.lemmas.Result.{err_from_is_err_and}
-use Rattle.rrd_tool.specs.declared.commands.create.Definition.TheVariants as Definition
-use Rattle.rrd_tool.specs.Fields.Answers.{Meets}
-use Rattle.rrd_tool.specs.Fields.Parts.{or_fault}
-use Rattle.rrd_tool.specs.declared.faults.Part.TheVariants as part
-use Rattle.rrd_tool.proofs.Defined.{read_fails, read_more}
-use Rattle.rrd_tool.proofs.commands.create.definitions.Goals as goal
+use Rattle.rrd_tool.proofs.Common.{◌≡◌, ◌∙◌, ◌+◌, ◌<◌, subst, ◌++◌, ◌∷◌, [], map, get_or, length, ap, sym, true, Ok, Err, arith, is_ok, append-nil, get_or-map, length-map, err_from_is_err_and, Meets, or_fault, read_fails, read_more}
 use Rattle.rrd_tool.proofs.commands.create.definitions.Goals.{in-Source, in-Archive}
+use Rattle.rrd_tool.specs.declared.commands.create.Definition.TheVariants as Definition
+use Rattle.rrd_tool.specs.declared.faults.Part.TheVariants as part
+use Rattle.rrd_tool.proofs.commands.create.definitions.Goals as goal
 
 pub returns-in_err-definition : goal.returns-in_err-definition
 returns-in_err-definition c =

@@ -1,5 +1,4 @@
-use Rattle.std.proofs.Common.{map}
-use Rattle.rrd_tool.proofs.Defined.{HasRead}
+use Rattle.rrd_tool.proofs.Common.{map, HasRead}
 use Rattle.rrd_tool.proofs.commands.create.definitions.Given as goal
 
 abbrev pub invariant-loop-index : goal.invariant-loop-index

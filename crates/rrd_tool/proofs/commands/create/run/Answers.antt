@@ -1,6 +1,4 @@
-use Rattle.std.proofs.Common.{Some, ap, refl, option_map}
-use Rattle.rrd_tool.specs.declared.faults.Fault.TheVariants.{Refused}
-use Rattle.rrd_tool.proofs.RunLemmas.{appends_nothing}
+use Rattle.rrd_tool.proofs.Common.{Some, ap, refl, option_map, Refused, appends_nothing}
 use Rattle.rrd_tool.proofs.commands.create.run.Goals as goal
 
 pub returns-in-Ok : goal.returns-in-Ok

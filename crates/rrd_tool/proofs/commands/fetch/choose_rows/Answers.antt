@@ -1,12 +1,4 @@
-use Rattle.std.proofs.Common.{◌≡◌, ℕ, IfOk, Result, Ok, Err, sym}
-use Rattle.rrd_fold.specs.declared.function.Function.{Function}
-use Rattle.rrd_spec.specs.Choice.{choice}
-use Rattle.rrd_spec.specs.History.{Content}
-use Rattle.rrd_spec.specs.Validity.{IsValid}
-use Rattle.rrd_spec.specs.declared.refusal.Refusal.{Refusal}
-use Rattle.rrd_spec.specs.declared.requests.fetch.Chosen.{Chosen}
-use Rattle.rrd_tool.specs.Commands.Fetched.{IsReadable}
-use Rattle.rrd_tool.proofs.Choosable.{chosen_readable}
+use Rattle.rrd_tool.proofs.Common.{◌≡◌, ℕ, IfOk, Result, Ok, Err, sym, Function, choice, Content, IsValid, Refusal, Chosen, IsReadable, chosen_readable}
 use Rattle.rrd_tool.proofs.commands.fetch.choose_rows.Goals as goal
 
 any_readable : (content : Content) (function : Function) (asked start end : ℕ) (answer : Result Chosen Refusal) → IsValid content

@@ -1,5 +1,4 @@
-use Rattle.std.proofs.Common.{◌∙◌, ◌<◌, ◌++◌, ap, sym, arith, codes, length}
-use Rattle.rrd_tool.proofs.PrintLemmas.{names_more}
+use Rattle.rrd_tool.proofs.Common.{◌∙◌, ◌<◌, ◌++◌, ap, sym, arith, codes, length, names_more}
 use Rattle.rrd_tool.proofs.commands.fetch.header_string.Goals as goal
 
 pub loop-source-preserved : goal.loop-source-preserved
@@ -7,11 +6,8 @@ loop-source-preserved c =
     let sources = c.args.database.now.content.sources in
     let i = c.loop-source.source in
     let source = c.source.result.now in
-    let count = c.sources-source-end.ensures.count in
-    let test = c.loop-source-test.true in
-    let inside : i < length sources = omega (arith, count, test) in
-    let inv = c.loop-source.invariant in
-    let room = c.push_name.ensures.room in (
+    let inside : i < length sources = omega (arith, c.sources-source-end.ensures.count, c.loop-source-test.true) in
+    let inv = c.loop-source.invariant in (
       c.push_name.ensures.text ∙ (ap (λ l. l ++ codes " " ++ source.name) inv.0 ∙ ap (λ l. codes "time:" ++ l) (sym (names_more sources i source inside c.source.ensures))),
-      omega (arith, inv.1, room),
+      omega (arith, inv.1, c.push_name.ensures.room),
     )

@@ -1,5 +1,4 @@
-use Rattle.std.proofs.Common.{◌≡◌, ◌≤◌, ◌+◌, ◌*◌, ◌++◌, codes, length, take}
-use Rattle.rrd_tool.specs.Commands.Fetch.{names_text}
+use Rattle.rrd_tool.proofs.Common.{◌≡◌, ◌≤◌, ◌+◌, ◌*◌, ◌++◌, codes, length, take, names_text}
 use Rattle.rrd_tool.proofs.commands.fetch.header_string.Given as goal
 
 abbrev pub invariant-loop-source : goal.invariant-loop-source

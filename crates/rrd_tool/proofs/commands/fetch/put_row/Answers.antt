@@ -1,11 +1,4 @@
-use Rattle.std.proofs.Common.{◌≡◌, ◌∙◌, ◌-◌, ◌<◌, ◌≤◌, ◌++◌, ◌∷◌, [], List, ℕ, sym, ap, refl, arith, append_assoc, codes, length, set, to_z-of_z}
-use Rattle.std.proofs.lemmas.List.{length-set}
-use Rattle.rrd_fixed.specs.Puts.{Puts}
-use Rattle.rrd_fixed.specs.Text.{cell_text, time_text}
-use Rattle.rrd_fixed.proofs.PutLemmas.{puts_before, puts_byte}
-use Rattle.rrd_spec.specs.History.Cells.{cell_at}
-use Rattle.rrd_tool.specs.Commands.Fetch.{row_text, texts_below}
-use Rattle.rrd_tool.proofs.RowLemmas.{cell_read, one_put}
+use Rattle.rrd_tool.proofs.Common.{◌≡◌, ◌∙◌, ◌-◌, ◌<◌, ◌≤◌, ◌++◌, ◌∷◌, [], List, ℕ, sym, ap, refl, arith, append_assoc, codes, length, set, to_z-of_z, length-set, Puts, cell_text, time_text, puts_before, puts_byte, cell_at, row_text, texts_below, cell_read, one_put}
 use Rattle.rrd_tool.proofs.commands.fetch.put_row.Goals as goal
 
 line_end : (old : List ℕ) (end : ℕ) → 0 < end → end ≤ length old → Puts old (set old (end - 1) 10) end (codes "\n") (end - 1)

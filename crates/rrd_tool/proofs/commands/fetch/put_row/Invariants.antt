@@ -1,8 +1,4 @@
-use Rattle.std.proofs.Common.{◌≡◌, ◌≤◌, ◌+◌, ◌*◌, ◌++◌, List, ℕ, codes, length}
-use Rattle.rrd_fixed.specs.Puts.{Puts}
-use Rattle.rrd_fixed.specs.Text.{cell_text}
-use Rattle.rrd_spec.specs.History.Cells.{cell_at}
-use Rattle.rrd_tool.specs.Commands.Fetch.{texts_below}
+use Rattle.rrd_tool.proofs.Common.{◌≡◌, ◌≤◌, ◌+◌, ◌*◌, ◌++◌, List, ℕ, codes, length, Puts, cell_text, cell_at, texts_below}
 use Rattle.rrd_tool.proofs.commands.fetch.put_row.Given as goal
 
 abbrev pub invariant-loop-source : goal.invariant-loop-source

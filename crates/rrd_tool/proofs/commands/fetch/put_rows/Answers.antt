@@ -1,9 +1,4 @@
-use Rattle.std.proofs.Common.{◌≡◌, ◌∙◌, pos, to_z, w64, ◌^◌, ◌+◌, ◌-◌, ◌*◌, ◌/◌, ◌≤◌, ◌<◌, ◌++◌, ap, arith, drop, length}
-use Rattle.std.proofs.lemmas.Int.{to_z_pos}
-use Rattle.rrd_tool.specs.Commands.Fetch.{row_of, row_text, texts_below}
-use Rattle.rrd_tool.specs.Commands.Fetched.{row_room}
-use Rattle.rrd_tool.proofs.PrintLemmas.{within}
-use Rattle.rrd_tool.proofs.RowLemmas.{one_put, room_step}
+use Rattle.rrd_tool.proofs.Common.{◌≡◌, ◌∙◌, pos, to_z, w64, ◌^◌, ◌+◌, ◌-◌, ◌*◌, ◌/◌, ◌≤◌, ◌<◌, ◌++◌, ap, arith, drop, length, to_z_pos, row_of, row_text, texts_below, row_room, within, one_put, room_step}
 use Rattle.rrd_tool.proofs.commands.fetch.put_rows.Goals as goal
 
 pub loop-row-preserved : goal.loop-row-preserved

@@ -1,6 +1,4 @@
-use Rattle.std.proofs.Common.{◌≡◌, ◌≤◌, ◌-◌, ◌*◌, ◌++◌, drop, length}
-use Rattle.rrd_tool.specs.Commands.Fetch.{row_of, texts_below}
-use Rattle.rrd_tool.specs.Commands.Fetched.{row_room}
+use Rattle.rrd_tool.proofs.Common.{◌≡◌, ◌≤◌, ◌-◌, ◌*◌, ◌++◌, drop, length, row_of, texts_below, row_room}
 use Rattle.rrd_tool.proofs.commands.fetch.put_rows.Given as goal
 
 abbrev pub invariant-loop-row : goal.invariant-loop-row

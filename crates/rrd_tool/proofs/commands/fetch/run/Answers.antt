@@ -1,7 +1,4 @@
-use Rattle.std.proofs.Common.{◌≡◌, Ok, refl, sym}
-use Rattle.rrd_spec.specs.Choice.{choice}
-use Rattle.rrd_tool.specs.Commands.Fetch.{fetch_text, fetch_answer}
-use Rattle.rrd_tool.proofs.RunLemmas.{shown_comes}
+use Rattle.rrd_tool.proofs.Common.{◌≡◌, Ok, refl, sym, choice, fetch_text, fetch_answer, shown_comes}
 use Rattle.rrd_tool.proofs.commands.fetch.run.Goals as goal
 
 pub returns-in-Ok : goal.returns-in-Ok

@@ -1,10 +1,4 @@
-use Rattle.std.proofs.Common.{◌≡◌, ◌∙◌}
-use Rattle.std.proofs.lemmas.Result.{err_from_is_err_and}
-use Rattle.std.specs.Io.KnownBytes.{Appends}
-use Rattle.rrd_tool.specs.Commands.Fetch.{header_text, rows_text}
-use Rattle.rrd_fixed.specs.Written.{AppendsFront}
-use Rattle.rrd_fixed.specs.Writing.{writes_stop, writes_then}
-use Rattle.rrd_tool.proofs.Choosable.{chosen_readable}
+use Rattle.rrd_tool.proofs.Common.{◌≡◌, ◌∙◌, err_from_is_err_and, Appends, header_text, rows_text, AppendsFront, writes_stop, writes_then, chosen_readable}
 use Rattle.rrd_tool.proofs.commands.fetch.write_fetch.Goals as goal
 
 pub returns-in_err-write_bytes : goal.returns-in_err-write_bytes

@@ -1,11 +1,4 @@
-use Rattle.std.proofs.Common.{◌≡◌, ◌-◌, ◌/◌, ◌≤◌, ◌<◌, ◌++◌, Err, arith, drop, take}
-use Rattle.std.proofs.lemmas.List.{length-drop, take_all}
-use Rattle.std.proofs.lemmas.Result.{err_from_is_err_and}
-use Rattle.rrd_fixed.specs.Writing.{writes_then}
-use Rattle.rrd_fixed.specs.Written.{AppendsFront}
-use Rattle.rrd_tool.specs.Commands.Fetch.{row_of, texts_below}
-use Rattle.rrd_tool.proofs.PrintLemmas.{front_below}
-use Rattle.rrd_tool.proofs.RowLemmas.{div_some, min_first}
+use Rattle.rrd_tool.proofs.Common.{◌≡◌, ◌-◌, ◌/◌, ◌≤◌, ◌<◌, ◌++◌, Err, arith, drop, take, length-drop, take_all, err_from_is_err_and, writes_then, AppendsFront, row_of, texts_below, front_below, div_some, min_first}
 use Rattle.rrd_tool.proofs.commands.fetch.write_rows.Goals as goal
 
 pub returns-in_err-write_bytes : goal.returns-in_err-write_bytes

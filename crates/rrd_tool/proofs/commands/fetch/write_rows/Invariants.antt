@@ -1,6 +1,4 @@
-use Rattle.std.proofs.Common.{◌≤◌, ◌-◌}
-use Rattle.std.specs.Io.KnownBytes.{Appends}
-use Rattle.rrd_tool.specs.Commands.Fetch.{row_of, texts_below}
+use Rattle.rrd_tool.proofs.Common.{◌≤◌, ◌-◌, Appends, row_of, texts_below}
 use Rattle.rrd_tool.proofs.commands.fetch.write_rows.Given as goal
 
 abbrev pub invariant-loop-done : goal.invariant-loop-done

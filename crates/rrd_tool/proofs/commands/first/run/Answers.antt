@@ -1,10 +1,6 @@
-use Rattle.std.proofs.Common.{◌≡◌, FitsSigned, Ok, refl, rules, sym}
+use Rattle.rrd_tool.proofs.Common.{◌≡◌, FitsSigned, Ok, refl, rules, sym, oldest_time, first_text, time_line, shown_comes}
 use Rattle.std.specs.Int.{w64}
 use Rattle.std.proofs.lemmas.Int.{to_z-of_z}
-use Rattle.rrd_spec.specs.History.Cells.{oldest_time}
-use Rattle.rrd_tool.specs.Commands.First.{first_text}
-use Rattle.rrd_tool.specs.Commands.Last.{time_line}
-use Rattle.rrd_tool.proofs.RunLemmas.{shown_comes}
 use Rattle.rrd_tool.proofs.commands.first.run.Goals as goal
 
 pub returns-in-Ok : goal.returns-in-Ok

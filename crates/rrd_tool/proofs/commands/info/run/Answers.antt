@@ -1,7 +1,4 @@
-use Rattle.std.proofs.Common.{◌++◌, length, refl}
-use Rattle.rrd_tool.specs.Commands.Fetch.{texts_below}
-use Rattle.rrd_tool.specs.Commands.Info.{archive_at, head_text, info_text, source_at}
-use Rattle.rrd_tool.proofs.RunLemmas.{shown_comes}
+use Rattle.rrd_tool.proofs.Common.{◌++◌, length, refl, texts_below, archive_at, head_text, info_text, source_at, shown_comes}
 use Rattle.rrd_tool.proofs.commands.info.run.Goals as goal
 
 pub returns : goal.returns

@@ -1,10 +1,4 @@
-use Rattle.std.proofs.Common.{◌≡◌, ◌∙◌, ◌<◌, [], ap, arith, length}
-use Rattle.std.proofs.lemmas.Result.{err_from_is_err_and}
-use Rattle.std.specs.Io.KnownBytes.{Appends}
-use Rattle.std.specs.Option.{option_map_or}
-use Rattle.rrd_fixed.specs.Written.{AppendsFront}
-use Rattle.rrd_tool.specs.Commands.Info.{archive_at, archive_text}
-use Rattle.rrd_tool.proofs.PrintLemmas.{one_more, one_stops}
+use Rattle.rrd_tool.proofs.Common.{◌≡◌, ◌∙◌, ◌<◌, [], ap, arith, length, err_from_is_err_and, Appends, option_map_or, AppendsFront, archive_at, archive_text, one_more, one_stops}
 use Rattle.rrd_tool.proofs.commands.info.write_archives.Goals as goal
 
 pub returns-in_err-write_bytes : goal.returns-in_err-write_bytes
@@ -15,9 +9,7 @@ returns-in_err-write_bytes g c =
     let mid = g.W.Write.contents c.loop-archive.out in
     let new = g.W.Write.contents c.write_bytes.new.out in
     let k = c.loop-archive.archive in
-    let count = c.archives-archive-end.ensures in
-    let test = c.loop-archive-test.true in
-    let inside : k < length content.archives = omega (arith, count, test) in
+    let inside : k < length content.archives = omega (arith, c.archives-archive-end.ensures, c.loop-archive-test.true) in
     let here : archive_text k c.archive.result ≡ archive_at content k = ap (λ def. option_map_or (archive_text k) def []) c.archive.ensures in
     let text : c.as_bytes.result.now ≡ archive_at content k = c.as_bytes.ensures.value ∙ (c.as_str.ensures.value ∙ (c.archive_string-text.ensures ∙ here)) in
     let bad : AppendsFront mid new (archive_at content k) = rw text at c.in_err-write_bytes.ensures in
@@ -30,9 +22,6 @@ loop-archive-preserved g c =
     let mid = g.W.Write.contents c.loop-archive.out in
     let new = g.W.Write.contents c.write_bytes.new.out in
     let k = c.loop-archive.archive in
-    let count = c.archives-archive-end.ensures in
-    let test = c.loop-archive-test.true in
-    let inside : k < length content.archives = omega (arith, count, test) in
     let here : archive_text k c.archive.result ≡ archive_at content k = ap (λ def. option_map_or (archive_text k) def []) c.archive.ensures in
     let text : c.as_bytes.result.now ≡ archive_at content k = c.as_bytes.ensures.value ∙ (c.as_str.ensures.value ∙ (c.archive_string-text.ensures ∙ here)) in
     let good : Appends mid new (archive_at content k) = rw text at c.in_ok-write_bytes.ensures in

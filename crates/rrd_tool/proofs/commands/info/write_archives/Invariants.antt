@@ -1,6 +1,4 @@
-use Rattle.std.specs.Io.KnownBytes.{Appends}
-use Rattle.rrd_tool.specs.Commands.Fetch.{texts_below}
-use Rattle.rrd_tool.specs.Commands.Info.{archive_at}
+use Rattle.rrd_tool.proofs.Common.{Appends, texts_below, archive_at}
 use Rattle.rrd_tool.proofs.commands.info.write_archives.Given as goal
 
 abbrev pub invariant-loop-archive : goal.invariant-loop-archive

@@ -1,13 +1,4 @@
-use Rattle.std.proofs.Common.{◌≡◌, ◌∙◌, ◌<◌, ℕ, List, ap, arith, get_or, length}
-use Rattle.std.proofs.lemmas.Result.{err_from_is_err_and}
-use Rattle.std.specs.Io.KnownBytes.{Appends}
-use Rattle.rrd_fixed.specs.declared.raw.Raw.{Raw}
-use Rattle.rrd_fixed.specs.declared.raw.Raw.TheVariants.{Unknown}
-use Rattle.rrd_fixed.specs.Written.{AppendsFront}
-use Rattle.rrd_spec.specs.declared.settings.DsDef.{DsDef}
-use Rattle.rrd_spec.specs.History.{Content}
-use Rattle.rrd_tool.specs.Commands.Info.{source_at, source_text}
-use Rattle.rrd_tool.proofs.PrintLemmas.{at_place, one_more, one_stops}
+use Rattle.rrd_tool.proofs.Common.{◌≡◌, ◌∙◌, ◌<◌, ℕ, List, ap, arith, get_or, length, err_from_is_err_and, Appends, Raw, Unknown, AppendsFront, DsDef, Content, source_at, source_text, at_place, one_more, one_stops}
 use Rattle.rrd_tool.proofs.commands.info.write_sources.Goals as goal
 
 -- the lines of the source of this number
@@ -25,9 +16,7 @@ returns-in_err-write_bytes g c =
     let mid = g.W.Write.contents c.loop-number.out in
     let new = g.W.Write.contents c.write_bytes.new.out in
     let k = c.loop-number.number in
-    let count = c.sources-number-end.ensures.count in
-    let test = c.loop-number-test.true in
-    let inside : k < length content.sources = omega (arith, count, test) in
+    let inside : k < length content.sources = omega (arith, c.sources-number-end.ensures.count, c.loop-number-test.true) in
     let lines = source_here content k c.source.result.now c.last_raw.result c.source_string-text.result.bytes inside c.source.ensures c.last_raw.ensures c.source_string-text.ensures in
     let text : c.as_bytes.result.now ≡ source_at content k = c.as_bytes.ensures.value ∙ (c.as_str.ensures.value ∙ lines) in
     let bad : AppendsFront mid new (source_at content k) = rw text at c.in_err-write_bytes.ensures in
@@ -40,9 +29,7 @@ loop-number-preserved g c =
     let mid = g.W.Write.contents c.loop-number.out in
     let new = g.W.Write.contents c.write_bytes.new.out in
     let k = c.loop-number.number in
-    let count = c.sources-number-end.ensures.count in
-    let test = c.loop-number-test.true in
-    let inside : k < length content.sources = omega (arith, count, test) in
+    let inside : k < length content.sources = omega (arith, c.sources-number-end.ensures.count, c.loop-number-test.true) in
     let lines = source_here content k c.source.result.now c.last_raw.result c.source_string-text.result.bytes inside c.source.ensures c.last_raw.ensures c.source_string-text.ensures in
     let text : c.as_bytes.result.now ≡ source_at content k = c.as_bytes.ensures.value ∙ (c.as_str.ensures.value ∙ lines) in
     let good : Appends mid new (source_at content k) = rw text at c.in_ok-write_bytes.ensures in

@@ -1,6 +1,4 @@
-use Rattle.std.specs.Io.KnownBytes.{Appends}
-use Rattle.rrd_tool.specs.Commands.Fetch.{texts_below}
-use Rattle.rrd_tool.specs.Commands.Info.{source_at}
+use Rattle.rrd_tool.proofs.Common.{Appends, texts_below, source_at}
 use Rattle.rrd_tool.proofs.commands.info.write_sources.Given as goal
 
 abbrev pub invariant-loop-number : goal.invariant-loop-number

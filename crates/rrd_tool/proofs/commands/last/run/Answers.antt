@@ -1,6 +1,4 @@
-use Rattle.std.proofs.Common.{pos, refl}
-use Rattle.rrd_tool.specs.Commands.Last.{last_text, time_line}
-use Rattle.rrd_tool.proofs.RunLemmas.{shown_comes}
+use Rattle.rrd_tool.proofs.Common.{pos, refl, last_text, time_line, shown_comes}
 use Rattle.rrd_tool.proofs.commands.last.run.Goals as goal
 
 pub returns : goal.returns

@@ -1,10 +1,4 @@
-use Rattle.std.proofs.Common.{◌≡◌, ◌∙◌, ◌<◌, ◌++◌, ap, sym, append_assoc, arith, codes, get_or, length, pos}
-use Rattle.rrd_fixed.specs.declared.raw.Raw.TheVariants.{Unknown}
-use Rattle.rrd_fixed.specs.Text.{raw_text, time_text}
-use Rattle.rrd_spec.specs.declared.settings.DsDef.{DsDef}
-use Rattle.rrd_tool.specs.Commands.Fetch.{texts_below}
-use Rattle.rrd_tool.specs.Commands.LastUpdate.{raw_at}
-use Rattle.rrd_tool.proofs.PrintLemmas.{at_place, below_more}
+use Rattle.rrd_tool.proofs.Common.{◌≡◌, ◌∙◌, ◌<◌, ◌++◌, ap, sym, append_assoc, arith, codes, get_or, length, pos, Unknown, raw_text, time_text, DsDef, texts_below, raw_at, at_place, below_more}
 use Rattle.rrd_tool.proofs.commands.lastupdate.raws_string.Goals as goal
 
 pub loop-source-preserved : goal.loop-source-preserved
@@ -12,11 +6,8 @@ loop-source-preserved c =
     let content = c.args.database.now.content in
     let i = c.loop-source.source in
     let source = c.source.result.now in
-    let count = c.sources-source-end.ensures.count in
-    let test = c.loop-source-test.true in
-    let inside : i < length content.sources = omega (arith, count, test) in
+    let inside : i < length content.sources = omega (arith, c.sources-source-end.ensures.count, c.loop-source-test.true) in
     let inv = c.loop-source.invariant in
-    let room = c.push_raw.ensures.room in
     let before = texts_below (raw_at content) i in
     let raw = raw_text source.kind c.last_raw.result in
     let more = codes " " ++ raw in
@@ -29,5 +20,5 @@ loop-source-preserved c =
           ∙ (ap (λ l. l ++ more) inv.0
           ∙ (append_assoc begun before more
           ∙ ap (λ l. begun ++ l) (ap (λ l. before ++ l) (sym here) ∙ sym (below_more (raw_at content) i))))),
-      omega (arith, inv.1, room),
+      omega (arith, inv.1, c.push_raw.ensures.room),
     )

@@ -1,7 +1,4 @@
-use Rattle.std.proofs.Common.{◌≡◌, ◌≤◌, ◌+◌, ◌*◌, ◌++◌, codes, length, pos}
-use Rattle.rrd_fixed.specs.Text.{time_text}
-use Rattle.rrd_tool.specs.Commands.Fetch.{texts_below}
-use Rattle.rrd_tool.specs.Commands.LastUpdate.{raw_at}
+use Rattle.rrd_tool.proofs.Common.{◌≡◌, ◌≤◌, ◌+◌, ◌*◌, ◌++◌, codes, length, pos, time_text, texts_below, raw_at}
 use Rattle.rrd_tool.proofs.commands.lastupdate.raws_string.Given as goal
 
 abbrev pub invariant-loop-source : goal.invariant-loop-source

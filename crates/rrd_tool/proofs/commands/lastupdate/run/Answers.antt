@@ -1,7 +1,4 @@
-use Rattle.std.proofs.Common.{◌++◌, refl}
-use Rattle.rrd_tool.specs.Commands.Fetch.{header_text}
-use Rattle.rrd_tool.specs.Commands.LastUpdate.{lastupdate_text, raws_text}
-use Rattle.rrd_tool.proofs.RunLemmas.{shown_comes}
+use Rattle.rrd_tool.proofs.Common.{◌++◌, refl, header_text, lastupdate_text, raws_text, shown_comes}
 use Rattle.rrd_tool.proofs.commands.lastupdate.run.Goals as goal
 
 pub returns : goal.returns

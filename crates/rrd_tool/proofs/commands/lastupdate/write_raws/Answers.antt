@@ -1,21 +1,14 @@
-use Rattle.std.proofs.Common.{◌≡◌, ◌∙◌}
-use Rattle.std.proofs.lemmas.Result.{err_from_is_err_and}
-use Rattle.std.specs.Io.KnownBytes.{Appends}
-use Rattle.rrd_fixed.specs.Written.{AppendsFront, Writes}
-use Rattle.rrd_fixed.specs.Writing.{writes_stop, writes_then}
-use Rattle.rrd_tool.specs.Commands.Fetch.{header_text}
-use Rattle.rrd_tool.specs.Commands.LastUpdate.{raws_text}
+use Rattle.rrd_tool.proofs.Common.{◌≡◌, ◌∙◌, err_from_is_err_and, Appends, AppendsFront, Writes, writes_stop, writes_then, header_text, raws_text}
 use Rattle.rrd_tool.proofs.commands.lastupdate.write_raws.Goals as goal
 
 pub returns-in_err-write_bytes : goal.returns-in_err-write_bytes
 returns-in_err-write_bytes g c =
-    let p = err_from_is_err_and c.from_residual.result c.from_residual.ensures.1 in
     let content = c.args.database.now.content in
     let old = g.W.Write.contents c.args.out.now in
     let new = g.W.Write.contents c.write_bytes.new.out in
     let header : c.as_bytes.result.now ≡ header_text content.sources = c.as_bytes.ensures.value ∙ (c.as_str.ensures.value ∙ c.header_string.ensures) in
     let bad : AppendsFront old new (header_text content.sources) = rw header at c.in_err-write_bytes.ensures in
-    rw p.1 (writes_stop old new (header_text content.sources) (raws_text content) bad)
+    rw (err_from_is_err_and c.from_residual.result c.from_residual.ensures.1).1 (writes_stop old new (header_text content.sources) (raws_text content) bad)
 
 pub returns : goal.returns
 returns g c =

@@ -1,5 +1,4 @@
-use Rattle.std.proofs.Common.{rules}
-use Rattle.rrd_tool.proofs.RunLemmas.{appends_nothing}
+use Rattle.rrd_tool.proofs.Common.{rules, appends_nothing}
 use Rattle.rrd_tool.proofs.commands.resize.run.Goals as goal
 
 pub returns : goal.returns

@@ -1,12 +1,5 @@
-use Rattle.std.proofs.Common.{◌≡◌, rules, codes}
-use Rattle.std.proofs.lemmas.Result.{IfOk-weaker}
-use Rattle.clap.specs.Words.{new_app, rule_of}
-use Rattle.rrd_tool.proofs.Added.{added}
-use Rattle.rrd_tool.specs.Arguments.Shapes.{HasApp}
-use Rattle.rrd_tool.specs.Commands.Names.{name_text}
+use Rattle.rrd_tool.proofs.Common.{◌≡◌, rules, codes, IfOk-weaker, new_app, rule_of, added, HasApp, name_text, required_rule, resize_app}
 use Rattle.rrd_tool.specs.declared.commands.name.CommandName.TheVariants as verb
-use Rattle.rrd_tool.specs.Arguments.{required_rule}
-use Rattle.rrd_tool.specs.Commands.Resize.{resize_app}
 use Rattle.rrd_tool.proofs.commands.resize.shape.Goals as goal
 
 pub returns : goal.returns

@@ -1,17 +1,7 @@
-use Rattle.std.proofs.Common.{◌≡◌, ◌∙◌, Err, Ok, Option, Result, ap, codes, refl, subst, sym}
-use Rattle.std.proofs.lemmas.Result.{err_from_is_err_and}
-use Rattle.clap.specs.Words.{first_of, found_of, rows_of}
-use Rattle.rrd_fixed.specs.Reading.{whole_of}
-use Rattle.rrd_tool.specs.Commands.Tune.{archive_tune_of, setting_of, tune_of}
-use Rattle.rrd_tool.specs.Fields.{bound_of, kind_of, name_of}
-use Rattle.rrd_tool.specs.Fields.Parts.{◌>>=◌, Unread, optional}
-use Rattle.rrd_tool.specs.Fields.Answers.{Meets}
-use Rattle.rrd_fixed.specs.declared.name.Name.{Name}
-use Rattle.rrd_spec.specs.declared.requests.tune.ArchiveTune.{ArchiveTune}
-use Rattle.rrd_tool.specs.declared.commands.Command.{Command}
+use Rattle.rrd_tool.proofs.Common.{◌≡◌, ◌∙◌, Err, Ok, Option, Result, ap, codes, refl, subst, sym, err_from_is_err_and, first_of, found_of, rows_of, whole_of, archive_tune_of, setting_of, tune_of, bound_of, name_of, ◌>>=◌, Unread, optional, Meets, Name, ArchiveTune, Command, meets_first}
+use Rattle.rrd_tool.specs.Fields.{kind_of}
 use Rattle.rrd_tool.specs.declared.commands.Command.TheVariants as command
 use Rattle.rrd_tool.specs.declared.faults.Part.TheVariants as part
-use Rattle.rrd_tool.proofs.Each.{meets_first}
 use Rattle.rrd_tool.proofs.commands.tune.read.Goals as goal
 
 pub returns-in_err-rename : goal.returns-in_err-rename

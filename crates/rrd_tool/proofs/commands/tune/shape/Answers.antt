@@ -1,12 +1,5 @@
-use Rattle.std.proofs.Common.{◌≡◌, rules, codes}
-use Rattle.std.proofs.lemmas.Result.{IfOk-weaker}
-use Rattle.clap.specs.Words.{new_app, rule_of}
-use Rattle.rrd_tool.proofs.Added.{added}
-use Rattle.rrd_tool.specs.Arguments.Shapes.{HasApp}
-use Rattle.rrd_tool.specs.Commands.Names.{name_text}
+use Rattle.rrd_tool.proofs.Common.{◌≡◌, rules, codes, IfOk-weaker, new_app, rule_of, added, HasApp, name_text, letter_rule, option_rule, word_rule, tune_app}
 use Rattle.rrd_tool.specs.declared.commands.name.CommandName.TheVariants as verb
-use Rattle.rrd_tool.specs.Arguments.{letter_rule, option_rule, word_rule}
-use Rattle.rrd_tool.specs.Commands.Tune.{tune_app}
 use Rattle.rrd_tool.proofs.commands.tune.shape.Goals as goal
 
 pub returns : goal.returns
@@ -19,8 +12,7 @@ returns c =
     let e : rule_of c.letter_arg-3.result ≡ letter_rule (codes "type") (codes "data-source-type") 100 = search rules in
     let f : rule_of c.letter_arg-4.result ≡ letter_rule (codes "rename") (codes "data-source-rename") 114 = search rules in
     let h : rule_of c.word_arg.result ≡ word_rule (codes "definition") = search rules in
-    let one = added _ _ _ _ _ c.in_ok-arg.ensures start a c.option_arg.ensures.local in
-    let two = added _ _ _ _ _ c.in_ok-arg-2.ensures one b c.letter_arg.ensures.local in
+    let two = added _ _ _ _ _ c.in_ok-arg-2.ensures (added _ _ _ _ _ c.in_ok-arg.ensures start a c.option_arg.ensures.local) b c.letter_arg.ensures.local in
     let three = added _ _ _ _ _ c.in_ok-arg-3.ensures two d c.letter_arg-2.ensures.local in
     let four = added _ _ _ _ _ c.in_ok-arg-4.ensures three e c.letter_arg-3.ensures.local in
     let five = added _ _ _ _ _ c.in_ok-arg-5.ensures four f c.letter_arg-4.ensures.local in

@@ -1,9 +1,4 @@
-use Rattle.std.proofs.Common.{◌≡◌, ◌∙◌, ◌<◌, ◌+◌, ◌++◌, ◌∷◌, [], map, get_or, length, ap, Err, arith}
-use Rattle.std.proofs.lemmas.List.{get_or-map, length-map}
-use Rattle.std.proofs.lemmas.Result.{err_from_is_err_and}
-use Rattle.rrd_tool.specs.Commands.Update.{sample_of}
-use Rattle.rrd_tool.specs.declared.faults.Part.TheVariants.{Sample}
-use Rattle.rrd_tool.proofs.Each.{word_more, word_fails}
+use Rattle.rrd_tool.proofs.Common.{◌≡◌, ◌∙◌, ◌<◌, ◌+◌, ◌++◌, ◌∷◌, [], map, get_or, length, ap, Err, arith, get_or-map, length-map, err_from_is_err_and, sample_of, Sample, word_more, word_fails}
 use Rattle.rrd_tool.proofs.commands.update.samples.Goals as goal
 
 pub returns-in_err-sample : goal.returns-in_err-sample

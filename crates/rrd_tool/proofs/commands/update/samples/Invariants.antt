@@ -1,8 +1,4 @@
-use Rattle.std.proofs.Common.{◌≡◌, ◌+◌, map, drop}
-use Rattle.rrd_tool.specs.Commands.Update.{sample_of}
-use Rattle.rrd_tool.specs.Fields.Parts.{each_of}
-use Rattle.rrd_tool.specs.declared.faults.Part.TheVariants.{Sample}
-use Rattle.rrd_tool.proofs.Each.{prepend}
+use Rattle.rrd_tool.proofs.Common.{◌≡◌, ◌+◌, map, drop, sample_of, each_of, Sample, prepend}
 use Rattle.rrd_tool.proofs.commands.update.samples.Given as goal
 
 abbrev pub invariant-loop-index : goal.invariant-loop-index

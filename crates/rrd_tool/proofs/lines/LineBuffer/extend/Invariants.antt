@@ -1,5 +1,4 @@
-use Rattle.std.proofs.Common.{List, ℕ, ◌++◌, take}
-use Rattle.rrd_tool.specs.Lines.Buffer.{Buffers}
+use Rattle.rrd_tool.proofs.Common.{List, ℕ, ◌++◌, take, Buffers}
 use Rattle.rrd_tool.proofs.lines.LineBuffer.extend.Given as goal
 
 abbrev pub invariant-loop-byte : goal.invariant-loop-byte

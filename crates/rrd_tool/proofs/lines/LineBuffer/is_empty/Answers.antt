@@ -1,5 +1,4 @@
-use Rattle.std.proofs.Common.{sym}
-use Rattle.rrd_tool.proofs.LineLemmas.{some_held}
+use Rattle.rrd_tool.proofs.Common.{sym, some_held}
 use Rattle.rrd_tool.proofs.lines.LineBuffer.is_empty.Goals as goal
 
 pub returns-in-Lost : goal.returns-in-Lost

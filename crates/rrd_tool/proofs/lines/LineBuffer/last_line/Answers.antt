@@ -1,5 +1,4 @@
-use Rattle.std.proofs.Common.{refl}
-use Rattle.rrd_tool.proofs.LineLemmas.{cut_none}
+use Rattle.rrd_tool.proofs.Common.{refl, cut_none}
 use Rattle.rrd_tool.proofs.lines.LineBuffer.last_line.Goals as goal
 
 pub returns-in-Lost : goal.returns-in-Lost

@@ -1,4 +1,4 @@
-use Rattle.rrd_tool.proofs.LineLemmas.{lost_cr}
+use Rattle.rrd_tool.proofs.Common.{lost_cr}
 use Rattle.rrd_tool.proofs.lines.LineBuffer.push.Goals as goal
 
 pub returns-in-Cr : goal.returns-in-Cr

@@ -1,6 +1,4 @@
-use Rattle.std.proofs.Common.{◌≡◌, sym, nat_eq, false, arith}
-use Rattle.std.proofs.lemmas.Bool.Decides.{nat_tests}
-use Rattle.rrd_tool.proofs.LineLemmas.{lost_byte, lost_long}
+use Rattle.rrd_tool.proofs.Common.{◌≡◌, sym, nat_eq, false, arith, nat_tests, lost_byte, lost_long}
 use Rattle.rrd_tool.proofs.lines.LineBuffer.push_behind_plain.Goals as goal
 
 pub returns-then-not-is_plain : goal.returns-then-not-is_plain

@@ -1,5 +1,4 @@
-use Rattle.std.proofs.Common.{ap, refl, Some}
-use Rattle.rrd_tool.proofs.LineLemmas.{kept_text, lost_ended}
+use Rattle.rrd_tool.proofs.Common.{ap, refl, Some, kept_text, lost_ended}
 use Rattle.rrd_tool.proofs.lines.LineBuffer.whole_line.Goals as goal
 
 pub returns-in-Lost-clause-text : goal.returns-in-Lost-clause-text

@@ -1,5 +1,4 @@
-use Rattle.std.proofs.Common.{◌-◌, ◌∙◌}
-use Rattle.rrd_file.proofs.Filled.{grown, waited}
+use Rattle.rrd_file.proofs.Common.{◌-◌, ◌∙◌, grown, waited}
 use Rattle.rrd_file.proofs.reader.waiting.Waiting.fill.Goals as goal
 
 pub returns-clause-keeps : goal.returns-clause-keeps

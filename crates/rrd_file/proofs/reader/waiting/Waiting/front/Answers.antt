@@ -1,5 +1,4 @@
-use Rattle.std.proofs.Common.{◌∙◌, ◌+◌, ◌-◌, ◌≤◌, List, ℕ, ap, take, drop}
-use Rattle.rrd_file.proofs.Filled.{front_of, within_range}
+use Rattle.rrd_file.proofs.Common.{◌∙◌, ◌+◌, ◌-◌, ◌≤◌, List, ℕ, ap, take, drop, front_of, within_range}
 use Rattle.rrd_file.proofs.reader.waiting.Waiting.front.Goals as goal
 
 pub returns-clause-front : goal.returns-clause-front

@@ -1,5 +1,4 @@
-use Rattle.std.proofs.Common.{◌∙◌, ◌+◌, ◌≤◌, ap, drop}
-use Rattle.rrd_file.proofs.Filled.{skipped, within_range}
+use Rattle.rrd_file.proofs.Common.{◌∙◌, ◌+◌, ◌≤◌, ap, drop, skipped, within_range}
 use Rattle.rrd_file.proofs.reader.waiting.Waiting.skip.Goals as goal
 
 pub returns : goal.returns

@@ -1,10 +1,4 @@
-use Rattle.std.proofs.Common.{◌≡◌, ◌∙◌, ◌++◌, [], ◌∷◌, unsigned_abs, ap, arith}
-use Rattle.std.specs.Int.{w128}
-use Rattle.std.proofs.lemmas.Int.{ints}
-use mir.Facts.{to_z-of_z}
-use mir.Val.{SFits}
-use Rattle.rrd_file.specs.Layout.Values.{four_bytes, function_byte}
-use Rattle.rrd_file.proofs.Joined.{four_parts}
+use Rattle.rrd_file.proofs.Common.{◌≡◌, ◌∙◌, ◌++◌, [], ◌∷◌, unsigned_abs, ap, arith, w128, ints, to_z-of_z, SFits, four_bytes, function_byte, four_parts}
 use Rattle.rrd_file.proofs.writer.block.Block.archive.Goals as goal
 
 pub returns : goal.returns

@@ -1,4 +1,4 @@
-use Rattle.std.proofs.Common.{◌≡◌, ◌++◌, replicate}
+use Rattle.rrd_file.proofs.Common.{◌≡◌, ◌++◌, replicate}
 use Rattle.rrd_file.proofs.writer.block.Block.zeros.Given as goal
 
 abbrev pub invariant-loop : goal.invariant-loop

@@ -1,5 +1,4 @@
-use Rattle.std.proofs.Common.{◌∙◌, ap}
-use Rattle.clap.specs.Words.{new_app}
+use Rattle.rrd_tool.proofs.Common.{◌∙◌, ap, new_app}
 use Rattle.rrd_tool.proofs.commands.name.CommandName.bare.Goals as goal
 
 pub returns : goal.returns
