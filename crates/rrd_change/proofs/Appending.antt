@@ -1,23 +1,13 @@
 -- Lemmas on a change that is appended to a log.
-use Rattle.std.proofs.Common.{◌≡◌, ℕ, ◌+◌, ◌^◌, ◌<◌, ◌≤◌, List, [], ◌∷◌, ◌++◌, length, take, get_or, refl, sym, ◌∙◌, ap, subst, arith, inl, inr, ◌⊎◌}
-use Rattle.std.proofs.lemmas.Bool.{cases_lt}
-use Rattle.std.proofs.lemmas.List.{length_push, take_all, length-take, get_or-take, take-append-le}
-use Rattle.rrd_change.specs.Bytes.{StandsAt}
-use Rattle.rrd_change.specs.Calls.{AreAny, ArePut, IsCut}
-use Rattle.rrd_change.specs.Changes.{Change, IsRight, change_bytes, change_size, changes_in, last_size}
-use Rattle.rrd_change.specs.Laws.{Fill, HaveByte, IsLogged, Leads, Makes, TouchByte, chain_end, first_of}
-use Rattle.rrd_change.specs.Repairs.{IsLogHeld, IsOnDisk, IsStopped, IsTornLog, Torn}
-use Rattle.rrd_change.specs.Spans.{AgreesOutside, AreSpans, IsIn, change_of}
-use Rattle.rrd_change.specs.States.{Follows, IsDatabase, IsOpen}
-use Rattle.rrd_change.specs.Views.{All, Fails, World}
-use Rattle.rrd_change.specs.declared.log.Log as logs
-use Rattle.rrd_change.specs.declared.span.Span.{Span}
+use Rattle.rrd_change.proofs.Names.{◌≡◌, ℕ, ◌+◌, ◌^◌, ◌<◌, ◌≤◌, List, [], ◌∷◌, ◌++◌, length, take, get_or, refl, sym, ◌∙◌, ap, subst, arith, inl, inr, ◌⊎◌, cases_lt, length_push, take_all, length-take, get_or-take, take-append-le, StandsAt, AreAny, ArePut, IsCut, Change, IsRight, change_bytes, change_size, changes_in, last_size, Fill, HaveByte, IsLogged, Leads, Makes, TouchByte, chain_end, first_of, IsLogHeld, IsOnDisk, IsStopped, IsTornLog, Torn, AgreesOutside, AreSpans, IsIn, change_of, Follows, IsDatabase, IsOpen, All, Fails, World, Span}
+use Rattle.rrd_change.proofs.Holding.{fails_disk, held_left}
 use Rattle.rrd_change.proofs.Chains.{chain_all, chain_count}
 use Rattle.rrd_change.proofs.Laying.{leads_more, leads_size}
 use Rattle.rrd_change.proofs.Logs.{append_cut, append_whole}
 use Rattle.rrd_change.proofs.Placing.{in_join, in_left, in_right}
 use Rattle.rrd_change.proofs.Reading.{length-change}
 use Rattle.rrd_change.proofs.Spanned.{have_in, in_have, pieces_within, spans_fill, spans_make}
+use Rattle.rrd_change.specs.declared.log.Log as logs
 
 pub end_more : (at : ℕ) (cs : List Change) (c : Change) → chain_end at (cs ++ c ∷ []) ≡ chain_end at cs + change_size c
 end_more at [] c = refl
@@ -39,9 +29,8 @@ whole_appended old tail cs c at bytes x f next is put =
       within = omega (arith, put.len, length-change tail at c, size);
       each = λ i k. put.inside i (omega (arith, k, length-change tail at c, size)) ∙ ap (λ xs. get_or xs i 0) next.spelled;
     } in
-    let P : ℕ → Type 0 = λ n. StandsAt f n (change_bytes tail n c) in
     record {
-      logged = append_whole old tail cs c x f is.logged next.right (λ k low high. put.outside k (inl (omega (arith, high, next.here)))) (subst P next.here stands) len;
+      logged = append_whole old tail cs c x f is.logged next.right (λ k low high. put.outside k (inl (omega (arith, high, next.here)))) (subst (λ (n : ℕ). StandsAt f n (change_bytes tail n c)) next.here stands) len;
       ends = len ∙ sym (end_more tail (first_of old ∷ cs) c);
     }
 
@@ -54,9 +43,8 @@ part_appended old tail cs c at n bytes x f next is few put =
     let front : (i : ℕ) → at + i < length f → get_or f (at + i) 0 ≡ get_or (change_bytes tail at c) i 0 = λ i k.
     let low : i < n = omega (arith, k, put.len, took, is.ends, next.here) in
     put.inside i (omega (arith, low, took)) ∙ get_or-take n bytes i 0 low ∙ ap (λ xs. get_or xs i 0) next.spelled in
-    let P : ℕ → Type 0 = λ m. (i : ℕ) → m + i < length f → get_or f (m + i) 0 ≡ get_or (change_bytes tail m c) i 0 in
     append_cut old tail cs c x f is.logged next.right (λ k low high. put.outside k (inl (omega (arith, high, next.here)))) (omega (arith, put.len, is.ends))
-    (omega (arith, put.len, took, few, size, is.ends, next.here)) (subst P next.here front)
+    (omega (arith, put.len, took, few, size, is.ends, next.here)) (subst (λ (m : ℕ). (i : ℕ) → m + i < length f → get_or f (m + i) 0 ≡ get_or (change_bytes tail m c) i 0) next.here front)
 
 -- an append that was cut short: the change is in the log, or not
 pub cut_appended : (old : List ℕ) (tail : ℕ) (cs : List Change) (c : Change) (at : ℕ) (bytes x f : List ℕ) → IsNext old tail cs c at bytes → IsOpen old tail cs x → IsCut at bytes x f →
@@ -69,8 +57,7 @@ cut_appended old tail cs c at bytes x f next is cut =
       | inl some ↦ elim (cases_lt n (length bytes)) [
         | inl few ↦ inl (part_appended old tail cs c at n bytes x f next is few (front.2.some some))
         | inr all ↦
-            let Q : List ℕ → Type 0 = λ xs. ArePut at xs x f in
-            inr (whole_appended old tail cs c at bytes x f next is (subst Q (take_all n bytes all) (front.2.some some))).logged
+            inr (whole_appended old tail cs c at bytes x f next is (subst (λ (xs : List ℕ). ArePut at xs x f) (take_all n bytes all) (front.2.some some))).logged
       ]
     ]
 
@@ -108,8 +95,6 @@ pub follows_more : (old now new : List ℕ) (cs : List Change) (log next : logs.
     next.changes ≡ log.changes + 1 → next.spans.items ≡ log.spans.items ++ changed → Follows old new (cs ++ change_of (length new) new changed ∷ []) next
 follows_more old now new cs log next changed h is are agrees below tail end count spans =
     let c = change_of (length new) new changed in
-    let P : List Span → Type 0 = λ xs. (k : ℕ) → TouchByte k (cs ++ c ∷ []) → IsIn k xs in
-    let Q : List Span → Type 0 = λ xs. (k : ℕ) → 16 ≤ k → IsIn k xs → TouchByte k (cs ++ c ∷ []) in
     record {
       is = is;
       leads = leads_more old cs c now new h.leads (spans_make changed now new are agrees);
@@ -117,11 +102,11 @@ follows_more old now new cs log next changed h is are agrees below tail end coun
       below = omega (arith, below, tail);
       ends = end ∙ ap (λ n. n + change_size c) h.ends ∙ sym (end_more log.tail (first_of old ∷ cs) c) ∙ ap (λ n. chain_end n (first_of old ∷ (cs ++ c ∷ []))) (sym tail);
       count = omega (arith, count, h.count, length_push cs c);
-      each = subst P (sym spans) (λ k touched. elim (touch_join k cs c touched) [
+      each = subst (λ (xs : List Span). (k : ℕ) → TouchByte k (cs ++ c ∷ []) → IsIn k xs) (sym spans) (λ k touched. elim (touch_join k cs c touched) [
         | inl front ↦ in_left k log.spans.items changed (h.each k front)
         | inr back ↦ in_right k log.spans.items changed (have_in new changed k are back)
       ]);
-      only = subst Q (sym spans) (λ k high is_in. elim (in_join k log.spans.items changed is_in) [
+      only = subst (λ (xs : List Span). (k : ℕ) → 16 ≤ k → IsIn k xs → TouchByte k (cs ++ c ∷ [])) (sym spans) (λ k high is_in. elim (in_join k log.spans.items changed is_in) [
         | inl front ↦ touch_left k cs c (h.only k high front)
         | inr back ↦ touch_right k cs c (in_have new changed k are back)
       ]);
@@ -172,36 +157,15 @@ torn_held : (other now old : List ℕ) (tail at : ℕ) (cs all : List Change) (b
 torn_held other now old tail at cs all bytes u v here last is f held =
     let to : (x z : List ℕ) → IsOpen old tail cs x → AreAny at (length bytes) x z → IsOnDisk Torn other now old tail all z =
     λ x z is_open any. inr (inr (tt, torn_appended other old tail cs all at (length bytes) x z is_open here any last)) in
-    record {
-      held = held;
-      leave = λ z left. let h = f.leave z left in to h.0 z (is.leave h.0 h.1) h.2;
-      keep = λ z kept.
-          let h = f.keep z kept in
-          elim h.1 [
-            | inl (was, cut) ↦ to h.0 z (is.keep h.0 was) cut.any
-            | inr (left, any) ↦ to h.0 z (is.leave h.0 left) any
-          ];
-    }
+    let disk = fails_disk (IsOpen old tail cs) (IsOnDisk Torn other now old tail all) (IsCut at bytes) (AreAny at (length bytes)) u v (λ x z is_open cut. to x z is_open cut.any) to f is.leave is.keep in
+    record { held = held; leave = disk.0; keep = disk.1 }
 
 pub append_stopped : (old now new : List ℕ) (tail at : ℕ) (cs : List Change) (c : Change) (bytes : List ℕ) (u v : World) → IsNext old tail cs c at bytes → Leads old cs now → Makes c now new →
     Fill (length old) cs → Fill (length old) (cs ++ c ∷ []) → All (IsOpen old tail cs) u → Fails (IsCut at bytes) (AreAny at (length bytes)) u v → IsStopped Torn now new v
 append_stopped old now new tail at cs c bytes u v next leads makes fill more all f = elim (cut_appended old tail cs c at bytes u.held v.held next all.held f.held) [
-  | inl none ↦ inl (inr (inr (record {
-    old = old;
-    tail = tail;
-    changes = cs;
-    leads = leads;
-    fill = fill;
-    world = torn_held new now old tail at cs cs bytes u v next.here (inl refl) all f none;
-  })))
-  | inr one ↦ inr (inr (inr (record {
-    old = old;
-    tail = tail;
-    changes = cs ++ c ∷ [];
-    leads = leads_more old cs c now new leads makes;
-    fill = more;
-    world = torn_held now new old tail at cs (cs ++ c ∷ []) bytes u v next.here (inr (c, refl, leads, fill)) all f one;
-  })))
+  | inl none ↦ inl (inr (inr (held_left Torn new now old tail cs v leads fill (torn_held new now old tail at cs cs bytes u v next.here (inl refl) all f none))))
+  | inr one ↦ inr (inr (inr (held_left Torn now new old tail (cs ++ c ∷ []) v (leads_more old cs c now new leads makes) more
+      (torn_held now new old tail at cs (cs ++ c ∷ []) bytes u v next.here (inr (c, refl, leads, fill)) all f one))))
 ]
 
 -- a log has fewer changes than a file has bytes

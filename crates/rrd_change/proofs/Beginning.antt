@@ -1,18 +1,6 @@
 -- Lemmas on the beginning of a log.
-use Rattle.std.proofs.Common.{◌≡◌, ℕ, ◌+◌, ◌-◌, ◌^◌, ◌<◌, ◌≤◌, max, true, List, [], ◌∷◌, ◌++◌, length, take, get_or, refl, sym, ◌∙◌, ap, subst, arith, inl, inr, ◌⊎◌, append_assoc}
-use Rattle.std.specs.Prelude.{replicate, nat_le}
-use Rattle.std.proofs.lemmas.Bool.{and_from, le-leb}
-use Rattle.std.proofs.lemmas.List.{append-nil, length-append, length-replicate, length-take, get_or_append_left, get_or-append-add, take_all}
-use Rattle.rrd_change.specs.Bytes.{StandsAt}
-use Rattle.rrd_change.specs.Calls.{AreAny, ArePut, AreWholeOrNot, IsTorn}
-use Rattle.rrd_change.specs.Changes.{Change, IsRight, change_bytes, change_size}
-use Rattle.rrd_change.specs.Laws.{Fill, IsUnderCut, Leads, chain_end, first_of}
-use Rattle.rrd_change.specs.Settled.{log_mark}
-use Rattle.rrd_change.specs.Spans.{AgreesOutside, AreSpans, IsIn, change_of}
-use Rattle.rrd_change.specs.States.{Began, Follows, IsDatabase, IsFirst, IsInPlace, IsOpen, IsReady, Represents, cut_of}
-use Rattle.rrd_change.specs.declared.log.Base.{Base}
-use Rattle.rrd_change.specs.declared.log.Log.{Log}
-use Rattle.rrd_change.specs.declared.span.Span.{Span}
+use Rattle.rrd_change.proofs.Names.{◌≡◌, ℕ, ◌+◌, ◌-◌, ◌^◌, ◌<◌, ◌≤◌, max, true, List, [], ◌∷◌, ◌++◌, length, take, get_or, refl, sym, ◌∙◌, ap, subst, arith, inl, inr, ◌⊎◌, append_assoc, replicate, nat_le, and_from, le-leb, append-nil, length-append, length-replicate, length-take, get_or_append_left, get_or-append-add, take_all, StandsAt, AreAny, ArePut, AreWholeOrNot, IsTorn, Change, IsRight, change_bytes, change_size, Fill, IsUnderCut, Leads, chain_end, first_of, log_mark, AgreesOutside, AreSpans, IsIn, change_of, Began, Follows, IsDatabase, IsFirst, IsInPlace, IsOpen, IsReady, Represents, cut_of, Base, Log, Span, World, Fails, All}
+use Rattle.rrd_change.proofs.Holding.{marks_all}
 use Rattle.rrd_change.proofs.Spanned.{have_in, in_have, pieces_within, spans_fill, spans_make}
 use Rattle.rrd_change.proofs.Logs.{log_begins}
 use Rattle.rrd_change.proofs.Marking.{cut_under, length-cut, put_behind, under_stays}
@@ -68,13 +56,10 @@ ready_put old tail c at bytes x f h fits few e put =
     let f_size : length f ≡ tail + 80 + change_size c = omega (arith, put.len, all, x_size, h.behind, below) in
     let P : List ℕ → Type 0 = λ xs. ArePut at xs x f in
     let in_order : ArePut at (zeros ++ (own ++ next)) x f = subst P h.spelled put in
-    let Q : ℕ → Type 0 = λ n. StandsAt f n own in
-    let at_tail : StandsAt f tail own = subst Q (omega (arith, gap, h.behind, below)) (put_stands at zeros own next x f in_order) in
+    let at_tail : StandsAt f tail own = subst (λ (n : ℕ). StandsAt f n own) (omega (arith, gap, h.behind, below)) (put_stands at zeros own next x f in_order) in
     let regrouped : zeros ++ (own ++ next) ≡ (zeros ++ own) ++ (next ++ []) = sym (append_assoc zeros own next) ∙ ap (λ xs. (zeros ++ own) ++ xs) (sym (append-nil next)) in
-    let R : ℕ → Type 0 = λ n. StandsAt f n next in
     let second : StandsAt f (tail + 80) next =
-    subst R (omega (arith, length-append zeros own, gap, own_size, eighty, h.behind, below)) (put_stands at (zeros ++ own) next [] x f (subst P regrouped in_order)) in
-    let S : ℕ → Type 0 = λ n. StandsAt f (tail + n) (change_bytes tail (tail + n) c) in
+    subst (λ (n : ℕ). StandsAt f n next) (omega (arith, length-append zeros own, gap, own_size, eighty, h.behind, below)) (put_stands at (zeros ++ own) next [] x f (subst P regrouped in_order)) in
     let right : IsRight tail c = record { fits = fits; body_fits = omega (arith, all, few); enough = h.enough; below = h.within; pieces = h.pieces } in
     record {
       prepared = record {
@@ -86,7 +71,7 @@ ready_put old tail c at bytes x f h fits few e put =
         chain = (
           change_reads tail tail first f (first_right old tail fits enough below) at_tail,
           (
-            change_reads tail (tail + change_size first) c f right (subst S (sym eighty) second),
+            change_reads tail (tail + change_size first) c f right (subst (λ (n : ℕ). StandsAt f (tail + n) (change_bytes tail (tail + n) c)) (sym eighty) second),
             past_read tail (tail + change_size first + change_size c) f (omega (arith, f_size, eighty)),
           ),
         );
@@ -109,13 +94,11 @@ open_put old tail cs x f ready put =
 abbrev pub IsReadyOrOpen : List ℕ → ℕ → List Change → List ℕ → Type 0
 IsReadyOrOpen old tail cs f = IsReady old tail cs f ⊎ (IsOpen old tail cs f × IsInPlace old f)
 
-pub open_or_not : (old : List ℕ) (tail : ℕ) (cs : List Change) (x f : List ℕ) → IsReady old tail cs x → AreWholeOrNot 0 (log_mark tail) x f → IsReadyOrOpen old tail cs f
-open_or_not old tail cs x f ready (inl e) = let P : List ℕ → Type 0 = λ xs. IsReady old tail cs xs in inl (subst P (sym e) ready)
-open_or_not old tail cs x f ready (inr p) =
-    inr (open_put old tail cs x f ready p, λ k high low. put_behind (log_mark tail) x f k p high ∙ ready.prepared.under.same k (omega (arith, high)) low)
-
-pub open_torn : (old : List ℕ) (tail : ℕ) (cs : List Change) (x f : List ℕ) → IsReady old tail cs x → IsTorn 0 (log_mark tail) x f → IsReadyOrOpen old tail cs f
-open_torn old tail cs x f ready t = open_or_not old tail cs x f ready (t.whole (omega (arith, ready.prepared.begun, ready.prepared.enough, ready.prepared.below)))
+pub open_marked : (old : List ℕ) (tail : ℕ) (cs : List Change) (u v : World) → Fails (AreWholeOrNot 0 (log_mark tail)) (IsTorn 0 (log_mark tail)) u v → All (IsReady old tail cs) u →
+    All (IsReadyOrOpen old tail cs) v
+open_marked old tail cs u v f a = marks_all (IsReady old tail cs) (IsReadyOrOpen old tail cs) (log_mark tail) u v (λ x ready. inl ready)
+    (λ x ready. omega (arith, ready.prepared.begun, ready.prepared.enough, ready.prepared.below))
+    (λ x y ready p. inr (open_put old tail cs x y ready p, λ k high low. put_behind (log_mark tail) x y k p high ∙ ready.prepared.under.same k (omega (arith, high)) low)) f a
 
 -- what such a file stands for
 pub open_stands : (old new : List ℕ) (tail : ℕ) (cs : List Change) (f : List ℕ) → Leads old cs new → Fill (length old) cs → IsOpen old tail cs f → Represents new f

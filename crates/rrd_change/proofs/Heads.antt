@@ -1,12 +1,5 @@
 -- Lemmas on the heads of changes.
-use Rattle.std.proofs.Common.{◌≡◌, ℕ, zero, suc, ◌+◌, ◌-◌, ◌^◌, ◌<◌, ◌≤◌, true, List, [], ◌++◌, length, take, drop, refl, sym, ◌∙◌, ap, subst, arith, append_assoc, inl, inr, Some, None}
-use Rattle.std.specs.Int.{w64, from_be_bytes}
-use Rattle.std.specs.List.{flat_map}
-use Rattle.std.proofs.lemmas.List.{append-nil, length-append, length-drop, length-take, take-append-drop, take_at, drop_at}
-use Rattle.std.proofs.lemmas.Nat.{from_be_bytes-to_be_bytes_8}
-use Rattle.rrd_change.specs.Bytes.{begins_with}
-use Rattle.rrd_change.specs.Changes.{Change, IsRight, are_within, body_bytes, change_bytes, change_head, head_bytes, piece_bytes, read_change, spelled_pieces}
-use Rattle.rrd_change.specs.Read.{HasPieces, IsHeadOf}
+use Rattle.rrd_change.proofs.Names.{◌≡◌, ℕ, zero, suc, ◌+◌, ◌-◌, ◌^◌, ◌<◌, ◌≤◌, true, List, [], ◌++◌, length, take, drop, refl, sym, ◌∙◌, ap, subst, arith, append_assoc, inl, inr, Some, None, w64, from_be_bytes, flat_map, append-nil, length-append, length-drop, length-take, take-append-drop, take_at, drop_at, from_be_bytes-to_be_bytes_8, begins_with, Change, IsRight, are_within, body_bytes, change_bytes, change_head, head_bytes, piece_bytes, read_change, spelled_pieces, HasPieces, IsHeadOf}
 use Rattle.rrd_change.proofs.Fronts.{begins_from, front_of}
 use Rattle.rrd_change.proofs.Reading.{IsReadFrom, change_is, change_read, head_body, head_count, head_size, length-head, on_change, pieces_few, pieces_spelled}
 
@@ -48,8 +41,7 @@ seen tail at bytes c h =
       right = right;
       enough = omega (arith, ap length all, length-append (change_head tail at c) rest, length-append body (drop (length (change_bytes tail at c)) bytes), length-head tail at c);
       count = ap (λ xs. from_be_bytes w64 (take 8 (drop 16 xs))) all ∙ ap (λ xs. from_be_bytes w64 xs) (head_body tail at c rest) ∙ from_be_bytes-to_be_bytes_8 (length body) right.body_fits;
-      pieces = ap (λ xs. from_be_bytes w64 (take 8 (drop 24 xs))) all ∙ ap (λ xs. from_be_bytes w64 xs) (head_count tail at c rest)
-          ∙ from_be_bytes-to_be_bytes_8 (length c.pieces) (omega (arith, pieces_few c.pieces, right.body_fits));
+      pieces = grind (arith, head_count, from_be_bytes-to_be_bytes_8, pieces_few);
       size = ap (λ xs. from_be_bytes w64 (take 8 (drop 32 xs))) all ∙ ap (λ xs. from_be_bytes w64 xs) (head_size tail at c rest) ∙ from_be_bytes-to_be_bytes_8 c.size size;
       body = ap (λ xs. take (length body) xs) behind ∙ take_at body (drop (length (change_bytes tail at c)) bytes) (length body) refl;
       begins = begins_from bytes (head_bytes tail at (length c.pieces) c.size body) rest (all ∙ ap (λ xs. xs ++ rest) (head_is tail at c));
@@ -96,13 +88,10 @@ tried tail at n size count bytes c s count_is n_is size_is =
     let body : take (48 + count - 48) (drop 48 bytes) ≡ body_bytes c = ap (λ k. take k (drop 48 bytes)) width ∙ s.body in
     let number : n ≡ length c.pieces = n_is ∙ s.pieces in
     let long : size ≡ c.size = size_is ∙ s.size in
-    let P : ℕ → Type 0 = λ m. HasPieces m c.size (body_bytes c) in
-    let Q : ℕ → Type 0 = λ m. HasPieces n m (body_bytes c) in
-    let R : List ℕ → Type 0 = λ ys. HasPieces n size ys in
     record {
       begins = ap (λ ys. begins_with bytes (head_bytes tail at n size ys)) body ∙ ap (λ m. begins_with bytes (head_bytes tail at m size (body_bytes c))) number
           ∙ ap (λ m. begins_with bytes (head_bytes tail at (length c.pieces) m (body_bytes c))) long ∙ s.begins;
-      has = subst R (sym body) (subst Q (sym long) (subst P (sym number) s.has));
+      has = subst (HasPieces n size) (sym body) (subst (λ (m : ℕ). HasPieces n m (body_bytes c)) (sym long) (subst (λ (m : ℕ). HasPieces m c.size (body_bytes c)) (sym number) s.has));
     }
 
 -- what was found is a change with this head
@@ -112,8 +101,7 @@ found tail at n size count bytes fits few enough below within t =
     let width : 48 + count - 48 ≡ count = omega arith in
     let body = take count (drop 48 bytes) in
     let size_is : length body ≡ count = omega (arith, length-take count (drop 48 bytes), length-drop 48 bytes, within) in
-    let P : ℕ → Type 0 = λ m. HasPieces n size (take m (drop 48 bytes)) in
-    let has : HasPieces n size body = subst P width t.has in
+    let has : HasPieces n size body = subst (λ (m : ℕ). HasPieces n size (take m (drop 48 bytes))) width t.has in
     let begins = ap (λ m. begins_with bytes (head_bytes tail at n size (take m (drop 48 bytes)))) (sym width) ∙ t.begins in
     let c : Change = record { size = size; pieces = spelled_pieces n body } in (
       c,

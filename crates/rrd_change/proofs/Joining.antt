@@ -1,14 +1,5 @@
 -- Lemmas on spans that become one.
-use Rattle.std.proofs.Common.{◌≡◌, ℕ, ◌≤◌, Bool, true, ◌&&◌, max, List, [], ◌∷◌, ◌++◌, sym, ◌∙◌, arith, inl, inr}
-use Rattle.std.specs.Prelude.{◌↔◌, IsPermutation, nat_le, nat_lt}
-use Rattle.std.specs.List.{list_any}
-use Rattle.std.proofs.lemmas.Bool.{and_from, and_parts, cases_lt, le-leb, leb-true, lt-ltb, ltb-true, or_cases}
-use Rattle.std.proofs.lemmas.List.Sorted.{list_any-IsPermutation}
-use Rattle.std.proofs.Math.Bool.{or-true, true-or}
-use Rattle.rrd_change.specs.Spans.{IsIn}
-use Rattle.rrd_change.specs.States.{AreAnyIn, ArePutIn}
-use Rattle.rrd_change.specs.Views.{Fails, Stores, World}
-use Rattle.rrd_change.specs.declared.span.Span.{Span}
+use Rattle.rrd_change.proofs.Names.{◌≡◌, ℕ, ◌≤◌, Bool, true, ◌&&◌, max, List, [], ◌∷◌, ◌++◌, sym, ◌∙◌, arith, inl, inr, ◌↔◌, IsPermutation, nat_le, nat_lt, list_any, and_from, and_parts, cases_lt, le-leb, leb-true, lt-ltb, ltb-true, or_cases, list_any-IsPermutation, or-true, true-or, IsIn, AreAnyIn, ArePutIn, Fails, Stores, World, Span}
 use Rattle.rrd_change.proofs.Placing.{in_join, in_left, in_right, put_any_in}
 
 -- whether byte k is in a span
@@ -102,10 +93,5 @@ pub fails_in_same : (xs ys : List Span) (new : List ℕ) (u v : World) → AreSa
 fails_in_same xs ys new u v same s = record {
   held = any_in_same xs ys new u.held v.held same s.held;
   leave = λ z left. let h = s.leave z left in (h.0, h.1, any_in_same xs ys new h.0 z same h.2);
-  keep = λ z kept.
-      let h = s.keep z kept in
-      elim h.1 [
-        | inl (was, any) ↦ (h.0, inl (was, any_in_same xs ys new h.0 z same any))
-        | inr (left, any) ↦ (h.0, inr (left, any_in_same xs ys new h.0 z same any))
-      ];
+  keep = λ z kept. grind (arith, any_in_same);
 }

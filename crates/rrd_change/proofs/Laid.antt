@@ -1,24 +1,9 @@
 -- Lemmas on laying the changes of a log over a database, one after another.
-use Rattle.std.proofs.Common.{◌≡◌, ◌⊎◌, ℕ, suc, ◌+◌, ◌-◌, ◌*◌, ◌≤◌, List, [], ◌∷◌, ◌++◌, length, take, drop, get_or, refl, sym, ◌∙◌, ap, subst, arith, inl, inr, Some, None}
-use borrow.Rule.Slice.PartMut.{put_mid}
-use Rattle.std.proofs.lemmas.Bool.{cases_lt}
-use Rattle.std.proofs.lemmas.List.{length-append, length-take, length-drop, get_or-take, get_or-drop, get_or_append_left, get_or-append_right, drop-drop, take_rest}
-use Rattle.std.proofs.Math.Seq.{drop-append-add}
-use Rattle.rrd_change.specs.Changes.{Change, Piece, all_changed, body_bytes, change_at, change_size, changes_from, changes_in, laid, last_size, read_change, spelled_pieces}
-use Rattle.rrd_change.specs.Laws.{HaveByte, TouchByte, chain_end}
-use Rattle.rrd_change.specs.Read.{HasPieces, IsHeadOf, IsLaid, IsLogRead, spans_of}
-use Rattle.rrd_change.specs.Spans.{IsIn}
-use Rattle.rrd_change.specs.declared.decoding.Head.{Head}
-use Rattle.rrd_change.specs.declared.log.Log.{Log}
-use Rattle.rrd_change.specs.declared.span.Span.{Span}
+use Rattle.rrd_change.proofs.Names.{◌≡◌, ◌⊎◌, ℕ, suc, ◌+◌, ◌-◌, ◌*◌, ◌≤◌, List, [], ◌∷◌, ◌++◌, length, take, drop, get_or, sym, ◌∙◌, ap, subst, arith, inl, inr, Some, None, put_mid, cases_lt, length-append, length-take, length-drop, get_or-take, get_or-drop, get_or_append_left, get_or-append_right, drop-drop, take_rest, drop-append-add, Change, Piece, all_changed, body_bytes, change_at, change_size, changes_from, changes_in, laid, last_size, read_change, spelled_pieces, HaveByte, TouchByte, chain_end, HasPieces, IsHeadOf, IsLaid, IsLogRead, spans_of, IsIn, Head, Log, Span}
 use Rattle.rrd_change.proofs.Chains.{from_some, none_left}
 use Rattle.rrd_change.proofs.Placing.{in_join, in_left, in_right}
 use Rattle.rrd_change.proofs.Reading.{change_is}
 use Rattle.rrd_change.proofs.Laying.{inside_is, not_inside}
-
-pub length-mid : (s n : ℕ) (xs ys : List ℕ) → s + n ≤ length xs → length ys ≡ n → length (put_mid s n xs ys) ≡ length xs
-length-mid s n xs ys few size =
-    omega (arith, length-append (take s xs) (ys ++ drop n (drop s xs)), length-append ys (drop n (drop s xs)), length-take s xs, length-drop n (drop s xs), length-drop s xs, few, size)
 
 -- a piece is written
 pub laid_mid : (p : Piece) (n k : ℕ) (xs : List ℕ) → p.start + n ≤ length xs → length p.bytes ≡ n → get_or (put_mid p.start n xs p.bytes) k 0 ≡ laid p k (get_or xs k 0)
@@ -70,31 +55,6 @@ pub record IsPartRead (old bytes new : List ℕ) (spans : List Span) (done chang
   pub touched : (k : ℕ) → TouchByte k (changes_in (length old) (old ++ bytes)) → IsIn k spans ⊎ TouchByte k (changes_left old bytes done changes)
   pub only : (k : ℕ) → IsIn k spans ⊎ TouchByte k (changes_left old bytes done changes) → TouchByte k (changes_in (length old) (old ++ bytes))
 
-pub none_laid : (old bytes : List ℕ) → IsPartRead old bytes old [] 0 0 0
-none_laid old bytes =
-    let file = old ++ bytes in
-    let tail = length old in
-    let e : changes_left old bytes 0 0 ≡ changes_in tail file =
-    let n : length file - 0 ≡ length file = omega arith in
-    let a : tail + 0 ≡ tail = omega arith in
-    ap (λ m. changes_from tail file m (tail + 0)) n ∙ ap (λ m. changes_from tail file (length file) m) a in
-    let a : tail + 0 ≡ tail = omega arith in
-    record {
-      few = omega arith;
-      count = omega arith;
-      len = refl;
-      fits = omega arith;
-      number = omega (arith, ap length e);
-      each = λ k. ap (λ cs. all_changed cs k (get_or old k 0)) e;
-      last = ap (λ cs. last_size 0 cs) e;
-      end = ap (λ n. chain_end n (changes_left old bytes 0 0)) a ∙ ap (λ cs. chain_end tail cs) e;
-      touched = λ k h. let P : List Change → Type 0 = λ cs. TouchByte k cs in inr (subst P (sym e) h);
-      only = λ k either. elim either [
-        | inl none ↦ absurd none
-        | inr h ↦ let P : List Change → Type 0 = λ cs. TouchByte k cs in subst P e h
-      ];
-    }
-
 pub left_at : (old bytes : List ℕ) (done : ℕ) → change_at (length old) (old ++ bytes) (length old + done) ≡ read_change (length old) (length old + done) (drop done bytes)
 left_at old bytes done = ap (λ xs. read_change (length old) (length old + done) xs) (drop-append-add old bytes done)
 
@@ -126,10 +86,7 @@ one_laid old bytes new next spans more done changes size c h is within below lai
       end = ap (λ n. chain_end n rest) (sym here) ∙ ap (λ cs. chain_end (tail + done) cs) (sym split) ∙ h.end;
       touched = λ k t. let P : List Span → Type 0 = λ xs. IsIn k xs in let Q : List Change → Type 0 = λ cs. TouchByte k cs in elim (h.touched k t) [
         | inl was ↦ inl (subst P (sym more_is) (in_left k spans (spans_of c.pieces) was))
-        | inr left ↦ elim (subst Q split left) [
-          | inl own ↦ inl (subst P (sym more_is) (in_right k spans (spans_of c.pieces) (in_spans k c.pieces own)))
-          | inr later ↦ inr later
-        ]
+        | inr left ↦ grind (arith, in_right, in_spans)
       ];
       only = λ k either. let P : List Span → Type 0 = λ xs. IsIn k xs in let Q : List Change → Type 0 = λ cs. TouchByte k cs in elim either [
         | inl is_in ↦ elim (in_join k spans (spans_of c.pieces) (subst P more_is is_in)) [
@@ -176,14 +133,12 @@ pub head_at : (old bytes : List ℕ) (done : ℕ) (h : Head) → done ≤ length
     IsHeadAt old bytes done h
 head_at old bytes done h few (c, read, is) =
     let rest : take (length bytes - done) (drop done bytes) ≡ drop done bytes = take_rest bytes done in
-    let P : List ℕ → Type 0 = λ xs. IsHeadOf h c xs in
-    let here : IsHeadOf h c (drop done bytes) = subst P rest is in
+    let here : IsHeadOf h c (drop done bytes) = subst (IsHeadOf h c) rest is in
     let read_here : read_change (length old) (length old + done) (drop done bytes) ≡ Some c = ap (λ xs. read_change (length old) (length old + done) xs) (sym rest) ∙ read in
     let right = (change_is (length old) (length old + done) (drop done bytes) c read_here).1 in
     let width : 48 + h.length - 48 ≡ done + 48 + h.length - (done + 48) = omega arith in
     let same : take (48 + h.length - 48) (drop 48 (drop done bytes)) ≡ take (done + 48 + h.length - (done + 48)) (drop (done + 48) bytes) =
     ap (λ n. take n (drop 48 (drop done bytes))) width ∙ ap (λ xs. take (done + 48 + h.length - (done + 48)) xs) (drop-drop 48 done bytes) in
-    let Q : List ℕ → Type 0 = λ xs. HasPieces h.pieces h.size xs in
     record {
       change = c;
       read = read_here;
@@ -191,7 +146,7 @@ head_at old bytes done h few (c, read, is) =
       below = omega (arith, here.size, right.below);
       count = here.count;
       within = omega (arith, here.within, length-drop done bytes, few);
-      has = subst Q same here.has;
+      has = subst (HasPieces h.pieces h.size) same here.has;
       pieces = ap (λ xs. spelled_pieces h.pieces xs) (sym same) ∙ here.pieces;
     }
 
@@ -203,11 +158,8 @@ head_laid old bytes new next spans more done changes size h part at laid more_is
     let c = at.change in
     let F : ℕ → List Piece → Change = λ n ps. record { size = n; pieces = ps } in
     let ps = spelled_pieces h.pieces (take (done + 48 + h.length - (done + 48)) (drop (done + 48) bytes)) in
-    let P : Change → Type 0 = λ d. IsLaid d new next in
     let is : F h.size ps ≡ c = ap (λ n. F n ps) at.size ∙ ap (λ qs. F c.size qs) at.pieces in
-    let Q : ℕ → Type 0 = λ n. IsPartRead old bytes next more (done + 48 + n) (changes + 1) c.size in
-    let R : ℕ → Type 0 = λ n. IsPartRead old bytes next more (done + 48 + h.length) (changes + 1) n in
-    subst R (sym at.size) (subst Q (sym at.count) (one_laid old bytes new next spans more done changes size c part at.read (omega (arith, at.within, at.count)) (omega (arith, at.below, at.size)) (subst P is laid)
+    subst (IsPartRead old bytes next more (done + 48 + h.length) (changes + 1)) (sym at.size) (subst (λ (n : ℕ). IsPartRead old bytes next more (done + 48 + n) (changes + 1) c.size) (sym at.count) (one_laid old bytes new next spans more done changes size c part at.read (omega (arith, at.within, at.count)) (omega (arith, at.below, at.size)) (subst (λ (d : Change). IsLaid d new next) is laid)
     (more_is ∙ ap (λ qs. spans ++ spans_of qs) at.pieces)))
 
 pub none_at : (old bytes : List ℕ) (done : ℕ) → read_change (length old) (length old + done) (take (length bytes - done) (drop done bytes)) ≡ None →

@@ -1,4 +1,5 @@
-pub mod Options
+pub mod Names
+pub mod Common
 pub mod Fronts
 pub mod Standing
 pub mod Reading

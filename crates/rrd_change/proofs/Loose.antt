@@ -1,10 +1,6 @@
 -- Lemmas on repairs of files with a mark.
-use Rattle.std.proofs.Common.{◌≡◌, ◌⊎◌, ℕ, List, length, get_or, sym, ap, subst, arith, inl, inr}
-use Rattle.rrd_change.specs.Calls.{ArePut, AreWholeOrNot, IsTorn}
-use Rattle.rrd_change.specs.Laws.{IsUnderCut}
-use Rattle.rrd_change.specs.Repairs.{IsCutLeft, IsLoose, IsUncut}
-use Rattle.rrd_change.specs.States.{IsDatabase, IsPlain}
-use Rattle.rrd_change.specs.Views.{All, Fails, Stores, World}
+use Rattle.rrd_change.proofs.Names.{◌≡◌, ◌⊎◌, ℕ, List, length, get_or, ap, arith, inl, inr, ArePut, AreWholeOrNot, IsTorn, IsUnderCut, IsCutLeft, IsLoose, IsUncut, IsDatabase, IsPlain, All, Fails, Stores, World}
+use Rattle.rrd_change.proofs.Holding.{fails_disk, unless}
 use Rattle.rrd_change.proofs.Marking.{cut_under}
 use Rattle.rrd_change.proofs.Settling.{cut_front_of, cut_placed, length-front}
 
@@ -28,17 +24,6 @@ held_loose other now f is (inr h) = under_loose other now f h
 front_put : (other now x f : List ℕ) → IsDatabase now → IsLoose other now x → ArePut 0 (cut_front_of now) x f → IsUnderCut now f
 front_put other now x f is h put = cut_placed now x f is h.reaches h.placed put
 
-front_or_not : (other now x f : List ℕ) → IsDatabase now → IsLoose other now x → AreWholeOrNot 0 (cut_front_of now) x f → IsLoose other now f
-front_or_not other now x f is h (inl e) = let P : List ℕ → Type 0 = λ xs. IsLoose other now xs in subst P (sym e) h
-front_or_not other now x f is h (inr put) = under_loose other now f (front_put other now x f is h put)
-
-front_torn : (other now x f : List ℕ) → IsDatabase now → IsLoose other now x → IsTorn 0 (cut_front_of now) x f → IsLoose other now f
-front_torn other now x f is h t = front_or_not other now x f is h (t.whole (omega (arith, length-front now is.enough, is.enough, h.reaches)))
-
-front_held : (other now x f : List ℕ) → IsDatabase now → (x ≡ now) ⊎ IsUnderCut now x → AreWholeOrNot 0 (cut_front_of now) x f → (f ≡ now) ⊎ IsUnderCut now f
-front_held other now x f is h (inl e) = let P : List ℕ → Type 0 = λ xs. (xs ≡ now) ⊎ IsUnderCut now xs in subst P (sym e) h
-front_held other now x f is h (inr put) = inr (front_put other now x f is (held_loose other now x is h) put)
-
 pub front_stored : (other now : List ℕ) (u v : World) → Stores (ArePut 0 (cut_front_of now)) u v → IsUncut other now u → All (IsUnderCut now) v
 front_stored other now u v s h = record {
   held = front_put other now u.held v.held h.is (held_loose other now u.held h.is h.held) s.held;
@@ -47,17 +32,20 @@ front_stored other now u v s h = record {
 }
 
 pub front_failed : (other now : List ℕ) (u v : World) → Fails (AreWholeOrNot 0 (cut_front_of now)) (IsTorn 0 (cut_front_of now)) u v → IsUncut other now u → IsUncut other now v
-front_failed other now u v f h = record {
-  is = h.is;
-  held = front_held other now u.held v.held h.is h.held f.held;
-  leave = λ z left. let was = f.leave z left in front_torn other now was.0 z h.is (h.leave was.0 was.1) was.2;
-  keep = λ z kept.
-      let was = f.keep z kept in
-      elim was.1 [
-        | inl (kept_so, call) ↦ front_or_not other now was.0 z h.is (h.keep was.0 kept_so) call
-        | inr (left_so, torn) ↦ front_torn other now was.0 z h.is (h.leave was.0 left_so) torn
-      ];
-}
+front_failed other now u v f h =
+    let mark = cut_front_of now in
+    let H : List ℕ → Type 0 = λ xs. (xs ≡ now) ⊎ IsUnderCut now xs in
+    let put : (x y : List ℕ) → IsLoose other now x → ArePut 0 mark x y → IsUnderCut now y = λ x y loose p. front_put other now x y h.is loose p in
+    let to : (x y : List ℕ) → IsLoose other now x → AreWholeOrNot 0 mark x y → IsLoose other now y = λ x y loose.
+    unless (IsLoose other now) (ArePut 0 mark x y) x y loose (λ p. under_loose other now y (put x y loose p)) in
+    let disk = fails_disk (IsLoose other now) (IsLoose other now) (AreWholeOrNot 0 mark) (IsTorn 0 mark) u v to
+    (λ x y loose t. to x y loose (t.whole (omega (arith, length-front now h.is.enough, h.is.enough, loose.reaches)))) f h.leave h.keep in
+    record {
+      is = h.is;
+      held = unless H (ArePut 0 mark u.held v.held) u.held v.held h.held (λ p. inr (put u.held v.held (held_loose other now u.held h.is h.held) p)) f.held;
+      leave = disk.0;
+      keep = disk.1;
+    }
 
 -- ---- what is left
 
@@ -86,9 +74,6 @@ pub front_under : (other now : List ℕ) (u v : World) → Fails (AreWholeOrNot 
 front_under other now u v f h =
     let P : List ℕ → Type 0 = λ xs. IsUnderCut now xs in
     record {
-      under = elim f.held [
-        | inl e ↦ subst P (sym e) h.under
-        | inr put ↦ front_put other now u.held v.held h.uncut.is (under_loose other now u.held h.under) put
-      ];
+      under = grind (arith, front_put, under_loose);
       uncut = front_failed other now u v f h.uncut;
     }

@@ -1,10 +1,6 @@
 -- Lemmas on a file that is written for the first time.
-use Rattle.std.proofs.Common.{◌≡◌, ℕ, ◌+◌, ◌-◌, ◌<◌, ◌≤◌, max, List, [], length, take, drop, get_or, refl, sym, ◌∙◌, ap, arith, inl, inr}
-use Rattle.std.proofs.lemmas.Bool.{cases_lt}
-use Rattle.std.proofs.lemmas.List.{length-take, length-drop, get_or-take, get_or-drop, ext_get_or}
-use Rattle.rrd_change.specs.Calls.{AreAny, ArePut, AreWholeOrNot, IsSized, IsSizedOrNot, IsTorn}
-use Rattle.rrd_change.specs.Making.{IsMadeTo, IsUnmade, StaysFirst}
-use Rattle.rrd_change.specs.States.{IsDatabase}
+use Rattle.rrd_change.proofs.Names.{◌≡◌, ℕ, ◌+◌, ◌-◌, ◌<◌, ◌≤◌, max, List, [], length, take, drop, get_or, refl, sym, ◌∙◌, ap, arith, inl, inr, cases_lt, length-take, length-drop, get_or-take, get_or-drop, ext_get_or, AreAny, ArePut, AreWholeOrNot, IsSized, IsSizedOrNot, IsTorn, IsMadeTo, IsUnmade, StaysFirst, IsDatabase, World, Fails, All}
+use Rattle.rrd_change.proofs.Holding.{marks_all}
 use Rattle.rrd_change.proofs.Marking.{put_behind, put_front}
 
 pub made_none : (new old : List ℕ) → IsMadeTo 16 new old old
@@ -67,12 +63,9 @@ made_whole new x f is b put =
       | inr behind ↦ put_behind (take 16 new) x f k put (omega (arith, size, behind)) ∙ b.made k behind (omega (arith, low, put.len, size, b.len, enough))
     ])
 
-pub whole_or_behind : (new x f : List ℕ) → IsDatabase new → IsBehind new x → AreWholeOrNot 0 (take 16 new) x f → IsUnmade new f
-whole_or_behind new x f is b (inl same) = inl (ap (λ xs. get_or xs 0 0) same ∙ b.zero_first)
-whole_or_behind new x f is b (inr put) = inr (made_whole new x f is b put)
-
-pub torn_or_behind : (new x f : List ℕ) → IsDatabase new → IsBehind new x → IsTorn 0 (take 16 new) x f → IsUnmade new f
-torn_or_behind new x f is b t = whole_or_behind new x f is b (t.whole (omega (arith, length-take 16 new, b.len, is.enough)))
+pub made_marked : (new : List ℕ) (u v : World) → IsDatabase new → Fails (AreWholeOrNot 0 (take 16 new)) (IsTorn 0 (take 16 new)) u v → All (IsBehind new) u → All (IsUnmade new) v
+made_marked new u v is f a = marks_all (IsBehind new) (IsUnmade new) (take 16 new) u v (λ x b. inl b.zero_first) (λ x b. omega (arith, length-take 16 new, b.len, is.enough))
+    (λ x y b put. inr (made_whole new x y is b put)) f a
 
 -- up to the end, or up to the sixteenth byte of fewer
 pub made_end : (at end : ℕ) (new old file : List ℕ) → 16 ≤ at → end ≤ at → at ≤ max 16 end → IsMadeTo at new old file → IsMadeTo end new old file

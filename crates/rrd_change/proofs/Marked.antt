@@ -1,10 +1,5 @@
 -- Lemmas on whether a file has a mark.
-use Rattle.std.proofs.Common.{◌≡◌, ◌↔◌, ℕ, Bool, true, false, List, Option, Some, None, IsSome, IsTrue, refl, sym, ◌∙◌, ap, subst}
-use Rattle.std.proofs.lemmas.Bool.{true≢false}
-use Rattle.std.specs.Option.{is_some}
-use Rattle.rrd_change.specs.Bytes.{begins_with}
-use Rattle.rrd_change.specs.Read.{IsOffset}
-use Rattle.rrd_change.specs.Settled.{Mark, cut_mark, log_mark, mark_of, spelled_tail}
+use Rattle.rrd_change.proofs.Names.{◌≡◌, ◌↔◌, ℕ, true, false, List, Option, Some, None, IsSome, IsTrue, refl, sym, true≢false, is_some, begins_with, IsOffset, cut_mark, log_mark, mark_of, spelled_tail}
 
 pub by_cut : (file : List ℕ) → begins_with file cut_mark ≡ true → IsSome (mark_of file)
 unfolding mark_of

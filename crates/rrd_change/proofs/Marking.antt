@@ -1,13 +1,6 @@
 -- Lemmas on the marks of a file.
-use Rattle.std.proofs.Common.{◌≡◌, ℕ, ◌+◌, ◌-◌, ◌<◌, ◌≤◌, List, length, drop, get_or, refl, sym, ◌∙◌, ap, subst, arith, inl, inr, zero-add}
-use Rattle.std.proofs.lemmas.Bool.{cases_lt}
-use Rattle.std.proofs.lemmas.List.{length-append, length-drop, get_or-drop, get_or_append_left, get_or-append_right, ext_get_or}
-use Rattle.rrd_change.specs.Calls.{AreAny, ArePut, AreWholeOrNot, IsTorn}
-use Rattle.rrd_change.specs.Laws.{IsUnderCut}
-use Rattle.rrd_change.specs.Settled.{cut_mark, database_mark}
-use Rattle.rrd_change.specs.States.{IsAtRest, IsDatabase, IsMarked, IsPlain, Represents, cut_of}
-use Rattle.rrd_change.specs.Views.{All, Fails, FailsToWriteWhole, Stores, World, WritesWhole}
-use Rattle.rrd_change.proofs.Holding.{fails_all, held_all, moves_all, stores_all}
+use Rattle.rrd_change.proofs.Names.{◌≡◌, ℕ, ◌+◌, ◌-◌, ◌<◌, ◌≤◌, List, length, drop, get_or, refl, sym, ◌∙◌, ap, arith, inl, inr, zero-add, length-append, length-drop, get_or-drop, get_or_append_left, get_or-append_right, ext_get_or, AreAny, ArePut, AreWholeOrNot, IsTorn, IsUnderCut, cut_mark, database_mark, IsAtRest, IsDatabase, IsMarked, IsPlain, Represents, cut_of, All, Fails, FailsToWriteWhole, Stores, World, WritesWhole}
+use Rattle.rrd_change.proofs.Holding.{held_all, moves_all, stores_all, marks_all}
 
 pub length-cut : (bytes : List ℕ) → 4 ≤ length bytes → length (cut_of bytes) ≡ length bytes
 length-cut bytes enough = omega (arith, length-append cut_mark (drop 4 bytes), length-drop 4 bytes, enough)
@@ -38,10 +31,7 @@ plain_each bytes file k high (inr e) = ap (λ xs. get_or xs k 0) e ∙ cut_each 
 pub is_cut_of : (bytes file : List ℕ) → 4 ≤ length bytes → length file ≡ length bytes → ((k : ℕ) → k < 4 → get_or file k 0 ≡ get_or cut_mark k 0) →
     ((k : ℕ) → 4 ≤ k → get_or file k 0 ≡ get_or bytes k 0) → file ≡ cut_of bytes
 is_cut_of bytes file enough len front behind = ext_get_or 0 file (cut_of bytes) (len ∙ sym (length-cut bytes enough))
-    (λ k low. elim (cases_lt k 4) [
-      | inl first ↦ front k first ∙ sym (cut_front bytes k first)
-      | inr later ↦ behind k later ∙ sym (cut_each bytes k later)
-    ])
+    (λ k low. grind (arith, cut_front, cut_each))
 
 pub cut_put : (bytes old new : List ℕ) → IsDatabase bytes → IsPlain bytes old → ArePut 0 cut_mark old new → new ≡ cut_of bytes
 cut_put bytes old new is plain p =
@@ -55,10 +45,7 @@ uncut_put bytes old new is e p =
     let enough = is.enough in
     let size = plain_length bytes old (omega (arith, enough)) (inr e) in
     ext_get_or 0 new bytes (omega (arith, p.len, size, enough))
-    (λ k low. elim (cases_lt k 4) [
-      | inl first ↦ put_front database_mark old new k p first ∙ sym (is.begins.each k first) ∙ ap (λ n. get_or bytes n 0) (zero-add k)
-      | inr later ↦ put_behind database_mark old new k p later ∙ plain_each bytes old k later (inr e)
-    ])
+    (λ k low. grind (arith, put_front, zero-add, put_behind, plain_each))
 
 -- ---- marking a database
 
@@ -68,16 +55,11 @@ marked bytes u v s rest = record {
   world = stores_all (IsPlain bytes) (λ c. c ≡ cut_of bytes) (ArePut 0 cut_mark) u v (λ x y plain p. cut_put bytes x y rest.is plain p) s (held_all bytes (IsPlain bytes) u (inl refl) rest.world);
 }
 
-cut_or_not : (bytes x y : List ℕ) → IsDatabase bytes → IsPlain bytes x → AreWholeOrNot 0 cut_mark x y → IsPlain bytes y
-cut_or_not bytes x y is plain (inl e) = let P : List ℕ → Type 0 = λ xs. IsPlain bytes xs in subst P (sym e) plain
-cut_or_not bytes x y is plain (inr p) = inr (cut_put bytes x y is plain p)
-
 pub not_marked : (bytes : List ℕ) (u v : World) → Fails (AreWholeOrNot 0 cut_mark) (IsTorn 0 cut_mark) u v → IsAtRest bytes u → All (IsPlain bytes) v
 not_marked bytes u v f rest =
-    let is = rest.is in
-    let enough = is.enough in
-    fails_all (IsPlain bytes) (IsPlain bytes) (AreWholeOrNot 0 cut_mark) (IsTorn 0 cut_mark) u v (λ x y plain p. cut_or_not bytes x y is plain p)
-    (λ x y plain t. cut_or_not bytes x y is plain (t.whole (omega (arith, plain_length bytes x (omega (arith, enough)) plain, enough)))) f (held_all bytes (IsPlain bytes) u (inl refl) rest.world)
+    let enough = rest.is.enough in
+    marks_all (IsPlain bytes) (IsPlain bytes) cut_mark u v (λ x plain. plain) (λ x plain. omega (arith, plain_length bytes x (omega (arith, enough)) plain, enough))
+    (λ x y plain put. inr (cut_put bytes x y rest.is plain put)) f (held_all bytes (IsPlain bytes) u (inl refl) rest.world)
 
 -- ---- removing the mark
 
@@ -101,8 +83,7 @@ unmarked bytes u v m was = record {
 }
 
 pub not_unmarked : (bytes : List ℕ) (u v : World) → FailsToWriteWhole 0 database_mark u v → IsMarked bytes u → All (IsPlain bytes) v
-not_unmarked bytes u v m was = moves_all (λ c. c ≡ cut_of bytes) (IsPlain bytes) (AreWholeOrNot 0 database_mark) (IsTorn 0 database_mark) u v
-    (λ x y e p. uncut_or_not bytes x y was.is e p) (λ x y e t. uncut_torn bytes x y was.is e t) m was.world
+not_unmarked bytes u v m was = grind (arith, moves_all, uncut_or_not, uncut_torn)
 
 -- ---- a file with a cut mark
 
@@ -117,19 +98,18 @@ cut_under bytes file is e =
       same = λ k low high. plain_each bytes file k low (inr e);
     }
 
+-- the bytes of the database stay
+pub under_same : (bytes old new : List ℕ) → IsUnderCut bytes old → length bytes ≤ length new → ((k : ℕ) → k < length bytes → get_or new k 0 ≡ get_or old k 0) → IsUnderCut bytes new
+under_same bytes old new h long stays = record {
+  begins = h.begins;
+  marked = record { within = omega (arith, h.begins.within, long); each = λ i k. stays (0 + i) (omega (arith, k, h.begins.within)) ∙ h.marked.each i k };
+  reaches = long;
+  same = λ k low high. stays k high ∙ h.same k low high;
+}
+
 -- what follows the database may be anything
 pub under_stays : (bytes old new : List ℕ) (at count : ℕ) → IsDatabase bytes → IsUnderCut bytes old → length bytes ≤ at → AreAny at count old new → IsUnderCut bytes new
-under_stays bytes old new at count is h behind a =
-    let enough = is.enough in
-    record {
-      begins = h.begins;
-      marked = record {
-        within = omega (arith, h.marked.within, a.longer);
-        each = λ i k. a.outside (0 + i) (inl (omega (arith, k, enough, behind))) ∙ h.marked.each i k;
-      };
-      reaches = omega (arith, h.reaches, a.longer);
-      same = λ k low high. a.outside k (inl (omega (arith, high, behind))) ∙ h.same k low high;
-    }
+under_stays bytes old new at count is h behind a = under_same bytes old new h (omega (arith, h.reaches, a.longer)) (λ k low. a.outside k (inl (omega (arith, low, behind))))
 
 pub plain_represents : (bytes file : List ℕ) → IsDatabase bytes → IsPlain bytes file → Represents bytes file
 plain_represents bytes file is (inl e) = inl e

@@ -1,11 +1,5 @@
 -- Lemmas on what files represent, by what they stand for.
-use Rattle.std.proofs.Common.{◌≡◌, ℕ, List, refl, sym, ◌∙◌, subst, inl, inr}
-use Rattle.rrd_change.specs.Bytes.{StandsAt}
-use Rattle.rrd_change.specs.Outcomes.{AllStand, AllStandAsTold, IsEither, IsWhole}
-use Rattle.rrd_change.specs.Settled.{database_mark, settled}
-use Rattle.rrd_change.specs.States.{IsAtRest, IsBroken, IsLogOf, IsMarked, IsPlain, Represents, RepresentsEither, cut_of}
-use Rattle.rrd_change.specs.Views.{All, World}
-use Rattle.rrd_change.specs.declared.log.Log.{Log}
+use Rattle.rrd_change.proofs.Names.{◌≡◌, ℕ, List, refl, sym, ◌∙◌, subst, inl, inr, StandsAt, AllStand, AllStandAsTold, IsEither, IsWhole, database_mark, settled, IsAtRest, IsBroken, IsLogOf, IsMarked, IsPlain, Represents, RepresentsEither, cut_of, All, World, Log}
 use Rattle.rrd_change.proofs.Holding.{all_as, held_all}
 use Rattle.rrd_change.proofs.Logs.{cut_stands, log_stands, plain_stands}
 use Rattle.rrd_change.proofs.Marking.{cut_under, plain_represents}
@@ -13,8 +7,7 @@ use Rattle.rrd_change.proofs.Settling.{log_stands_all}
 
 pub stands : (end_of : List ℕ → ℕ) (now file : List ℕ) → IsWhole end_of now → Represents now file → settled end_of file ≡ now
 stands end_of now file whole (inl e) =
-    let P : List ℕ → Type 0 = λ xs. StandsAt xs 0 database_mark in
-    plain_stands end_of file (subst P (sym e) whole.is.begins) ∙ e
+    plain_stands end_of file (subst (λ (xs : List ℕ). StandsAt xs 0 database_mark) (sym e) whole.is.begins) ∙ e
 stands end_of now file whole (inr (inl under)) = cut_stands end_of now file whole.ends under
 stands end_of now file whole (inr (inr log)) = log_stands end_of log.old now log.tail log.changes file log.logged log.leads
 

@@ -1,21 +1,13 @@
 -- Lemmas on a log that the next database outgrows.
-use Rattle.std.proofs.Common.{◌≡◌, ℕ, List, get_or, sym, ◌∙◌, ap, subst, arith, zero-add}
-use Rattle.std.proofs.lemmas.List.{ext_get_or}
-use Rattle.rrd_change.specs.Changes.{changes_in, laid_over}
-use Rattle.rrd_change.specs.Laws.{first_of}
-use Rattle.rrd_change.specs.States.{IsLogOf, IsOpen}
-use Rattle.rrd_change.specs.Views.{All, Reads, Stays, Steps, View, World, seen}
-use Rattle.rrd_change.specs.declared.calls.Syncs.{Syncs}
-use Rattle.rrd_change.specs.declared.calls.Syncs.TheVariants.{Never, Ordered}
-use Rattle.rrd_change.specs.declared.log.Log.{Log}
+use Rattle.rrd_change.proofs.Names.{◌≡◌, ℕ, List, get_or, sym, ◌∙◌, ap, subst, arith, zero-add, ext_get_or, changes_in, laid_over, first_of, IsLogOf, IsOpen, All, Reads, Stays, Steps, View, World, seen, Syncs, Log}
+use Rattle.rrd_change.proofs.Stepping.{seen_as}
 use Rattle.rrd_change.proofs.Appending.{logged_all}
 use Rattle.rrd_change.proofs.Laying.{laid_is}
 use Rattle.rrd_change.proofs.Reading.{change_stands}
 
 stays_all : (G : List ℕ → Type 0) (u v : World) → Stays u v → All G u → All G v
 stays_all G u v s a =
-    let P : List ℕ → Type 0 = λ xs. G xs in
-    record { held = subst P (sym s.held) a.held; leave = λ c left. a.leave c (s.leave c left); keep = λ c kept. a.keep c (s.keep c kept) }
+    record { held = subst G (sym s.held) a.held; leave = λ c left. a.leave c (s.leave c left); keep = λ c kept. a.keep c (s.keep c kept) }
 
 pub stays_log : (now : List ℕ) (log : Log) (u v : World) → Stays u v → IsLogOf now log u → IsLogOf now log v
 stays_log now log u v s h = record { old = h.old; changes = h.changes; follows = h.follows; world = stays_all (IsOpen h.old log.tail h.changes) u v s h.world }
@@ -32,12 +24,8 @@ read_now now log bytes database u v (stays, at) h e =
     ∙ laid_is h.old h.changes now u.held first.enough h.follows.leads held.logged.kept
 
 pub seen_reads : (syncs : Syncs) (at count : ℕ) (into : List ℕ) (old new : View) → Steps (Reads at count into) old new → Steps (Reads at count into) (seen syncs old) (seen syncs new)
-seen_reads Ordered at count into old new s = s
-seen_reads Never at count into old new s = record {
-  falls = s.falls;
-  does = λ d x honest. let h = s.does d x honest in (record { held = h.0.held; leave = λ z left. absurd left; keep = λ z kept. absurd kept }, h.1);
-}
+seen_reads syncs at count into old new s = seen_as syncs (Reads at count into) old new
+    (λ u v h. (record { held = h.0.held; leave = λ z left. absurd left; keep = λ z kept. absurd kept }, h.1)) s
 
 pub seen_stays : (syncs : Syncs) (old new : View) → Steps Stays old new → Steps Stays (seen syncs old) (seen syncs new)
-seen_stays Ordered old new s = s
-seen_stays Never old new s = record { falls = s.falls; does = λ d x honest. record { held = (s.does d x honest).held; leave = λ z left. absurd left; keep = λ z kept. absurd kept } }
+seen_stays syncs old new s = seen_as syncs Stays old new (λ u v h. record { held = h.held; leave = λ z left. absurd left; keep = λ z kept. absurd kept }) s

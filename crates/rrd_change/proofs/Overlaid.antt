@@ -1,26 +1,15 @@
 -- Lemmas on the bytes of a file over which the changes of its log are laid.
-use Rattle.std.proofs.Common.{◌≡◌, ℕ, ◌<◌, ◌≤◌, List, [], ◌∷◌, ◌++◌, length, take, drop, get_or, refl, sym, subst, ◌∙◌, ap, arith, set, inr, true, false}
-use Rattle.std.proofs.lemmas.List.{append-nil, ext_get_or, get_or-take, get_or_append_left, length-append, length-take, take_all, drop_all}
-use Rattle.rrd_change.specs.Bytes.{begins_with}
-use Rattle.rrd_change.specs.Changes.{Change, all_changed, changes_in, laid_over, last_size}
-use Rattle.rrd_change.specs.Laws.{chain_end}
-use Rattle.rrd_change.specs.Marks.{IsLogIn, IsLogMark, IsMarkOf}
-use Rattle.rrd_change.specs.Read.{IsLogRead}
-use Rattle.rrd_change.specs.Settled.{cut_mark, log_mark, settled, settled_by, spelled_tail, unmarked}
-use Rattle.rrd_change.specs.declared.finding.Mark.{Mark}
-use Rattle.rrd_change.specs.declared.finding.Mark.TheVariants as marks
-use Rattle.rrd_change.specs.declared.log.Log.{Log}
+use Rattle.rrd_change.proofs.Names.{◌≡◌, ℕ, ◌<◌, ◌≤◌, List, [], ◌∷◌, ◌++◌, length, take, drop, get_or, refl, sym, subst, ◌∙◌, ap, arith, set, inr, true, false, append-nil, ext_get_or, get_or-take, get_or_append_left, length-append, length-take, take_all, drop_all, begins_with, Change, all_changed, changes_in, laid_over, last_size, chain_end, IsLogIn, IsLogMark, IsMarkOf, IsLogRead, cut_mark, log_mark, settled, settled_by, spelled_tail, unmarked, Mark, Log}
 use Rattle.rrd_change.proofs.Chains.{chain_count, none_left}
 use Rattle.rrd_change.proofs.Fronts.{front_of}
 use Rattle.rrd_change.proofs.Logs.{by_mark, is_cut, is_log, is_plain}
 use Rattle.rrd_change.proofs.Reading.{past_read}
 use Rattle.rrd_change.proofs.Standing.{get_or-by, length-by}
+use Rattle.rrd_change.specs.declared.finding.Mark.TheVariants as marks
 
 -- what a vector has after both parts of it were lent
 pub clipped : (n : ℕ) (new rest file : List ℕ) → n ≡ length file → length (new ++ rest) ≡ length file → take n (new ++ rest ++ drop (length (new ++ rest)) file) ≡ new ++ rest
-clipped n new rest file n_is size =
-    let none : drop (length (new ++ rest)) file ≡ [] = drop_all (length (new ++ rest)) file (omega (arith, size)) in
-    ap (λ xs. take n (new ++ rest ++ xs)) none ∙ ap (λ xs. take n xs) (append-nil (new ++ rest)) ∙ take_all n (new ++ rest) (omega (arith, n_is, size))
+clipped n new rest file n_is size = grind (arith, drop_all, append-nil, take_all)
 
 over_by : (cs : List Change) (old rest new : List ℕ) (size end : ℕ) → length new ≡ length old → ((k : ℕ) → get_or new k 0 ≡ all_changed cs k (get_or old k 0)) → size ≡ last_size 0 cs →
     size ≤ length old → end ≡ chain_end (length old) cs → (end ≡ length old → ⊥) → take size (new ++ rest) ≡ laid_over cs (old ++ rest)
@@ -82,15 +71,11 @@ settled_plain end_of file cut log = by_mark end_of file ∙ ap (λ m. settled_by
 -- ---- what was found of a log
 
 pub no_log : (file old rest new : List ℕ) (tail size : ℕ) (log : Log) → file ≡ old ++ rest → length old ≡ tail → IsLogRead old rest new log size → log.end ≡ tail → changes_in tail file ≡ []
-no_log file old rest new tail size log all tail_is read at =
-    ap (λ xs. changes_in tail xs) all ∙ ap (λ t. changes_in t (old ++ rest)) (sym tail_is)
-    ∙ no_changes (changes_in (length old) (old ++ rest)) (length old) (sym read.end ∙ at ∙ sym tail_is)
+no_log file old rest new tail size log all tail_is read at = grind (arith, no_changes)
 
 pub log_in : (file old rest new : List ℕ) (tail size : ℕ) (log : Log) → file ≡ old ++ rest → length old ≡ tail → IsLogRead old rest new log size → IsLogIn log tail file
 log_in file old rest new tail size log all tail_is read =
-    let P : ℕ → Type 0 = λ t. IsLogIn log t (old ++ rest) in
-    let Q : List ℕ → Type 0 = λ xs. IsLogIn log tail xs in
-    subst Q (sym all) (subst P tail_is (record { tail_is = read.tail; ends = read.end; count = read.count; touched = read.touched; only = read.only }))
+    subst (IsLogIn log tail) (sym all) (subst (λ (t : ℕ). IsLogIn log t (old ++ rest)) tail_is (record { tail_is = read.tail; ends = read.end; count = read.count; touched = read.touched; only = read.only }))
 
 pub by_log_mark : (m : Mark) (tail : ℕ) (file : List ℕ) → begins_with file cut_mark ≡ false → (tail ≡ spelled_tail file) × (begins_with file (log_mark (spelled_tail file)) ≡ true) → IsLogMark m tail file → IsMarkOf m file
 by_log_mark marks.Missing tail file cut (is, log) h = (cut, inr (ap (λ t. changes_in t file) (sym is) ∙ h))

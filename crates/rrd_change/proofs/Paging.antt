@@ -1,13 +1,5 @@
 -- Lemmas on a file of one page, which one write replaces.
-use Rattle.std.proofs.Common.{◌≡◌, ℕ, ◌≤◌, List, length, sym, ◌∙◌, ap, arith, inl, inr}
-use Rattle.std.specs.Prelude.{Result, Ok, Err}
-use Rattle.std.proofs.lemmas.List.{ext_get_or}
-use Rattle.rrd_change.specs.Calls.{ArePut, AreWholeOrNot}
-use Rattle.rrd_change.specs.Repairs.{IsStopped, Whole}
-use Rattle.rrd_change.specs.States.{Began, IsAtRest, IsDatabase}
-use Rattle.rrd_change.specs.Views.{Does, Moves, Steps, View, World, seen}
-use Rattle.rrd_change.specs.declared.calls.Syncs.TheVariants.{Never}
-use Rattle.rrd_change.specs.declared.log.Base.{Base}
+use Rattle.rrd_change.proofs.Names.{◌≡◌, ℕ, ◌≤◌, List, length, ◌∙◌, arith, inl, inr, Result, Ok, Err, ext_get_or, ArePut, AreWholeOrNot, IsStopped, Whole, Began, IsAtRest, IsDatabase, Does, Moves, Steps, View, World, seen, Never, Base}
 use Rattle.rrd_change.proofs.Marking.{put_front}
 
 -- a call on a file that is never synced: nothing is said of the disk
@@ -32,9 +24,7 @@ put_whole new x f few p = ext_get_or 0 f new (omega (arith, p.len, few)) (λ k l
 
 module _ (base : Base) (old new : List ℕ) (longer : base.length ≤ length new) (began : Began base old) (is : IsDatabase new) where
   page_held : (u v : World) → ArePut 0 new u.held v.held → IsAtRest old u → v.held ≡ new
-  page_held u v p rest =
-      let same : length u.held ≡ length old = ap (λ (xs : List ℕ). length xs) rest.world.held in
-      put_whole new u.held v.held (omega (arith, same, sym began.length, longer)) p
+  page_held u v p rest = grind (arith, put_whole)
 
   at_rest : (bytes : List ℕ) (v : World) → IsDatabase bytes → v.held ≡ bytes → ((c : List ℕ) → v.may_leave c → ⊥) → ((c : List ℕ) → v.may_keep c → ⊥) → IsAtRest bytes v
   at_rest bytes v database held leave keep =

@@ -1,16 +1,8 @@
 -- Lemmas on bytes that are appended piece by piece, and on the pieces of a change.
-use Rattle.std.proofs.Common.{◌≡◌, ℕ, suc, ◌+◌, ◌<◌, ◌≤◌, List, [], ◌∷◌, ◌++◌, length, take, get_or, refl, sym, ◌∙◌, ap, subst, arith, append_assoc}
-use Rattle.std.specs.List.{flat_map}
-use Rattle.std.proofs.Math.Seq.{take-suc}
-use Rattle.std.proofs.lemmas.Grind.{flat_map-append}
-use Rattle.std.proofs.lemmas.List.{append-nil}
-use Rattle.rrd_change.specs.Changes.{Change, body_bytes, change_bytes, change_head, head_bytes, piece_bytes}
-use Rattle.rrd_change.specs.Spans.{AreSpans, piece_of, pieces_of}
-use Rattle.rrd_change.specs.declared.span.Span.{Span}
+use Rattle.rrd_change.proofs.Names.{◌≡◌, ℕ, suc, ◌+◌, ◌<◌, ◌≤◌, List, [], ◌∷◌, ◌++◌, length, take, get_or, refl, sym, ◌∙◌, ap, subst, arith, append_assoc, flat_map, take-suc, flat_map-append, append-nil, Change, body_bytes, change_bytes, change_head, head_bytes, piece_bytes, AreSpans, piece_of, pieces_of, Span}
 
 pub three : (a b c d x y z : List ℕ) → x ≡ a ++ b → y ≡ x ++ c → z ≡ y ++ d → z ≡ a ++ (b ++ (c ++ d))
-three a b c d x y z e f g =
-    g ∙ ap (λ xs. xs ++ d) f ∙ ap (λ xs. (xs ++ c) ++ d) e ∙ append_assoc (a ++ b) c d ∙ append_assoc a b (c ++ d)
+three a b c d x y z e f g = grind (arith, append_assoc)
 
 pub spans_more : (spans : List Span) (n : ℕ) (none : Span) → n < length spans → take (n + 1) spans ≡ take n spans ++ get_or spans n none ∷ []
 spans_more spans n none low = let e : n + 1 ≡ suc n = omega arith in ap (λ m. take m spans) e ∙ take-suc spans n none low
@@ -39,8 +31,7 @@ pushed_more bytes first buffer new spans n none low was more =
 pub within_more : (count : ℕ) (spans : List Span) (n : ℕ) (none : Span) → n < length spans → AreSpans count (take n spans) →
     (get_or spans n none).start ≤ (get_or spans n none).end → (get_or spans n none).end ≤ count → AreSpans count (take (n + 1) spans)
 within_more count spans n none low h ordered few =
-    let P : List Span → Type 0 = λ xs. AreSpans count xs in
-    subst P (sym (spans_more spans n none low)) (within_join count (take n spans) (get_or spans n none) h ordered few)
+    subst (AreSpans count) (sym (spans_more spans n none low)) (within_join count (take n spans) (get_or spans n none) h ordered few)
 
 pub length-pieces : (bytes : List ℕ) (spans : List Span) → length (pieces_of bytes spans) ≡ length spans
 length-pieces bytes [] = refl

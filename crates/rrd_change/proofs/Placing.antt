@@ -1,11 +1,5 @@
 -- Lemmas on bringing spans into place.
-use Rattle.std.proofs.Common.{◌≡◌, ℕ, zero, suc, ◌+◌, ◌-◌, ◌<◌, ◌≤◌, max, min, List, [], ◌∷◌, ◌++◌, length, take, drop, get_or, refl, sym, ◌∙◌, ap, subst, arith, inl, inr, ◌⊎◌}
-use Rattle.std.proofs.lemmas.Bool.{cases_lt}
-use Rattle.std.proofs.lemmas.List.{length-take, length-drop, get_or-take, get_or-drop, take-append-drop}
-use Rattle.rrd_change.specs.Calls.{AreAny, ArePut}
-use Rattle.rrd_change.specs.Spans.{IsIn}
-use Rattle.rrd_change.specs.States.{AreAnyIn, ArePutIn}
-use Rattle.rrd_change.specs.declared.span.Span.{Span}
+use Rattle.rrd_change.proofs.Names.{◌≡◌, ℕ, zero, suc, ◌+◌, ◌-◌, ◌<◌, ◌≤◌, max, min, List, [], ◌∷◌, ◌++◌, length, take, drop, get_or, refl, sym, ◌∙◌, ap, subst, arith, inl, inr, ◌⊎◌, cases_lt, length-take, length-drop, get_or-take, get_or-drop, take-append-drop, AreAny, ArePut, IsIn, AreAnyIn, ArePutIn, Span}
 
 pub in_join : (k : ℕ) (xs ys : List Span) → IsIn k (xs ++ ys) → IsIn k xs ⊎ IsIn k ys
 in_join k [] ys h = inr h
@@ -34,32 +28,12 @@ pub any_none : (spans : List Span) (new old : List ℕ) → AreAnyIn spans new o
 any_none spans new old = record { longer = omega arith; bound = omega arith; same = λ k. inl refl }
 
 pub any_in_then : (spans : List Span) (new old mid file : List ℕ) → AreAnyIn spans new old mid → AreAnyIn spans new mid file → AreAnyIn spans new old file
-any_in_then spans new old mid file a b = record {
-  longer = omega (arith, a.longer, b.longer);
-  bound = omega (arith, a.bound, b.bound);
-  same = λ k. elim (b.same k) [
-    | inl stays ↦ elim (a.same k) [
-      | inl was ↦ inl (stays ∙ was)
-      | inr there ↦ inr there
-    ]
-    | inr there ↦ inr there
-  ];
-}
+any_in_then spans new old mid file a b = grind arith
 
 -- a write within a span
 pub span_any : (spans : List Span) (new old file : List ℕ) (start count : ℕ) → 16 ≤ start → start + count ≤ length new → ((k : ℕ) → start ≤ k → k < start + count → IsIn k spans) →
     AreAny start count old file → AreAnyIn spans new old file
-span_any spans new old file start count high few are a = record {
-  longer = a.longer;
-  bound = omega (arith, a.bound, few);
-  same = λ k. elim (cases_lt k start) [
-    | inl before ↦ inl (a.outside k (inl before))
-    | inr from ↦ elim (cases_lt k (start + count)) [
-      | inl to ↦ inr (omega (arith, high, from), omega (arith, to, few), are k from to)
-      | inr behind ↦ inl (a.outside k (inr behind))
-    ]
-  ];
-}
+span_any spans new old file start count high few are a = grind arith
 
 pub put_none : (new old : List ℕ) → ArePutIn [] new old old
 put_none new old = record { longer = omega arith; bound = omega arith; put = λ k high low is. absurd is; same = λ k. inl refl }
@@ -93,10 +67,7 @@ put_in_more xs s new old mid file start end at_start at_end some was put =
         ]
       ];
       same = λ k. elim (cases_lt k start) [
-        | inl before ↦ elim (was.same k) [
-          | inl stays ↦ inl (put.outside k (inl before) ∙ stays)
-          | inr there ↦ inr (there.0, there.1, in_left k xs (s ∷ []) there.2)
-        ]
+        | inl before ↦ grind (arith, in_left)
         | inr from ↦ elim (cases_lt k end) [
           | inl to ↦ inr (omega (arith, from, at_start), omega (arith, to, at_end), in_right k xs (s ∷ []) (inl (omega (arith, from, at_start), omega (arith, to, at_end))))
           | inr behind ↦ elim (was.same k) [
@@ -117,10 +88,7 @@ put_in_none xs s new old file none was = record {
     | inr (inl last) ↦ absurd (omega (arith, last.0, last.1, none, high, low))
     | inr (inr nothing) ↦ absurd nothing
   ];
-  same = λ k. elim (was.same k) [
-    | inl stays ↦ inl stays
-    | inr there ↦ inr (there.0, there.1, in_left k xs (s ∷ []) there.2)
-  ];
+  same = λ k. grind (arith, in_left);
 }
 
 pub put_any_in : (spans : List Span) (new old file : List ℕ) → ArePutIn spans new old file → AreAnyIn spans new old file
@@ -139,11 +107,4 @@ in_take k spans n h = let P : List Span → Type 0 = λ xs. IsIn k xs in subst P
 
 -- the first spans are in place
 pub first_any : (spans : List Span) (n : ℕ) (new old file : List ℕ) → ArePutIn (take n spans) new old file → AreAnyIn spans new old file
-first_any spans n new old file p = record {
-  longer = p.longer;
-  bound = p.bound;
-  same = λ k. elim (p.same k) [
-    | inl stays ↦ inl stays
-    | inr there ↦ inr (there.0, there.1, in_take k spans n there.2)
-  ];
-}
+first_any spans n new old file p = grind (arith, in_take)

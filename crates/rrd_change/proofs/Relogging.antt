@@ -1,20 +1,11 @@
 -- Lemmas on a log whose bytes and mark are written again.
-use Rattle.std.proofs.Common.{◌≡◌, ◌⊎◌, ℕ, ◌+◌, ◌-◌, ◌<◌, ◌≤◌, List, [], ◌∷◌, ◌++◌, length, get_or, refl, sym, ◌∙◌, ap, subst, arith, inl, inr}
-use Rattle.std.proofs.lemmas.Bool.{cases_lt}
-use Rattle.std.proofs.lemmas.List.{append-nil, ext_get_or}
-use Rattle.rrd_change.specs.Bytes.{SameIn, StandsAt}
-use Rattle.rrd_change.specs.Calls.{AreMixed, ArePut, AreRestored, AreWholeOrNot, IsSized, IsSizedOrNot, IsTorn}
-use Rattle.rrd_change.specs.Changes.{Change, change_bytes, change_size}
-use Rattle.rrd_change.specs.Laws.{AreSaid, IsChain, IsLogged, IsUnderCut, chain_end, first_of}
-use Rattle.rrd_change.specs.Repairs.{IsLogHeld, IsOnDisk, IsTornLog, IsUnlogged, LogEnd}
-use Rattle.rrd_change.specs.Settled.{log_mark}
-use Rattle.rrd_change.specs.States.{IsOpen}
-use Rattle.rrd_change.specs.Views.{All, Fails, FailsToRestore, Stores, StoresAgain, World}
+use Rattle.rrd_change.proofs.Names.{◌≡◌, ◌⊎◌, ℕ, ◌+◌, ◌-◌, ◌<◌, ◌≤◌, List, [], ◌∷◌, ◌++◌, length, get_or, refl, sym, ◌∙◌, ap, subst, arith, inl, inr, cases_lt, append-nil, ext_get_or, SameIn, StandsAt, AreMixed, ArePut, AreRestored, AreWholeOrNot, IsSized, IsSizedOrNot, IsTorn, Change, change_bytes, change_size, AreSaid, IsChain, IsLogged, IsUnderCut, chain_end, first_of, IsLogHeld, IsOnDisk, IsTornLog, IsUnlogged, LogEnd, log_mark, IsOpen, All, Fails, FailsToRestore, Stores, StoresAgain, World}
+use Rattle.rrd_change.proofs.Holding.{fails_disk, unless}
 use Rattle.rrd_change.proofs.Appending.{end_more}
 use Rattle.rrd_change.proofs.Chains.{chain_count, chain_stays}
 use Rattle.rrd_change.proofs.Laying.{said_before}
 use Rattle.rrd_change.proofs.Logs.{logged_sized}
-use Rattle.rrd_change.proofs.Marking.{put_behind}
+use Rattle.rrd_change.proofs.Marking.{put_behind, under_same}
 use Rattle.rrd_change.proofs.Reading.{change_stands, length-change, past_read}
 use Rattle.rrd_change.proofs.Rewriting.{restored_mixed}
 
@@ -66,14 +57,7 @@ relogged old tail cs h f is len same marked kept =
 -- ---- what the disk may have
 
 under_front : (base b f : List ℕ) (n : ℕ) → IsUnderCut base b → length base ≤ n → n ≤ length f → SameIn 0 n b f → IsUnderCut base f
-under_front base b f n h low long same =
-    let four = h.begins.within in
-    record {
-      begins = h.begins;
-      marked = record { within = omega (arith, four, low, long); each = λ i k. same (0 + i) (omega arith) (omega (arith, k, four, low)) ∙ h.marked.each i k };
-      reaches = omega (arith, low, long);
-      same = λ k high few. same k (omega arith) (omega (arith, few, low)) ∙ h.same k high few;
-    }
+under_front base b f n h low long same = under_same base b f h (omega (arith, low, long)) (λ k few. same k (omega arith) (omega (arith, few, low)))
 
 unlogged_front : (other now old : List ℕ) (tail : ℕ) (cs : List Change) (b f : List ℕ) → IsUnlogged other now old tail cs b → length old ≤ tail → tail ≤ length f → SameIn 0 tail b f →
     IsUnlogged other now old tail cs f
@@ -92,10 +76,7 @@ unlogged_front other now old tail cs b f u below long same = record {
 -- the log has the sure changes, and perhaps one more
 sure_all : (other old : List ℕ) (tail : ℕ) (cs : List Change) (f : List ℕ) (t : IsTornLog other old tail cs f) →
     (ds : List Change) × (cs ≡ t.sure ++ ds) × (chain_end tail (first_of old ∷ t.sure) ≤ chain_end tail (first_of old ∷ cs))
-sure_all other old tail cs f t = elim t.last [
-  | inl all ↦ ([], all ∙ sym (append-nil t.sure), omega (arith, ap (λ xs. chain_end tail (first_of old ∷ xs)) all))
-  | inr (c, e, led, filled) ↦ (c ∷ [], e, omega (arith, ap (λ xs. chain_end tail (first_of old ∷ xs)) e, end_more tail (first_of old ∷ t.sure) c))
-]
+sure_all other old tail cs f t = grind (arith, append-nil, end_more)
 
 torn_front : (other old : List ℕ) (tail : ℕ) (cs : List Change) (b f : List ℕ) (t : IsTornLog other old tail cs b) → chain_end tail (first_of old ∷ t.sure) ≤ length f →
     SameIn 0 (chain_end tail (first_of old ∷ t.sure)) t.whole f → IsTornLog other old tail cs f
@@ -109,33 +90,8 @@ torn_kept other old tail cs f t k high low =
     let P : List Change → Type 0 = λ xs. AreSaid xs k in
     elim (t.logged.kept k high low) [
       | inl is ↦ inl (t.same k (omega arith) (omega (arith, low, below, count)) ∙ is)
-      | inr said ↦ elim t.last [
-        | inl all ↦ inr (subst P (sym all) said)
-        | inr (c, e, led, filled) ↦ inr (subst P (sym e) (said_before t.sure c k said))
-      ]
+      | inr said ↦ grind (arith, said_before)
     ]
-
-disk_kept : (end : LogEnd) (other now old : List ℕ) (tail : ℕ) (cs : List Change) (f : List ℕ) → IsOnDisk end other now old tail cs f → (k : ℕ) → 16 ≤ k → k < length old →
-    (get_or f k 0 ≡ get_or old k 0) ⊎ AreSaid cs k
-disk_kept end other now old tail cs f (inl h) k high low = h.kept k high low
-disk_kept end other now old tail cs f (inr (inl u)) k high low = u.kept k high low
-disk_kept end other now old tail cs f (inr (inr (may, t))) k high low = torn_kept other old tail cs f t k high low
-
--- the file ends where the log ends
-disk_sized : (end : LogEnd) (other now old : List ℕ) (tail : ℕ) (cs : List Change) (h b f : List ℕ) → IsLogged old tail cs h → IsOnDisk end other now old tail cs b →
-    IsSized (chain_end tail (first_of old ∷ cs)) b f → IsOnDisk end other now old tail cs f
-disk_sized end other now old tail cs h b f is (inl logged) s = inl (logged_sized old tail cs b f logged s)
-disk_sized end other now old tail cs h b f is (inr (inl u)) s =
-    let count = chain_count tail (first_of old ∷ cs) in
-    inr (inl (unlogged_front other now old tail cs b f u (old_below old tail cs h is) (omega (arith, s.len, count)) (λ k high low. s.below k (omega (arith, low, count)))))
-disk_sized end other now old tail cs h b f is (inr (inr (may, t))) s =
-    let few = (sure_all other old tail cs b t).2 in
-    inr (inr (may, torn_front other old tail cs b f t (omega (arith, s.len, few)) (λ k high low. s.below k (omega (arith, low, few)) ∙ t.same k high low)))
-
-disk_sized_or_not : (end : LogEnd) (other now old : List ℕ) (tail : ℕ) (cs : List Change) (h b f : List ℕ) → IsLogged old tail cs h → IsOnDisk end other now old tail cs b →
-    IsSizedOrNot (chain_end tail (first_of old ∷ cs)) b f → IsOnDisk end other now old tail cs f
-disk_sized_or_not end other now old tail cs h b f is d (inl e) = let P : List ℕ → Type 0 = λ xs. IsOnDisk end other now old tail cs xs in subst P (sym e) d
-disk_sized_or_not end other now old tail cs h b f is d (inr s) = disk_sized end other now old tail cs h b f is d s
 
 -- some bytes of the log are those that programs read
 mixed_front : (h : List ℕ) (tail n : ℕ) (b f : List ℕ) → AreMixed h tail n b f → n ≤ length b → SameIn 0 tail b f
@@ -144,84 +100,11 @@ mixed_front h tail n b f m long k high low = elim (m.each long k) [
   | inr (from, to, is) ↦ absurd (omega (arith, from, low))
 ]
 
-disk_mixed : (end : LogEnd) (other now old : List ℕ) (tail : ℕ) (cs : List Change) (h b f : List ℕ) → IsLogged old tail cs h → IsOnDisk end other now old tail cs b →
-    length b ≡ chain_end tail (first_of old ∷ cs) → AreMixed h tail (chain_end tail (first_of old ∷ cs)) b f → IsOnDisk end other now old tail cs f
-disk_mixed end other now old tail cs h b f is (inl logged) len m =
-    let n = chain_end tail (first_of old ∷ cs) in
-    let long : n ≤ length b = omega (arith, len) in
-    let P : List Change → Type 0 = λ xs. IsLogged old tail xs h in
-    let Q : List ℕ → Type 0 = λ xs. IsLogged old tail cs xs in
-    let e : f ≡ b = ext_get_or 0 f b (m.len long) (λ k low. elim (m.each long k) [
-      | inl same ↦ same
-      | inr (from, to, read) ↦ read ∙ log_same old tail cs [] b h logged (subst P (sym (append-nil cs)) is) k from to
-    ]) in
-    inl (subst Q (sym e) logged)
-disk_mixed end other now old tail cs h b f is (inr (inl u)) len m =
-    let n = chain_end tail (first_of old ∷ cs) in
-    let long : n ≤ length b = omega (arith, len) in
-    inr (inl (unlogged_front other now old tail cs b f u (old_below old tail cs h is) (omega (arith, m.len long, len, chain_count tail (first_of old ∷ cs))) (mixed_front h tail n b f m long)))
-disk_mixed end other now old tail cs h b f is (inr (inr (may, t))) len m =
-    let n = chain_end tail (first_of old ∷ cs) in
-    let long : n ≤ length b = omega (arith, len) in
-    let all = sure_all other old tail cs b t in
-    let few = all.2 in
-    let P : List Change → Type 0 = λ xs. IsLogged old tail xs h in
-    inr (inr (
-      may,
-      torn_front other old tail cs b f t (omega (arith, m.len long, len, few)) (λ k high low. elim (m.each long k) [
-        | inl same ↦ same ∙ t.same k high low
-        | inr (from, to, read) ↦ read ∙ log_same old tail t.sure all.0 t.whole h t.logged (subst P all.1 is) k from low
-      ]),
-    ))
-
-disk_open : (end : LogEnd) (other now old : List ℕ) (tail : ℕ) (cs : List Change) (h b f : List ℕ) → IsLogged old tail cs h → IsOnDisk end other now old tail cs b →
-    length b ≡ chain_end tail (first_of old ∷ cs) → SameIn tail (chain_end tail (first_of old ∷ cs)) h b → ArePut 0 (log_mark tail) b f → IsOpen old tail cs f
-disk_open end other now old tail cs h b f is d len same put =
-    let count = chain_count tail (first_of old ∷ cs) in
-    let room = is.log.room in
-    relogged old tail cs h f is (omega (arith, put.len, len, count, room)) (λ k high low. put_behind (log_mark tail) b f k put (omega (arith, high, room)) ∙ same k high low)
-    (record { within = omega (arith, put.len); each = put.inside }) (λ k high low. elim (disk_kept end other now old tail cs b d k high low) [
-      | inl stays ↦ inl (put_behind (log_mark tail) b f k put high ∙ stays)
-      | inr said ↦ inr said
-    ])
-
--- ---- the length
-
 -- the file that programs read, and the one on the disk, end where the log ends
 pub record IsLogCut (end : LogEnd) (other now old : List ℕ) (tail : ℕ) (cs : List Change) (w : World) : Type 0 where
   pub held : IsOpen old tail cs w.held
   pub leave : (c : List ℕ) → w.may_leave c → IsOnDisk end other now old tail cs c × (length c ≡ chain_end tail (first_of old ∷ cs))
   pub keep : (c : List ℕ) → w.may_keep c → IsOnDisk end other now old tail cs c × (length c ≡ chain_end tail (first_of old ∷ cs))
-
-pub cut_stored : (end : LogEnd) (other now old : List ℕ) (tail : ℕ) (cs : List Change) (u v : World) → Stores (IsSized (chain_end tail (first_of old ∷ cs))) u v →
-    IsLogHeld end other now old tail cs u → IsLogCut end other now old tail cs v
-cut_stored end other now old tail cs u v s a = record {
-  held = record { logged = logged_sized old tail cs u.held v.held a.held s.held; ends = s.held.len };
-  leave = λ z left. let was = s.leave z left in (disk_sized end other now old tail cs u.held was.0 z a.held (a.keep was.0 was.1) was.2, was.2.len);
-  keep = λ z kept. let was = s.keep z kept in (disk_sized end other now old tail cs u.held was.0 z a.held (a.keep was.0 was.1) was.2, was.2.len);
-}
-
-held_sized_or_not : (old : List ℕ) (tail : ℕ) (cs : List Change) (x f : List ℕ) → IsLogged old tail cs x → IsSizedOrNot (chain_end tail (first_of old ∷ cs)) x f → IsLogged old tail cs f
-held_sized_or_not old tail cs x f h (inl e) = let P : List ℕ → Type 0 = λ xs. IsLogged old tail cs xs in subst P (sym e) h
-held_sized_or_not old tail cs x f h (inr s) = logged_sized old tail cs x f h s
-
-pub cut_failed : (end : LogEnd) (other now old : List ℕ) (tail : ℕ) (cs : List Change) (u v : World) →
-    Fails (IsSizedOrNot (chain_end tail (first_of old ∷ cs))) (IsSizedOrNot (chain_end tail (first_of old ∷ cs))) u v →
-    IsLogHeld end other now old tail cs u → IsLogHeld end other now old tail cs v
-cut_failed end other now old tail cs u v f a =
-    let to = disk_sized_or_not end other now old tail cs u.held in
-    record {
-      held = held_sized_or_not old tail cs u.held v.held a.held f.held;
-      leave = λ z left. let was = f.leave z left in to was.0 z a.held (a.leave was.0 was.1) was.2;
-      keep = λ z kept.
-          let was = f.keep z kept in
-          elim was.1 [
-            | inl (so, call) ↦ to was.0 z a.held (a.keep was.0 so) call
-            | inr (so, torn) ↦ to was.0 z a.held (a.leave was.0 so) torn
-          ];
-    }
-
--- ---- the bytes
 
 -- the disk has the bytes of the log, too
 pub record IsLogAgain (end : LogEnd) (other now old : List ℕ) (tail : ℕ) (cs : List Change) (w : World) : Type 0 where
@@ -229,88 +112,142 @@ pub record IsLogAgain (end : LogEnd) (other now old : List ℕ) (tail : ℕ) (cs
   pub leave : (c : List ℕ) → w.may_leave c → SameIn tail (chain_end tail (first_of old ∷ cs)) w.held c
   pub keep : (c : List ℕ) → w.may_keep c → SameIn tail (chain_end tail (first_of old ∷ cs)) w.held c
 
-pub again_stored : (end : LogEnd) (other now old : List ℕ) (tail : ℕ) (cs : List Change) (u v : World) → StoresAgain tail (chain_end tail (first_of old ∷ cs)) u v →
-    IsLogCut end other now old tail cs u → IsLogAgain end other now old tail cs v
-again_stored end other now old tail cs u v s a =
-    let n = chain_end tail (first_of old ∷ cs) in
-    let P : List ℕ → Type 0 = λ xs. IsOpen old tail cs xs in
-    let to : (b z : List ℕ) → u.may_keep b → AreRestored u.held tail n b z → IsOnDisk end other now old tail cs z × (length z ≡ n) = λ b z kept r.
-    let was = a.keep b kept in (
-      disk_mixed end other now old tail cs u.held b z a.held.logged was.0 was.1 (restored_mixed u.held tail n b z r),
-      r.len (omega (arith, was.1)) ∙ was.1,
-    ) in
-    let same : (b z : List ℕ) → AreRestored u.held tail n b z → SameIn tail n v.held z = λ b z r k high low. r.inside k high low ∙ ap (λ xs. get_or xs k 0) (sym s.held) in
-    record {
-      cut = record {
-        held = subst P (sym s.held) a.held;
-        leave = λ z left. let h = s.leave z left in to h.0 z h.1 h.2;
-        keep = λ z kept. let h = s.keep z kept in to h.0 z h.1 h.2;
-      };
-      leave = λ z left. let h = s.leave z left in same h.0 z h.2;
-      keep = λ z kept. let h = s.keep z kept in same h.0 z h.2;
-    }
+module _ (end : LogEnd) (other now old : List ℕ) (tail : ℕ) (cs : List Change) where
+  disk_kept : (f : List ℕ) → IsOnDisk end other now old tail cs f → (k : ℕ) → 16 ≤ k → k < length old → (get_or f k 0 ≡ get_or old k 0) ⊎ AreSaid cs k
+  disk_kept f (inl h) k high low = h.kept k high low
+  disk_kept f (inr (inl u)) k high low = u.kept k high low
+  disk_kept f (inr (inr (may, t))) k high low = torn_kept other old tail cs f t k high low
 
-pub again_failed : (end : LogEnd) (other now old : List ℕ) (tail : ℕ) (cs : List Change) (u v : World) → FailsToRestore tail (chain_end tail (first_of old ∷ cs)) u v →
-    IsLogCut end other now old tail cs u → IsLogHeld end other now old tail cs v
-again_failed end other now old tail cs u v f a =
-    let n = chain_end tail (first_of old ∷ cs) in
-    let P : List ℕ → Type 0 = λ xs. IsLogged old tail cs xs in
-    let to : (b z : List ℕ) → IsOnDisk end other now old tail cs b × (length b ≡ n) → AreMixed u.held tail n b z → IsOnDisk end other now old tail cs z =
-    λ b z was m. disk_mixed end other now old tail cs u.held b z a.held.logged was.0 was.1 m in
-    record {
-      held = subst P (sym f.held) a.held.logged;
-      leave = λ z left. let h = f.leave z left in to h.0 z (a.leave h.0 h.1) h.2;
-      keep = λ z kept.
-          let h = f.keep z kept in
-          elim h.1 [
-            | inl was ↦ to h.0 z (a.keep h.0 was) h.2
-            | inr left ↦ to h.0 z (a.leave h.0 left) h.2
-          ];
-    }
+  -- the file ends where the log ends
+  disk_sized : (h b f : List ℕ) → IsLogged old tail cs h → IsOnDisk end other now old tail cs b → IsSized (chain_end tail (first_of old ∷ cs)) b f → IsOnDisk end other now old tail cs f
+  disk_sized h b f is (inl logged) s = inl (logged_sized old tail cs b f logged s)
+  disk_sized h b f is (inr (inl u)) s =
+      let count = chain_count tail (first_of old ∷ cs) in
+      inr (inl (unlogged_front other now old tail cs b f u (old_below old tail cs h is) (omega (arith, s.len, count)) (λ k high low. s.below k (omega (arith, low, count)))))
+  disk_sized h b f is (inr (inr (may, t))) s =
+      let few = (sure_all other old tail cs b t).2 in
+      inr (inr (may, torn_front other old tail cs b f t (omega (arith, s.len, few)) (λ k high low. s.below k (omega (arith, low, few)) ∙ t.same k high low)))
 
--- ---- the mark
+  disk_mixed : (h b f : List ℕ) → IsLogged old tail cs h → IsOnDisk end other now old tail cs b →
+      length b ≡ chain_end tail (first_of old ∷ cs) → AreMixed h tail (chain_end tail (first_of old ∷ cs)) b f → IsOnDisk end other now old tail cs f
+  disk_mixed h b f is (inl logged) len m =
+      let n = chain_end tail (first_of old ∷ cs) in
+      let long : n ≤ length b = omega (arith, len) in
+      let e : f ≡ b = ext_get_or 0 f b (m.len long) (λ k low. elim (m.each long k) [
+        | inl same ↦ same
+        | inr (from, to, read) ↦ read ∙ log_same old tail cs [] b h logged (subst (λ (xs : List Change). IsLogged old tail xs h) (sym (append-nil cs)) is) k from to
+      ]) in
+      inl (subst (IsLogged old tail cs) (sym e) logged)
+  disk_mixed h b f is (inr (inl u)) len m =
+      let n = chain_end tail (first_of old ∷ cs) in
+      let long : n ≤ length b = omega (arith, len) in
+      inr (inl (unlogged_front other now old tail cs b f u (old_below old tail cs h is) (omega (arith, m.len long, len, chain_count tail (first_of old ∷ cs))) (mixed_front h tail n b f m long)))
+  disk_mixed h b f is (inr (inr (may, t))) len m =
+      let n = chain_end tail (first_of old ∷ cs) in
+      let long : n ≤ length b = omega (arith, len) in
+      let all = sure_all other old tail cs b t in
+      let few = all.2 in
+      inr (inr (
+        may,
+        torn_front other old tail cs b f t (omega (arith, m.len long, len, few)) (λ k high low. elim (m.each long k) [
+          | inl same ↦ same ∙ t.same k high low
+          | inr (from, to, read) ↦ read ∙ log_same old tail t.sure all.0 t.whole h t.logged (subst (λ (xs : List Change). IsLogged old tail xs h) all.1 is) k from low
+        ]),
+      ))
 
-pub mark_stored : (end : LogEnd) (other now old : List ℕ) (tail : ℕ) (cs : List Change) (u v : World) → Stores (ArePut 0 (log_mark tail)) u v → IsLogAgain end other now old tail cs u →
-    All (IsOpen old tail cs) v
-mark_stored end other now old tail cs u v s a =
-    let to = disk_open end other now old tail cs u.held in
-    let is = a.cut.held.logged in
-    record {
-      held = to u.held v.held is (inl is) a.cut.held.ends (λ k high low. refl) s.held;
-      leave = λ z left. let h = s.leave z left in let was = a.cut.keep h.0 h.1 in to h.0 z is was.0 was.1 (a.keep h.0 h.1) h.2;
-      keep = λ z kept. let h = s.keep z kept in let was = a.cut.keep h.0 h.1 in to h.0 z is was.0 was.1 (a.keep h.0 h.1) h.2;
-    }
+  disk_open : (h b f : List ℕ) → IsLogged old tail cs h → IsOnDisk end other now old tail cs b →
+      length b ≡ chain_end tail (first_of old ∷ cs) → SameIn tail (chain_end tail (first_of old ∷ cs)) h b → ArePut 0 (log_mark tail) b f → IsOpen old tail cs f
+  disk_open h b f is d len same put =
+      let count = chain_count tail (first_of old ∷ cs) in
+      let room = is.log.room in
+      relogged old tail cs h f is (omega (arith, put.len, len, count, room)) (λ k high low. put_behind (log_mark tail) b f k put (omega (arith, high, room)) ∙ same k high low)
+      (record { within = omega (arith, put.len); each = put.inside }) (λ k high low. elim (disk_kept b d k high low) [
+        | inl stays ↦ inl (put_behind (log_mark tail) b f k put high ∙ stays)
+        | inr said ↦ inr said
+      ])
 
-open_or_on_disk : (end : LogEnd) (other now old : List ℕ) (tail : ℕ) (cs : List Change) (h b f : List ℕ) → IsLogged old tail cs h → IsOnDisk end other now old tail cs b →
-    length b ≡ chain_end tail (first_of old ∷ cs) → SameIn tail (chain_end tail (first_of old ∷ cs)) h b → AreWholeOrNot 0 (log_mark tail) b f → IsOnDisk end other now old tail cs f
-open_or_on_disk end other now old tail cs h b f is d len same (inl e) = let P : List ℕ → Type 0 = λ xs. IsOnDisk end other now old tail cs xs in subst P (sym e) d
-open_or_on_disk end other now old tail cs h b f is d len same (inr put) = inl (disk_open end other now old tail cs h b f is d len same put).logged
+  -- ---- the length
 
-torn_or_on_disk : (end : LogEnd) (other now old : List ℕ) (tail : ℕ) (cs : List Change) (h b f : List ℕ) → IsLogged old tail cs h → IsOnDisk end other now old tail cs b →
-    length b ≡ chain_end tail (first_of old ∷ cs) → SameIn tail (chain_end tail (first_of old ∷ cs)) h b → IsTorn 0 (log_mark tail) b f → IsOnDisk end other now old tail cs f
-torn_or_on_disk end other now old tail cs h b f is d len same t =
-    open_or_on_disk end other now old tail cs h b f is d len same (t.whole (omega (arith, len, chain_count tail (first_of old ∷ cs), is.log.room)))
+  pub cut_stored : (u v : World) → Stores (IsSized (chain_end tail (first_of old ∷ cs))) u v → IsLogHeld end other now old tail cs u → IsLogCut end other now old tail cs v
+  cut_stored u v s a = record {
+    held = record { logged = logged_sized old tail cs u.held v.held a.held s.held; ends = s.held.len };
+    leave = λ z left. let was = s.leave z left in (disk_sized u.held was.0 z a.held (a.keep was.0 was.1) was.2, was.2.len);
+    keep = λ z kept. let was = s.keep z kept in (disk_sized u.held was.0 z a.held (a.keep was.0 was.1) was.2, was.2.len);
+  }
 
-held_or_not : (old : List ℕ) (tail : ℕ) (cs : List Change) (x f : List ℕ) → IsOpen old tail cs x → AreWholeOrNot 0 (log_mark tail) x f → IsLogged old tail cs f
-held_or_not old tail cs x f is (inl e) = let P : List ℕ → Type 0 = λ xs. IsLogged old tail cs xs in subst P (sym e) is.logged
-held_or_not old tail cs x f is (inr put) =
-    (relogged old tail cs x f is.logged (omega (arith, put.len, is.ends, is.logged.log.begun, is.logged.log.room))
-    (λ k high low. put_behind (log_mark tail) x f k put (omega (arith, high, is.logged.log.room))) (record { within = omega (arith, put.len); each = put.inside }) (λ k high low. elim (is.logged.kept k high low) [
-      | inl stays ↦ inl (put_behind (log_mark tail) x f k put high ∙ stays)
-      | inr said ↦ inr said
-    ])).logged
+  pub cut_failed : (u v : World) →
+      Fails (IsSizedOrNot (chain_end tail (first_of old ∷ cs))) (IsSizedOrNot (chain_end tail (first_of old ∷ cs))) u v →
+      IsLogHeld end other now old tail cs u → IsLogHeld end other now old tail cs v
+  cut_failed u v f a =
+      let n = chain_end tail (first_of old ∷ cs) in
+      let D : List ℕ → Type 0 = IsOnDisk end other now old tail cs in
+      let to : (b z : List ℕ) → D b → IsSizedOrNot n b z → D z = λ b z d. unless D (IsSized n b z) b z d (disk_sized u.held b z a.held d) in
+      let disk = fails_disk D D (IsSizedOrNot n) (IsSizedOrNot n) u v to to f a.leave a.keep in
+      record { held = unless (IsLogged old tail cs) (IsSized n u.held v.held) u.held v.held a.held (logged_sized old tail cs u.held v.held a.held) f.held; leave = disk.0; keep = disk.1 }
 
-pub mark_failed : (end : LogEnd) (other now old : List ℕ) (tail : ℕ) (cs : List Change) (u v : World) → Fails (AreWholeOrNot 0 (log_mark tail)) (IsTorn 0 (log_mark tail)) u v →
-    IsLogAgain end other now old tail cs u → IsLogHeld end other now old tail cs v
-mark_failed end other now old tail cs u v f a =
-    let is = a.cut.held.logged in
-    record {
-      held = held_or_not old tail cs u.held v.held a.cut.held f.held;
-      leave = λ z left. let h = f.leave z left in let was = a.cut.leave h.0 h.1 in torn_or_on_disk end other now old tail cs u.held h.0 z is was.0 was.1 (a.leave h.0 h.1) h.2;
-      keep = λ z kept.
-          let h = f.keep z kept in
-          elim h.1 [
-            | inl (so, call) ↦ let was = a.cut.keep h.0 so in open_or_on_disk end other now old tail cs u.held h.0 z is was.0 was.1 (a.keep h.0 so) call
-            | inr (so, torn) ↦ let was = a.cut.leave h.0 so in torn_or_on_disk end other now old tail cs u.held h.0 z is was.0 was.1 (a.leave h.0 so) torn
-          ];
-    }
+  -- ---- the bytes
+
+  pub again_stored : (u v : World) → StoresAgain tail (chain_end tail (first_of old ∷ cs)) u v → IsLogCut end other now old tail cs u → IsLogAgain end other now old tail cs v
+  again_stored u v s a =
+      let n = chain_end tail (first_of old ∷ cs) in
+      let to : (b z : List ℕ) → u.may_keep b → AreRestored u.held tail n b z → IsOnDisk end other now old tail cs z × (length z ≡ n) = λ b z kept r.
+      let was = a.keep b kept in (
+        disk_mixed u.held b z a.held.logged was.0 was.1 (restored_mixed u.held tail n b z r),
+        r.len (omega (arith, was.1)) ∙ was.1,
+      ) in
+      let same : (b z : List ℕ) → AreRestored u.held tail n b z → SameIn tail n v.held z = λ b z r k high low. r.inside k high low ∙ ap (λ xs. get_or xs k 0) (sym s.held) in
+      record {
+        cut = record {
+          held = subst (IsOpen old tail cs) (sym s.held) a.held;
+          leave = λ z left. let h = s.leave z left in to h.0 z h.1 h.2;
+          keep = λ z kept. let h = s.keep z kept in to h.0 z h.1 h.2;
+        };
+        leave = λ z left. let h = s.leave z left in same h.0 z h.2;
+        keep = λ z kept. let h = s.keep z kept in same h.0 z h.2;
+      }
+
+  pub again_failed : (u v : World) → FailsToRestore tail (chain_end tail (first_of old ∷ cs)) u v → IsLogCut end other now old tail cs u → IsLogHeld end other now old tail cs v
+  again_failed u v f a =
+      let n = chain_end tail (first_of old ∷ cs) in
+      let to : (b z : List ℕ) → IsOnDisk end other now old tail cs b × (length b ≡ n) → AreMixed u.held tail n b z → IsOnDisk end other now old tail cs z =
+      λ b z was m. disk_mixed u.held b z a.held.logged was.0 was.1 m in
+      record {
+        held = subst (IsLogged old tail cs) (sym f.held) a.held.logged;
+        leave = λ z left. let h = f.leave z left in to h.0 z (a.leave h.0 h.1) h.2;
+        keep = λ z kept.
+            let h = f.keep z kept in
+            elim h.1 [
+              | inl was ↦ to h.0 z (a.keep h.0 was) h.2
+              | inr left ↦ to h.0 z (a.leave h.0 left) h.2
+            ];
+      }
+
+  -- ---- the mark
+
+  pub mark_stored : (u v : World) → Stores (ArePut 0 (log_mark tail)) u v → IsLogAgain end other now old tail cs u → All (IsOpen old tail cs) v
+  mark_stored u v s a =
+      let to = disk_open u.held in
+      let is = a.cut.held.logged in
+      record {
+        held = to u.held v.held is (inl is) a.cut.held.ends (λ k high low. refl) s.held;
+        leave = λ z left. let h = s.leave z left in let was = a.cut.keep h.0 h.1 in to h.0 z is was.0 was.1 (a.keep h.0 h.1) h.2;
+        keep = λ z kept. let h = s.keep z kept in let was = a.cut.keep h.0 h.1 in to h.0 z is was.0 was.1 (a.keep h.0 h.1) h.2;
+      }
+
+  pub mark_failed : (u v : World) → Fails (AreWholeOrNot 0 (log_mark tail)) (IsTorn 0 (log_mark tail)) u v → IsLogAgain end other now old tail cs u → IsLogHeld end other now old tail cs v
+  mark_failed u v f a =
+      let n = chain_end tail (first_of old ∷ cs) in
+      let is = a.cut.held.logged in
+      let on_disk = IsOnDisk end other now old tail cs in
+      let D : List ℕ → Type 0 = λ b. on_disk b × (length b ≡ n) × SameIn tail n u.held b in
+      let put : (b z : List ℕ) → D b → AreWholeOrNot 0 (log_mark tail) b z → on_disk z = λ b z d.
+      unless on_disk (ArePut 0 (log_mark tail) b z) b z d.0 (λ p. inl (disk_open u.held b z is d.0 d.1 d.2 p).logged) in
+      let disk = fails_disk D on_disk (AreWholeOrNot 0 (log_mark tail)) (IsTorn 0 (log_mark tail)) u v put
+      (λ b z d t. put b z d (t.whole (omega (arith, d.1, chain_count tail (first_of old ∷ cs), is.log.room)))) f
+      (λ b left. let was = a.cut.leave b left in (was.0, was.1, a.leave b left)) (λ b kept. let was = a.cut.keep b kept in (was.0, was.1, a.keep b kept)) in
+      record {
+        held = unless (IsLogged old tail cs) (ArePut 0 (log_mark tail) u.held v.held) u.held v.held is
+            (λ p. (disk_open u.held u.held v.held is (inl is) a.cut.held.ends (λ k high low. refl) p).logged) f.held;
+        leave = disk.0;
+        keep = disk.1;
+      }

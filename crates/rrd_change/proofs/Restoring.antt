@@ -1,27 +1,16 @@
 -- Lemmas on repairs by what was found of a file.
-use Rattle.std.proofs.Common.{◌≡◌, ℕ, ◌+◌, ◌≤◌, max, Bool, true, false, List, [], ◌∷◌, length, drop, refl, sym, ◌∙◌, ap, subst, arith, inl, inr, lit<}
-use Rattle.std.proofs.lemmas.List.{length-take}
-use Rattle.rrd_change.specs.Bytes.{StandsAt, begins_with}
-use Rattle.rrd_change.specs.Calls.{ArePut, AreWholeOrNot, IsSized, IsSizedOrNot, IsTorn}
-use Rattle.rrd_change.specs.Changes.{Change, change_size, changes_in, last_size}
-use Rattle.rrd_change.specs.Laws.{IsChain, IsLogged, IsUnderCut, TouchByte, chain_end, first_of}
-use Rattle.rrd_change.specs.Marks.{IsLogIn, IsMarkOf}
-use Rattle.rrd_change.specs.Repairs.{IsCutLeft, IsFound, IsLeft, IsLogFound, IsLogHeld, IsLogLeft, IsMarkedFor, LogEnd, Whole}
-use Rattle.rrd_change.specs.Settled.{cut_mark, database_mark, log_mark, spelled_tail}
-use Rattle.rrd_change.specs.States.{Follows, IsAtRest, IsDatabase, IsLogFor, IsLogOf, IsOpen, Represents}
-use Rattle.rrd_change.specs.Views.{All, Effect, Fails, FailsToRestore, Stores, StoresAgain, World}
-use Rattle.rrd_change.specs.declared.finding.Mark.{Mark}
-use Rattle.rrd_change.specs.declared.finding.Mark.TheVariants as marks
-use Rattle.rrd_change.specs.declared.log.Log.{Log}
+use Rattle.rrd_change.proofs.Names.{◌≡◌, ℕ, ◌+◌, ◌≤◌, max, Bool, true, false, List, [], ◌∷◌, length, drop, refl, sym, ◌∙◌, ap, subst, arith, inl, inr, lit<, length-take, StandsAt, begins_with, ArePut, AreWholeOrNot, IsSized, IsSizedOrNot, IsTorn, Change, change_size, changes_in, last_size, IsChain, IsLogged, IsUnderCut, TouchByte, chain_end, first_of, IsLogIn, IsMarkOf, IsCutLeft, IsFound, IsLeft, IsLogFound, IsLogHeld, IsLogLeft, IsMarkedFor, LogEnd, Whole, cut_mark, database_mark, log_mark, spelled_tail, Follows, IsAtRest, IsDatabase, IsLogFor, IsLogOf, IsOpen, Represents, All, Effect, Fails, FailsToRestore, Stores, StoresAgain, World, Mark, Log, IsAlone}
 use Rattle.rrd_change.proofs.Appending.{logged_all}
 use Rattle.rrd_change.proofs.Chains.{chain_count}
 use Rattle.rrd_change.proofs.Fronts.{front_of}
+use Rattle.rrd_change.proofs.Holding.{held_left}
 use Rattle.rrd_change.proofs.Laying.{leads_size}
 use Rattle.rrd_change.proofs.Logs.{tail_in}
 use Rattle.rrd_change.proofs.Reading.{change_stands}
 use Rattle.rrd_change.proofs.Relogging.{IsLogAgain, IsLogCut, again_failed, again_stored, cut_failed, cut_stored, mark_failed, mark_stored}
 use Rattle.rrd_change.proofs.Standing.{begins_other, standing_begins}
 use Rattle.rrd_change.proofs.Stopping.{left_held, under_left}
+use Rattle.rrd_change.specs.declared.finding.Mark.TheVariants as marks
 
 -- ---- which mark a file has
 
@@ -94,8 +83,7 @@ found_log end other now log w h = elim h.left [
   | inl rest ↦ absurd (not_both (begins_with w.held (log_mark (spelled_tail w.held))) h.mark_is.1 (plain_no_log now w.held h.is rest.world.held))
   | inr (inl c) ↦ absurd (not_both (begins_with w.held cut_mark) (under_begins now w.held c.under) h.mark_is.0)
   | inr (inr l) ↦
-      let P : ℕ → Type 0 = λ t. IsLogIn log t w.held in
-      record { is = h.is; left = l; found = subst P (log_spells now w.held (log_for end other now w l)) h.mark_is.2 }
+      record { is = h.is; left = l; found = subst (λ (t : ℕ). IsLogIn log t w.held) (log_spells now w.held (log_for end other now w l)) h.mark_is.2 }
 ]
 
 -- the last change of a chain leaves no more than reaches to the log
@@ -135,7 +123,7 @@ log_follows end other now log w h =
 -- ---- the steps in which the log is written again
 
 with_world : (end : LogEnd) (other now : List ℕ) (u v : World) (l : IsLogLeft end other now u) → IsLogHeld end other now l.old l.tail l.changes v → IsLogLeft end other now v
-with_world end other now u v l w = record { old = l.old; tail = l.tail; changes = l.changes; leads = l.leads; fill = l.fill; world = w }
+with_world end other now u v l w = held_left end other now l.old l.tail l.changes v l.leads l.fill w
 
 abbrev pub Cuts : Log → Effect
 Cuts log u v = (end : LogEnd) (other now : List ℕ) (h : IsLogFound end other now log u) → IsLogCut end other now h.left.old h.left.tail h.left.changes v
@@ -149,13 +137,11 @@ Leaves log u v = (end : LogEnd) (other now : List ℕ) → IsLogFound end other 
 
 pub cuts : (log : Log) (u v : World) → Stores (IsSized log.end) u v → Cuts log u v
 cuts log u v s end other now h =
-    let P : ℕ → Type 0 = λ n. Stores (IsSized n) u v in
-    cut_stored end other now h.left.old h.left.tail h.left.changes u v (subst P (log_ends end other now log u h) s) h.left.world
+    cut_stored end other now h.left.old h.left.tail h.left.changes u v (subst (λ (n : ℕ). Stores (IsSized n) u v) (log_ends end other now log u h) s) h.left.world
 
 pub cut_leaves : (log : Log) (u v : World) → Fails (IsSizedOrNot log.end) (IsSizedOrNot log.end) u v → Leaves log u v
 cut_leaves log u v f end other now h =
-    let P : ℕ → Type 0 = λ n. Fails (IsSizedOrNot n) (IsSizedOrNot n) u v in
-    with_world end other now u v h.left (cut_failed end other now h.left.old h.left.tail h.left.changes u v (subst P (log_ends end other now log u h) f) h.left.world)
+    with_world end other now u v h.left (cut_failed end other now h.left.old h.left.tail h.left.changes u v (subst (λ (n : ℕ). Fails (IsSizedOrNot n) (IsSizedOrNot n) u v) (log_ends end other now log u h) f) h.left.world)
 
 log_reach : (end : LogEnd) (other now : List ℕ) (log : Log) (w : World) (h : IsLogFound end other now log w) →
     max log.tail log.end ≡ chain_end h.left.tail (first_of h.left.old ∷ h.left.changes)
@@ -164,68 +150,53 @@ log_reach end other now log w h =
 
 pub rewrites : (log : Log) (u v w : World) → Cuts log u v → StoresAgain log.tail (max log.tail log.end) v w → Rewrites log u w
 rewrites log u v w cut s end other now h =
-    let P : ℕ → Type 0 = λ n. StoresAgain n (max log.tail log.end) v w in
-    let Q : ℕ → Type 0 = λ n. StoresAgain h.left.tail n v w in
-    again_stored end other now h.left.old h.left.tail h.left.changes v w (subst Q (log_reach end other now log u h) (subst P h.found.tail_is s)) (cut end other now h)
+    again_stored end other now h.left.old h.left.tail h.left.changes v w (subst (λ (n : ℕ). StoresAgain h.left.tail n v w) (log_reach end other now log u h) (subst (λ (n : ℕ). StoresAgain n (max log.tail log.end) v w) h.found.tail_is s)) (cut end other now h)
 
 pub rewrite_leaves : (log : Log) (u v w : World) → Cuts log u v → FailsToRestore log.tail (max log.tail log.end) v w → Leaves log u w
 rewrite_leaves log u v w cut f end other now h =
-    let P : ℕ → Type 0 = λ n. FailsToRestore n (max log.tail log.end) v w in
-    let Q : ℕ → Type 0 = λ n. FailsToRestore h.left.tail n v w in
     with_world end other now u w h.left
-    (again_failed end other now h.left.old h.left.tail h.left.changes v w (subst Q (log_reach end other now log u h) (subst P h.found.tail_is f)) (cut end other now h))
+    (again_failed end other now h.left.old h.left.tail h.left.changes v w (subst (λ (n : ℕ). FailsToRestore h.left.tail n v w) (log_reach end other now log u h) (subst (λ (n : ℕ). FailsToRestore n (max log.tail log.end) v w) h.found.tail_is f)) (cut end other now h))
 
 pub marks_again : (log : Log) (u v w : World) → Rewrites log u v → Stores (ArePut 0 (log_mark log.tail)) v w → (end : LogEnd) (other now : List ℕ) → IsLogFound end other now log u →
     IsLogOf now log w
 marks_again log u v w again s end other now h =
     let l = h.left in
-    let P : ℕ → Type 0 = λ n. Stores (ArePut 0 (log_mark n)) v w in
-    let Q : ℕ → Type 0 = λ n. All (IsOpen l.old n l.changes) w in
     record {
       old = l.old;
       changes = l.changes;
       follows = log_follows end other now log u h;
-      world = subst Q (sym h.found.tail_is) (mark_stored end other now l.old l.tail l.changes v w (subst P h.found.tail_is s) (again end other now h));
+      world = subst (λ (n : ℕ). All (IsOpen l.old n l.changes) w) (sym h.found.tail_is) (mark_stored end other now l.old l.tail l.changes v w (subst (λ (n : ℕ). Stores (ArePut 0 (log_mark n)) v w) h.found.tail_is s) (again end other now h));
     }
 
 pub mark_leaves : (log : Log) (u v w : World) → Rewrites log u v → Fails (AreWholeOrNot 0 (log_mark log.tail)) (IsTorn 0 (log_mark log.tail)) v w → Leaves log u w
 mark_leaves log u v w again f end other now h =
     let l = h.left in
-    let P : ℕ → Type 0 = λ n. Fails (AreWholeOrNot 0 (log_mark n)) (IsTorn 0 (log_mark n)) v w in
-    with_world end other now u w l (mark_failed end other now l.old l.tail l.changes v w (subst P h.found.tail_is f) (again end other now h))
+    with_world end other now u w l (mark_failed end other now l.old l.tail l.changes v w (subst (λ (n : ℕ). Fails (AreWholeOrNot 0 (log_mark n)) (IsTorn 0 (log_mark n)) v w) h.found.tail_is f) (again end other now h))
 
 -- the log needs no more than its length if nothing is claimed of the disk
 pub cut_is_log : (log : Log) (u v : World) → ((c : List ℕ) → v.may_leave c → ⊥) → ((c : List ℕ) → v.may_keep c → ⊥) → Cuts log u v → (end : LogEnd) (other now : List ℕ) →
     IsLogFound end other now log u → IsLogOf now log v
 cut_is_log log u v leaves keeps cut end other now h =
     let l = h.left in
-    let Q : ℕ → Type 0 = λ n. All (IsOpen l.old n l.changes) v in
     record {
       old = l.old;
       changes = l.changes;
       follows = log_follows end other now log u h;
-      world = subst Q (sym h.found.tail_is) (record { held = (cut end other now h).held; leave = λ c left. absurd (leaves c left); keep = λ c kept. absurd (keeps c kept) });
+      world = subst (λ (n : ℕ). All (IsOpen l.old n l.changes) v) (sym h.found.tail_is) (record { held = (cut end other now h).held; leave = λ c left. absurd (leaves c left); keep = λ c kept. absurd (keeps c kept) });
     }
 
 -- ---- after a failure of the power
 
-alone_left : (now : List ℕ) (mark : Mark) (w : World) → IsMarkedFor now mark w → IsLeft Whole now now w
-alone_left now mark w h = elim h.represents [
-  | inl e ↦ inl (record { is = h.is; world = record { held = e; leave = λ c left. inl (h.alone.leave c left ∙ e); keep = λ c kept. inl (h.alone.keep c kept ∙ e) } })
-  | inr (inl under) ↦
-      let P : List ℕ → Type 0 = λ xs. IsUnderCut now xs in
-      inr (inl (under_left now now w h.is (record { held = under; leave = λ c left. subst P (sym (h.alone.leave c left)) under; keep = λ c kept. subst P (sym (h.alone.keep c kept)) under })))
-  | inr (inr log) ↦
-      let P : List ℕ → Type 0 = λ xs. IsLogged log.old log.tail log.changes xs in
-      inr (inr (record {
-        old = log.old;
-        tail = log.tail;
-        changes = log.changes;
-        leads = log.leads;
-        fill = log.fill;
-        world = record { held = log.logged; leave = λ c left. inl (subst P (sym (h.alone.leave c left)) log.logged); keep = λ c kept. inl (subst P (sym (h.alone.keep c kept)) log.logged) };
-      }))
-]
+pub alone_left : (now : List ℕ) (w : World) → IsDatabase now → Represents now w.held → IsAlone w → IsLeft Whole now now w
+alone_left now w is (inl e) alone =
+    inl (record { is = is; world = record { held = e; leave = λ c left. inl (alone.leave c left ∙ e); keep = λ c kept. inl (alone.keep c kept ∙ e) } })
+alone_left now w is (inr (inl under)) alone =
+    let P : List ℕ → Type 0 = λ xs. IsUnderCut now xs in
+    inr (inl (under_left now now w is (record { held = under; leave = λ c left. subst P (sym (alone.leave c left)) under; keep = λ c kept. subst P (sym (alone.keep c kept)) under })))
+alone_left now w is (inr (inr log)) alone =
+    let P : List ℕ → Type 0 = λ xs. IsLogged log.old log.tail log.changes xs in
+    inr (inr (held_left Whole now now log.old log.tail log.changes w log.leads log.fill
+    (record { held = log.logged; leave = λ c left. inl (subst P (sym (alone.leave c left)) log.logged); keep = λ c kept. inl (subst P (sym (alone.keep c kept)) log.logged) })))
 
 pub alone_found : (now : List ℕ) (mark : Mark) (w : World) → IsMarkedFor now mark w → IsFound Whole now now mark w
-alone_found now mark w h = record { is = h.is; mark_is = h.mark_is; left = alone_left now mark w h }
+alone_found now mark w h = record { is = h.is; mark_is = h.mark_is; left = alone_left now w h.is h.represents h.alone }

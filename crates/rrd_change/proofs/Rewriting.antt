@@ -1,13 +1,6 @@
 -- Lemmas on bytes that are written again, as programs read them.
-use Rattle.std.proofs.Common.{◌≡◌, ℕ, ◌+◌, ◌-◌, ◌≤◌, List, length, get_or, refl, sym, ◌∙◌, ap, subst, arith, inl, inr}
-use Rattle.std.specs.Prelude.{Result, Ok, Err}
-use Rattle.std.proofs.lemmas.Bool.{cases_lt}
-use Rattle.std.proofs.lemmas.List.{ext_get_or}
-use Rattle.rrd_change.specs.Calls.{AreAt, AreMixed, ArePut, AreRestored, AreWholeOrNot, IsTorn}
-use Rattle.rrd_change.specs.Views.{Does, FailsToRestore, FailsToWriteWhole, IsSynced, IsUnsynced, Reads, Restores, Stays, Steps, StoresAgain, View, World, WritesWhole, seen}
-use Rattle.rrd_change.specs.declared.calls.Syncs.{Syncs}
-use Rattle.rrd_change.specs.declared.calls.Syncs.TheVariants.{Never, Ordered}
-use Rattle.rrd_change.proofs.Stepping.{does_then}
+use Rattle.rrd_change.proofs.Names.{◌≡◌, ℕ, ◌+◌, ◌-◌, ◌≤◌, List, length, get_or, refl, sym, ◌∙◌, ap, subst, arith, inl, inr, Result, Ok, Err, ext_get_or, AreAt, AreMixed, ArePut, AreRestored, AreWholeOrNot, IsTorn, Does, FailsToRestore, FailsToWriteWhole, IsSynced, IsUnsynced, Reads, Restores, Stays, Steps, StoresAgain, View, World, WritesWhole, seen, Syncs}
+use Rattle.rrd_change.proofs.Stepping.{does_then, seen_as}
 
 -- ---- the bytes of a file
 
@@ -17,13 +10,7 @@ mixed_same read from end b f e = record { len = λ long. ap length e; each = λ 
 pub restored_mixed : (read : List ℕ) (from end : ℕ) (b f : List ℕ) → AreRestored read from end b f → AreMixed read from end b f
 restored_mixed read from end b f r = record {
   len = r.len;
-  each = λ long k. elim (cases_lt k from) [
-    | inl before ↦ inl (r.outside k (inl before))
-    | inr high ↦ elim (cases_lt k end) [
-      | inl low ↦ inr (high, low, r.inside k high low)
-      | inr behind ↦ inl (r.outside k (inr behind))
-    ]
-  ];
+  each = λ long k. grind arith;
 }
 
 part_put : (at count : ℕ) (read bytes b f : List ℕ) → AreAt read at count bytes → ArePut at bytes b f → AreRestored read at (at + count) b f
@@ -34,10 +21,7 @@ part_put at count read bytes b f a put =
       inside = λ k high low.
           let is : at + (k - at) ≡ k = omega (arith, high) in
           ap (λ n. get_or f n 0) (sym is) ∙ put.inside (k - at) (omega (arith, size, high, low)) ∙ a.each (k - at) (omega (arith, high, low)) ∙ ap (λ n. get_or read n 0) is;
-      outside = λ k far. elim far [
-        | inl before ↦ put.outside k (inl before)
-        | inr behind ↦ put.outside k (inr (omega (arith, size, behind)))
-      ];
+      outside = λ k far. grind arith;
     }
 
 part_or_not : (at count : ℕ) (read bytes b f : List ℕ) → AreAt read at count bytes → AreWholeOrNot at bytes b f → AreMixed read at (at + count) b f
@@ -54,25 +38,13 @@ part_held : (at count : ℕ) (read bytes f : List ℕ) → AreAt read at count b
 part_held at count read bytes f a (inl e) = e
 part_held at count read bytes f a (inr put) =
     let r = part_put at count read bytes read f a put in
-    ext_get_or 0 f read (r.len a.within) (λ k few. elim (cases_lt k at) [
-      | inl before ↦ r.outside k (inl before)
-      | inr high ↦ elim (cases_lt k (at + count)) [
-        | inl low ↦ r.inside k high low
-        | inr behind ↦ r.outside k (inr behind)
-      ]
-    ])
+    ext_get_or 0 f read (r.len a.within) (λ k few. grind arith)
 
 restored_then : (read : List ℕ) (from mid end : ℕ) (b m f : List ℕ) → from ≤ mid → mid ≤ end → AreRestored read from mid b m → AreRestored read mid end m f → AreRestored read from end b f
 restored_then read from mid end b m f low high p q = record {
   len = λ long. let same = p.len (omega (arith, high, long)) in q.len (omega (arith, same, long)) ∙ same;
-  inside = λ k from_here to_here. elim (cases_lt k mid) [
-    | inl first ↦ q.outside k (inl first) ∙ p.inside k from_here first
-    | inr second ↦ q.inside k second to_here
-  ];
-  outside = λ k far. elim far [
-    | inl before ↦ q.outside k (inl (omega (arith, before, low))) ∙ p.outside k (inl before)
-    | inr behind ↦ q.outside k (inr behind) ∙ p.outside k (inr (omega (arith, behind, high)))
-  ];
+  inside = λ k from_here to_here. grind arith;
+  outside = λ k far. grind arith;
 }
 
 mixed_then : (read : List ℕ) (from mid end last : ℕ) (b m f : List ℕ) → from ≤ mid → mid ≤ end → end ≤ last → AreMixed read from mid b m → AreMixed read mid end m f → AreMixed read from last b f
@@ -100,18 +72,16 @@ stays_failed from end u v s = record {
 
 pub part_restores : (at count : ℕ) (bytes : List ℕ) (u v w : World) → Reads at count bytes u v → WritesWhole at bytes v w → Restores at (at + count) u w
 part_restores at count bytes u v w (s, a) m =
-    let P : List ℕ → Type 0 = λ xs. ArePut at bytes xs w.held in
     record {
-      held = part_held at count u.held bytes w.held a (inr (subst P s.held m.held));
+      held = part_held at count u.held bytes w.held a (inr (subst (λ (xs : List ℕ). ArePut at bytes xs w.held) s.held m.held));
       leave = λ z left. let h = m.leave z left in (h.0, s.leave h.0 h.1, part_torn at count u.held bytes h.0 z a h.2);
       keep = λ z kept. let h = m.keep z kept in (h.0, s.keep h.0 h.1, part_put at count u.held bytes h.0 z a h.2);
     }
 
 pub part_failed : (at count : ℕ) (bytes : List ℕ) (u v w : World) → Reads at count bytes u v → FailsToWriteWhole at bytes v w → FailsToRestore at (at + count) u w
 part_failed at count bytes u v w (s, a) m =
-    let P : List ℕ → Type 0 = λ xs. AreWholeOrNot at bytes xs w.held in
     record {
-      held = part_held at count u.held bytes w.held a (subst P s.held m.held);
+      held = part_held at count u.held bytes w.held a (subst (λ (xs : List ℕ). AreWholeOrNot at bytes xs w.held) s.held m.held);
       leave = λ z left. let h = m.leave z left in (h.0, s.leave h.0 h.1, part_torn at count u.held bytes h.0 z a h.2);
       keep = λ z kept. let h = m.keep z kept in (h.0, inl (s.keep h.0 h.1), part_or_not at count u.held bytes h.0 z a h.2);
     }
@@ -126,54 +96,29 @@ none_restored from w = record {
 pub restores_then : (from mid end : ℕ) (u v w : World) → from ≤ mid → mid ≤ end → Restores from mid u v → Restores mid end v w → Restores from end u w
 restores_then from mid end u v w low high m n = record {
   held = n.held ∙ m.held;
-  leave = λ z left.
-      let second = n.leave z left in
-      let first = m.leave second.0 second.1 in
-      let P : List ℕ → Type 0 = λ xs. AreMixed xs mid end second.0 z in
-      (first.0, first.1, mixed_then u.held from mid end end first.0 second.0 z low high (omega arith) first.2 (subst P m.held second.2));
-  keep = λ z kept.
-      let second = n.keep z kept in
-      let first = m.keep second.0 second.1 in
-      let P : List ℕ → Type 0 = λ xs. AreRestored xs mid end second.0 z in
-      (first.0, first.1, restored_then u.held from mid end first.0 second.0 z low high first.2 (subst P m.held second.2));
+  leave = λ z left. grind (arith, mixed_then);
+  keep = λ z kept. grind (arith, restored_then);
 }
 
 pub restores_failed : (from mid end last : ℕ) (u v w : World) → from ≤ mid → mid ≤ end → end ≤ last → Restores from mid u v → FailsToRestore mid end v w → FailsToRestore from last u w
 restores_failed from mid end last u v w low high few m n =
     let to : (b x z : List ℕ) → AreMixed u.held from mid b x → AreMixed v.held mid end x z → AreMixed u.held from last b z = λ b x z p q.
-    let P : List ℕ → Type 0 = λ xs. AreMixed xs mid end x z in
-    mixed_then u.held from mid end last b x z low high few p (subst P m.held q) in
+    mixed_then u.held from mid end last b x z low high few p (subst (λ (xs : List ℕ). AreMixed xs mid end x z) m.held q) in
     record {
       held = n.held ∙ m.held;
       leave = λ z left. let second = n.leave z left in let first = m.leave second.0 second.1 in (first.0, first.1, to first.0 second.0 z first.2 second.2);
-      keep = λ z kept.
-          let second = n.keep z kept in
-          elim second.1 [
-            | inl was ↦ let first = m.keep second.0 was in (first.0, inl first.1, to first.0 second.0 z (restored_mixed u.held from mid first.0 second.0 first.2) second.2)
-            | inr left ↦ let first = m.leave second.0 left in (first.0, inr first.1, to first.0 second.0 z first.2 second.2)
-          ];
+      keep = λ z kept. grind (arith, restored_mixed);
     }
 
 -- ---- syncs
 
+pub seen_failed : (syncs : Syncs) (from end : ℕ) (old new : View) → Steps (FailsToRestore from end) old new → Steps (FailsToRestore from end) (seen syncs old) (seen syncs new)
+seen_failed syncs from end old new s = seen_as syncs (FailsToRestore from end) old new (λ u v f. record { held = f.held; leave = λ z left. absurd left; keep = λ z kept. absurd kept }) s
+
 pub seen_restored : {X E : Type 0} (syncs : Syncs) (from end : ℕ) (r : Result X E) (old new : View) → Does (λ x. Restores from end) (FailsToRestore from end) r old new →
     Does (λ x. Restores from end) (FailsToRestore from end) r (seen syncs old) (seen syncs new)
-seen_restored Ordered from end r old new s = s
-seen_restored Never from end (Ok x) old new s = record {
-  falls = s.falls;
-  does = λ d x honest. record { held = (s.does d x honest).held; leave = λ z left. absurd left; keep = λ z kept. absurd kept };
-}
-seen_restored Never from end (Err x) old new s = record {
-  falls = s.falls;
-  does = λ d x honest. record { held = (s.does d x honest).held; leave = λ z left. absurd left; keep = λ z kept. absurd kept };
-}
-
-pub seen_failed : (syncs : Syncs) (from end : ℕ) (old new : View) → Steps (FailsToRestore from end) old new → Steps (FailsToRestore from end) (seen syncs old) (seen syncs new)
-seen_failed Ordered from end old new s = s
-seen_failed Never from end old new s = record {
-  falls = s.falls;
-  does = λ d x honest. record { held = (s.does d x honest).held; leave = λ z left. absurd left; keep = λ z kept. absurd kept };
-}
+seen_restored syncs from end (Ok x) old new s = seen_as syncs (Restores from end) old new (λ u v r. record { held = r.held; leave = λ z left. absurd left; keep = λ z kept. absurd kept }) s
+seen_restored syncs from end (Err x) old new s = seen_failed syncs from end old new s
 
 pub restored_synced : {X E : Type 0} (from end : ℕ) (r : Result X E) (old mid new : View) → Steps (Restores from end) old mid → Does (λ x. IsSynced) IsUnsynced r mid new →
     Does (λ x. StoresAgain from end) (FailsToRestore from end) r old new
@@ -186,8 +131,5 @@ restored_synced from end r old mid new m s = does_then (Restores from end) (λ x
     (λ u v w m k. record {
       held = k.held ∙ m.held;
       leave = λ z left. m.leave z (k.leave z left);
-      keep = λ z kept. elim (k.keep z kept) [
-        | inl was ↦ let h = m.keep z was in (h.0, inl h.1, restored_mixed u.held from end h.0 z h.2)
-        | inr left ↦ let h = m.leave z left in (h.0, inr h.1, h.2)
-      ];
+      keep = λ z kept. grind (arith, restored_mixed);
     }) m s

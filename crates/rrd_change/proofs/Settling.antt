@@ -1,20 +1,10 @@
 -- Lemmas on bringing the changes of a log into place.
-use Rattle.std.proofs.Common.{◌≡◌, ℕ, ◌+◌, ◌-◌, ◌<◌, ◌≤◌, List, ◌++◌, length, drop, get_or, refl, sym, ◌∙◌, ap, subst, arith, inl, inr, ◌⊎◌, zero-add}
-use Rattle.std.specs.List.{slice_range}
-use Rattle.std.proofs.lemmas.Bool.{cases_lt}
-use Rattle.std.proofs.lemmas.List.{length-append, length-take, length-drop, get_or-take, get_or-drop, get_or_append_left, get_or-append_right, get_or_past}
-use Rattle.rrd_change.specs.Calls.{ArePut, IsSized, IsSizedOrNot}
-use Rattle.rrd_change.specs.Changes.{Change}
-use Rattle.rrd_change.specs.Laws.{IsUnderCut}
-use Rattle.rrd_change.specs.Settled.{cut_mark}
-use Rattle.rrd_change.specs.States.{AreAnyIn, ArePutIn, Follows, IsDatabase, IsInPlace, IsLogOf, IsOpen, Represents, cut_of}
-use Rattle.rrd_change.specs.Views.{All, World}
-use Rattle.rrd_change.specs.declared.log.Log.{Log}
+use Rattle.rrd_change.proofs.Names.{◌≡◌, ℕ, ◌+◌, ◌-◌, ◌<◌, ◌≤◌, List, ◌++◌, length, drop, get_or, refl, sym, ◌∙◌, ap, subst, arith, inl, inr, ◌⊎◌, zero-add, slice_range, cases_lt, length-append, length-take, length-drop, get_or-take, get_or-drop, get_or_append_left, get_or-append_right, get_or_past, ArePut, IsSized, IsSizedOrNot, Change, IsUnderCut, cut_mark, AreAnyIn, ArePutIn, Follows, IsDatabase, IsInPlace, IsLogOf, IsOpen, Represents, cut_of, All, World, Log}
 use Rattle.rrd_change.proofs.Beginning.{open_stands}
 use Rattle.rrd_change.proofs.Holding.{all_as}
 use Rattle.rrd_change.proofs.Laying.{touched_said}
 use Rattle.rrd_change.proofs.Logs.{others_in_place, write_keeps}
-use Rattle.rrd_change.proofs.Marking.{is_cut_of, put_behind, put_front}
+use Rattle.rrd_change.proofs.Marking.{is_cut_of, put_behind, put_front, under_same}
 
 -- whatever became of the bytes of the spans, the log stays
 pub open_any : (old now : List ℕ) (cs : List Change) (log : Log) (x f : List ℕ) → Follows old now cs log → IsOpen old log.tail cs x → AreAnyIn log.spans.items now x f →
@@ -23,19 +13,10 @@ open_any old now cs log x f follows is a =
     let begun = is.logged.log.begun in
     let below = follows.below in
     let len : length f ≡ length x = omega (arith, a.longer, a.bound, begun, below) in
-    let stays : (k : ℕ) → (k < 16) ⊎ (length now ≤ k) → get_or f k 0 ≡ get_or x k 0 = λ k far. elim (a.same k) [
-      | inl same ↦ same
-      | inr there ↦ elim far [
-        | inl before ↦ absurd (omega (arith, there.0, before))
-        | inr behind ↦ absurd (omega (arith, there.1, behind))
-      ]
-    ] in
+    let stays : (k : ℕ) → (k < 16) ⊎ (length now ≤ k) → get_or f k 0 ≡ get_or x k 0 = λ k far. grind arith in
     record {
       logged = write_keeps old log.tail cs x f is.logged len (λ k low high. stays k (inl high)) (λ k low high. stays k (inr (omega (arith, low, below))))
-          (λ k low high. elim (a.same k) [
-            | inl same ↦ inl same
-            | inr there ↦ inr (touched_said cs k (follows.only k there.0 there.2))
-          ]);
+          (λ k low high. grind (arith, touched_said));
       ends = len ∙ is.ends;
     }
 
@@ -84,25 +65,14 @@ cut_placed now x f is reach placed put =
         each = λ i k. ap (λ n. get_or f n 0) (zero-add i) ∙ put_front (cut_front_of now) x f i put (omega (arith, k, size)) ∙ front_first now i k;
       };
       reaches = omega (arith, put.len, reach);
-      same = λ k low high. elim (cases_lt k 16) [
-        | inl front ↦ put_front (cut_front_of now) x f k put (omega (arith, front, size)) ∙ front_rest now k low front
-        | inr behind ↦ put_behind (cut_front_of now) x f k put (omega (arith, behind, size)) ∙ placed k behind high
-      ];
+      same = λ k low high. grind (arith, put_front, front_rest, put_behind);
     }
 
 -- ---- the length
 
 pub sized_stands : (now x f : List ℕ) → IsUnderCut now x → IsSizedOrNot (length now) x f → IsUnderCut now f
 sized_stands now x f under (inl e) = let P : List ℕ → Type 0 = λ xs. IsUnderCut now xs in subst P (sym e) under
-sized_stands now x f under (inr s) = record {
-  begins = under.begins;
-  marked = record {
-    within = omega (arith, s.len, under.begins.within);
-    each = λ i k. s.below (0 + i) (omega (arith, k, under.begins.within)) ∙ under.marked.each i k;
-  };
-  reaches = omega (arith, s.len);
-  same = λ k low high. s.below k high ∙ under.same k low high;
-}
+sized_stands now x f under (inr s) = under_same now x f under (omega (arith, s.len)) (λ k low. s.below k low)
 
 pub cut_sized : (now x f : List ℕ) → IsDatabase now → IsUnderCut now x → IsSized (length now) x f → f ≡ cut_of now
 cut_sized now x f is under s =

@@ -1,12 +1,5 @@
 -- Lemmas on the change that spans of new bytes make.
-use Rattle.std.proofs.Common.{◌≡◌, ℕ, ◌+◌, ◌-◌, ◌<◌, ◌≤◌, Bool, true, false, cond, List, [], ◌∷◌, length, drop, get_or, refl, sym, ◌∙◌, ap, arith, inl, inr, ◌&&◌}
-use Rattle.std.specs.Prelude.{nat_le, nat_lt}
-use Rattle.std.proofs.lemmas.Bool.{and_from, and_parts, le-leb, leb-true, ltb-true}
-use Rattle.std.proofs.lemmas.List.{length-take, length-drop, get_or-take, get_or-drop}
-use Rattle.rrd_change.specs.Changes.{all_laid, are_within, laid}
-use Rattle.rrd_change.specs.Laws.{HaveByte, Makes}
-use Rattle.rrd_change.specs.Spans.{AgreesOutside, AreSpans, IsIn, change_of, piece_of, pieces_of}
-use Rattle.rrd_change.specs.declared.span.Span.{Span}
+use Rattle.rrd_change.proofs.Names.{◌≡◌, ℕ, ◌+◌, ◌-◌, ◌<◌, ◌≤◌, Bool, true, false, cond, List, [], ◌∷◌, length, drop, get_or, refl, sym, ◌∙◌, ap, arith, inl, inr, ◌&&◌, nat_le, nat_lt, and_from, and_parts, le-leb, leb-true, ltb-true, length-take, length-drop, get_or-take, get_or-drop, all_laid, are_within, laid, HaveByte, Makes, AgreesOutside, AreSpans, IsIn, change_of, piece_of, pieces_of, Span}
 use Rattle.rrd_change.proofs.Laying.{changed_inside, pieces_say}
 
 length-piece : (bytes : List ℕ) (s : Span) → s.start ≤ s.end → s.end ≤ length bytes → length (piece_of bytes s).bytes ≡ s.end - s.start

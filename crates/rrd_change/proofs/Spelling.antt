@@ -1,13 +1,5 @@
 -- Lemmas on the pieces and the change that bytes spell.
-use Rattle.std.proofs.Common.{◌≡◌, ℕ, suc, ◌+◌, ◌-◌, ◌^◌, ◌<◌, ◌≤◌, List, [], ◌∷◌, ◌++◌, length, take, drop, get_or, refl, sym, ◌∙◌, ap, subst, arith, append_assoc, inl, inr}
-use Rattle.std.specs.Prelude.{nat_le}
-use Rattle.std.specs.Int.{w64, to_be_bytes, from_be_bytes}
-use Rattle.std.specs.List.{slice_range, flat_map}
-use Rattle.std.proofs.lemmas.Bool.{cases_lt, and_parts, and_from, leb-true, le-leb}
-use Rattle.std.proofs.lemmas.List.{get_or_past, length-append, length-take, length-drop, take-append-drop, drop-drop, get_or-take, get_or-drop, drop_at}
-use Rattle.std.proofs.lemmas.Nat.{be_bytes_8, from_be_bytes-to_be_bytes_8}
-use Rattle.rrd_change.specs.Changes.{Piece, are_within, piece_bytes, spelled_pieces}
-use Rattle.rrd_change.specs.Read.{HasPieces}
+use Rattle.rrd_change.proofs.Names.{◌≡◌, ℕ, suc, ◌+◌, ◌-◌, ◌^◌, ◌<◌, ◌≤◌, List, ◌∷◌, ◌++◌, length, take, drop, get_or, refl, sym, ◌∙◌, ap, subst, arith, append_assoc, nat_le, w64, to_be_bytes, from_be_bytes, slice_range, flat_map, and_parts, and_from, leb-true, le-leb, get_or_past, length-append, length-take, length-drop, take-append-drop, drop-drop, get_or-take, get_or-drop, drop_at, be_bytes_8, from_be_bytes-to_be_bytes_8, Piece, are_within, piece_bytes, spelled_pieces, HasPieces}
 use Rattle.rrd_change.proofs.Reading.{piece_count}
 
 -- the numbers with which bytes begin, as those of a piece
@@ -35,10 +27,7 @@ pub record IsOneMore (m end : ℕ) (xs : List ℕ) : Type 0 where
   pub rest : HasPieces m end (drop (16 + first_count xs) xs)
 
 pub more_head : (m end : ℕ) (xs : List ℕ) → HasPieces (suc m) end xs → 16 ≤ length xs
-more_head m end xs h =
-    let p = first_piece xs in
-    let more = flat_map piece_bytes (spelled_pieces m (drop (16 + first_count xs) xs)) in
-    omega (arith, ap length h.spelled, length-append (piece_bytes p) more, length-piece_bytes p)
+more_head m end xs h = grind (arith, length-append, length-piece_bytes)
 
 pub more_from : (m end : ℕ) (xs : List ℕ) → first_count xs < 2 ^ 64 → HasPieces (suc m) end xs → IsOneMore m end xs
 more_from m end xs fits h =
@@ -60,10 +49,7 @@ more_from m end xs fits h =
     }
 
 small_part : (xs : List ℕ) (from n i : ℕ) → ((k : ℕ) → get_or xs k 0 < 256) → get_or (take n (drop from xs)) i 0 < 256
-small_part xs from n i small = elim (cases_lt i n) [
-  | inl low ↦ let e = get_or-take n (drop from xs) i 0 low ∙ get_or-drop from xs i 0 in omega (arith, e, small (from + i))
-  | inr high ↦ let e = get_or_past (take n (drop from xs)) i 0 (omega (arith, length-take n (drop from xs), high)) in omega (arith, e)
-]
+small_part xs from n i small = grind (arith, get_or-take, get_or-drop, get_or_past, length-take)
 
 number_spelled : (xs : List ℕ) (from : ℕ) → ((i : ℕ) → get_or xs i 0 < 256) → from + 8 ≤ length xs → to_be_bytes w64 (from_be_bytes w64 (take 8 (drop from xs))) ≡ take 8 (drop from xs)
 number_spelled xs from small few = be_bytes_8 (take 8 (drop from xs)) (from_be_bytes w64 (take 8 (drop from xs))) (omega (arith, length-take 8 (drop from xs), length-drop from xs, few))
@@ -98,10 +84,6 @@ more_to m end xs small h =
 pub none_from : (end : ℕ) (xs : List ℕ) → HasPieces 0 end xs → length xs ≡ 0
 none_from end xs h = ap length h.spelled
 
-pub none_to : (end : ℕ) (xs : List ℕ) → length xs ≡ 0 → HasPieces 0 end xs
-none_to end [] e = record { spelled = refl; within = refl }
-none_to end (x ∷ xs) e = absurd (omega (arith, e))
-
 -- ---- within more bytes
 
 pub second_at : (bytes : List ℕ) (at : ℕ) → from_be_bytes w64 (take 8 (drop (at + 8) bytes)) ≡ first_count (drop at bytes)
@@ -125,8 +107,7 @@ pub record IsNextPiece (bytes : List ℕ) (at left size start n : ℕ) : Type 0 
 
 pub left_head : (bytes : List ℕ) (at count i size : ℕ) → i < count → HasPieces (count - i) size (drop at bytes) → at + 16 ≤ length bytes
 left_head bytes at count i size low h =
-    let P : ℕ → Type 0 = λ m. HasPieces m size (drop at bytes) in
-    let head = more_head (count - (i + 1)) size (drop at bytes) (subst P (left_more count i low) h) in
+    let head = more_head (count - (i + 1)) size (drop at bytes) (subst (λ (m : ℕ). HasPieces m size (drop at bytes)) (left_more count i low) h) in
     omega (arith, head, length-drop at bytes)
 
 pub next_piece : (bytes : List ℕ) (at count i size start n : ℕ) → i < count → start ≡ from_be_bytes w64 (take 8 (drop at bytes)) → n ≡ from_be_bytes w64 (take 8 (drop (at + 8) bytes)) → n < 2 ^ 64 →
@@ -134,11 +115,9 @@ pub next_piece : (bytes : List ℕ) (at count i size start n : ℕ) → i < coun
 next_piece bytes at count i size start n low is_start is_n fits h =
     let left = count - (i + 1) in
     let xs = drop at bytes in
-    let P : ℕ → Type 0 = λ m. HasPieces m size xs in
     let count_is : n ≡ first_count xs = is_n ∙ second_at bytes at in
-    let more = more_from left size xs (omega (arith, fits, count_is)) (subst P (left_more count i low) h) in
+    let more = more_from left size xs (omega (arith, fits, count_is)) (subst (λ (m : ℕ). HasPieces m size xs) (left_more count i low) h) in
     let same : drop (at + (16 + n)) bytes ≡ drop (16 + first_count xs) xs = behind_at bytes at n (first_count xs) count_is in
-    let Q : List ℕ → Type 0 = λ ys. HasPieces left size ys in
     let F : ℕ → List ℕ → List ℕ → List Piece = λ a ys zs. record { start = a; bytes = ys } ∷ spelled_pieces left zs in
     let sixteen : 16 + n - 16 ≡ n = omega arith in
     let body : slice_range xs 16 (16 + first_count xs) ≡ take n (drop (at + 16) bytes) =
@@ -146,9 +125,8 @@ next_piece bytes at count i size start n low is_start is_n fits h =
     record {
       within = omega (arith, more.within, more.head, length-drop at bytes, count_is);
       below = omega (arith, more.below, count_is, is_start);
-      rest = subst Q (sym same) more.rest;
-      split = ap (λ a. F a (slice_range xs 16 (16 + first_count xs)) (drop (16 + first_count xs) xs)) (sym is_start)
-          ∙ ap (λ ys. F start ys (drop (16 + first_count xs) xs)) body ∙ ap (λ zs. F start (take n (drop (at + 16) bytes)) zs) (sym same);
+      rest = subst (HasPieces left size) (sym same) more.rest;
+      split = grind arith;
     }
 
 -- a piece before those that follow it
@@ -158,11 +136,9 @@ piece_before bytes at count i size start n low is_start is_n small within below 
     let left = count - (i + 1) in
     let xs = drop at bytes in
     let count_is : n ≡ first_count xs = is_n ∙ second_at bytes at in
-    let Q : List ℕ → Type 0 = λ ys. HasPieces left size ys in
-    let P : ℕ → Type 0 = λ m. HasPieces m size xs in
-    subst P (sym (left_more count i low)) (more_to left size xs (λ k. small_at bytes at k small) (record {
+    subst (λ (m : ℕ). HasPieces m size xs) (sym (left_more count i low)) (more_to left size xs (λ k. small_at bytes at k small) (record {
       head = omega (arith, within, length-drop at bytes);
       within = omega (arith, within, length-drop at bytes, count_is);
       below = omega (arith, below, count_is, is_start);
-      rest = subst Q (behind_at bytes at n (first_count xs) count_is) h;
+      rest = subst (HasPieces left size) (behind_at bytes at n (first_count xs) count_is) h;
     }))

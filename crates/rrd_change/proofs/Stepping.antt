@@ -1,10 +1,5 @@
 -- Lemmas on calls one after another.
-use Rattle.std.proofs.Common.{◌≡◌, ℕ, List, sym, subst, inl, inr}
-use Rattle.std.specs.Prelude.{Result, Ok, Err}
-use Rattle.std.specs.Result.{IsErr}
-use Rattle.rrd_change.specs.Views.{Does, Effect, Fails, IsSynced, IsUnsynced, Moves, Steps, Stores, View, World, seen}
-use Rattle.rrd_change.specs.declared.calls.Syncs.{Syncs}
-use Rattle.rrd_change.specs.declared.calls.Syncs.TheVariants.{Never, Ordered}
+use Rattle.rrd_change.proofs.Names.{◌≡◌, ℕ, List, sym, subst, inl, inr, Result, Ok, Err, IsErr, Does, Effect, Fails, IsSynced, IsUnsynced, Moves, Steps, Stores, View, World, seen, Syncs, Never, Ordered}
 
 -- two effects, one after the other, are a third
 pub steps_then : (e f g : Effect) (old mid new : View) → ((u v w : World) → e u v → f v w → g u w) → Steps e old mid → Steps f mid new → Steps g old new
@@ -39,12 +34,15 @@ moves_as c d t u calls torn old new m = record {
 }
 
 -- of a file that is never synced nothing is claimed of the disk
+abbrev pub blind : World → World
+blind w = record { held = w.held; may_leave = λ c. ⊥; may_keep = λ c. ⊥ }
+
+pub seen_as : (syncs : Syncs) (e : Effect) (old new : View) → ((u v : World) → e u v → e (blind u) (blind v)) → Steps e old new → Steps e (seen syncs old) (seen syncs new)
+seen_as Ordered e old new to s = s
+seen_as Never e old new to s = record { falls = s.falls; does = λ d x honest. to (old.world d x) (new.world d x) (s.does d x honest) }
+
 pub seen_moves : (syncs : Syncs) (c t : List ℕ → List ℕ → Type 0) (old new : View) → Steps (Moves c t) old new → Steps (Moves c t) (seen syncs old) (seen syncs new)
-seen_moves Ordered c t old new s = s
-seen_moves Never c t old new s = record {
-  falls = s.falls;
-  does = λ d x honest. record { held = (s.does d x honest).held; leave = λ z left. absurd left; keep = λ z kept. absurd kept };
-}
+seen_moves syncs c t old new s = seen_as syncs (Moves c t) old new (λ u v m. record { held = m.held; leave = λ z left. absurd left; keep = λ z kept. absurd kept }) s
 
 pub never_steps : (syncs : Syncs) (e f : Effect) (old new : View) → syncs ≡ Never →
     ((u v : World) → ((c : List ℕ) → v.may_leave c → ⊥) → ((c : List ℕ) → v.may_keep c → ⊥) → e u v → f u v) →

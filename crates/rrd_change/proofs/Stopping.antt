@@ -1,25 +1,19 @@
 -- Lemmas on what is left of a file when a change stops.
-use Rattle.std.proofs.Common.{◌≡◌, ◌⊎◌, ℕ, ◌+◌, ◌<◌, ◌≤◌, List, [], ◌∷◌, ◌++◌, length, take, get_or, refl, sym, ◌∙◌, ap, subst, arith, inl, inr}
-use Rattle.std.proofs.lemmas.List.{length_push, length-take}
-use Rattle.rrd_change.specs.Bytes.{StandsAt}
-use Rattle.rrd_change.specs.Calls.{ArePut, AreWholeOrNot, IsTorn}
-use Rattle.rrd_change.specs.Changes.{Change, changes_in}
-use Rattle.rrd_change.specs.Laws.{AreSaid, ChangesTell, Fill, IsLogged, IsUnderCut, Leads, first_of}
-use Rattle.rrd_change.specs.Repairs.{IsCutLeft, IsLeft, IsLogLeft, IsLoose, IsOnDisk, IsStopped, IsTornLog, IsUnlogged, LogEnd, Whole}
-use Rattle.rrd_change.specs.Settled.{log_mark}
-use Rattle.rrd_change.specs.States.{Follows, IsBroken, IsDatabase, IsLogOf, IsMarked, IsOpen, IsPlain, IsReady, Represents, RepresentsEither, Tells, cut_of}
-use Rattle.rrd_change.specs.Views.{All, World}
-use Rattle.rrd_change.specs.declared.log.Log.{Log}
+use Rattle.rrd_change.proofs.Names.{◌≡◌, ◌⊎◌, ℕ, ◌+◌, ◌<◌, ◌≤◌, List, [], ◌∷◌, ◌++◌, length, take, get_or, refl, sym, ◌∙◌, ap, subst, arith, inl, inr, length_push, length-take, StandsAt, ArePut, AreWholeOrNot, IsTorn, Change, changes_in, AreSaid, ChangesTell, Fill, IsLogged, IsUnderCut, Leads, first_of, IsCutLeft, IsLeft, IsLogLeft, IsLoose, IsOnDisk, IsStopped, IsTornLog, IsUnlogged, LogEnd, Whole, log_mark, Follows, IsBroken, IsDatabase, IsLogOf, IsMarked, IsOpen, IsPlain, IsReady, Represents, RepresentsEither, Tells, cut_of, All, World, Log, Fails, Option, IsKept, Some, None}
 use Rattle.rrd_change.proofs.Appending.{first_of_more, logged_all}
 use Rattle.rrd_change.proofs.Beginning.{IsReadyOrOpen, open_stands}
 use Rattle.rrd_change.proofs.Chains.{chain_count}
-use Rattle.rrd_change.proofs.Holding.{all_as, held_all}
+use Rattle.rrd_change.proofs.Holding.{all_as, held_all, held_left, marks_all}
 use Rattle.rrd_change.proofs.Logs.{log_read, torn_counts}
 use Rattle.rrd_change.proofs.Loose.{plain_uncut, under_loose, under_uncut}
 use Rattle.rrd_change.proofs.Marking.{cut_under, plain_represents, put_behind}
 use Rattle.rrd_change.proofs.Settling.{IsPlaced, cut_front_of, cut_placed, length-front, reach_placed}
 
 -- ---- a database, or one under a cut mark
+
+loose_left : (other now : List ℕ) (w : World) → IsDatabase now → IsUnderCut now w.held → ((c : List ℕ) → w.may_leave c → IsLoose other now c) → ((c : List ℕ) → w.may_keep c → IsLoose other now c) →
+    IsCutLeft other now w
+loose_left other now w is under leave keep = record { under = under; uncut = record { is = is; held = inr under; leave = leave; keep = keep } }
 
 pub under_left : (other now : List ℕ) (w : World) → IsDatabase now → All (IsUnderCut now) w → IsCutLeft other now w
 under_left other now w is a = record { under = a.held; uncut = under_uncut other now w is a }
@@ -37,17 +31,15 @@ plain_left end other now w is a = elim a.held [
 
 pub open_left : (end : LogEnd) (other now old : List ℕ) (tail : ℕ) (cs : List Change) (w : World) → Leads old cs now → Fill (length old) cs → All (IsOpen old tail cs) w →
     IsLogLeft end other now w
-open_left end other now old tail cs w leads fill a = record {
-  old = old;
-  tail = tail;
-  changes = cs;
-  leads = leads;
-  fill = fill;
-  world = record { held = a.held.logged; leave = λ c left. inl (a.leave c left).logged; keep = λ c kept. inl (a.keep c kept).logged };
-}
+open_left end other now old tail cs w leads fill a =
+    held_left end other now old tail cs w leads fill (record { held = a.held.logged; leave = λ c left. inl (a.leave c left).logged; keep = λ c kept. inl (a.keep c kept).logged })
 
 pub log_left : (end : LogEnd) (other now : List ℕ) (log : Log) (w : World) → IsLogOf now log w → IsLogLeft end other now w
 log_left end other now log w h = open_left end other now h.old log.tail h.changes w h.follows.leads h.follows.fill h.world
+
+pub kept_left : (end : LogEnd) (other now : List ℕ) (log : Option Log) (w : World) → IsKept now log w → IsLeft end other now w
+kept_left end other now None w m = inr (inl (marked_left other now w m))
+kept_left end other now (Some log) w h = inr (inr (log_left end other now log w h))
 
 -- ---- the first change of a log
 
@@ -61,9 +53,9 @@ ready_unlogged old new tail cs f ready = record {
   kept = λ k high low. inl (ready.prepared.under.same k (omega (arith, high)) low);
 }
 
-begun_on_disk : (old new : List ℕ) (tail : ℕ) (cs : List Change) (f : List ℕ) → IsReadyOrOpen old tail cs f → IsOnDisk Whole old new old tail cs f
-begun_on_disk old new tail cs f (inl ready) = inr (inl (ready_unlogged old new tail cs f ready))
-begun_on_disk old new tail cs f (inr (is, placed)) = inl is.logged
+begun_on_disk : (end : LogEnd) (old new : List ℕ) (tail : ℕ) (cs : List Change) (f : List ℕ) → IsReadyOrOpen old tail cs f → IsOnDisk end old new old tail cs f
+begun_on_disk end old new tail cs f (inl ready) = inr (inl (ready_unlogged old new tail cs f ready))
+begun_on_disk end old new tail cs f (inr (is, placed)) = inl is.logged
 
 begun_loose : (old new : List ℕ) (tail : ℕ) (cs : List Change) (f : List ℕ) → Leads old cs new → Fill (length old) cs → length old ≤ tail → IsReadyOrOpen old tail cs f → IsLoose new old f
 begun_loose old new tail cs f leads fill below (inl ready) = under_loose new old f ready.prepared.under
@@ -71,26 +63,15 @@ begun_loose old new tail cs f leads fill below (inr (is, placed)) =
     record { reaches = omega (arith, below, is.logged.log.begun); placed = placed; stands = inl (open_stands old new tail cs f leads fill is) }
 
 -- the log mark was written, or was not
-pub begun_stopped : (old new : List ℕ) (tail : ℕ) (cs : List Change) (w : World) → IsDatabase old → length old ≤ tail → Leads old cs new → Fill (length old) cs →
-    All (IsReadyOrOpen old tail cs) w → IsStopped Whole old new w
-begun_stopped old new tail cs w is below leads fill a = elim a.held [
-  | inl ready ↦ inl (inr (inl (record {
-    under = ready.prepared.under;
-    uncut = record {
-      is = is;
-      held = inr ready.prepared.under;
-      leave = λ c left. begun_loose old new tail cs c leads fill below (a.leave c left);
-      keep = λ c kept. begun_loose old new tail cs c leads fill below (a.keep c kept);
-    };
-  })))
-  | inr (is_open, placed) ↦ inr (inr (inr (record {
-    old = old;
-    tail = tail;
-    changes = cs;
-    leads = leads;
-    fill = fill;
-    world = record { held = is_open.logged; leave = λ c left. begun_on_disk old new tail cs c (a.leave c left); keep = λ c kept. begun_on_disk old new tail cs c (a.keep c kept) };
-  })))
+pub begun_stopped : (end : LogEnd) (old new : List ℕ) (tail : ℕ) (cs : List Change) (w : World) → IsDatabase old → length old ≤ tail → Leads old cs new → Fill (length old) cs →
+    All (IsReadyOrOpen old tail cs) w → IsStopped end old new w
+begun_stopped end old new tail cs w is below leads fill a = elim a.held [
+  | inl ready ↦ inl (inr (inl (loose_left new old w is ready.prepared.under (λ c left. begun_loose old new tail cs c leads fill below (a.leave c left)) (λ c kept. begun_loose old new tail cs c leads fill below (a.keep c kept)))))
+  | inr (is_open, placed) ↦ inr (inr (inr (held_left end old new old tail cs w leads fill (record {
+    held = is_open.logged;
+    leave = λ c left. begun_on_disk end old new tail cs c (a.leave c left);
+    keep = λ c kept. begun_on_disk end old new tail cs c (a.keep c kept);
+  }))))
 ]
 
 -- ---- bringing into place
@@ -111,107 +92,33 @@ front_put old now cs log x f follows below p put =
     record {
       under = cut_placed now x f follows.is (reach_placed old now cs log x follows p) p.placed put;
       reaches = omega (arith, put.len, below, p.is.logged.log.begun);
-      kept = λ k high low. elim (p.is.logged.kept k high low) [
-        | inl stays ↦ inl (put_behind (cut_front_of now) x f k put (omega (arith, size, high)) ∙ stays)
-        | inr said ↦ inr said
-      ];
+      kept = λ k high low. grind (arith, put_behind);
     }
 
-pub placed_or_cut : (old now : List ℕ) (cs : List Change) (log : Log) (x f : List ℕ) → Follows old now cs log → length old ≤ log.tail → IsPlaced old now cs log x →
-    AreWholeOrNot 0 (cut_front_of now) x f → IsPlacedOrCut old now cs log f
-placed_or_cut old now cs log x f follows below p (inl e) = let P : List ℕ → Type 0 = λ xs. IsPlaced old now cs log xs in inl (subst P (sym e) p)
-placed_or_cut old now cs log x f follows below p (inr put) = inr (front_put old now cs log x f follows below p put)
+pub placed_marked : (old now : List ℕ) (cs : List Change) (log : Log) (u v : World) → Follows old now cs log → length old ≤ log.tail →
+    Fails (AreWholeOrNot 0 (cut_front_of now)) (IsTorn 0 (cut_front_of now)) u v → All (IsPlaced old now cs log) u → All (IsPlacedOrCut old now cs log) v
+placed_marked old now cs log u v follows below f a = marks_all (IsPlaced old now cs log) (IsPlacedOrCut old now cs log) (cut_front_of now) u v (λ x p. inl p)
+    (λ x p. omega (arith, length-front now follows.is.enough, p.is.logged.log.begun, follows.below, follows.is.enough)) (λ x y p put. inr (front_put old now cs log x y follows below p put)) f a
 
-pub placed_or_torn : (old now : List ℕ) (cs : List Change) (log : Log) (x f : List ℕ) → Follows old now cs log → length old ≤ log.tail → IsPlaced old now cs log x →
-    IsTorn 0 (cut_front_of now) x f → IsPlacedOrCut old now cs log f
-placed_or_torn old now cs log x f follows below p t =
-    placed_or_cut old now cs log x f follows below p
-    (t.whole (omega (arith, length-front now follows.is.enough, p.is.logged.log.begun, follows.below, follows.is.enough)))
+placed_on_disk : (end : LogEnd) (other old now : List ℕ) (cs : List Change) (log : Log) (f : List ℕ) → Follows old now cs log → IsPlacedOrCut old now cs log f → IsOnDisk end other now old log.tail cs f
+placed_on_disk end other old now cs log f follows (inl p) = inl p.is.logged
+placed_on_disk end other old now cs log f follows (inr c) = inr (inl (record { base = now; either = inr refl; below = follows.below; under = c.under; reaches = c.reaches; kept = c.kept }))
 
-placed_on_disk : (old now : List ℕ) (cs : List Change) (log : Log) (f : List ℕ) → Follows old now cs log → IsPlacedOrCut old now cs log f → IsOnDisk Whole now now old log.tail cs f
-placed_on_disk old now cs log f follows (inl p) = inl p.is.logged
-placed_on_disk old now cs log f follows (inr c) = inr (inl (record { base = now; either = inr refl; below = follows.below; under = c.under; reaches = c.reaches; kept = c.kept }))
-
-placed_loose : (old now : List ℕ) (cs : List Change) (log : Log) (f : List ℕ) → Follows old now cs log → IsPlacedOrCut old now cs log f → IsLoose now now f
-placed_loose old now cs log f follows (inl p) =
-    record { reaches = reach_placed old now cs log f follows p; placed = p.placed; stands = inl (open_stands old now log.tail cs f follows.leads follows.fill p.is) }
-placed_loose old now cs log f follows (inr c) = under_loose now now f c.under
+placed_loose : (other old now : List ℕ) (cs : List Change) (log : Log) (f : List ℕ) → Follows old now cs log → IsPlacedOrCut old now cs log f → IsLoose other now f
+placed_loose other old now cs log f follows (inl p) =
+    record { reaches = reach_placed old now cs log f follows p; placed = p.placed; stands = inr (open_stands old now log.tail cs f follows.leads follows.fill p.is) }
+placed_loose other old now cs log f follows (inr c) = under_loose other now f c.under
 
 -- the first bytes were written, or were not
-pub front_left : (old now : List ℕ) (cs : List Change) (log : Log) (w : World) → Follows old now cs log → All (IsPlacedOrCut old now cs log) w → IsLeft Whole now now w
-front_left old now cs log w follows a = elim a.held [
-  | inl p ↦ inr (inr (record {
-    old = old;
-    tail = log.tail;
-    changes = cs;
-    leads = follows.leads;
-    fill = follows.fill;
-    world = record {
-      held = p.is.logged;
-      leave = λ c left. placed_on_disk old now cs log c follows (a.leave c left);
-      keep = λ c kept. placed_on_disk old now cs log c follows (a.keep c kept);
-    };
-  }))
-  | inr cut ↦ inr (inl (record {
-    under = cut.under;
-    uncut = record {
-      is = follows.is;
-      held = inr cut.under;
-      leave = λ c left. placed_loose old now cs log c follows (a.leave c left);
-      keep = λ c kept. placed_loose old now cs log c follows (a.keep c kept);
-    };
-  }))
+pub front_left : (end : LogEnd) (other old now : List ℕ) (cs : List Change) (log : Log) (w : World) → Follows old now cs log → All (IsPlacedOrCut old now cs log) w → IsLeft end other now w
+front_left end other old now cs log w follows a = elim a.held [
+  | inl p ↦ inr (inr (held_left end other now old log.tail cs w follows.leads follows.fill (record {
+    held = p.is.logged;
+    leave = λ c left. placed_on_disk end other old now cs log c follows (a.leave c left);
+    keep = λ c kept. placed_on_disk end other old now cs log c follows (a.keep c kept);
+  })))
+  | inr cut ↦ inr (inl (loose_left other now w follows.is cut.under (λ c left. placed_loose other old now cs log c follows (a.leave c left)) (λ c kept. placed_loose other old now cs log c follows (a.keep c kept))))
 ]
-
--- ---- less that is known
-
-one_of : (o other now f : List ℕ) → (o ≡ other) ⊎ (o ≡ now) → RepresentsEither o now f → RepresentsEither other now f
-one_of o other now f which (inr h) = inr h
-one_of o other now f (inl e) (inl h) = let P : List ℕ → Type 0 = λ xs. Represents xs f in inl (subst P e h)
-one_of o other now f (inr e) (inl h) = let P : List ℕ → Type 0 = λ xs. Represents xs f in inr (subst P e h)
-
-base_of : (o other now base : List ℕ) → (o ≡ other) ⊎ (o ≡ now) → (base ≡ o) ⊎ (base ≡ now) → (base ≡ other) ⊎ (base ≡ now)
-base_of o other now base which (inr e) = inr e
-base_of o other now base (inl same) (inl e) = inl (e ∙ same)
-base_of o other now base (inr same) (inl e) = inr (e ∙ same)
-
-disk_as : (end : LogEnd) (o other now old : List ℕ) (tail : ℕ) (cs : List Change) (f : List ℕ) → (o ≡ other) ⊎ (o ≡ now) → IsOnDisk Whole o now old tail cs f →
-    IsOnDisk end other now old tail cs f
-disk_as end o other now old tail cs f which (inl h) = inl h
-disk_as end o other now old tail cs f which (inr (inl u)) =
-    inr (inl (record { base = u.base; either = base_of o other now u.base which u.either; below = u.below; under = u.under; reaches = u.reaches; kept = u.kept }))
-disk_as end o other now old tail cs f which (inr (inr (may, t))) = absurd may
-
-loose_as : (o other now f : List ℕ) → (o ≡ other) ⊎ (o ≡ now) → IsLoose o now f → IsLoose other now f
-loose_as o other now f which h = record { reaches = h.reaches; placed = h.placed; stands = one_of o other now f which h.stands }
-
-pub left_as : (end : LogEnd) (o other now : List ℕ) (w : World) → (o ≡ other) ⊎ (o ≡ now) → IsLeft Whole o now w → IsLeft end other now w
-left_as end o other now w which (inl rest) = inl rest
-left_as end o other now w which (inr (inl c)) = inr (inl (record {
-  under = c.under;
-  uncut = record {
-    is = c.uncut.is;
-    held = c.uncut.held;
-    leave = λ f left. loose_as o other now f which (c.uncut.leave f left);
-    keep = λ f kept. loose_as o other now f which (c.uncut.keep f kept);
-  };
-}))
-left_as end o other now w which (inr (inr l)) = inr (inr (record {
-  old = l.old;
-  tail = l.tail;
-  changes = l.changes;
-  leads = l.leads;
-  fill = l.fill;
-  world = record {
-    held = l.world.held;
-    leave = λ f left. disk_as end o other now l.old l.tail l.changes f which (l.world.leave f left);
-    keep = λ f kept. disk_as end o other now l.old l.tail l.changes f which (l.world.keep f kept);
-  };
-}))
-
-pub stopped_as : (end : LogEnd) (old new : List ℕ) (w : World) → IsStopped Whole old new w → IsStopped end old new w
-stopped_as end old new w (inl h) = inl (left_as end new new old w (inl refl) h)
-stopped_as end old new w (inr h) = inr (left_as end old old new w (inl refl) h)
 
 -- ---- what is left stands for one of the two databases
 
@@ -221,12 +128,7 @@ left_held end other now w (inr (inl c)) = inr (inl c.under)
 left_held end other now w (inr (inr l)) = inr (inr (record { old = l.old; tail = l.tail; changes = l.changes; logged = l.world.held; leads = l.leads; fill = l.fill }))
 
 unlogged_either : (other now old : List ℕ) (tail : ℕ) (cs : List Change) (f : List ℕ) → IsUnlogged other now old tail cs f → RepresentsEither other now f
-unlogged_either other now old tail cs f u =
-    let P : List ℕ → Type 0 = λ xs. Represents xs f in
-    elim u.either [
-      | inl e ↦ inl (subst P e (inr (inl u.under)))
-      | inr e ↦ inr (subst P e (inr (inl u.under)))
-    ]
+unlogged_either other now old tail cs f u = grind arith
 
 -- any bytes behind a log are no changes of it that it has not
 torn_either : (other now old : List ℕ) (tail : ℕ) (cs : List Change) (h f : List ℕ) → Leads old cs now → Fill (length old) cs → IsLogged old tail cs h → IsTornLog other old tail cs f →
@@ -282,13 +184,12 @@ left_either other now w (inr (inr l)) = record {
   keep = λ f kept. disk_either other now l.old l.tail l.changes f l.leads l.fill (l.world.keep f kept);
 }
 
+either_told : (other now : List ℕ) (w : World) → All (RepresentsEither other now) w → IsBroken other now w
+either_told other now w all = record { held = all.held; leave = λ f left told. all.leave f left; keep = λ f kept told. all.keep f kept }
+
 pub left_told : (end : LogEnd) (other now : List ℕ) (w : World) → IsLeft end other now w → IsBroken other now w
-left_told end other now w (inl rest) =
-    let all = left_either other now w (inl rest) in
-    record { held = all.held; leave = λ f left told. all.leave f left; keep = λ f kept told. all.keep f kept }
-left_told end other now w (inr (inl c)) =
-    let all = left_either other now w (inr (inl c)) in
-    record { held = all.held; leave = λ f left told. all.leave f left; keep = λ f kept told. all.keep f kept }
+left_told end other now w (inl rest) = either_told other now w (left_either other now w (inl rest))
+left_told end other now w (inr (inl c)) = either_told other now w (left_either other now w (inr (inl c)))
 left_told end other now w (inr (inr l)) = record {
   held = inr (left_held end other now w (inr (inr l)));
   leave = λ f left told. disk_told end other now l.old l.tail l.changes w.held f l.leads l.fill l.world.held (l.world.leave f left) told;

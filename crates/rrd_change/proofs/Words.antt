@@ -1,11 +1,5 @@
 -- Lemmas on the words of bytes.
-use Rattle.std.proofs.Common.{◌≡◌, ℕ, zero, suc, ◌+◌, ◌-◌, ◌*◌, ◌/◌, ◌%◌, ◌<◌, ◌≤◌, List, length, take, drop, get_or, refl, sym, ◌∙◌, ap, add-one, arith}
-use Rattle.std.specs.Int.{w64, from_be_bytes, sum_through, byte_worth}
-use Rattle.std.specs.Simd.{first_chunks}
-use Rattle.std.specs.List.{slice_range}
-use Rattle.std.proofs.lemmas.List.{drop-drop, get_or-take}
-use Rattle.std.proofs.lemmas.Nat.{div-add-mod', div-mul-add, mod_below}
-use Rattle.rrd_change.specs.Checksum.{mix, mix_words, word, mix_bytes}
+use Rattle.rrd_change.proofs.Names.{◌≡◌, ℕ, zero, suc, ◌+◌, ◌-◌, ◌*◌, ◌/◌, ◌%◌, ◌<◌, ◌≤◌, List, length, take, drop, get_or, refl, sym, ◌∙◌, ap, add-one, arith, w64, from_be_bytes, sum_through, first_chunks, slice_range, drop-drop, get_or-take, div-add-mod', div-mul-add, mod_below, mix, mix_words, word, mix_bytes}
 
 pub sum-same : (f g : ℕ → ℕ) (n : ℕ) → ((i : ℕ) → i ≤ n → f i ≡ g i) → sum_through f n ≡ sum_through g n
 sum-same f g zero h = h 0 (omega arith)
@@ -16,9 +10,7 @@ sum-same f g (suc n) h =
 
 -- the first eight bytes say the number
 pub from_be-same : (xs ys : List ℕ) → ((i : ℕ) → i < 8 → get_or xs i 0 ≡ get_or ys i 0) → from_be_bytes w64 xs ≡ from_be_bytes w64 ys
-from_be-same xs ys h =
-    sum-same (λ i. byte_worth (7 - i) (get_or xs i 0)) (λ i. byte_worth (7 - i) (get_or ys i 0)) 7
-    (λ i k. ap (λ b. byte_worth (7 - i) b) (h i (omega (arith, k))))
+from_be-same xs ys h = grind (arith, sum-same)
 
 pub chunk_at : (n k i : ℕ) (xs d : List ℕ) → i < k → get_or (first_chunks n k xs) i d ≡ take n (drop (n * i) xs)
 chunk_at n zero i xs d h = grind arith
@@ -38,14 +30,10 @@ word_is bytes i = let e : 8 * i + 8 - 8 * i ≡ 8 = omega arith in rw e refl
 pub word_more : (start : ℕ) (bytes d : List ℕ) (words : List (List ℕ)) (i : ℕ) →
     words ≡ first_chunks 8 (length bytes / 8) bytes → i < length bytes / 8 →
     mix_words start bytes (i + 1) ≡ mix (mix_words start bytes i) (from_be_bytes w64 (get_or words i d))
-word_more start bytes d words i is h =
-    let chunk : get_or words i d ≡ slice_range bytes (8 * i) (8 * i + 8) = rw is (chunk_at 8 (length bytes / 8) i bytes d h ∙ sym (word_is bytes i)) in
-    rw chunk (mix_words-more start bytes i)
+word_more start bytes d words i is h = grind (arith, chunk_at, word_is, mix_words-more)
 
 count_whole : (n : ℕ) → n % 8 ≡ 0 → (n + 7) / 8 ≡ n / 8
-count_whole n h =
-    let e : n + 7 ≡ n / 8 * 8 + 7 = omega (arith, div-add-mod' n 8, h) in
-    rw e (div-mul-add (n / 8) 8 7 (omega arith))
+count_whole n h = grind (arith, div-add-mod', div-mul-add)
 
 count_more : (n : ℕ) → 0 < n % 8 → (n + 7) / 8 ≡ n / 8 + 1
 count_more n h =

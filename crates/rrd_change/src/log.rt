@@ -2,7 +2,7 @@
 ghost use Rattle.std.specs.Prelude.{◌≡◌, ◌+◌, ◌-◌, ◌++◌, ◌∷◌, [], ◌≤◌, ◌<◌, ℕ, List, length, max, IfOk, OnOk, replicate, slice_range, IsTrue, ◌↔◌};
 ghost use Rattle.rrd_change.specs.Changes.{Change, change_bytes};
 ghost use Rattle.rrd_change.specs.Laws.{Fill, Leads};
-ghost use Rattle.rrd_change.specs.Repairs.{IsLeft, IsStopped, Torn, Whole};
+ghost use Rattle.rrd_change.specs.Repairs.{IsLeft, IsStopped, LogEnd, Torn, Whole};
 ghost use Rattle.rrd_change.specs.Settled.{cut_mark, log_mark};
 ghost use Rattle.rrd_change.specs.Spans.{AgreesOutside, AreSpans, change_of};
 ghost use Rattle.rrd_change.specs.States.{AreAnyIn, ArePutIn, Began, IsAtRest, IsDatabase, IsFirst, IsOpen, IsLogOf, IsMarked, IsPlain, cut_of};
@@ -138,7 +138,7 @@ fn commit_first<F: Bytes>(
     requires { 0 < length bytes.now }
     ensures end { IfOk result (λ end. end ≡ at + length bytes.now) }
     ensures does { Does (λ _ (w v : World). (old : List ℕ) (c : Change) → IsFirst old tail c at bytes.now → IsMarked old w → All (IsOpen old tail (c ∷ [])) v)
-        (λ (w v : World). (old new : List ℕ) (c : Change) → IsFirst old tail c at bytes.now → Leads old (c ∷ []) new → Fill (length old) (c ∷ []) → IsMarked old w → IsStopped Whole old new v) result
+        (λ (w v : World). (end : LogEnd) (old new : List ℕ) (c : Change) → IsFirst old tail c at bytes.now → Leads old (c ∷ []) new → Fill (length old) (c ∷ []) → IsMarked old w → IsStopped end old new v) result
         (seen syncs (F.view file.old)) (seen syncs (F.view file.new)) }
 {
     let Some(end) = at.checked_add(bytes.len()) else {
@@ -172,7 +172,7 @@ pub fn begin<F: Bytes>(
 ) -> io::Result<Log>
     ensures room { IfOk result (λ log. log.tail ≡ max base.now.length (length new.now) + room) }
     ensures does { Does (λ log (w v : World). (old : List ℕ) → Began base.now old → AgreesOutside changed.now old new.now → IsMarked old w → IsLogOf new.now log v)
-        (λ (w v : World). (old : List ℕ) → Began base.now old → AgreesOutside changed.now old new.now → IsMarked old w → IsStopped Whole old new.now v) result
+        (λ (w v : World). (end : LogEnd) (old : List ℕ) → Began base.now old → AgreesOutside changed.now old new.now → IsMarked old w → IsStopped end old new.now v) result
         (seen syncs (F.view file.old)) (seen syncs (F.view file.new)) }
 {
     if !is_database(new) {
@@ -245,7 +245,7 @@ impl Log {
     /// A call of the file failed, memory ran out, or `new` is no database. The file stands for the same database, and is
     /// repaired by what is read of it.
     pub fn settle<F: Bytes>(&self, file: &mut F, new: &[u8], syncs: Syncs) -> io::Result<()>
-        ensures { Does (λ _ (w v : World). IsLogOf new.now self.now w → IsMarked new.now v) (λ (w v : World). IsLogOf new.now self.now w → IsLeft Whole new.now new.now v) result
+        ensures { Does (λ _ (w v : World). IsLogOf new.now self.now w → IsMarked new.now v) (λ (w v : World). (end : LogEnd) (other : List ℕ) → IsLogOf new.now self.now w → IsLeft end other new.now v) result
             (seen syncs (F.view file.old)) (seen syncs (F.view file.new)) }
     {
         if !is_database(new) {

@@ -1,7 +1,7 @@
 //! Files that stay open: a log is kept, so that a further change is one append.
 ghost use Rattle.std.specs.Prelude.{◌≡◌, ◌+◌, ◌<◌, ◌-◌, ◌*◌, ℕ, IfOk, IfSome, List, Option, length, max, min};
 ghost use Rattle.rrd_change.specs.Spans.{AgreesOutside};
-ghost use Rattle.rrd_change.specs.Repairs.{IsLeft, IsStopped, Torn, Whole};
+ghost use Rattle.rrd_change.specs.Repairs.{IsLeft, IsStopped, LogEnd, Torn};
 ghost use Rattle.rrd_change.specs.States.{Began, IsKept, IsLogOf, IsMarked};
 ghost use Rattle.rrd_change.specs.Views.{Does, World, seen};
 
@@ -17,7 +17,7 @@ const MOST_ROOM: usize = 65_536;
 // Brings the changes of a log into place if there are enough of them. Returns the log otherwise.
 fn keep<F: Bytes>(file: &mut F, log: Log, new: &[u8], syncs: Syncs) -> io::Result<Option<Log>>
     ensures few { IfOk result (λ kept. IfSome kept (λ rest. rest.changes < 16)) }
-    ensures does { Does (λ kept (w v : World). IsLogOf new.now log w → IsKept new.now kept v) (λ (w v : World). IsLogOf new.now log w → IsLeft Whole new.now new.now v) result
+    ensures does { Does (λ kept (w v : World). IsLogOf new.now log w → IsKept new.now kept v) (λ (w v : World). (end : LogEnd) (other : List ℕ) → IsLogOf new.now log w → IsLeft end other new.now v) result
         (seen syncs (F.view file.old)) (seen syncs (F.view file.new)) }
 {
     if !log.is_due() {
@@ -29,7 +29,7 @@ fn keep<F: Bytes>(file: &mut F, log: Log, new: &[u8], syncs: Syncs) -> io::Resul
 
 // Settles a log that is too short for the next database. The file then is the database before the change, under a cut mark.
 fn make_room<F: Bytes>(alloc: Global, file: &mut F, log: &Log, syncs: Syncs) -> io::Result<()>
-    ensures { Does (λ _ (w v : World). (now : List ℕ) → IsLogOf now log.now w → IsMarked now v) (λ (w v : World). (now : List ℕ) → IsLogOf now log.now w → IsLeft Whole now now v) result
+    ensures { Does (λ _ (w v : World). (now : List ℕ) → IsLogOf now log.now w → IsMarked now v) (λ (w v : World). (end : LogEnd) (other now : List ℕ) → IsLogOf now log.now w → IsLeft end other now v) result
         (seen syncs (F.view file.old)) (seen syncs (F.view file.new)) }
 {
     let mut bytes = Vec::new(alloc);

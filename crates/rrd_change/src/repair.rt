@@ -1,7 +1,6 @@
 //! Repairs files that stand for a database under a mark.
 ghost use Rattle.std.specs.Prelude.{ℕ, List};
 ghost use Rattle.rrd_change.specs.Repairs.{IsCutLeft, IsFound, IsLeft, IsLogFound, IsLogLeft, IsUncut, LogEnd};
-ghost use Rattle.rrd_change.specs.Repairs.{Whole};
 ghost use Rattle.rrd_change.specs.States.{IsAtRest, IsLogOf};
 ghost use Rattle.rrd_change.specs.Views.{Does, World, seen};
 
@@ -21,7 +20,7 @@ use std::io::{self, Error, ErrorKind};
 pub fn finish_cut<F: Bytes>(file: &mut F, new: &[u8], syncs: Syncs) -> io::Result<()>
     ensures uncut { Does (λ _ (w v : World). (other : List ℕ) → IsUncut other new.now w → IsAtRest new.now v) (λ (w v : World). (other : List ℕ) → IsUncut other new.now w → IsUncut other new.now v) result
         (seen syncs (F.view file.old)) (seen syncs (F.view file.new)) }
-    ensures left { Does (λ _ (w v : World). Unit {0}) (λ (w v : World). (other : List ℕ) → IsCutLeft other new.now w → IsLeft Whole other new.now v) result
+    ensures left { Does (λ _ (w v : World). Unit {0}) (λ (w v : World). (end : LogEnd) (other : List ℕ) → IsCutLeft other new.now w → IsLeft end other new.now v) result
         (seen syncs (F.view file.old)) (seen syncs (F.view file.new)) }
 {
     if !is_database(new) {

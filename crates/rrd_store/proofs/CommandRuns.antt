@@ -1,24 +1,8 @@
 -- A command over the file of a state leads to the file of the state that the definitions compute.
-use Rattle.std.proofs.Common.{◌≡◌, ◌∙◌, ◌++◌, ◌∷◌, [], ℕ, Bool, true, false, List, Option, Some, None, Result, Ok, Err, sym, ap, refl, subst, append-nil}
-use Rattle.std.specs.Io.KnownBytes.{Appends, Keeps}
-use Rattle.std.specs.Result.{result_err}
-use Rattle.rrd_spec.specs.Journal.Survivors.{Stored}
-use Rattle.rrd_tool.specs.Commands.{effect}
-use Rattle.rrd_tool.specs.Effects.{Changes, Effect, Makes, Reverts, Shows, is_change, stored_next, next, text_on, verdict_on, StandsFor}
-use Rattle.rrd_spec.specs.declared.requests.create.CreateSpec.{CreateSpec}
-use Rattle.rrd_tool.specs.Execution.{Comes, database_left, fault_left, has_changed}
-use Rattle.rrd_tool.specs.Lines.{is_empty}
-use Rattle.rrd_tool.specs.declared.commands.Command.{Command}
-use Rattle.rrd_tool.specs.declared.faults.Fault.{Fault}
-use Rattle.rrd_tool.specs.declared.faults.Fault.TheVariants.{Line, NoDatabase, Output, Refused}
-use Rattle.rrd_tool.specs.declared.faults.LineFault.{LineFault}
-use Rattle.rrd_store.specs.Storages.{Held, Leaves, Missing}
-use Rattle.rrd_store.specs.Runs.{Answers, AnswersRead, Filing, Holds, IsDone, MayStop, ReadsFile, as_written, database_in, kept_next, state_in}
-use Rattle.rrd_store.specs.Single.{EndsBy, FindsOne, RunsAs, RunsFrom, StartsBy}
-use Rattle.rrd_store.specs.declared.faults.TaskFault.{TaskFault}
-use Rattle.rrd_store.specs.declared.faults.TaskFault.TheVariants as task
+use Rattle.rrd_store.proofs.Names.{◌≡◌, ◌∙◌, ◌++◌, ◌∷◌, [], ℕ, Bool, true, false, List, Option, Some, None, Result, Ok, Err, sym, ap, refl, subst, append-nil, Appends, Keeps, result_err, Stored, effect, Changes, Effect, Makes, Reverts, Shows, is_change, stored_next, next, text_on, verdict_on, StandsFor, CreateSpec, Comes, database_left, fault_left, has_changed, is_empty, Command, Fault, Line, NoDatabase, Output, Refused, LineFault, Held, Leaves, Missing, Answers, AnswersRead, Filing, Holds, IsDone, MayStop, ReadsFile, as_written, database_in, kept_next, state_in, EndsBy, FindsOne, RunsAs, RunsFrom, StartsBy, TaskFault}
 use Rattle.rrd_store.proofs.Found.{IsLeft, Reading, found_is, left_after, may_stop, same_left, stays_left, unleft, valid_held}
 use Rattle.rrd_store.proofs.ValidStates.{Staying, Valid, next_stands, next_valid}
+use Rattle.rrd_store.specs.declared.faults.TaskFault.TheVariants as task
 
 -- ---- what a command's effect says of the next state
 

@@ -1,8 +1,7 @@
 -- The bytes of a file that stay in memory are those of the database before a command.
-use Rattle.std.proofs.Common.{◌≡◌, ◌∙◌, ◌⊎◌, ◌<◌, ◌≤◌, ℕ, Bool, true, false, List, [], ◌∷◌, Option, Some, None, IfSome, Result, Ok, Err, Bor, option_map, length, refl, sym, ap, subst, inl, inr, arith}
-use Rattle.std.specs.List.{All}
+use Rattle.std.proofs.Common.{◌≡◌, ◌∙◌, ℕ, Bool, true, false, List, Option, Some, None, IfErr, IfOk, IfSome, Result, Ok, Err, Bor, option_map, refl, sym, ap, subst}
 use Rattle.std.specs.Option.{option_copied}
-use Rattle.std.proofs.lemmas.List.Elements.{All-head}
+use Rattle.std.specs.Result.{result_err}
 use Rattle.rrd_spec.specs.Commands.{Updating}
 use Rattle.rrd_spec.specs.Commands.Verdict.{verdict}
 use Rattle.rrd_spec.specs.Journal.Survivors.{Stored, changed}
@@ -14,7 +13,7 @@ use Rattle.rrd_file.specs.Encoded.{Encodes, Precedes, bytes_in}
 use Rattle.rrd_file.specs.Faults.{IsFile, IsValidStored}
 use Rattle.rrd_file.specs.Laws.{EncodedIsLayout}
 use Rattle.rrd_file.specs.Layout.{layout}
-use Rattle.rrd_file.specs.Spans.{AgreesOutside, IsBeside}
+use Rattle.rrd_file.specs.Spans.{AgreesOutside}
 use Rattle.rrd_file.specs.declared.encoded.Encoded.{Encoded}
 use Rattle.rrd_file.specs.declared.span.Span.{Span}
 use Rattle.rrd_tool.specs.Commands.{effect}
@@ -26,7 +25,7 @@ use Rattle.rrd_tool.specs.declared.execution.Outcome.TheVariants.{Printed, Chang
 use Rattle.rrd_tool.specs.declared.faults.Fault.{Fault}
 use Rattle.rrd_tool.specs.declared.faults.Fault.TheVariants.{Line, NoDatabase, Output, Refused}
 use Rattle.rrd_store.specs.Encoding.{AreOf, IsBefore, IsOf, IsUpdate, encoded_by, encoded_in}
-use Rattle.rrd_store.specs.Sessions.{HasBytes, first_there, kept_by}
+use Rattle.rrd_store.specs.Sessions.{HasBytes, first_there, kept_by, kept_unless}
 use Rattle.rrd_store.specs.Single.{Ends}
 use Rattle.rrd_store.specs.Storages.{Becomes, Bytes, DiffersWithin, Held, IsAnyFile, Leaves, Missing, Stays}
 use Rattle.rrd_store.specs.declared.encoding.Encoding.{Encoding}
@@ -131,18 +130,6 @@ may_differ (Some (Bytes old)) before spans bytes has file agrees =
     let same : bytes_in before ≡ old = cc in
     (subst IsAnyFile same file, subst (λ (l : List ℕ). AgreesOutside spans l bytes) same agrees)
 
-no_byte : (k end count : ℕ) → k < count → count ≤ end → (k < 0) ⊎ (end ≤ k) → ⊥
-no_byte k end count inside all (inl low) = omega arith
-no_byte k end count inside all (inr past) = omega arith
-
--- any bytes differ within the span of all
-pub all_differ : (spans : List Span) (all : Span) (old bytes : List ℕ) → spans ≡ all ∷ [] → all.start ≡ 0 → length bytes ≤ all.end → AgreesOutside spans old bytes
-all_differ spans all old bytes spans_are starts ends = record {
-  each = λ k inside beside.
-      let is : IsBeside k all = All-head (IsBeside k) all [] (subst (All (IsBeside k)) spans_are beside) in
-      absurd (no_byte k all.end (length bytes) inside ends (subst (λ (n : ℕ). (k < n) ⊎ (all.end ≤ k)) starts is));
-}
-
 -- the same of bytes that there may be
 pub may_lent : (encoding : Option Encoding) (lent : Option (Bor Encoding)) (P : Encoding → Type 0) → option_copied lent ≡ encoding → IfSome encoding P → IfSome lent (λ e. P e.now)
 may_lent encoding None P same may = tt
@@ -213,3 +200,18 @@ pub both_kept : (other : Option Stored) (outcome : Outcome) (end : Result (Unit 
 both_kept other outcome end encoding encoded kept of encoded_is kept_is =
     kept_are other outcome end encoded kept
     (subst (λ (o : Option Encoded). IfSome o (λ e. IsOf e (database_left outcome))) (sym encoded_is) (of_by encoding end (λ e. IsOf e (database_left outcome)) of)) kept_is
+
+-- ---- after a batch
+
+-- the bytes that a batch has written are those of the database that stays
+pub written_are : (stored : Result (Option Encoded) TaskFault) (fault : Option TaskFault) (encoded : Option Encoded) (last kept : Option Stored) → fault ≡ result_err stored
+    → IfOk stored (λ (e : Option Encoded). encoded ≡ e) → IfErr stored (λ (f : TaskFault). encoded ≡ None) → IfOk stored (λ (e : Option Encoded). AreOf e last) → kept ≡ kept_unless fault last → AreOf encoded kept
+written_are (Ok x) fault encoded last kept fault_is ok err of kept_is =
+    let kept_last : kept ≡ last = kept_is ∙ ap (λ (f : Option TaskFault). kept_unless f last) fault_is in
+    λ e d some_e some_d. of e d (sym ok ∙ some_e) (sym kept_last ∙ some_d)
+written_are (Err f) fault encoded last kept fault_is ok err of kept_is = λ e d some_e some_d. absurd (let no = sym err ∙ some_e in cc)
+
+pub written_bytes : (stored : Result (Option Encoded) TaskFault) (encoded : Option Encoded) (held : Option Held)
+    → IfOk stored (λ (e : Option Encoded). encoded ≡ e) → IfErr stored (λ (f : TaskFault). encoded ≡ None) → IfOk stored (λ (e : Option Encoded). HasBytes held e) → HasBytes held encoded
+written_bytes (Ok x) encoded held ok err has = subst (HasBytes held) (sym ok) has
+written_bytes (Err f) encoded held ok err has = subst (HasBytes held) (sym err) (has_none held)

@@ -1,23 +1,7 @@
 -- A run that ends with a fault leaves the bytes as they were.
-use Rattle.std.proofs.Common.{◌≡◌, ◌≢◌, ◌∙◌, ℕ, Bool, true, false, List, Option, Some, None, Result, Ok, Err, sym, ap}
-use Rattle.std.specs.Io.KnownBytes.{Keeps}
-use Rattle.std.specs.Result.{result_err}
-use Rattle.rrd_spec.specs.Journal.Survivors.{Stored}
-use Rattle.rrd_tool.specs.Effects.{Effect}
-use Rattle.rrd_tool.specs.Execution.{Comes, database_left, fault_left, has_changed}
-use Rattle.rrd_tool.specs.Commands.{effect}
-use Rattle.rrd_tool.specs.declared.commands.Command.{Command}
-use Rattle.rrd_tool.specs.declared.faults.Fault.{Fault}
-use Rattle.rrd_tool.specs.declared.faults.Fault.TheVariants.{Line, NoDatabase, Output, Refused}
-use Rattle.rrd_tool.specs.declared.faults.LineFault.{LineFault}
-use Rattle.rrd_store.specs.Batch.{IsFileBatch, written}
-use Rattle.rrd_store.specs.Storages.{Held, Leaves}
-use Rattle.rrd_store.specs.Runs.{ByBatch, ByCommand, ByRequest, FaultChangesNothing, Run, fault_of_batch}
-use Rattle.rrd_store.specs.Single.{EndsBy, RunsAs, RunsFrom}
-use Rattle.rrd_store.specs.declared.batch.FileBatchEnd.{FileBatchEnd}
-use Rattle.rrd_store.specs.declared.faults.TaskFault.{TaskFault}
-use Rattle.rrd_store.specs.declared.faults.TaskFault.TheVariants as task
+use Rattle.rrd_store.proofs.Names.{◌≡◌, ◌≢◌, ◌∙◌, ℕ, Bool, true, false, List, Option, Some, None, Result, Ok, Err, sym, ap, Keeps, result_err, Stored, Effect, Comes, database_left, fault_left, has_changed, effect, Command, Fault, Line, NoDatabase, Output, Refused, LineFault, IsFileBatch, written, Held, Leaves, ByBatch, ByCommand, ByRequest, FaultChangesNothing, Run, fault_of_batch, EndsBy, RunsAs, RunsFrom, FileBatchEnd, TaskFault}
 use Rattle.rrd_store.proofs.Found.{unleft}
+use Rattle.rrd_store.specs.declared.faults.TaskFault.TheVariants as task
 
 abbrev end_or : {T : Type 0} → TaskFault → Result T TaskFault → TaskFault
 end_or or (Ok x) = or

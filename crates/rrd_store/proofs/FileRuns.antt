@@ -1,20 +1,9 @@
 -- A run over the file of a state leads to the file of the state that the definitions compute.
-use Rattle.std.proofs.Common.{◌≡◌, ◌∙◌, ℕ, List, Option, Some, None, Result, Ok, Err, ap, sym, refl, subst}
-use Rattle.std.specs.Result.{result_err}
-use Rattle.rrd_spec.specs.Journal.Survivors.{Stored}
-use Rattle.rrd_file.specs.Layout.{layout_in}
-use Rattle.rrd_file.specs.Laws.{IsValidIn}
-use Rattle.rrd_tool.specs.Effects.{StandsFor, stored_of}
-use Rattle.rrd_store.specs.Batch.{IsFileBatch, RunsLines, written}
-use Rattle.rrd_store.specs.Storages.{Bytes, Held, Missing}
-use Rattle.rrd_store.specs.Single.{IsSingle, RunsAs}
-use Rattle.rrd_store.specs.Runs.{AnswersLines, BatchRun, ByBatch, ByCommand, ByRequest, CommandRun, Computes, Filing, Holds, IsFirst, MayStop, RequestRun, Run, fault_of, fault_of_batch, first_of, as_written, begun, database_in, state_in}
-use Rattle.rrd_store.specs.declared.batch.FileBatchEnd.{FileBatchEnd}
-use Rattle.rrd_store.specs.declared.faults.TaskFault.{TaskFault}
-use Rattle.rrd_store.specs.declared.faults.TaskFault.TheVariants as task
+use Rattle.rrd_store.proofs.Names.{◌≡◌, ◌∙◌, ℕ, List, Option, Some, None, Result, Ok, Err, ap, sym, refl, subst, result_err, Stored, layout_in, IsValidIn, StandsFor, stored_of, IsFileBatch, RunsLines, written, Bytes, Held, Missing, IsSingle, RunsAs, AnswersLines, BatchRun, ByBatch, ByCommand, ByRequest, CommandRun, Computes, Filing, Holds, IsFirst, MayStop, RequestRun, Run, fault_of, fault_of_batch, first_of, as_written, begun, database_in, state_in, FileBatchEnd, TaskFault}
 use Rattle.rrd_store.proofs.CommandRuns.{command_computed}
 use Rattle.rrd_store.proofs.Found.{IsLeft, Reading, file_layout, found_is, left_after, may_stop, stays_left, valid_held}
 use Rattle.rrd_store.proofs.ValidStates.{Staying, first_valid, is_kept, kept_stands, run_valid}
+use Rattle.rrd_store.specs.declared.faults.TaskFault.TheVariants as task
 
 -- ---- a batch
 

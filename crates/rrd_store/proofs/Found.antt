@@ -1,20 +1,6 @@
 -- What is found in the file of a state, and what is left in it.
-use Rattle.std.proofs.Common.{◌≡◌, ◌⊎◌, ◌∙◌, [], ℕ, List, Option, Some, None, Result, Ok, Err, sym, ap, refl, subst, inl, inr}
-use Rattle.rrd_spec.specs.History.{Content}
-use Rattle.rrd_spec.specs.Journal.Entries.{Entry}
-use Rattle.rrd_spec.specs.Laws.Versions.{DatabaseIsWithin}
-use Rattle.rrd_spec.specs.declared.version.Version.{Version}
-use Rattle.rrd_spec.specs.Journal.Survivors.{State, Stored}
-use Rattle.rrd_file.specs.declared.fault.FileFault.{FileFault}
-use Rattle.rrd_file.specs.Faults.{IsAnswer, IsFile}
-use Rattle.rrd_file.specs.Laws.{FileIsLayout, HasOneAnswer, IsOfFile, LayoutIsNoOther}
-use Rattle.rrd_file.specs.Layout.{layout, layout_in}
-use Rattle.std.specs.Result.{result_err}
-use Rattle.rrd_tool.specs.Effects.{StandsFor, stored_of}
-use Rattle.rrd_store.specs.Storages.{Bytes, Finds, HasNone, Held, IsNoFile, Leaves, Missing, Reads}
-use Rattle.rrd_store.specs.Runs.{Filing, Holds, IsUnread, MayStop, as_written, database_in, state_in}
-use Rattle.rrd_store.specs.declared.faults.TaskFault.{TaskFault}
-use Rattle.rrd_store.specs.declared.faults.TaskFault.TheVariants.{Command, Stream, File, CannotOpen, CannotWrite}
+use Rattle.rrd_store.proofs.Names.{◌≡◌, ◌⊎◌, ◌∙◌, [], ℕ, List, Option, Some, None, Result, Ok, Err, sym, ap, refl, subst, inl, inr, Content, Entry, DatabaseIsWithin, Version, State, Stored, FileFault, IsAnswer, IsFile, FileIsLayout, HasOneAnswer, IsOfFile, LayoutIsNoOther, layout, layout_in, result_err, StandsFor, stored_of, Bytes, Finds, HasNone, Held, IsNoFile, Leaves, Missing, Reads, Filing, Holds, IsUnread, MayStop, as_written, database_in, state_in, TaskFault, Stream, File, CannotOpen, CannotWrite}
+use Rattle.rrd_store.specs.declared.faults.TaskFault.TheVariants.{Command}
 use Rattle.rrd_store.proofs.ValidStates.{Valid, is_kept}
 
 -- what the laws of the layout say

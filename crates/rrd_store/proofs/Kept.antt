@@ -1,17 +1,5 @@
 -- What a command came to stays so where its output is only handed on.
-use Rattle.std.proofs.Common.{◌∙◌, refl, ℕ, Bool, List, Option, Some, None, [], append-nil, sym}
-use Rattle.std.specs.Io.KnownBytes.{Appends, Keeps}
-use Rattle.rrd_fixed.specs.Written.{AppendsFront}
-use Rattle.rrd_fixed.specs.Writing.{Appends-kept}
-use Rattle.rrd_spec.specs.Journal.Survivors.{Stored}
-use Rattle.rrd_tool.specs.Commands.{effect}
-use Rattle.rrd_tool.specs.Effects.{Effect}
-use Rattle.rrd_tool.specs.Execution.{Comes, Executes, fault_left, has_changed}
-use Rattle.rrd_tool.specs.declared.commands.Command.{Command}
-use Rattle.rrd_tool.specs.declared.execution.Outcome.{Outcome}
-use Rattle.rrd_store.specs.Storages.{Held, Stays}
-use Rattle.rrd_tool.specs.declared.faults.Fault.{Fault}
-use Rattle.rrd_tool.specs.declared.faults.Fault.TheVariants.{Line, NoDatabase, Output, Refused}
+use Rattle.rrd_store.proofs.Names.{◌∙◌, refl, ℕ, Bool, List, Option, Some, None, [], append-nil, sym, Appends, Keeps, AppendsFront, Appends-kept, Stored, effect, Effect, Comes, Executes, fault_left, has_changed, Command, Outcome, Held, Stays, Fault, Line, NoDatabase, Output, Refused}
 
 pub appends_nothing : (a : Option (List ℕ)) → Appends a a []
 appends_nothing None = tt

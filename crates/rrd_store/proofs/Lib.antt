@@ -1,3 +1,5 @@
+pub mod Names
+pub mod Common
 pub mod Kept
 pub mod Left
 pub mod ValidStates
@@ -7,6 +9,9 @@ pub mod FileRuns
 pub mod NoDatabase
 pub mod Damaged
 pub mod Standings
+pub mod Committed
 pub mod FaultRuns
 pub mod Sessions
 pub mod Encodings
+pub mod Compared
+pub mod Safe

@@ -1,26 +1,9 @@
 -- Over bytes that are no database a create goes on as over no file, and each other run is refused.
-use Rattle.std.proofs.Common.{◌≡◌, ◌⊎◌, ◌∙◌, ℕ, List, Option, Some, None, Result, Ok, Err, sym, ap, refl, subst, inl, inr}
-use Rattle.std.specs.Io.KnownBytes.{Keeps}
-use Rattle.std.specs.Result.{result_err}
-use Rattle.rrd_spec.specs.declared.requests.create.CreateSpec.{CreateSpec}
-use Rattle.rrd_spec.specs.Journal.Survivors.{Stored}
-use Rattle.rrd_tool.specs.Commands.{effect}
-use Rattle.rrd_tool.specs.Commands.Reading.{IsReading, reading}
-use Rattle.rrd_tool.specs.Effects.{Changes, Effect, Makes, Reverts, Shows}
-use Rattle.rrd_tool.specs.Fields.Parts.{Unread}
-use Rattle.rrd_tool.specs.declared.commands.Command.{Command}
-use Rattle.rrd_tool.specs.declared.faults.Fault.TheVariants.{Line}
-use Rattle.rrd_tool.specs.declared.faults.LineFault.{LineFault}
-use Rattle.rrd_store.specs.Batch.{IsFileBatch}
-use Rattle.rrd_store.specs.Storages.{Bytes, Finds, Held, IsNoFile}
-use Rattle.rrd_store.specs.Runs.{ByBatch, ByCommand, ByRequest, Did, IsCreate, IsOfBytes, OutputStays, Run, fault_of, fault_of_batch}
-use Rattle.rrd_store.specs.Single.{FindsOne, RunsAs, RunsFrom, StartsBy}
-use Rattle.rrd_store.specs.declared.batch.FileBatchEnd.{FileBatchEnd}
-use Rattle.rrd_store.specs.declared.faults.TaskFault.{TaskFault}
-use Rattle.rrd_store.specs.declared.faults.TaskFault.TheVariants as task
+use Rattle.rrd_store.proofs.Names.{◌≡◌, ◌⊎◌, ◌∙◌, ℕ, List, Option, Some, None, Result, Ok, Err, sym, ap, refl, subst, inl, inr, Keeps, result_err, CreateSpec, Stored, effect, IsReading, reading, Changes, Effect, Makes, Reverts, Shows, Unread, Command, Line, LineFault, IsFileBatch, Bytes, Finds, Held, IsNoFile, ByBatch, ByCommand, ByRequest, Did, IsCreate, IsOfBytes, OutputStays, Run, fault_of, fault_of_batch, FindsOne, RunsAs, RunsFrom, StartsBy, FileBatchEnd, TaskFault}
 use Rattle.rrd_store.proofs.CommandRuns.{Answered, Before, StartsIn, before_made, started, unread_words}
 use Rattle.rrd_store.proofs.FileRuns.{LeadsIn}
 use Rattle.rrd_store.proofs.ValidStates.{Staying}
+use Rattle.rrd_store.specs.declared.faults.TaskFault.TheVariants as task
 
 -- ---- what the words mean
 

@@ -1,23 +1,6 @@
 -- The database that stays in memory is the one that reading the storage gives.
-use Rattle.std.proofs.Common.{◌≡◌, ◌∙◌, ℕ, Bool, false, List, Option, Some, None, Result, Ok, Err, IfSome, refl, sym, ap, subst}
-use Rattle.rrd_spec.specs.Journal.Survivors.{Stored}
-use Rattle.rrd_spec.specs.Limits.{newest}
-use Rattle.rrd_file.specs.Faults.{IsValidStored}
-use Rattle.rrd_file.specs.Laws.{LayoutIsItsFile}
-use Rattle.rrd_file.specs.Layout.{layout}
-use Rattle.rrd_tool.specs.Commands.{effect}
-use Rattle.rrd_tool.specs.Effects.{Effect, Makes, Changes, Reverts, Shows, is_change, stored_next, text_on, verdict_on}
-use Rattle.rrd_tool.specs.Execution.{Comes, Executes, database_left, fault_left, has_changed}
-use Rattle.rrd_tool.specs.declared.commands.Command.{Command}
-use Rattle.rrd_tool.specs.declared.execution.Outcome.{Outcome}
-use Rattle.rrd_tool.specs.declared.execution.Outcome.TheVariants.{Printed, Changed, Refused as WasRefused}
-use Rattle.rrd_tool.specs.declared.faults.Fault.{Fault}
-use Rattle.rrd_tool.specs.declared.faults.Fault.TheVariants.{Line, NoDatabase, Output, Refused}
-use Rattle.rrd_store.specs.Batch.{written}
-use Rattle.rrd_store.specs.Sessions.{IsRead, kept_by, kept_unless}
-use Rattle.rrd_store.specs.Single.{Ends}
-use Rattle.rrd_store.specs.Storages.{Becomes, Held, Leaves, Stays}
-use Rattle.rrd_store.specs.declared.faults.TaskFault.{TaskFault}
+use Rattle.rrd_store.proofs.Names.{◌≡◌, ◌∙◌, ℕ, Bool, false, List, Option, Some, None, Result, Ok, Err, IfSome, refl, sym, ap, subst, Stored, newest, IsValidStored, LayoutIsItsFile, layout, effect, Effect, Makes, Changes, Reverts, Shows, is_change, stored_next, text_on, verdict_on, Comes, Executes, database_left, fault_left, has_changed, Command, Outcome, Printed, Changed, Fault, Line, NoDatabase, Output, Refused, written, IsRead, kept_by, kept_unless, Ends, Becomes, Held, Leaves, Stays, TaskFault}
+use Rattle.rrd_tool.specs.declared.execution.Outcome.TheVariants.{Refused as WasRefused}
 use Rattle.rrd_store.specs.declared.faults.TaskFault.TheVariants as task
 
 -- what was known is as it was, and what was not known is not known

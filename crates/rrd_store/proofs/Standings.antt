@@ -1,16 +1,11 @@
 -- What a file stands for after a run, after a kill, and after any list of them.
-use Rattle.std.proofs.Common.{◌≡◌, ◌∷◌, [], ℕ, List, Option, Some, None, sym, refl, subst, inl, inr}
-use Rattle.rrd_spec.specs.Journal.Survivors.{Stored}
-use Rattle.rrd_tool.specs.Effects.{stored_of}
-use Rattle.rrd_store.specs.Storages.{Bytes, HasNone, Held, IsNoFile}
-use Rattle.rrd_store.specs.Runs.{ByBatch, ByCommand, ByRequest, Damaged, Did, Ended, Event, Filing, HappenedAll, Holds, IsFileOf, Keeping, KeepsNone, Killed, Leads, LeadsAll, LeadsKilled, Run, RunIsComputed, RunsFollowSpecification, Standing, StandsBy, WasKilled, fault_of, first_of}
-use Rattle.rrd_store.specs.declared.faults.TaskFault.{TaskFault}
-use Rattle.rrd_store.specs.declared.faults.TaskFault.TheVariants as task
+use Rattle.rrd_store.proofs.Names.{◌≡◌, ◌∷◌, [], ℕ, List, Option, Some, None, sym, refl, subst, inl, inr, Stored, stored_of, Bytes, HasNone, Held, IsNoFile, ByBatch, ByCommand, ByRequest, Damaged, Did, Ended, Event, Filing, HappenedAll, Holds, IsFileOf, Keeping, KeepsNone, Killed, Leads, LeadsAll, LeadsKilled, Run, RunIsComputed, RunsFollowSpecification, Standing, StandsBy, WasKilled, fault_of, first_of, TaskFault}
 use Rattle.rrd_store.proofs.Damaged.{Layouts}
 use Rattle.rrd_store.proofs.FileRuns.{LeadsIn, batch_leads, command_leads, first_held, request_leads}
 use Rattle.rrd_store.proofs.Found.{IsFailed, IsLeft, Reading}
 use Rattle.rrd_store.proofs.NoDatabase.{create_leads, is_create, run_refused}
 use Rattle.rrd_store.proofs.ValidStates.{Staying}
+use Rattle.rrd_store.specs.declared.faults.TaskFault.TheVariants as task
 
 -- what the laws say that all of this stands on
 pub record Laws : Type 0 where

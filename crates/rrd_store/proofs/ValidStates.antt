@@ -1,30 +1,9 @@
 -- A state whose database is valid leads to such states only, command by command and line by line.
-use Rattle.std.proofs.Common.{◌≡◌, ◌∷◌, [], ℕ, Bool, true, false, List, Option, Some, None, Result, Ok, Err, inl, inr, sym, refl, subst, arith, option_map}
-use Rattle.rrd_spec.specs.declared.requests.create.CreateSpec.{CreateSpec}
-use Rattle.rrd_spec.specs.declared.refusal.Refusal.{Refusal}
+use Rattle.rrd_store.proofs.Names.{◌≡◌, ◌∷◌, [], ℕ, Bool, true, false, List, Option, Some, None, Result, Ok, Err, inl, inr, sym, refl, subst, arith, option_map, CreateSpec, Refusal, create_verdict, created, Entry, Content, ActsOn, Begins, DatabaseStays, RevertStays, CreatedIsValid, Action, Reverted, Stands, State, Stored, stored_after, newest, IsValidDatabase, verdict, Ran, Stopped, Tally, Told, no_lines, state_after, RunOver, command_of, reading_turn, text_turn, turn, verdict_turn, words_turn, effect, Changes, Effect, Makes, Reverts, Shows, StandsFor, stored_next, stored_of, next, verdict_on, text_in, words_of, StreamFault, Command, Fault, Refused, LineFault, IsValidState}
 use Rattle.rrd_spec.specs.Commands.{DatabaseChange as Change}
-use Rattle.rrd_spec.specs.Commands.Creating.{create_verdict, created}
-use Rattle.rrd_spec.specs.Journal.Entries.{Entry}
-use Rattle.rrd_spec.specs.History.{Content}
-use Rattle.rrd_spec.specs.Laws.Journal.{ActsOn, Begins, DatabaseStays, RevertStays}
-use Rattle.rrd_spec.specs.Laws.Validity.{CreatedIsValid}
-use Rattle.rrd_spec.specs.Journal.Survivors.{Action, Changed, Reverted, Stands, State, Stored, stored_after}
-use Rattle.rrd_spec.specs.Limits.{newest}
-use Rattle.rrd_spec.specs.Validity.{IsValidDatabase}
-use Rattle.rrd_spec.specs.Commands.Verdict.{verdict}
+use Rattle.rrd_spec.specs.Journal.Survivors.{Changed}
 use Rattle.rrd_file.specs.Laws.{IsValidStored}
-use Rattle.rrd_tool.specs.Batch.{Ran, Stopped, Tally, Told, no_lines, state_after}
-use Rattle.rrd_tool.specs.Batch.Run.{RunOver, command_of, reading_turn, text_turn, turn, verdict_turn, words_turn}
-use Rattle.rrd_tool.specs.Commands.{effect}
-use Rattle.rrd_tool.specs.Effects.{Changes, Effect, Makes, Reverts, Shows, StandsFor, stored_next, stored_of, next, verdict_on}
-use Rattle.rrd_tool.specs.Lines.{text_in, words_of}
-use Rattle.rrd_tool.specs.declared.batch.StreamFault.{StreamFault}
 use Rattle.rrd_tool.specs.declared.batch.StreamFault.TheVariants as stream
-use Rattle.rrd_tool.specs.declared.commands.Command.{Command}
-use Rattle.rrd_tool.specs.declared.faults.Fault.{Fault}
-use Rattle.rrd_tool.specs.declared.faults.Fault.TheVariants.{Refused}
-use Rattle.rrd_tool.specs.declared.faults.LineFault.{LineFault}
-use Rattle.rrd_store.specs.Runs.{IsValidState}
 
 -- what the laws of databases say
 pub record Staying : Type 0 where

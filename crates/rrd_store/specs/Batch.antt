@@ -1,13 +1,23 @@
 -- Definition: the results of a batch on a stored database (own).
-use Rattle.std.specs.Prelude.{ℕ, List, Option, Some, None, Result, Ok, Err}
+use Rattle.std.specs.Prelude.{◌≡◌, ℕ, Bool, IsTrue, List, Option, Some, None, Result, Ok, Err}
 use Rattle.std.specs.Io.KnownBytes.{Consumes, Keeps}
+use Rattle.rrd_file.specs.Layout.{layout}
 use Rattle.rrd_spec.specs.Journal.Survivors.{State, Stored}
 use Rattle.rrd_tool.specs.Effects.{StandsFor}
 use Rattle.rrd_tool.specs.Batch.{Counts, Tally}
 use Rattle.rrd_tool.specs.Batch.Run.{RunOver}
 use Rattle.rrd_store.specs.Storages.{Finds, Held, Leaves, Stays}
-use Rattle.rrd_store.specs.declared.batch.FileBatchEnd.{FileBatchEnd}
+use Rattle.rrd_store.specs.declared.stored_batch.FileBatchEnd.{FileBatchEnd}
 use Rattle.rrd_store.specs.declared.faults.TaskFault.{TaskFault}
+
+-- glue: the lines were run, and the database that they left was written, if there is one
+abbrev pub IsStored : Result FileBatchEnd TaskFault → Type 0
+IsStored (Ok end) = end.unstored ≡ None
+IsStored (Err fault) = ⊥
+
+-- glue: `Q` holds of the bytes of the database that is left, if there is one
+abbrev pub HoldsOfLeft : (List ℕ → Bool) → Option Stored → Type 0
+HoldsOfLeft Q left = (database : Stored) → left ≡ Some database → IsTrue (Q (layout database))
 
 -- the result of writing the database, by its fault
 abbrev pub written : Option TaskFault → Result (Unit {0}) TaskFault

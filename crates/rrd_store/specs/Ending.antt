@@ -4,7 +4,7 @@ use Rattle.rrd_fixed.specs.Written.{Writes}
 use Rattle.rrd_fixed.specs.declared.streams.WriteFault.{WriteFault}
 use Rattle.rrd_tool.specs.declared.batch.StreamFault.{StreamFault}
 use Rattle.rrd_store.specs.Faults.{is_usage_error, report_of}
-use Rattle.rrd_store.specs.declared.batch.FileBatchEnd.{FileBatchEnd}
+use Rattle.rrd_store.specs.declared.stored_batch.FileBatchEnd.{FileBatchEnd}
 use Rattle.rrd_store.specs.declared.faults.TaskFault.{TaskFault}
 use Rattle.rrd_store.specs.declared.faults.TaskFault.TheVariants.{Stream}
 

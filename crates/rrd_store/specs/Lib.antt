@@ -5,5 +5,6 @@ pub mod Single
 pub mod Batch
 pub mod Ending
 pub mod Runs
+pub mod Commits
 pub mod Sessions
 pub mod Encoding

@@ -27,7 +27,7 @@ use Rattle.rrd_tool.specs.declared.faults.LineFault.{LineFault}
 use Rattle.rrd_store.specs.Batch.{IsFileBatch}
 use Rattle.rrd_store.specs.Storages.{Bytes, HasNone, Held, IsNoFile, Missing}
 use Rattle.rrd_store.specs.Single.{IsSingle, RunsAs}
-use Rattle.rrd_store.specs.declared.batch.FileBatchEnd.{FileBatchEnd}
+use Rattle.rrd_store.specs.declared.stored_batch.FileBatchEnd.{FileBatchEnd}
 use Rattle.rrd_store.specs.declared.faults.TaskFault.{TaskFault}
 use Rattle.rrd_store.specs.declared.faults.TaskFault.TheVariants as task
 

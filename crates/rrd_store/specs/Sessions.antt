@@ -14,7 +14,7 @@ use Rattle.rrd_tool.specs.declared.faults.LineFault.{LineFault}
 use Rattle.rrd_store.specs.Batch.{RunsLines}
 use Rattle.rrd_store.specs.Single.{Ends, Stops}
 use Rattle.rrd_store.specs.Storages.{Bytes, Held, Reads}
-use Rattle.rrd_store.specs.declared.batch.FileBatchEnd.{FileBatchEnd}
+use Rattle.rrd_store.specs.declared.stored_batch.FileBatchEnd.{FileBatchEnd}
 use Rattle.rrd_store.specs.declared.faults.TaskFault.{TaskFault}
 use Rattle.rrd_store.specs.declared.faults.TaskFault.TheVariants as task
 

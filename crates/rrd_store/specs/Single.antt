@@ -1,6 +1,7 @@
 -- Definition: the results of one command on a stored database (own).
-use Rattle.std.specs.Prelude.{◌≡◌, ℕ, Bool, List, Option, Some, None, Result, Ok, Err, false, true, if◌then◌else◌}
+use Rattle.std.specs.Prelude.{◌≡◌, ℕ, Bool, IsTrue, List, Option, Some, None, Result, Ok, Err, false, true, if◌then◌else◌}
 use Rattle.std.specs.Io.KnownBytes.{Keeps}
+use Rattle.rrd_file.specs.Layout.{layout}
 use Rattle.rrd_spec.specs.Journal.Survivors.{Stored}
 use Rattle.rrd_tool.specs.Commands.{effect}
 use Rattle.rrd_tool.specs.Effects.{Effect, Makes, Changes, Reverts, Shows, is_change, text_on}
@@ -56,6 +57,10 @@ EndsBy None false database text old new (Err fault) =
 -- an outcome that printed this text
 abbrev pub Ends : Outcome → List ℕ → Option Held → Option Held → Result (Unit {0}) TaskFault → Type 0
 Ends outcome text old new end = EndsBy (fault_left outcome) (has_changed outcome) (database_left outcome) text old new end
+
+-- glue: `Q` holds of the bytes of a database that was changed
+abbrev pub HoldsOfChange : (List ℕ → Bool) → Outcome → Type 0
+HoldsOfChange Q outcome = (database : Stored) → has_changed outcome ≡ true → database_left outcome ≡ Some database → IsTrue (Q (layout database))
 
 -- ---- the whole command: `old` and `new` are the contents of the storage before and after, `c0` and `c1` the contents
 -- of the output

@@ -11,6 +11,7 @@ ghost use Rattle.rrd_store.specs.Storages.{Held, IsAnyFile};
 ghost use Rattle.rrd_store.specs.declared.encoding.Reach.TheVariants.{NewestRows as OfNewestRows};
 
 use crate::TaskFault;
+use crate::differing::differing;
 use rrd_base::{Database, database_is_valid};
 use rrd_file::laws::{encoded_is_layout, layout_is_file};
 use rrd_file::{Encoded, Span, Updated};
@@ -96,31 +97,32 @@ fn encode_update(alloc: Global, before: Encoded, database: &Database) -> Option<
     })
 }
 
-// Returns the span of all bytes, if the bytes before a command are known.
-fn whole(alloc: Global, encoded: &Encoded, before: &Option<Encoded>) -> Option<Changed>
+// Returns where the bytes after a command differ from those before it, if these are known.
+fn difference(alloc: Global, encoded: &Encoded, before: &Option<Encoded>) -> Option<Changed>
     ensures { (held : Option Held) → HasBytes held before.now → IfSome before.now (λ b. IsAnyFile (bytes_in b))
         → IfSome result (λ changed. DiffersBy changed held (bytes_in encoded.now)) }
 {
-    if before.is_none() {
-        return Some(Changed::Anywhere);
+    match before {
+        None => Some(Changed::Anywhere),
+        Some(before) => {
+            let changed = differing(alloc, before.as_slice(), encoded.as_slice())?;
+            Some(Changed::Within(changed))
+        }
     }
-    let mut changed = Vec::new(alloc);
-    let all = Span {
-        start: 0,
-        end: encoded.as_slice().len(),
-    };
-    changed.push(all).ok()?;
-    Some(Changed::Within(changed))
 }
 
-// Encodes a database after a command that may have changed all of its rows. `before` are the bytes before it, if they are
-// known.
-fn encode_all(alloc: Global, before: Option<Encoded>, database: &Database) -> Option<Encoding>
+/// Encodes a database after commands that may have changed all of its rows. `before` are the bytes before them, if they are
+/// known. Returns `None` if memory runs out.
+pub(crate) fn encode_all(
+    alloc: Global,
+    before: Option<Encoded>,
+    database: &Database,
+) -> Option<Encoding>
     ensures of { IfSome result (λ e. Encodes e.encoded database.now) }
     ensures may { (held : Option Held) → HasBytes held before → IfSome before (λ b. IsAnyFile (bytes_in b)) → IfSome result (MayReplace held) }
 {
     let encoded = Encoded::new(alloc, database)?;
-    let changed = whole(alloc, &encoded, &before)?;
+    let changed = difference(alloc, &encoded, &before)?;
     Some(Encoding { encoded, changed })
 }
 

@@ -4,6 +4,7 @@
 ghost use Rattle.std.specs.Prelude.{ℕ, List, Option};
 ghost use Rattle.rrd_spec.specs.Journal.Survivors.{Stored};
 ghost use Rattle.rrd_store.specs.Storages.{Held};
+ghost use Rattle.rrd_store.specs.Commits.{CommittedAlone};
 ghost use Rattle.rrd_store.specs.Runs as laws;
 ghost use Rattle.rrd_store.specs.declared.faults.TaskFault.{TaskFault};
 
@@ -35,6 +36,15 @@ pub fn runs_follow_specification()
     sizes();
     versions_stay_within();
 }
+
+/// Theorem: after any list of runs that were accepted, refused, failed or killed, the definitions compute the last state from the
+/// first by those alone that committed.
+///
+/// A run that ended well committed. One that ended with `cannot write`, or was killed, committed or did not; any other changed
+/// nothing.
+pub fn committed_runs_lead_alone()
+    ensures { (t : laws.Standing) (events : List laws.Event) (t1 : laws.Standing) → CommittedAlone t events t1 }
+{}
 
 /// Theorem: a run that ends with a fault of the command or of the file leaves the file as it was, whatever the file is,
 /// except if the fault is that the file could not be written.

@@ -1,7 +1,7 @@
 //! The tasks of the program: a batch, or one command, on the database in a file.
 #![tactic(auto)]
 
-mod batch;
+mod differing;
 mod encoding;
 mod ending;
 mod faults;
@@ -11,10 +11,10 @@ mod session;
 mod single;
 mod storage;
 mod stored;
+mod stored_batch;
 mod task;
 mod usage;
 
-pub use batch::{Always, FileBatchEnd, Gate, run_file_batch};
 pub use ending::{report_batch, report_command, report_file_batch};
 pub use faults::TaskFault;
 pub use loaded::Loaded;
@@ -22,5 +22,6 @@ pub use session::Session;
 pub use single::run_file_command;
 pub use storage::{Access, Storage};
 pub use stored::decoded;
+pub use stored_batch::{Always, FileBatchEnd, Gate, run_file_batch};
 pub use task::{Task, parse_task};
 pub use usage::USAGE;

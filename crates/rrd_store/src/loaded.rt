@@ -11,7 +11,7 @@ use rrd_file::Encoded;
 /// A database that was read from a storage, or `None` if nothing is stored there.
 ///
 /// If the storage has read the bytes into memory, and they are of the newest version, they are here too: an update changes
-/// them, and need not encode the whole database.
+/// them, and need not encode the whole database; any other change is compared with them, and only what differs is written.
 #[derive(Drop)]
 pub struct Loaded {
     /// The database.

@@ -1,24 +1,23 @@
 //! Runs on one storage, with the database kept in memory in between.
-ghost use Rattle.std.specs.Prelude.{◌≡◌, IfErr, IfNone, IfOk, IfSome, IsSome, None, OnOk, Err, Ok, Option, Some, is_ok, true};
+ghost use Rattle.std.specs.Prelude.{◌≡◌, Bool, IfErr, IfNone, IfOk, IfSome, IsOk, IsSome, IsTrue, List, None, OnOk, Err, Ok, Option, Some, is_ok, true, ℕ};
 ghost use Rattle.rrd_file.specs.Laws.{IsValidStored};
 ghost use Rattle.rrd_spec.specs.Journal.Survivors.{Stored};
 ghost use Rattle.rrd_tool.specs.Commands.{effect};
 ghost use Rattle.rrd_tool.specs.Execution.{database_left};
-ghost use Rattle.rrd_store.specs.Batch.{IsFileBatch};
+ghost use Rattle.rrd_store.specs.Batch.{IsFileBatch, IsStored};
 ghost use Rattle.rrd_store.specs.Encoding.{AreOf};
 ghost use Rattle.rrd_store.specs.Sessions.{HasBytes, IsFileBatchOn, IsInMemory, IsRead, IsSingleOn, RunsOn, beside, kept_by, started};
 ghost use Rattle.rrd_store.specs.Single.{FindsOne, IsSingle, RunsAs, StartsFrom};
-ghost use Rattle.rrd_store.specs.Storages.{Finds, Held};
+ghost use Rattle.rrd_store.specs.Storages.{Bytes, Finds, Held, Stays};
 
-use crate::batch::run_on;
-use crate::encoding::{encoded_after, encoded_kept, reach_of, take_encoded};
-use crate::single::finish;
-use crate::{Access, FileBatchEnd, Gate, Storage, TaskFault};
+use crate::encoding::{encoded_kept, take_encoded};
+use crate::single::carry_out;
+use crate::stored_batch::run_on;
+use crate::{FileBatchEnd, Gate, Storage, TaskFault};
 use rrd_base::{Database, database_is_valid};
 use rrd_file::Encoded;
 use rrd_file::laws::{encoded_is_layout, layout_is_file};
-use rrd_spec::laws::updates_keep_newest_rows;
-use rrd_tool::{Command, Outcome, Words, execute, read_command};
+use rrd_tool::{Command, Outcome, Unobserved, Words, read_command};
 use std::alloc::Global;
 use std::io::{Read, Write};
 
@@ -29,7 +28,8 @@ use std::io::{Read, Write};
 // Without bounds: a struct that has a ghost field and bounds cannot be a field of a generic struct such as an open file.
 #[derive(Drop)]
 pub struct Session<P> {
-    storage: P,
+    /// The storage. What is in memory is what the storage represents: let nobody change that, or [`Session::forget`] it.
+    pub storage: P,
     // The database that was read from the storage last, or written to the storage last.
     database: Option<Database>,
     // The bytes of this database's file, once a command has written it: the storage represents these bytes.
@@ -135,9 +135,21 @@ impl<P: Storage + Drop> Session<P> {
         }
     }
 
+    /// Forgets what is in memory: the next run reads the storage.
+    pub fn forget(&mut self)
+        ensures storage { self.new.storage ≡ self.old.storage }
+        ensures database { self.new.database ≡ None }
+        ensures encoded { self.new.encoded ≡ None }
+    {
+        self.database = None;
+        self.encoded = None;
+    }
+
     // Takes the database out of the session, or reads it.
     fn take(&mut self, alloc: Global) -> Result<Option<Database>, TaskFault>
         ensures falls { (s : Option Held) → P.is_honest s self.new.storage → P.is_honest s self.old.storage }
+        ensures safe { (s : Option Held) (d : List ℕ) (Q : List ℕ → Bool) → P.is_honest s self.new.storage
+            → P.is_safe s d Q self.old.storage → P.is_safe s d Q self.new.storage }
         ensures sound { (s : Option Held) → P.is_honest s self.new.storage → P.is_sound s self.old.storage
             → P.is_sound s self.new.storage }
         ensures stays { (s : Option Held) → P.is_honest s self.new.storage → P.is_sound s self.old.storage
@@ -157,7 +169,9 @@ impl<P: Storage + Drop> Session<P> {
             Some(database) => Ok(Some(database)),
             None => {
                 self.encoded = None;
-                self.storage.load(alloc, Access::ReadWrite)
+                let loaded = self.storage.load_to_update(alloc)?;
+                self.encoded = loaded.encoded;
+                Ok(loaded.database)
             }
         }
     }
@@ -165,6 +179,8 @@ impl<P: Storage + Drop> Session<P> {
     // Takes the database out of the session, or reads it. There has to be one.
     fn take_one(&mut self, alloc: Global) -> Result<Option<Database>, TaskFault>
         ensures falls { (s : Option Held) → P.is_honest s self.new.storage → P.is_honest s self.old.storage }
+        ensures safe { (s : Option Held) (d : List ℕ) (Q : List ℕ → Bool) → P.is_honest s self.new.storage
+            → P.is_safe s d Q self.old.storage → P.is_safe s d Q self.new.storage }
         ensures sound { (s : Option Held) → P.is_honest s self.new.storage → P.is_sound s self.old.storage
             → P.is_sound s self.new.storage }
         ensures stays { (s : Option Held) → P.is_honest s self.new.storage → P.is_sound s self.old.storage
@@ -193,6 +209,8 @@ impl<P: Storage + Drop> Session<P> {
     /// `CannotOpen` or `File` if no database can be read from the storage.
     pub fn load(&mut self, alloc: Global) -> Result<(), TaskFault>
         ensures falls { (s : Option Held) → P.is_honest s self.new.storage → P.is_honest s self.old.storage }
+        ensures safe { (s : Option Held) (d : List ℕ) (Q : List ℕ → Bool) → P.is_honest s self.new.storage
+            → P.is_safe s d Q self.old.storage → P.is_safe s d Q self.new.storage }
         ensures sound { (s : Option Held) → P.is_honest s self.new.storage → P.is_sound s self.old.storage
             → P.is_sound s self.new.storage }
         ensures stays { (s : Option Held) → P.is_honest s self.new.storage → P.is_sound s self.old.storage
@@ -213,6 +231,8 @@ impl<P: Storage + Drop> Session<P> {
     // Returns the database that a command runs on. A command that creates a database runs without one.
     fn start(&mut self, alloc: Global, command: &Command) -> Result<Option<Database>, TaskFault>
         ensures falls { (s : Option Held) → P.is_honest s self.new.storage → P.is_honest s self.old.storage }
+        ensures safe { (s : Option Held) (d : List ℕ) (Q : List ℕ → Bool) → P.is_honest s self.new.storage
+            → P.is_safe s d Q self.old.storage → P.is_safe s d Q self.new.storage }
         ensures sound { (s : Option Held) → P.is_honest s self.new.storage → P.is_sound s self.old.storage
             → P.is_sound s self.new.storage }
         ensures stays { (s : Option Held) → P.is_honest s self.new.storage → P.is_sound s self.old.storage
@@ -263,6 +283,17 @@ impl<P: Storage + Drop> Session<P> {
             → IsInMemory (P.contents s self.old.storage) self.old.database self.old.encoded
             → IsSingle words.now now (P.contents s self.old.storage) (P.contents s self.new.storage)
             (W.contents out.old) (W.contents out.new) result }
+        ensures safe { (s : Option Held) (d : List ℕ) (Q : List ℕ → Bool) → P.is_honest s self.new.storage → P.is_sound s self.old.storage
+            → IsInMemory (P.contents s self.old.storage) self.old.database self.old.encoded
+            → ((b : List ℕ) → IsSingle words.now now (P.contents s self.old.storage) (Some (Bytes b))
+            (W.contents out.old) (W.contents out.new) result → IsTrue (Q b))
+            → P.is_safe s d Q self.old.storage → P.is_safe s d Q self.new.storage }
+        ensures stored { (s : Option Held) (d : List ℕ) (Q T : List ℕ → Bool) → IsOk result → P.is_honest s self.new.storage → P.is_sound s self.old.storage
+            → IsInMemory (P.contents s self.old.storage) self.old.database self.old.encoded
+            → ((b : List ℕ) → IsSingle words.now now (P.contents s self.old.storage) (Some (Bytes b))
+            (W.contents out.old) (W.contents out.new) result → IsTrue (T b))
+            → (Stays (P.contents s self.old.storage) (P.contents s self.new.storage) → P.is_safe s d T self.old.storage)
+            → P.is_safe s d Q self.old.storage → P.is_safe s d T self.new.storage }
         ensures on { (d : Stored) → self.old.database ≡ Some d
             → (s : Option Held) → P.is_honest s self.new.storage → P.is_sound s self.old.storage
             → IsInMemory (P.contents s self.old.storage) self.old.database self.old.encoded
@@ -297,6 +328,17 @@ impl<P: Storage + Drop> Session<P> {
             → IsInMemory (P.contents s self.old.storage) self.old.database self.old.encoded
             → RunsAs (Ok command) (P.contents s self.old.storage) (P.contents s self.new.storage)
             (W.contents out.old) (W.contents out.new) result }
+        ensures safe { (s : Option Held) (d : List ℕ) (Q : List ℕ → Bool) → P.is_honest s self.new.storage → P.is_sound s self.old.storage
+            → IsInMemory (P.contents s self.old.storage) self.old.database self.old.encoded
+            → ((b : List ℕ) → RunsAs (Ok command) (P.contents s self.old.storage) (Some (Bytes b))
+            (W.contents out.old) (W.contents out.new) result → IsTrue (Q b))
+            → P.is_safe s d Q self.old.storage → P.is_safe s d Q self.new.storage }
+        ensures stored { (s : Option Held) (d : List ℕ) (Q T : List ℕ → Bool) → IsOk result → P.is_honest s self.new.storage → P.is_sound s self.old.storage
+            → IsInMemory (P.contents s self.old.storage) self.old.database self.old.encoded
+            → ((b : List ℕ) → RunsAs (Ok command) (P.contents s self.old.storage) (Some (Bytes b))
+            (W.contents out.old) (W.contents out.new) result → IsTrue (T b))
+            → (Stays (P.contents s self.old.storage) (P.contents s self.new.storage) → P.is_safe s d T self.old.storage)
+            → P.is_safe s d Q self.old.storage → P.is_safe s d T self.new.storage }
         ensures on { (d : Stored) → self.old.database ≡ Some d
             → (s : Option Held) → P.is_honest s self.new.storage → P.is_sound s self.old.storage
             → IsInMemory (P.contents s self.old.storage) self.old.database self.old.encoded
@@ -305,19 +347,24 @@ impl<P: Storage + Drop> Session<P> {
     {
         layout_is_file();
         encoded_is_layout();
-        updates_keep_newest_rows();
         self.is_written = false;
-        let reach = reach_of(&command);
         let database = self.start(alloc, &command)?;
         let encoded = take_encoded(&mut self.encoded, &database);
-        let outcome = execute(alloc, database, command, out);
-        outcome_is_valid(&outcome);
-        let encoding = encoded_after(alloc, encoded, reach, &outcome);
+        let carried = carry_out(
+            alloc,
+            database,
+            encoded,
+            command,
+            &mut self.storage,
+            out,
+            &Unobserved,
+        );
+        outcome_is_valid(&carried.outcome);
         let other = self.database.take();
-        let end = finish(alloc, &outcome, encoding.as_ref(), &mut self.storage, out);
-        self.is_written = end.is_ok() && matches!(outcome, Outcome::Changed(_));
-        self.database = database_kept(other, outcome, end);
-        self.encoded = encoded_kept(encoding, end);
+        let end = carried.end;
+        self.is_written = end.is_ok() && matches!(carried.outcome, Outcome::Changed(_));
+        self.database = database_kept(other, carried.outcome, end);
+        self.encoded = encoded_kept(carried.encoding, end);
         end
     }
 
@@ -339,26 +386,39 @@ impl<P: Storage + Drop> Session<P> {
     ) -> Result<FileBatchEnd, TaskFault>
         ensures falls { (s : Option Held) → P.is_honest s self.new.storage → P.is_honest s self.old.storage }
         ensures sound { (s : Option Held) → P.is_honest s self.new.storage → P.is_sound s self.old.storage
+            → IsInMemory (P.contents s self.old.storage) self.old.database self.old.encoded
             → P.is_sound s self.new.storage }
         ensures memory { (s : Option Held) → P.is_honest s self.new.storage → P.is_sound s self.old.storage
             → IsInMemory (P.contents s self.old.storage) self.old.database self.old.encoded
             → IsInMemory (P.contents s self.new.storage) self.new.database self.new.encoded }
         ensures run { (s : Option Held) → P.is_honest s self.new.storage → P.is_sound s self.old.storage
-            → IsRead (P.contents s self.old.storage) self.old.database
+            → IsInMemory (P.contents s self.old.storage) self.old.database self.old.encoded
             → IsFileBatch now numbered (P.contents s self.old.storage) (P.contents s self.new.storage)
             (R.remaining reader.old) (R.remaining reader.new) (W.contents out.old) (W.contents out.new) result }
+        ensures safe { (s : Option Held) (d : List ℕ) (Q : List ℕ → Bool) → P.is_honest s self.new.storage → P.is_sound s self.old.storage
+            → IsInMemory (P.contents s self.old.storage) self.old.database self.old.encoded
+            → ((b : List ℕ) → IsFileBatch now numbered (P.contents s self.old.storage) (Some (Bytes b))
+            (R.remaining reader.old) (R.remaining reader.new) (W.contents out.old) (W.contents out.new) result → IsTrue (Q b))
+            → P.is_safe s d Q self.old.storage → P.is_safe s d Q self.new.storage }
+        ensures stored { (s : Option Held) (d : List ℕ) (Q T : List ℕ → Bool) → IsStored result → P.is_honest s self.new.storage → P.is_sound s self.old.storage
+            → IsInMemory (P.contents s self.old.storage) self.old.database self.old.encoded
+            → ((b : List ℕ) → IsFileBatch now numbered (P.contents s self.old.storage) (Some (Bytes b))
+            (R.remaining reader.old) (R.remaining reader.new) (W.contents out.old) (W.contents out.new) result → IsTrue (T b))
+            → (Stays (P.contents s self.old.storage) (P.contents s self.new.storage) → P.is_safe s d T self.old.storage)
+            → P.is_safe s d Q self.old.storage → P.is_safe s d T self.new.storage }
         ensures on { (d : Stored) → self.old.database ≡ Some d
             → (s : Option Held) → P.is_honest s self.new.storage → P.is_sound s self.old.storage
+            → IsInMemory (P.contents s self.old.storage) self.old.database self.old.encoded
             → IsFileBatchOn now numbered d self.new.database (P.contents s self.old.storage) (P.contents s self.new.storage)
             (R.remaining reader.old) (R.remaining reader.new) (W.contents out.old) (W.contents out.new) result }
     {
         layout_is_file();
         let database = self.take(alloc)?;
-        // The lines may change all rows.
-        let _before = self.encoded.take();
-        let (end, kept) = run_on(
+        let before = take_encoded(&mut self.encoded, &database);
+        let (end, kept, encoded) = run_on(
             alloc,
             database,
+            before,
             now,
             numbered,
             &mut self.storage,
@@ -368,6 +428,7 @@ impl<P: Storage + Drop> Session<P> {
         );
         self.is_written = kept.is_some();
         self.database = kept;
+        self.encoded = encoded;
         Ok(end)
     }
 }

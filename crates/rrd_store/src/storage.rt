@@ -1,5 +1,5 @@
 //! The storage of a database, which keeps the bytes of the database as a file does.
-ghost use Rattle.std.specs.Prelude.{◌≡◌, Err, IfErr, IfOk, None, Ok, OnErr, OnOk, Option};
+ghost use Rattle.std.specs.Prelude.{◌≡◌, Bool, Err, IfErr, IfOk, IsOk, IsTrue, List, None, Ok, OnErr, OnOk, Option, ℕ};
 ghost use Rattle.rrd_store.specs.Sessions.{HasBytes};
 ghost use Rattle.rrd_store.specs.Storages.{Becomes, DiffersWithin, Finds, Held, IsAfterFailure, IsAnyFile};
 
@@ -36,6 +36,10 @@ pub trait Storage {
     // The bytes that the storage represents can be told from those that it has.
     ghost is_sound: { Option Held → Self → Type 0 };
 
+    // Whatever a failure leaves of the storage now, it represents bytes of which `Q` holds, if the device had the bytes `d`
+    // before the first call. A storage of which no failure is told is safe for each `Q`.
+    ghost is_safe: { Option Held → List ℕ → (List ℕ → Bool) → Self → Type 0 };
+
     /// Reads the database. Returns `None` if nothing is stored.
     ///
     /// If a change was interrupted before, `load` may end the change or take the change back. Nobody else changes the
@@ -48,13 +52,15 @@ pub trait Storage {
     /// - `File`: the bytes are not a database, they could not be read to their end, or memory ran out.
     fn load(&mut self, alloc: Global, access: Access) -> Result<Option<Database>, TaskFault>
         ensures falls { (s : Option Held) → is_honest s self.new → is_honest s self.old }
+        ensures safe { (s : Option Held) (d : List ℕ) (Q : List ℕ → Bool) → is_honest s self.new
+            → is_safe s d Q self.old → is_safe s d Q self.new }
         ensures sound { (s : Option Held) → is_honest s self.new → is_sound s self.old → is_sound s self.new }
         ensures stays { (s : Option Held) → is_honest s self.new → is_sound s self.old
             → contents s self.new ≡ contents s self.old }
         ensures found { (s : Option Held) → is_honest s self.new → is_sound s self.old
             → Finds (contents s self.old) result };
 
-    /// Reads the database for an update, as [`Storage::load`] does for [`Access::ReadWrite`], with the bytes of its file,
+    /// Reads the database for a change, as [`Storage::load`] does for [`Access::ReadWrite`], with the bytes of its file,
     /// if the storage has them in memory and needs them no more.
     ///
     /// # Errors
@@ -62,6 +68,8 @@ pub trait Storage {
     /// As [`Storage::load`].
     fn load_to_update(&mut self, alloc: Global) -> Result<Loaded, TaskFault>
         ensures falls { (s : Option Held) → is_honest s self.new → is_honest s self.old }
+        ensures safe { (s : Option Held) (d : List ℕ) (Q : List ℕ → Bool) → is_honest s self.new
+            → is_safe s d Q self.old → is_safe s d Q self.new }
         ensures sound { (s : Option Held) → is_honest s self.new → is_sound s self.old → is_sound s self.new }
         ensures stays { (s : Option Held) → is_honest s self.new → is_sound s self.old
             → contents s self.new ≡ contents s self.old }
@@ -86,6 +94,10 @@ pub trait Storage {
         requires { IsAnyFile bytes.now }
         ensures falls { (s : Option Held) → is_honest s self.new → is_honest s self.old }
         ensures sound { (s : Option Held) → is_honest s self.new → is_sound s self.old → is_sound s self.new }
+        ensures safe { (s : Option Held) (d : List ℕ) (Q : List ℕ → Bool) → is_honest s self.new → IsTrue (Q bytes.now)
+            → is_safe s d Q self.old → is_safe s d Q self.new }
+        ensures stored { (s : Option Held) (d : List ℕ) (Q R : List ℕ → Bool) → IsOk result → is_honest s self.new
+            → IsTrue (R bytes.now) → is_safe s d Q self.old → is_safe s d R self.new }
         ensures unknown { (s : Option Held) → contents s self.old ≡ None → contents s self.new ≡ None }
         ensures ok { OnOk result ((s : Option Held) → is_honest s self.new → is_sound s self.old
             → Becomes (contents s self.old) (contents s self.new) bytes.now) }
@@ -106,6 +118,12 @@ pub trait Storage {
         ensures falls { (s : Option Held) → is_honest s self.new → is_honest s self.old }
         ensures sound { (s : Option Held) → is_honest s self.new → is_sound s self.old
             → DiffersWithin changed.now (contents s self.old) bytes.now → is_sound s self.new }
+        ensures safe { (s : Option Held) (d : List ℕ) (Q : List ℕ → Bool) → is_honest s self.new
+            → DiffersWithin changed.now (contents s self.old) bytes.now → IsTrue (Q bytes.now)
+            → is_safe s d Q self.old → is_safe s d Q self.new }
+        ensures stored { (s : Option Held) (d : List ℕ) (Q R : List ℕ → Bool) → IsOk result → is_honest s self.new
+            → DiffersWithin changed.now (contents s self.old) bytes.now → IsTrue (R bytes.now)
+            → is_safe s d Q self.old → is_safe s d R self.new }
         ensures unknown { (s : Option Held) → contents s self.old ≡ None → contents s self.new ≡ None }
         ensures ok { OnOk result ((s : Option Held) → is_honest s self.new → is_sound s self.old
             → DiffersWithin changed.now (contents s self.old) bytes.now

@@ -1,5 +1,5 @@
 //! Reads and writes a stored database.
-ghost use Rattle.std.specs.Prelude.{◌≡◌, IfSome, None, Option, Some};
+ghost use Rattle.std.specs.Prelude.{◌≡◌, Bool, IfSome, IsOk, IsTrue, List, None, Option, Some, ℕ};
 ghost use Rattle.rrd_store.specs.Encoding.{MayReplace};
 ghost use Rattle.rrd_store.specs.Storages.{Bytes, Decodes, DiffersWithin, Held, Replaces};
 ghost use Rattle.rrd_file.specs.Encoded.{Encodes};
@@ -45,6 +45,10 @@ fn put<P: Storage>(storage: &mut P, bytes: &[u8], database: &Database) -> Result
     ensures falls { (s : Option Held) → P.is_honest s storage.new → P.is_honest s storage.old }
     ensures sound { (s : Option Held) → P.is_honest s storage.new → P.is_sound s storage.old
         → P.is_sound s storage.new }
+    ensures safe { (s : Option Held) (d : List ℕ) (Q : List ℕ → Bool) → P.is_honest s storage.new
+        → IsTrue (Q (layout database.now)) → P.is_safe s d Q storage.old → P.is_safe s d Q storage.new }
+    ensures stored { (s : Option Held) (d : List ℕ) (Q R : List ℕ → Bool) → IsOk result → P.is_honest s storage.new
+        → IsTrue (R (layout database.now)) → P.is_safe s d Q storage.old → P.is_safe s d R storage.new }
     ensures unknown { (s : Option Held) → P.contents s storage.old ≡ None → P.contents s storage.new ≡ None }
     ensures replaced { (s : Option Held) → P.is_honest s storage.new → P.is_sound s storage.old
         → Replaces (P.contents s storage.old) (P.contents s storage.new) (layout database.now) result }
@@ -68,6 +72,12 @@ fn put_where<P: Storage>(
     ensures falls { (s : Option Held) → P.is_honest s storage.new → P.is_honest s storage.old }
     ensures sound { (s : Option Held) → P.is_honest s storage.new → P.is_sound s storage.old
         → DiffersWithin changed.now (P.contents s storage.old) bytes.now → P.is_sound s storage.new }
+    ensures safe { (s : Option Held) (d : List ℕ) (Q : List ℕ → Bool) → P.is_honest s storage.new
+        → DiffersWithin changed.now (P.contents s storage.old) bytes.now
+        → IsTrue (Q (layout database.now)) → P.is_safe s d Q storage.old → P.is_safe s d Q storage.new }
+    ensures stored { (s : Option Held) (d : List ℕ) (Q R : List ℕ → Bool) → IsOk result → P.is_honest s storage.new
+        → DiffersWithin changed.now (P.contents s storage.old) bytes.now
+        → IsTrue (R (layout database.now)) → P.is_safe s d Q storage.old → P.is_safe s d R storage.new }
     ensures unknown { (s : Option Held) → P.contents s storage.old ≡ None → P.contents s storage.new ≡ None }
     ensures replaced { (s : Option Held) → P.is_honest s storage.new → P.is_sound s storage.old
         → DiffersWithin changed.now (P.contents s storage.old) bytes.now
@@ -91,6 +101,12 @@ pub(crate) fn store_encoded<P: Storage>(
     ensures falls { (s : Option Held) → P.is_honest s storage.new → P.is_honest s storage.old }
     ensures sound { (s : Option Held) → P.is_honest s storage.new → P.is_sound s storage.old
         → MayReplace (P.contents s storage.old) encoding.now → P.is_sound s storage.new }
+    ensures safe { (s : Option Held) (d : List ℕ) (Q : List ℕ → Bool) → P.is_honest s storage.new
+        → MayReplace (P.contents s storage.old) encoding.now
+        → IsTrue (Q (layout database.now)) → P.is_safe s d Q storage.old → P.is_safe s d Q storage.new }
+    ensures stored { (s : Option Held) (d : List ℕ) (Q R : List ℕ → Bool) → IsOk result → P.is_honest s storage.new
+        → MayReplace (P.contents s storage.old) encoding.now
+        → IsTrue (R (layout database.now)) → P.is_safe s d Q storage.old → P.is_safe s d R storage.new }
     ensures unknown { (s : Option Held) → P.contents s storage.old ≡ None → P.contents s storage.new ≡ None }
     ensures replaced { (s : Option Held) → P.is_honest s storage.new → P.is_sound s storage.old
         → MayReplace (P.contents s storage.old) encoding.now
@@ -112,6 +128,10 @@ pub(crate) fn store<P: Storage>(
     ensures falls { (s : Option Held) → P.is_honest s storage.new → P.is_honest s storage.old }
     ensures sound { (s : Option Held) → P.is_honest s storage.new → P.is_sound s storage.old
         → P.is_sound s storage.new }
+    ensures safe { (s : Option Held) (d : List ℕ) (Q : List ℕ → Bool) → P.is_honest s storage.new
+        → IsTrue (Q (layout database.now)) → P.is_safe s d Q storage.old → P.is_safe s d Q storage.new }
+    ensures stored { (s : Option Held) (d : List ℕ) (Q R : List ℕ → Bool) → IsOk result → P.is_honest s storage.new
+        → IsTrue (R (layout database.now)) → P.is_safe s d Q storage.old → P.is_safe s d R storage.new }
     ensures unknown { (s : Option Held) → P.contents s storage.old ≡ None → P.contents s storage.new ≡ None }
     ensures replaced { (s : Option Held) → P.is_honest s storage.new → P.is_sound s storage.old
         → Replaces (P.contents s storage.old) (P.contents s storage.new) (layout database.now) result }

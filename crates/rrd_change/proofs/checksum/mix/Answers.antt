@@ -1,5 +1,4 @@
-use Rattle.std.proofs.Common.{refl}
-use Rattle.rrd_change.specs.Checksum.{mix}
+use Rattle.rrd_change.proofs.Common.{refl, mix}
 use Rattle.rrd_change.proofs.checksum.mix.Goals as goal
 
 pub returns : goal.returns

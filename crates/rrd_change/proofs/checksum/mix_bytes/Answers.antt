@@ -1,7 +1,4 @@
-use Rattle.std.proofs.Common.{◌≡◌, ◌<◌, length, ◌/◌, ◌%◌, sym, ◌∙◌, ap, [], arith}
-use Rattle.std.proofs.lemmas.Bool.{eqb-true, eqb-false}
-use Rattle.rrd_change.specs.Checksum.{mix, mix_words}
-use Rattle.rrd_change.proofs.Words.{word_more, words_whole, words_more}
+use Rattle.rrd_change.proofs.Common.{◌≡◌, ◌<◌, length, ◌/◌, ◌%◌, sym, ◌∙◌, ap, [], arith, eqb-true, eqb-false, mix, mix_words, word_more, words_whole, words_more}
 use Rattle.rrd_change.proofs.checksum.mix_bytes.Goals as goal
 
 pub loop-word-preserved : goal.loop-word-preserved

@@ -1,5 +1,4 @@
-use Rattle.std.proofs.Common.{◌≡◌}
-use Rattle.rrd_change.specs.Checksum.{mix_words}
+use Rattle.rrd_change.proofs.Common.{◌≡◌, mix_words}
 use Rattle.rrd_change.proofs.checksum.mix_bytes.Given as goal
 
 abbrev pub invariant-loop-word : goal.invariant-loop-word

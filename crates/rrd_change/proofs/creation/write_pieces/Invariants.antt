@@ -1,6 +1,4 @@
-use Rattle.std.proofs.Common.{length, ◌-◌, ◌≤◌, max}
-use Rattle.rrd_change.specs.Making.{IsMadeTo, StaysFirst}
-use Rattle.rrd_change.specs.Views.{Moves, Steps, seen}
+use Rattle.rrd_change.proofs.Common.{length, ◌-◌, ◌≤◌, max, IsMadeTo, StaysFirst, Moves, Steps, seen}
 use Rattle.rrd_change.proofs.creation.write_pieces.Given as goal
 
 abbrev pub invariant-loop-at : goal.invariant-loop-at

@@ -1,10 +1,6 @@
-use Rattle.std.proofs.Common.{◌≡◌, ◌-◌, ◌+◌, ◌≤◌, ◌<◌, ℕ, length, drop, arith, subst}
-use Rattle.std.proofs.lemmas.Bool.{eqb-false}
-use Rattle.std.proofs.lemmas.List.{length-drop}
-use Rattle.rrd_change.specs.Read.{HasPieces}
-use Rattle.rrd_change.proofs.Spelling.{left_head, next_piece, none_from, piece_before}
-use Rattle.rrd_change.proofs.decoding.are_pieces.Goals as goal
+use Rattle.rrd_change.proofs.Common.{◌≡◌, ◌-◌, ◌+◌, ◌≤◌, ◌<◌, ℕ, length, drop, arith, subst, eqb-false, length-drop, HasPieces, left_head, next_piece, none_from, piece_before}
 use Rattle.rrd_change.proofs.decoding.are_pieces.Goals.{then-bytes-at-via-then-bytes-at, then-bytes-at-via-else-bytes-at+then-end-size, then-bytes-at-via-else-bytes-at+else-end-size+then-end-size-2}
+use Rattle.rrd_change.proofs.decoding.are_pieces.Goals as goal
 
 pub returns-then-bytes-at-lt-PIECE_HEAD-clause-no : goal.returns-then-bytes-at-lt-PIECE_HEAD-clause-no
 returns-then-bytes-at-lt-PIECE_HEAD-clause-no c e h =
@@ -43,7 +39,6 @@ pub returns-clause-no : goal.returns-clause-no
 returns-clause-no c e h =
     let bytes = c.args.bytes.now in
     let none : c.args.count - c.loop.counter ≡ 0 = omega (arith, c.loop-test.false) in
-    let P : ℕ → Type 0 = λ m. HasPieces m c.args.end (drop c.loop.at bytes) in
-    let over = none_from c.args.end (drop c.loop.at bytes) (subst P none (c.loop.invariant.no h)) in
+    let over = none_from c.args.end (drop c.loop.at bytes) (subst (λ (m : ℕ). HasPieces m c.args.end (drop c.loop.at bytes)) none (c.loop.invariant.no h)) in
     let few = c.loop.invariant.few in
     eqb-false c.loop.at (length bytes) e (omega (arith, over, few, length-drop c.loop.at bytes))

@@ -1,5 +1,4 @@
-use Rattle.std.proofs.Common.{◌-◌, ◌≤◌, drop, length}
-use Rattle.rrd_change.specs.Read.{HasPieces}
+use Rattle.rrd_change.proofs.Common.{◌-◌, ◌≤◌, drop, length, HasPieces}
 use Rattle.rrd_change.proofs.decoding.are_pieces.Given as goal
 
 abbrev pub invariant-loop : goal.invariant-loop

@@ -1,11 +1,4 @@
-use Rattle.std.proofs.Common.{◌≡◌, ◌-◌, ◌+◌, ◌++◌, ◌<◌, ℕ, List, [], ◌∷◌, length, drop, take, get_or, arith, subst, sym, ◌∙◌, ap, append_assoc}
-use borrow.Rule.Slice.PartMut.{put_mid}
-use Rattle.std.proofs.lemmas.List.{length-take, length-drop}
-use Rattle.rrd_change.specs.Changes.{Piece, all_laid, spelled_pieces}
-use Rattle.rrd_change.specs.Read.{HasPieces, spans_of}
-use Rattle.rrd_change.specs.declared.span.Span.{Span}
-use Rattle.rrd_change.proofs.Laid.{laid_mid}
-use Rattle.rrd_change.proofs.Spelling.{left_head, left_more, next_piece}
+use Rattle.rrd_change.proofs.Common.{◌≡◌, ◌-◌, ◌+◌, ◌++◌, ◌<◌, ℕ, List, [], ◌∷◌, length, drop, take, get_or, arith, subst, sym, ◌∙◌, ap, append_assoc, put_mid, length-take, length-drop, Piece, all_laid, spelled_pieces, HasPieces, spans_of, Span, laid_mid, left_head, left_more, next_piece}
 use Rattle.rrd_change.proofs.decoding.lay_pieces.Goals as goal
 
 pub number_at-start-requires : goal.number_at-start-requires
@@ -72,9 +65,8 @@ loop-preserved c =
     let copied : c.copy_from_slice.new.self ≡ body = c.copy_from_slice.ensures.after ∙ ap (λ k. take k (drop (at + 16) bytes)) width in
     let spans = c.loop.spans.items in
     let F : ℕ → List Span = λ e. record { start = start; end = e } ∷ spans_of first in
-    let P : ℕ → Type 0 = λ x. HasPieces left size (drop x bytes) in
     record {
-      has = subst P here next.rest;
+      has = subst (λ (x : ℕ). HasPieces left size (drop x bytes)) here next.rest;
       laid = λ k.
           ap (λ x. all_laid (spelled_pieces left (drop x bytes)) k (get_or (put_mid start (start + n - start) db c.copy_from_slice.new.self) k 0)) (sym here)
           ∙ ap (λ ys. all_laid first k (get_or (put_mid start (start + n - start) db ys) k 0)) copied ∙ ap (λ w. all_laid first k (get_or (put_mid start w db body) k 0)) m

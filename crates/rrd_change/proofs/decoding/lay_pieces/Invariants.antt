@@ -1,6 +1,4 @@
-use Rattle.std.proofs.Common.{◌≡◌, ◌-◌, ◌++◌, ℕ, length, drop, get_or}
-use Rattle.rrd_change.specs.Changes.{all_laid, spelled_pieces}
-use Rattle.rrd_change.specs.Read.{HasPieces, spans_of}
+use Rattle.rrd_change.proofs.Common.{◌≡◌, ◌-◌, ◌++◌, ℕ, length, drop, get_or, all_laid, spelled_pieces, HasPieces, spans_of}
 use Rattle.rrd_change.proofs.decoding.lay_pieces.Given as goal
 
 abbrev pub invariant-loop : goal.invariant-loop

@@ -1,8 +1,7 @@
-use Rattle.std.proofs.Common.{rules, arith, sym, ◌∙◌, ap}
-use Rattle.rrd_change.specs.Bytes.{begins_with}
-use Rattle.rrd_change.proofs.Heads.{found, read_none, seen, tried}
-use Rattle.rrd_change.proofs.decoding.read_head.Goals as goal
+use Rattle.rrd_change.proofs.Common.{rules, arith, sym, ◌∙◌, ap, begins_with, found, read_none, tried}
+use Rattle.rrd_change.proofs.Heads.{seen}
 use Rattle.rrd_change.proofs.decoding.read_head.Goals.{then-bytes-length-via-then-bytes-length, then-bytes-length-via-else-bytes-length+then-size-lt16, then-bytes-length-via-else-bytes-length+else-size-lt16+then-tail-size, then-not-is_right-via-then-not-is_right, then-not-is_right-via-else-not-is_right+then-not-are_pieces}
+use Rattle.rrd_change.proofs.decoding.read_head.Goals as goal
 
 pub returns-then-bytes-lt-HEAD_SIZE : goal.returns-then-bytes-lt-HEAD_SIZE
 returns-then-bytes-lt-HEAD_SIZE c = read_none c.args.tail c.args.at c.args.bytes.now (λ x h. let s = seen c.args.tail c.args.at c.args.bytes.now x h in omega (arith, s.enough, c.if-bytes-lt-HEAD_SIZE.true))
@@ -13,11 +12,7 @@ returns-then-bytes-length c = read_none c.args.tail c.args.at c.args.bytes.now (
     let count = c.number_at-length.ensures ∙ s.count in
     let size = c.number_at-size.ensures ∙ s.size in
     let right = s.right in
-    elim c.then-bytes-length.branch [
-      | then-bytes-length-via-then-bytes-length w ↦ omega (arith, s.enough, count, w.if-bytes-length.true)
-      | then-bytes-length-via-else-bytes-length+then-size-lt16 w ↦ omega (arith, right.enough, size, w.if-size-lt16.true)
-      | then-bytes-length-via-else-bytes-length+else-size-lt16+then-tail-size w ↦ omega (arith, right.below, size, w.if-tail-size.true)
-    ])
+    (search (rules)))
 
 pub returns-then-not-is_right : goal.returns-then-not-is_right
 returns-then-not-is_right c = read_none c.args.tail c.args.at c.args.bytes.now (λ x h.

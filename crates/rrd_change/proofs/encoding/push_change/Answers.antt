@@ -1,7 +1,4 @@
-use Rattle.std.proofs.Common.{◌≡◌, ◌++◌, length, ◌∙◌, ap, sym}
-use Rattle.rrd_change.specs.Changes.{body_bytes, head_bytes}
-use Rattle.rrd_change.specs.Spans.{change_of}
-use Rattle.rrd_change.proofs.Pieces.{change_pushed, length-pieces}
+use Rattle.rrd_change.proofs.Common.{◌≡◌, ◌++◌, length, ◌∙◌, ap, sym, body_bytes, head_bytes, change_of, change_pushed, length-pieces}
 use Rattle.rrd_change.proofs.encoding.push_change.Goals as goal
 
 pub returns-clause-ok : goal.returns-clause-ok

@@ -1,5 +1,4 @@
-use Rattle.std.proofs.Common.{◌∙◌, ap, ◌++◌}
-use Rattle.rrd_change.proofs.Pieces.{three}
+use Rattle.rrd_change.proofs.Common.{◌∙◌, ap, ◌++◌, three}
 use Rattle.rrd_change.proofs.encoding.push_piece.Goals as goal
 
 pub returns : goal.returns

@@ -1,6 +1,4 @@
-use Rattle.std.proofs.Common.{◌<◌, length, arith}
-use Rattle.rrd_change.specs.declared.span.Span.{Span}
-use Rattle.rrd_change.proofs.Pieces.{pushed_more, within_more}
+use Rattle.rrd_change.proofs.Common.{◌<◌, length, arith, Span, pushed_more, within_more}
 use Rattle.rrd_change.proofs.encoding.push_pieces.Goals as goal
 
 pub loop-number-preserved : goal.loop-number-preserved

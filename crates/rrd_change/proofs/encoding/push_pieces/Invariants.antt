@@ -1,7 +1,4 @@
-use Rattle.std.proofs.Common.{◌≡◌, ◌++◌, length, take}
-use Rattle.std.specs.List.{flat_map}
-use Rattle.rrd_change.specs.Changes.{piece_bytes}
-use Rattle.rrd_change.specs.Spans.{AreSpans, pieces_of}
+use Rattle.rrd_change.proofs.Common.{◌≡◌, ◌++◌, length, take, flat_map, piece_bytes, AreSpans, pieces_of}
 use Rattle.rrd_change.proofs.encoding.push_pieces.Given as goal
 
 abbrev pub invariant-loop-number : goal.invariant-loop-number

@@ -1,6 +1,4 @@
-use Rattle.std.proofs.Common.{◌+◌, length, refl, arith}
-use Rattle.rrd_change.specs.declared.log.Log.{Log}
-use Rattle.rrd_change.proofs.Laid.{all_laid_over, head_at, head_laid, none_at}
+use Rattle.rrd_change.proofs.Common.{◌+◌, length, refl, arith, Log, all_laid_over, head_at, head_laid, none_at}
 use Rattle.rrd_change.proofs.finding.lay_log.Goals as goal
 
 pub lay_change-requires-clause-few : goal.lay_change-requires-clause-few

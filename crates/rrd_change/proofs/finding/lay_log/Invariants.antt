@@ -1,5 +1,4 @@
-use Rattle.std.proofs.Common.{◌-◌, length}
-use Rattle.rrd_change.proofs.Laid.{IsPartRead}
+use Rattle.rrd_change.proofs.Common.{◌-◌, length, IsPartRead}
 use Rattle.rrd_change.proofs.finding.lay_log.Given as goal
 
 abbrev pub invariant-loop-head : goal.invariant-loop-head

@@ -1,6 +1,4 @@
-use Rattle.std.proofs.Common.{◌≡◌, sym, ◌∙◌, ap}
-use Rattle.rrd_change.specs.Bytes.{begins_with}
-use Rattle.rrd_change.specs.Settled.{log_mark, spelled_tail}
+use Rattle.rrd_change.proofs.Common.{◌≡◌, sym, ◌∙◌, ap, begins_with, log_mark, spelled_tail}
 use Rattle.rrd_change.proofs.finding.log_offset.Goals as goal
 
 pub returns-then-starts_with : goal.returns-then-starts_with

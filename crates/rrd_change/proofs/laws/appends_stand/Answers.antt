@@ -1,7 +1,4 @@
-use Rattle.rrd_change.specs.Repairs.{Torn}
-use Rattle.rrd_change.proofs.Holding.{does_as}
-use Rattle.rrd_change.proofs.Outcomes.{broken_stand, log_stand}
-use Rattle.rrd_change.proofs.Stopping.{stopped_broken}
+use Rattle.rrd_change.proofs.Common.{Torn, does_as, broken_stand, log_stand, stopped_broken}
 use Rattle.rrd_change.proofs.laws.appends_stand.Goals as goal
 
 pub returns : goal.returns

@@ -1,6 +1,4 @@
-use Rattle.rrd_change.proofs.Holding.{does_as}
-use Rattle.rrd_change.proofs.Outcomes.{either_stand, rest_stands}
-use Rattle.rrd_change.proofs.Stopping.{stopped_either}
+use Rattle.rrd_change.proofs.Common.{does_as, either_stand, rest_stands, stopped_either}
 use Rattle.rrd_change.proofs.laws.changes_stand.Goals as goal
 
 pub returns : goal.returns

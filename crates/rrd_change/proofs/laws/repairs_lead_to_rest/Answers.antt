@@ -1,18 +1,5 @@
-use Rattle.std.proofs.Common.{◌≡◌, ℕ, List, ap, subst, sym, ◌∙◌}
-use Rattle.rrd_change.specs.Found.{database_of}
-use Rattle.rrd_change.specs.Marks.{IsMarkOf}
-use Rattle.rrd_change.specs.Outcomes.{IsWhole}
-use Rattle.rrd_change.specs.Repairs.{IsFound, IsLeft, LogEnd}
-use Rattle.rrd_change.specs.Settled.{settled}
-use Rattle.rrd_change.specs.Views.{World}
-use Rattle.rrd_change.proofs.Holding.{does_as}
-use Rattle.rrd_change.proofs.Outcomes.{stands}
-use Rattle.rrd_change.proofs.Stepping.{failed, nothing}
-use Rattle.rrd_change.proofs.Stopping.{left_held}
+use Rattle.rrd_change.proofs.Common.{◌≡◌, ℕ, List, ap, subst, sym, ◌∙◌, database_of, IsMarkOf, IsWhole, IsFound, IsLeft, LogEnd, settled, World, does_as, stands, left_held}
 use Rattle.rrd_change.proofs.laws.repairs_lead_to_rest.Goals as goal
-
-pub returns-in_err-found : goal.returns-in_err-found
-returns-in_err-found g c = failed _ _ c.from_residual.result _ _ c.from_residual.ensures.0 (nothing _ _ (λ w end other now whole held left. left))
 
 pub returns : goal.returns
 returns g c =
@@ -22,8 +9,7 @@ returns g c =
     let is : (end : LogEnd) (other now : List ℕ) (w : World) → IsWhole end_of now → w.held ≡ bytes → IsLeft end other now w → database_of found ≡ now = λ end other now w whole held left.
     c.in_ok-found.ensures.database ∙ ap (λ xs. settled end_of xs) (sym held) ∙ stands end_of now w.held whole (left_held end other now w left) in
     let is_found : (end : LogEnd) (other now : List ℕ) (w : World) → IsWhole end_of now → w.held ≡ bytes → IsLeft end other now w → IsFound end other now found.mark w = λ end other now w whole held left.
-    let P : List ℕ → Type 0 = λ xs. IsMarkOf found.mark xs in
-    record { is = whole.is; mark_is = subst P (sym held) c.in_ok-found.ensures.mark; left = left } in
+    record { is = whole.is; mark_is = subst (IsMarkOf found.mark) (sym held) c.in_ok-found.ensures.mark; left = left } in
     does_as _ _ _ _ c.repair.result _ _
     (λ x u v s end other now whole held left. s end other now (is end other now u whole held left) (is_found end other now u whole held left))
     (λ u v s end other now whole held left. s end other now (is end other now u whole held left) (is_found end other now u whole held left)) c.repair.ensures

@@ -1,8 +1,4 @@
-use Rattle.rrd_change.specs.Repairs.{Whole}
-use Rattle.rrd_change.proofs.Holding.{does_as}
-use Rattle.rrd_change.proofs.Outcomes.{all_stand, broken_stand, rest_stands, stands}
-use Rattle.rrd_change.proofs.Restoring.{alone_found}
-use Rattle.rrd_change.proofs.Stopping.{left_held, left_one, left_told}
+use Rattle.rrd_change.proofs.Common.{Whole, does_as, all_stand, broken_stand, rest_stands, stands, alone_found, left_held, left_one, left_told}
 use Rattle.rrd_change.proofs.laws.repairs_stand.Goals as goal
 
 pub returns : goal.returns

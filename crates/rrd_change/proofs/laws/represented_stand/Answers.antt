@@ -1,4 +1,4 @@
-use Rattle.rrd_change.proofs.Outcomes.{stands}
+use Rattle.rrd_change.proofs.Common.{stands}
 use Rattle.rrd_change.proofs.laws.represented_stand.Goals as goal
 
 pub returns : goal.returns

@@ -1,25 +1,18 @@
-use Rattle.std.proofs.Common.{rules, arith, ◌≡◌, ◌≤◌, ◌++◌, List, [], ◌∷◌, length, ◌∙◌, ap, max, refl, inl, inr}
-use Rattle.rrd_change.specs.Spans.{AreSpans, change_of}
-use Rattle.rrd_change.specs.States.{IsDatabase}
-use Rattle.rrd_change.specs.declared.log.Log.{Log}
-use Rattle.rrd_change.specs.declared.span.Span.{Span}
-use Rattle.rrd_change.proofs.Beginning.{fill_first, first_made, follows_first, leads_first}
-use Rattle.rrd_change.proofs.Stepping.{failed, nothing, steps_as}
-use Rattle.rrd_change.proofs.Stopping.{marked_left}
+use Rattle.rrd_change.proofs.Common.{rules, arith, ◌≡◌, ◌≤◌, ◌++◌, List, [], ◌∷◌, length, ◌∙◌, ap, max, refl, inl, inr, AreSpans, change_of, IsDatabase, Log, Span, fill_first, first_made, follows_first, leads_first, failed, nothing, steps_as, marked_left}
 use Rattle.rrd_change.proofs.log.begin.Goals as goal
 
 pub returns-then-not-is_database-clause-does : goal.returns-then-not-is_database-clause-does
-returns-then-not-is_database-clause-does g c = nothing _ _ (λ w old began agrees marked. inl (inr (inl (marked_left c.args.new.now old w marked))))
+returns-then-not-is_database-clause-does g c = nothing _ _ (λ w end old began agrees marked. inl (inr (inl (marked_left c.args.new.now old w marked))))
 
 pub returns-in_default-clause-does : goal.returns-in_default-clause-does
-returns-in_default-clause-does g c = nothing _ _ (λ w old began agrees marked. inl (inr (inl (marked_left c.args.new.now old w marked))))
+returns-in_default-clause-does g c = nothing _ _ (λ w end old began agrees marked. inl (inr (inl (marked_left c.args.new.now old w marked))))
 
 pub returns-in_err-bytes-clause-does : goal.returns-in_err-bytes-clause-does
-returns-in_err-bytes-clause-does g c = failed _ _ c.from_residual.result _ _ c.from_residual.ensures.0 (nothing _ _ (λ w old began agrees marked. inl (inr (inl (marked_left c.args.new.now old w marked)))))
+returns-in_err-bytes-clause-does g c = failed _ _ c.from_residual.result _ _ c.from_residual.ensures.0 (nothing _ _ (λ w end old began agrees marked. inl (inr (inl (marked_left c.args.new.now old w marked)))))
 
 pub returns-in_err-extend_from_slice-clause-does : goal.returns-in_err-extend_from_slice-clause-does
 returns-in_err-extend_from_slice-clause-does g c =
-    failed _ _ c.from_residual-in_err-extend_from_slice.result _ _ c.from_residual-in_err-extend_from_slice.ensures.0 (nothing _ _ (λ w old began agrees marked. inl (inr (inl (marked_left c.args.new.now old w marked)))))
+    failed _ _ c.from_residual-in_err-extend_from_slice.result _ _ c.from_residual-in_err-extend_from_slice.ensures.0 (nothing _ _ (λ w end old began agrees marked. inl (inr (inl (marked_left c.args.new.now old w marked)))))
 
 pub returns-in_err-end-clause-does : goal.returns-in_err-end-clause-does
 returns-in_err-end-clause-does g c =
@@ -29,8 +22,8 @@ returns-in_err-end-clause-does g c =
     let are : AreSpans (length new) changed = c.in_ok-bytes.ensures.within in
     let behind : max c.args.base.now.length (length new) ≤ c.in-Some.tail = omega (arith, c.max.ensures, c.in-Some.ensures) in
     failed _ _ c.from_residual-in_err-end.result _ _ c.from_residual-in_err-end.ensures.0
-    (steps_as _ _ _ _ (λ u v s old began agrees marked.
-    s old new (change_of (length new) new changed) (first_made c.args.base.now old new changed c.in-Some.tail _ began is are behind (c.deref.ensures.value ∙ c.in_ok-bytes.ensures.ok))
+    (steps_as _ _ _ _ (λ u v s end old began agrees marked.
+    s end old new (change_of (length new) new changed) (first_made c.args.base.now old new changed c.in-Some.tail _ began is are behind (c.deref.ensures.value ∙ c.in_ok-bytes.ensures.ok))
     (leads_first old new changed are agrees) (fill_first old new changed are agrees) marked) c.in_err-end.ensures.does)
 
 pub returns-clause-does : goal.returns-clause-does

@@ -1,5 +1,4 @@
-use Rattle.rrd_change.proofs.Holding.{does_as}
-use Rattle.rrd_change.proofs.Marking.{marked, not_marked}
+use Rattle.rrd_change.proofs.Common.{does_as, marked, not_marked}
 use Rattle.rrd_change.proofs.log.mark.Goals as goal
 
 pub returns : goal.returns

@@ -1,22 +1,6 @@
-use Rattle.std.proofs.Common.{◌≡◌, ◌≤◌, ◌<◌, ◌-◌, List, [], ◌∷◌, ◌++◌, length, take, drop, get_or, arith, sym, subst}
-use Rattle.std.proofs.lemmas.List.{take_all}
-use Rattle.rrd_change.specs.Calls.{AreAny, ArePut, IsCut}
-use Rattle.rrd_change.specs.States.{AreAnyIn, ArePutIn}
-use Rattle.rrd_change.specs.Views.{Moves, Steps, seen}
-use Rattle.rrd_change.specs.declared.span.Span.{Span}
-use Rattle.rrd_change.proofs.Pieces.{spans_more}
-use Rattle.rrd_change.proofs.Placing.{any_in_then, any_none, first_any, in_part, put_any_in, put_in_more, put_in_none, put_none}
-use Rattle.rrd_change.proofs.Stepping.{failed, moves_as, moves_fail, moves_then, nothing, steps_as, steps_then, then_sync}
-use Rattle.rrd_change.proofs.log.place.Goals as goal
+use Rattle.rrd_change.proofs.Common.{◌≡◌, ◌≤◌, ◌<◌, ◌-◌, List, [], ◌∷◌, ◌++◌, length, take, drop, get_or, arith, sym, subst, take_all, AreAny, ArePut, IsCut, AreAnyIn, ArePutIn, Moves, Steps, seen, Span, spans_more, any_in_then, first_any, in_part, put_any_in, put_in_more, put_in_none, failed, moves_as, moves_fail, moves_then, steps_as, steps_then, then_sync}
 use Rattle.rrd_change.proofs.log.place.Goals.{then-start-end+in_ok-write_all, else-start-end}
-
-pub loop-number-init : goal.loop-number-init
-loop-number-init g c =
-    nothing _ _ (λ w. record {
-      held = put_none c.args.new.now w.held;
-      leave = λ z left. (z, left, any_none c.args.spans.now c.args.new.now z);
-      keep = λ z kept. (z, kept, put_none c.args.new.now z);
-    })
+use Rattle.rrd_change.proofs.log.place.Goals as goal
 
 pub returns-in_err-write_all : goal.returns-in_err-write_all
 returns-in_err-write_all g c =

@@ -1,6 +1,4 @@
-use Rattle.std.proofs.Common.{take}
-use Rattle.rrd_change.specs.States.{AreAnyIn, ArePutIn}
-use Rattle.rrd_change.specs.Views.{Moves, Steps, seen}
+use Rattle.rrd_change.proofs.Common.{take, AreAnyIn, ArePutIn, Moves, Steps, seen}
 use Rattle.rrd_change.proofs.log.place.Given as goal
 
 abbrev pub invariant-loop-number : goal.invariant-loop-number

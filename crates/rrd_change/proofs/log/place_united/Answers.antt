@@ -1,7 +1,4 @@
-use Rattle.std.proofs.Common.{List, subst, sym}
-use Rattle.rrd_change.specs.declared.span.Span.{Span}
-use Rattle.rrd_change.proofs.Holding.{does_as}
-use Rattle.rrd_change.proofs.Joining.{AreSame, fails_in_same, stores_in_same}
+use Rattle.rrd_change.proofs.Common.{List, subst, sym, Span, does_as, AreSame, fails_in_same, stores_in_same}
 use Rattle.rrd_change.proofs.log.place_united.Goals as goal
 
 pub returns-in-Ok : goal.returns-in-Ok

@@ -1,8 +1,5 @@
-use Rattle.rrd_change.specs.Calls.{ArePut, AreWholeOrNot, IsTorn}
-use Rattle.rrd_change.specs.Settled.{database_mark}
-use Rattle.rrd_change.proofs.Holding.{does_as}
-use Rattle.rrd_change.proofs.Marking.{not_unmarked, unmarked}
-use Rattle.rrd_change.proofs.Stepping.{seen_does}
+use Rattle.rrd_change.proofs.Common.{ArePut, AreWholeOrNot, IsTorn, database_mark, does_as, not_unmarked, seen_does}
+use Rattle.rrd_change.proofs.Marking.{unmarked}
 use Rattle.rrd_change.proofs.log.unmark.Goals as goal
 
 pub returns : goal.returns

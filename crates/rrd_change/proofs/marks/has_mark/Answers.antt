@@ -1,7 +1,4 @@
-use Rattle.std.proofs.Common.{◌≡◌, ◌↔◌, Bool, true, false, IsSome, IsTrue, sym, ◌∙◌, subst}
-use Rattle.rrd_change.specs.Bytes.{begins_with}
-use Rattle.rrd_change.specs.Settled.{cut_mark, mark_of}
-use Rattle.rrd_change.proofs.Marked.{by_cut, log_or_none}
+use Rattle.rrd_change.proofs.Common.{◌≡◌, ◌↔◌, Bool, true, false, IsSome, IsTrue, sym, ◌∙◌, subst, begins_with, cut_mark, mark_of, by_cut, log_or_none}
 use Rattle.rrd_change.proofs.marks.has_mark.Goals as goal
 
 pub returns-then-starts_with : goal.returns-then-starts_with

@@ -1,25 +1,18 @@
-use Rattle.std.proofs.Common.{◌≡◌, ℕ, List, inr, subst, sym, ◌∙◌}
-use Rattle.rrd_change.specs.Changes.{changes_in, laid_over}
-use Rattle.rrd_change.specs.Repairs.{IsLeft, Whole}
-use Rattle.rrd_change.specs.States.{IsLogOf, IsMarked}
-use Rattle.rrd_change.specs.Views.{Reads, Stays, World}
-use Rattle.rrd_change.proofs.Outgrown.{read_now, seen_reads, seen_stays, stays_log}
-use Rattle.rrd_change.proofs.Stepping.{does_then, failed, steps_as}
-use Rattle.rrd_change.proofs.Stopping.{log_left}
+use Rattle.rrd_change.proofs.Common.{◌≡◌, ℕ, List, inr, subst, sym, ◌∙◌, changes_in, laid_over, IsLeft, IsLogOf, IsMarked, Reads, Stays, World, read_now, seen_reads, seen_stays, stays_log, does_then, failed, steps_as, log_left}
 use Rattle.rrd_change.proofs.opened.make_room.Goals as goal
 
 pub returns-in_err-read : goal.returns-in_err-read
 returns-in_err-read g c =
     let log = c.args.log.now in
     failed _ _ c.from_residual.result _ _ c.from_residual.ensures.0
-    (steps_as Stays _ _ _ (λ u v s now is. inr (inr (log_left Whole now now log v (stays_log now log u v s is)))) (seen_stays c.args.syncs _ _ c.in_err-read.ensures))
+    (steps_as Stays _ _ _ (λ u v s end other now is. inr (inr (log_left end other now log v (stays_log now log u v s is)))) (seen_stays c.args.syncs _ _ c.in_err-read.ensures))
 
 pub returns-in_err-found : goal.returns-in_err-found
 returns-in_err-found g c =
     let log = c.args.log.now in
     let bytes = c.read.new.into.items in
     failed _ _ c.from_residual-in_err-found.result _ _ c.from_residual-in_err-found.ensures.0
-    (steps_as (Reads 0 log.end bytes) _ _ _ (λ u v r now is. inr (inr (log_left Whole now now log v (stays_log now log u v r.0 is)))) (seen_reads c.args.syncs 0 log.end bytes _ _ c.in_ok-read.ensures))
+    (steps_as (Reads 0 log.end bytes) _ _ _ (λ u v r end other now is. inr (inr (log_left end other now log v (stays_log now log u v r.0 is)))) (seen_reads c.args.syncs 0 log.end bytes _ _ c.in_ok-read.ensures))
 
 pub returns : goal.returns
 returns g c =
@@ -28,9 +21,8 @@ returns g c =
     let database = c.database.result.now in
     let laid : database ≡ laid_over (changes_in log.tail bytes) bytes = c.database.ensures ∙ c.in_ok-found.ensures.database in
     let is_log : (now : List ℕ) (u v : World) → Reads 0 log.end bytes u v → IsLogOf now log u → IsLogOf database log v = λ now u v r is.
-    let P : List ℕ → Type 0 = λ xs. IsLogOf xs log v in
-    subst P (sym (read_now now log bytes database u v r is laid)) (stays_log now log u v r.0 is) in
+    subst (λ (xs : List ℕ). IsLogOf xs log v) (sym (read_now now log bytes database u v r is laid)) (stays_log now log u v r.0 is) in
     does_then (Reads 0 log.end bytes) _ _ _ _ c.settle.result _ _ _
     (λ x u v w r s now is. let P : List ℕ → Type 0 = λ xs. IsMarked xs w in subst P (read_now now log bytes database u v r is laid) (s (is_log now u v r is)))
-    (λ u v w r s now is. let P : List ℕ → Type 0 = λ xs. IsLeft Whole xs xs w in subst P (read_now now log bytes database u v r is laid) (s (is_log now u v r is)))
+    (λ u v w r s end other now is. let P : List ℕ → Type 0 = λ xs. IsLeft end other xs w in subst P (read_now now log bytes database u v r is laid) (s end other (is_log now u v r is)))
     (seen_reads c.args.syncs 0 log.end bytes _ _ c.in_ok-read.ensures) c.settle.ensures

@@ -1,7 +1,4 @@
-use Rattle.std.specs.Prelude.{length}
-use Rattle.rrd_change.specs.Calls.{AreAny, ArePut, AreWholeOrNot}
-use Rattle.rrd_change.proofs.Holding.{does_as}
-use Rattle.rrd_change.proofs.Paging.{never_does, page_failed, page_put}
+use Rattle.rrd_change.proofs.Common.{length, AreAny, ArePut, AreWholeOrNot, does_as, never_does, page_failed, page_put}
 use Rattle.rrd_change.proofs.page.replace_page.Goals as goal
 
 pub returns : goal.returns

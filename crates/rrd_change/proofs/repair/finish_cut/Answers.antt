@@ -1,18 +1,5 @@
-use Rattle.std.proofs.Common.{rules, ◌≡◌, ℕ, List, length, subst, inl, inr}
-use Rattle.rrd_change.specs.Calls.{ArePut, AreWholeOrNot, IsSized, IsSizedOrNot, IsTorn}
-use Rattle.rrd_change.specs.Laws.{IsUnderCut}
-use Rattle.rrd_change.specs.Repairs.{IsUncut, Whole}
-use Rattle.rrd_change.specs.States.{IsDatabase, IsMarked, cut_of}
-use Rattle.rrd_change.specs.Views.{All, Effect, Fails, Steps, Stores, seen}
-use Rattle.rrd_change.proofs.Holding.{fails_all, stores_all}
-use Rattle.rrd_change.proofs.Loose.{front_failed, front_stored, front_under, plain_uncut, under_uncut}
-use Rattle.rrd_change.proofs.Settling.{cut_front_of, cut_sized, sized_stands}
-use Rattle.rrd_change.proofs.Stepping.{does_then, failed, nothing, steps_as, steps_then}
-use Rattle.rrd_change.proofs.Stopping.{plain_left, under_left}
+use Rattle.rrd_change.proofs.Common.{rules, ◌≡◌, ℕ, List, length, subst, inl, inr, ArePut, AreWholeOrNot, IsSized, IsSizedOrNot, IsTorn, IsUnderCut, IsUncut, IsDatabase, IsMarked, cut_of, All, Effect, Fails, Steps, Stores, seen, fails_all, stores_all, front_failed, front_stored, front_under, plain_uncut, under_uncut, cut_front_of, cut_sized, sized_stands, does_then, failed, steps_as, steps_then, plain_left, under_left}
 use Rattle.rrd_change.proofs.repair.finish_cut.Goals as goal
-
-pub returns-then-not-is_database : goal.returns-then-not-is_database
-returns-then-not-is_database g c = record { uncut = nothing _ _ (λ w other h. h); left = nothing _ _ (λ w other h. inr (inl h)) }
 
 pub returns-in_err-mark_and_sync : goal.returns-in_err-mark_and_sync
 returns-in_err-mark_and_sync g c =
@@ -22,10 +9,9 @@ returns-in_err-mark_and_sync g c =
     let fails = subst Q c.cut_front.ensures c.in_err-mark_and_sync.ensures in
     let front = cut_front_of new in
     record {
-      uncut = failed _ _ c.from_residual.result _ _ c.from_residual.ensures.0
-          (steps_as (Fails (AreWholeOrNot 0 front) (IsTorn 0 front)) _ _ _ (λ u v f other h. front_failed other new u v f h) fails);
+      uncut = search (rules, failed, steps_as, front_failed);
       left = failed _ _ c.from_residual.result _ _ c.from_residual.ensures.0
-          (steps_as (Fails (AreWholeOrNot 0 front) (IsTorn 0 front)) _ _ _ (λ u v f other h. inr (inl (front_under other new u v f h))) fails);
+          (steps_as (Fails (AreWholeOrNot 0 front) (IsTorn 0 front)) _ _ _ (λ u v f end other h. inr (inl (front_under other new u v f h))) fails);
     }
 
 pub returns-in_err-resize_and_sync : goal.returns-in_err-resize_and_sync
@@ -43,7 +29,7 @@ returns-in_err-resize_and_sync g c =
       uncut = failed _ _ c.from_residual-in_err-resize_and_sync.result _ _ c.from_residual-in_err-resize_and_sync.ensures.0
           (steps_as Under _ _ _ (λ u w s other h. under_uncut other new w h.is (s other h)) under);
       left = failed _ _ c.from_residual-in_err-resize_and_sync.result _ _ c.from_residual-in_err-resize_and_sync.ensures.0
-          (steps_as Under _ _ _ (λ u w s other h. inr (inl (under_left other new w h.uncut.is (s other h.uncut)))) under);
+          (steps_as Under _ _ _ (λ u w s end other h. inr (inl (under_left other new w h.uncut.is (s other h.uncut)))) under);
     }
 
 pub returns : goal.returns
@@ -58,8 +44,7 @@ returns g c =
     record { is = is_new; world = stores_all (IsUnderCut new) (λ y. y ≡ cut_of new) (IsSized (length new)) v w (λ y z under sized. cut_sized new y z is_new under sized) f (front_stored other new u v s h) })
     (subst Q c.cut_front.ensures c.in_ok-mark_and_sync.ensures) c.in_ok-resize_and_sync.ensures in
     record {
-      uncut = does_then Cut _ _ _ _ c.unmark.result _ _ _ (λ x u v w cut m other h. m new (cut other h)) (λ u v w cut m other h. plain_uncut other new w is_new (m new (cut other h)))
-          cut c.unmark.ensures;
-      left = does_then Cut _ _ _ _ c.unmark.result _ _ _ (λ x u v w cut m. tt) (λ u v w cut m other h. plain_left Whole other new w is_new (m new (cut other h.uncut)))
+      uncut = search (rules, does_then, plain_uncut);
+      left = does_then Cut _ _ _ _ c.unmark.result _ _ _ (λ x u v w cut m. tt) (λ u v w cut m end other h. plain_left end other new w is_new (m new (cut other h.uncut)))
           cut c.unmark.ensures;
     }

@@ -1,20 +1,11 @@
-use Rattle.std.proofs.Common.{ℕ, List, inr, refl}
-use Rattle.rrd_change.specs.Repairs.{IsLogFound, LogEnd}
-use Rattle.rrd_change.specs.States.{IsMarked}
-use Rattle.rrd_change.specs.Views.{Effect}
-use Rattle.rrd_change.proofs.Stepping.{does_then, failed, steps_as, steps_then}
-use Rattle.rrd_change.proofs.Stopping.{left_as, plain_left}
+use Rattle.rrd_change.proofs.Common.{ℕ, List, IsLogFound, LogEnd, IsMarked, Effect, does_then, failed, steps_then, plain_left}
 use Rattle.rrd_change.proofs.repair.finish_log.Goals as goal
-
-pub returns-in_err-restore : goal.returns-in_err-restore
-returns-in_err-restore g c =
-    failed _ _ c.from_residual.result _ _ c.from_residual.ensures.0 (steps_as _ _ _ _ (λ u v s end other h. inr (inr (s end other c.args.new.now h))) c.in_err-restore.ensures)
 
 pub returns-in_err-settle : goal.returns-in_err-settle
 returns-in_err-settle g c =
     let new = c.args.new.now in
     failed _ _ c.from_residual-in_err-settle.result _ _ c.from_residual-in_err-settle.ensures.0
-    (steps_then _ _ _ _ _ _ (λ u v w r s end other h. left_as end new other new w (inr refl) (s (r end other new h))) c.in_ok-restore.ensures c.in_err-settle.ensures)
+    (steps_then _ _ _ _ _ _ (λ u v w r s end other h. s end other (r end other new h)) c.in_ok-restore.ensures c.in_err-settle.ensures)
 
 pub returns : goal.returns
 returns g c =

@@ -1,8 +1,4 @@
-use Rattle.std.proofs.Common.{rules, ℕ, List, subst, max}
-use Rattle.rrd_change.specs.Calls.{ArePut, AreWholeOrNot, IsSized, IsSizedOrNot, IsTorn}
-use Rattle.rrd_change.specs.Views.{Does, Fails, FailsToRestore, Stores, StoresAgain, seen}
-use Rattle.rrd_change.proofs.Restoring.{Cuts, Leaves, Rewrites, cut_is_log, cut_leaves, cuts, mark_leaves, marks_again, rewrite_leaves, rewrites}
-use Rattle.rrd_change.proofs.Stepping.{does_then, failed, never_steps, steps_as, steps_then}
+use Rattle.rrd_change.proofs.Common.{rules, ℕ, List, subst, max, ArePut, AreWholeOrNot, IsSized, IsSizedOrNot, IsTorn, Does, Fails, FailsToRestore, Stores, StoresAgain, seen, Cuts, Leaves, Rewrites, cut_is_log, cut_leaves, cuts, mark_leaves, marks_again, rewrite_leaves, rewrites, does_then, failed, never_steps, steps_as, steps_then}
 use Rattle.rrd_change.proofs.repair.restore.Goals as goal
 
 pub returns-in_err-resize_and_sync : goal.returns-in_err-resize_and_sync

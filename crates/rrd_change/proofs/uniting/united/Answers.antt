@@ -1,23 +1,6 @@
-use Rattle.std.proofs.Common.{◌≡◌, ◌<◌, ◌+◌, ◌++◌, ◌∷◌, [], ◌∙◌, ap, ℕ, List, arith, inl, inr, length, subst, sym, take}
-use Rattle.std.specs.Prelude.{IsPermutation}
-use Rattle.std.proofs.lemmas.List.{take_all}
-use Rattle.rrd_change.specs.Spans.{IsIn}
-use Rattle.rrd_change.specs.declared.span.Span.{Span}
-use Rattle.rrd_change.proofs.Joining.{grown_in, in_grown, in_more, in_permuted, in_permuted_back}
-use Rattle.rrd_change.proofs.Pieces.{spans_more}
-use Rattle.rrd_change.proofs.uniting.united.Goals as goal
+use Rattle.rrd_change.proofs.Common.{◌≡◌, ◌<◌, ◌+◌, ◌++◌, ◌∷◌, [], ◌∙◌, ap, ℕ, List, arith, length, subst, sym, take, IsPermutation, take_all, IsIn, Span, grown_in, in_grown, in_more, in_permuted, in_permuted_back, spans_more}
 use Rattle.rrd_change.proofs.uniting.united.Goals.{then-last-next+then-next-last, else-last-next+in_ok-push}
-
-pub loop-number-init : goal.loop-number-init
-loop-number-init c =
-    let P : List Span → Type 0 = λ xs. (k : ℕ) → IsIn k (xs ++ record { start = 0; end = 0 } ∷ []) → IsIn k [] in
-    record {
-      each = λ k h. absurd h;
-      only = subst P (sym c.new-all.ensures.items) (λ k h. elim h [
-        | inl is ↦ absurd (omega (arith, is.1))
-        | inr none ↦ none
-      ]);
-    }
+use Rattle.rrd_change.proofs.uniting.united.Goals as goal
 
 pub loop-number-preserved : goal.loop-number-preserved
 loop-number-preserved c =
@@ -30,11 +13,9 @@ loop-number-preserved c =
     let more : take (n + 1) sorted ≡ take n sorted ++ next ∷ [] = spans_more sorted n next low ∙ ap (λ (s : Span). take n sorted ++ s ∷ []) (sym c.index-next.ensures) in
     let was : List Span = all ++ last ∷ [] in
     let each : (k : ℕ) → IsIn k (take (n + 1) sorted) → IsIn k (was ++ next ∷ []) = λ k h.
-    let P : List Span → Type 0 = λ xs. IsIn k xs in
-    in_more k (take n sorted) was next (c.loop-number.invariant.each k) (subst P more h) in
+    in_more k (take n sorted) was next (c.loop-number.invariant.each k) (subst (IsIn k) more h) in
     let only : (k : ℕ) → IsIn k (was ++ next ∷ []) → IsIn k (take (n + 1) sorted) = λ k h.
-    let P : List Span → Type 0 = λ xs. IsIn k xs in
-    subst P (sym more) (in_more k was (take n sorted) next (c.loop-number.invariant.only k) h) in
+    subst (IsIn k) (sym more) (in_more k was (take n sorted) next (c.loop-number.invariant.only k) h) in
     let Q : List Span → Type 0 = λ xs. (k : ℕ) → IsIn k (take (n + 1) sorted) → IsIn k xs in
     let R : List Span → Type 0 = λ xs. (k : ℕ) → IsIn k xs → IsIn k (take (n + 1) sorted) in
     elim c.if-last-next.branch [

@@ -1,5 +1,4 @@
-use Rattle.std.proofs.Common.{ℕ, [], ◌∷◌, ◌++◌, take}
-use Rattle.rrd_change.specs.Spans.{IsIn}
+use Rattle.rrd_change.proofs.Common.{ℕ, [], ◌∷◌, ◌++◌, take, IsIn}
 use Rattle.rrd_change.proofs.uniting.united.Given as goal
 
 abbrev pub invariant-loop-number : goal.invariant-loop-number

@@ -1,5 +1,4 @@
-use Rattle.std.proofs.Common.{◌-◌, ◌≤◌, max}
-use Rattle.rrd_change.specs.Views.{Restores, Steps, seen}
+use Rattle.rrd_change.proofs.Common.{◌-◌, ◌≤◌, max, Restores, Steps, seen}
 use Rattle.rrd_change.proofs.writing.rewrite_and_sync.Given as goal
 
 abbrev pub invariant-loop-at : goal.invariant-loop-at

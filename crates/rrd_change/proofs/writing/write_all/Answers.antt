@@ -1,9 +1,4 @@
-use Rattle.std.proofs.Common.{◌+◌, ◌-◌, ◌≤◌, ◌≡◌, ℕ, List, length, drop, take, arith, length-drop, length-take, subst}
-use Rattle.std.proofs.lemmas.List.{take_all}
-use Rattle.rrd_change.specs.Calls.{AreAny, IsCut, IsFrontPut}
-use Rattle.rrd_change.specs.Views.{FailsToWrite, Moves, Steps, Writes, seen}
-use Rattle.rrd_change.proofs.Resumed.{any_in, any_then, cut_then, front_then}
-use Rattle.rrd_change.proofs.Stepping.{failed, moves_then, seen_moves, steps_then}
+use Rattle.rrd_change.proofs.Common.{◌+◌, ◌-◌, ◌≤◌, ◌≡◌, ℕ, List, length, drop, take, arith, length-drop, length-take, subst, take_all, AreAny, IsCut, IsFrontPut, FailsToWrite, Moves, Steps, Writes, seen, any_in, any_then, cut_then, front_then, failed, moves_then, seen_moves, steps_then}
 use Rattle.rrd_change.proofs.writing.write_all.Goals as goal
 
 pub returns-in_err-count : goal.returns-in_err-count
@@ -26,14 +21,6 @@ returns-in_err-count g c =
     (λ x y z p q. any_then at (length bytes) x y z p (any_in at (length bytes) done (length (drop done bytes)) y z (omega (arith, size, few)) q)) u v w m n)
     c.loop-done.invariant.moves
     (seen_moves syncs (IsCut (at + done) (drop done bytes)) (AreAny (at + done) (length (drop done bytes))) mid new (subst P rest c.in_err-count.ensures.does)))
-
-pub overflow_add-done : goal.overflow_add-done
-overflow_add-done g c =
-    let bytes = c.args.bytes.now in
-    let done = c.loop-done.done in
-    let few : done ≤ length bytes = c.loop-done.invariant.few in
-    let more : c.in_ok-count.count ≤ length (take (length bytes - done) (drop done bytes)) = c.in_ok-count.ensures.few in
-    omega (arith, more, few, c.requires.fits, length-take (length bytes - done) (drop done bytes))
 
 pub loop-done-preserved : goal.loop-done-preserved
 loop-done-preserved g c =

@@ -1,6 +1,4 @@
-use Rattle.std.proofs.Common.{length, ◌-◌, ◌≤◌}
-use Rattle.rrd_change.specs.Calls.{AreAny, IsFrontPut}
-use Rattle.rrd_change.specs.Views.{Moves, Steps, seen}
+use Rattle.rrd_change.proofs.Common.{length, ◌-◌, ◌≤◌, AreAny, IsFrontPut, Moves, Steps, seen}
 use Rattle.rrd_change.proofs.writing.write_all.Given as goal
 
 abbrev pub invariant-loop-done : goal.invariant-loop-done

@@ -1,8 +1,4 @@
-use Rattle.std.proofs.Common.{length}
-use Rattle.rrd_change.specs.Calls.{AreAny, ArePut, IsCut}
-use Rattle.rrd_change.specs.Views.{seen}
-use Rattle.rrd_change.proofs.Resumed.{put_cut}
-use Rattle.rrd_change.proofs.Stepping.{then_sync}
+use Rattle.rrd_change.proofs.Common.{length, AreAny, ArePut, IsCut, seen, put_cut, then_sync}
 use Rattle.rrd_change.proofs.writing.write_and_sync.Goals as goal
 
 pub returns : goal.returns

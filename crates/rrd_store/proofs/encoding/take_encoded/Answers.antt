@@ -1,5 +1,4 @@
-use Rattle.rrd_spec.specs.Limits.{newest}
-use Rattle.rrd_store.proofs.Encodings.{taken_file, taken_is}
+use Rattle.rrd_store.proofs.Common.{newest, taken_file, taken_is}
 use Rattle.rrd_store.proofs.encoding.take_encoded.Goals as goal
 
 pub returns-in-Some-clause-encoded : goal.returns-in-Some-clause-encoded

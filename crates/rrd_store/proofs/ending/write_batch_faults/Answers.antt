@@ -1,9 +1,4 @@
-use Rattle.std.proofs.lemmas.Result.{err_from_is_err_and}
-use Rattle.rrd_fixed.specs.Writing.{writes_stop, writes_then}
-use Rattle.rrd_store.specs.Ending.{report_if}
-use Rattle.rrd_store.specs.Faults.{report_of}
-use Rattle.rrd_store.specs.declared.faults.TaskFault.TheVariants.{Stream}
-use Rattle.rrd_store.specs.declared.usage.TheConstants.{USAGE}
+use Rattle.rrd_store.proofs.Common.{err_from_is_err_and, writes_stop, writes_then, report_if, report_of, Stream, USAGE}
 use Rattle.rrd_store.proofs.ending.write_batch_faults.Goals as goal
 
 pub returns-in_default : goal.returns-in_default

@@ -1,4 +1,4 @@
-use Rattle.rrd_store.proofs.Kept.{appends_nothing}
+use Rattle.rrd_store.proofs.Common.{appends_nothing}
 use Rattle.rrd_store.proofs.ending.write_if.Goals as goal
 
 pub returns-in-None : goal.returns-in-None

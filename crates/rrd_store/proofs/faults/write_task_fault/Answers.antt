@@ -1,10 +1,4 @@
-use Rattle.std.proofs.Common.{◌≡◌, ◌∙◌, [], List, ℕ, sym, true, if◌then◌else◌}
-use Rattle.std.proofs.lemmas.Result.{err_from_is_err_and}
-use Rattle.rrd_fixed.specs.Written.{Writes}
-use Rattle.rrd_fixed.specs.Writing.{writes_stop, writes_then}
-use Rattle.rrd_tool.specs.Faults.{error_line}
-use Rattle.rrd_store.specs.Faults.{is_usage_error, task_fault_text}
-use Rattle.rrd_store.specs.declared.usage.TheConstants.{USAGE}
+use Rattle.rrd_store.proofs.Common.{◌≡◌, ◌∙◌, [], List, ℕ, sym, true, if◌then◌else◌, err_from_is_err_and, Writes, writes_stop, writes_then, error_line, is_usage_error, task_fault_text, USAGE}
 use Rattle.rrd_store.proofs.faults.write_task_fault.Goals as goal
 
 pub returns-in_err-write_line : goal.returns-in_err-write_line

@@ -1,4 +1,4 @@
-use Rattle.rrd_store.proofs.Damaged.{damaged_stays}
+use Rattle.rrd_store.proofs.Common.{damaged_stays}
 use Rattle.rrd_store.proofs.laws.damaged_files_stay.Goals as goal
 
 pub returns : goal.returns

@@ -1,4 +1,4 @@
-use Rattle.rrd_store.proofs.Standings.{run_computed, runs_computed}
+use Rattle.rrd_store.proofs.Common.{run_computed, runs_computed}
 use Rattle.rrd_store.proofs.laws.runs_follow_specification.Goals as goal
 
 pub returns-clause-all : goal.returns-clause-all

@@ -1,12 +1,5 @@
-use Rattle.std.proofs.Common.{Ok, Err, refl}
-use Rattle.std.proofs.lemmas.Result.{err_from_is_err_and}
-use Rattle.rrd_store.specs.Storages.{Stays}
-use Rattle.rrd_tool.specs.Commands.{effect}
-use Rattle.rrd_tool.specs.Effects.{text_on}
-use Rattle.rrd_store.specs.Encoding.{MayReplace}
-use Rattle.rrd_store.specs.Single.{Ends}
-use Rattle.rrd_store.proofs.Encodings.{before_of, may_lent}
-use Rattle.rrd_store.proofs.Kept.{executes_kept, keeps_same, stays_same}
+use Rattle.rrd_store.proofs.Common.{Option, Some, Ok, Err, refl, subst, err_from_is_err_and, Bytes, Ends, Held, RunsFrom, Stays, effect, keeps_same, stays_same, text_on}
+use Rattle.rrd_store.specs.Sessions.{HasBytes}
 use Rattle.rrd_store.proofs.single.run_file_command.Goals as goal
 
 pub returns-in_err-command-clause-run : goal.returns-in_err-command-clause-run
@@ -24,34 +17,34 @@ returns-in_err-database-clause-run g c s honest sound =
     let out = keeps_same (g.W.Write.contents c.args.out.now) in
     rw (p.1, p.2) (Ok c.in_ok-command.command, c.in_ok-command.ensures, (Err c.in_err-database.field-0.0, c.in_err-database.ensures.fault s honest sound, (refl, storage, out)))
 
-pub returns-clause-sound : goal.returns-clause-sound
-returns-clause-sound g c s honest sound =
-    let before = c.finish.ensures.falls s honest in
-    let mid = g.P.Storage.contents s c.start.new.storage in
-    let had = c.take_encoded-before.ensures.bytes mid (c.in_ok-database.ensures.bytes s before sound) in
-    let may = c.encoded_after-encoding.ensures.may mid had c.take_encoded-before.ensures.file in
-    c.finish.ensures.sound s honest (c.start.ensures.sound s before sound) (may_lent c.encoded_after-encoding.result c.as_ref.result (MayReplace mid) c.as_ref.ensures.value may)
-
-pub returns-clause-run : goal.returns-clause-run
-returns-clause-run g c s honest sound =
-    let started = c.finish.ensures.falls s honest in
-    let mid_sound = c.start.ensures.sound s started sound in
-    let mid_held = g.P.Storage.contents s c.start.new.storage in
-    let had = c.take_encoded-before.ensures.bytes mid_held (c.in_ok-database.ensures.bytes s started sound) in
-    let may = c.encoded_after-encoding.ensures.may mid_held had c.take_encoded-before.ensures.file in
-    let lent = may_lent c.encoded_after-encoding.result c.as_ref.result (MayReplace mid_held) c.as_ref.ensures.value may in
-    let old = g.W.Write.contents c.args.out.now in
-    let mid = g.W.Write.contents c.execute-outcome.new.out in
-    let new = g.W.Write.contents c.finish.new.out in
+pub returns : goal.returns
+returns g c =
+    let command = c.in_ok-command.command in
     let found = c.in_ok-database.field-0.database in
-    let done = executes_kept found c.in_ok-command.command old mid new c.execute-outcome.result c.execute-outcome.ensures.kept c.finish.ensures.out in
-    let before = g.P.Storage.contents s c.args.storage.now in
-    let after = g.P.Storage.contents s c.finish.new.storage in
-    let text = text_on found (effect c.in_ok-command.command) in
-    let ends : Ends c.execute-outcome.result text before after c.finish.result = rw (c.start.ensures.stays s started sound) at (c.finish.ensures.storage s honest mid_sound lent text c.execute-outcome.ensures.says) in
-    (Ok c.in_ok-command.command, c.in_ok-command.ensures, (Ok found, c.in_ok-database.ensures.start s started sound, (c.execute-outcome.result, done, ends)))
-
-pub encoded_after-encoding-requires : goal.encoded_after-encoding-requires
-encoded_after-encoding-requires g c =
-    before_of c.take_encoded-before.result c.reach_of-reach.result c.in_ok-database.field-0.database c.in_ok-command.command (g.W.Write.contents c.args.out.now) (g.W.Write.contents c.execute-outcome.new.out) c.execute-outcome.result
-    c.execute-outcome.ensures.kept c.take_encoded-before.ensures.encoded c.take_encoded-before.ensures.valid c.reach_of-reach.ensures c.updates_keep_newest_rows.ensures
+    let begun = c.start.ensures in
+    let carried = c.carry_out-carried.ensures in
+    let done = c.carry_out-carried.result in
+    let new : Option Held → Option Held = λ s. g.P.Storage.contents s c.carry_out-carried.new.storage in
+    let From : Option Held → Option Held → Type 0 = λ last old. RunsFrom command (Ok found) old last (g.W.Write.contents c.args.out.now) (g.W.Write.contents c.carry_out-carried.new.out) done.end in
+    let had : (s : Option Held) → g.P.Storage.is_honest s c.carry_out-carried.new.storage → g.P.Storage.is_sound s c.args.storage.now → HasBytes (g.P.Storage.contents s c.start.new.storage) c.take_encoded-before.result =
+    λ s honest sound. c.take_encoded-before.ensures.bytes (g.P.Storage.contents s c.start.new.storage) (c.in_ok-database.ensures.bytes s (carried.falls s honest) sound) in
+    record {
+      falls = λ s honest. begun.falls s (carried.falls s honest);
+      sound = λ s honest sound. carried.sound s honest (begun.sound s (carried.falls s honest) sound) (had s honest sound);
+      safe = λ s d q honest sound holds safe.
+          let started = carried.falls s honest in
+          carried.safe s d q honest (begun.sound s started sound) (had s honest sound)
+          (λ b ran. holds b (Ok command, c.in_ok-command.ensures, (Ok found, c.in_ok-database.ensures.start s started sound, subst (From (Some (Bytes b))) (begun.stays s started sound) ran)))
+          (begun.safe s d q started safe);
+      stored = λ s d q r ok honest sound holds stays safe.
+          let started = carried.falls s honest in
+          carried.stored s d q r ok honest (begun.sound s started sound) (had s honest sound)
+          (λ b ran. holds b (Ok command, c.in_ok-command.ensures, (Ok found, c.in_ok-database.ensures.start s started sound, subst (From (Some (Bytes b))) (begun.stays s started sound) ran)))
+          (λ same. begun.safe s d r started (stays (subst (λ (old : Option Held). Stays old (new s)) (begun.stays s started sound) same)))
+          (begun.safe s d q started safe);
+      run = λ s honest sound.
+          let started = carried.falls s honest in
+          let ends : Ends done.outcome (text_on found (effect command)) (g.P.Storage.contents s c.args.storage.now) (new s) done.end =
+          subst (λ (old : Option Held). Ends done.outcome (text_on found (effect command)) old (new s) done.end) (begun.stays s started sound) (carried.ends s honest (begun.sound s started sound) (had s honest sound)) in
+          (Ok command, c.in_ok-command.ensures, (Ok found, c.in_ok-database.ensures.start s started sound, (done.outcome, carried.done, ends)));
+    }

@@ -1,7 +1,4 @@
-use Rattle.std.proofs.Common.{◌≡◌, ℕ, List, subst, sym}
-use Rattle.rrd_spec.specs.Limits.{newest}
-use Rattle.rrd_file.specs.Faults.{IsFile}
-use Rattle.rrd_file.specs.Layout.{layout}
+use Rattle.rrd_store.proofs.Common.{◌≡◌, ℕ, List, subst, sym, newest, IsFile, layout}
 use Rattle.rrd_store.proofs.stored.put.Goals as goal
 
 pub replace-requires : goal.replace-requires

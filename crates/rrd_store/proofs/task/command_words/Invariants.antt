@@ -1,5 +1,4 @@
-use Rattle.std.proofs.Common.{◌≡◌, ◌∷◌, map, take}
-use Rattle.std.specs.String.{string_bytes}
+use Rattle.rrd_store.proofs.Common.{◌≡◌, ◌∷◌, map, take, string_bytes}
 use Rattle.rrd_store.proofs.task.command_words.Given as goal
 
 abbrev pub invariant-loop-word : goal.invariant-loop-word

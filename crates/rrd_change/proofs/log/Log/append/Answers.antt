@@ -1,17 +1,4 @@
-use Rattle.std.proofs.Common.{rules, ◌≡◌, ◌<◌, ◌≤◌, ◌+◌, ◌^◌, ◌++◌, ◌∙◌, ap, ℕ, List, [], ◌∷◌, length, arith, refl, inl, inr}
-use Rattle.rrd_change.specs.Calls.{AreAny, ArePut, IsCut}
-use Rattle.rrd_change.specs.Changes.{change_bytes, change_size}
-use Rattle.rrd_change.specs.Repairs.{Torn}
-use Rattle.rrd_change.specs.Spans.{AreSpans, change_of}
-use Rattle.rrd_change.specs.States.{IsDatabase, IsOpen}
-use Rattle.rrd_change.specs.Views.{Fails, Stores}
-use Rattle.rrd_change.specs.declared.log.Log.{Log}
-use Rattle.rrd_change.proofs.Appending.{append_stopped, count_fits, fill_next, follows_more, next_made, whole_appended}
-use Rattle.rrd_change.proofs.Holding.{stores_all}
-use Rattle.rrd_change.proofs.Reading.{length-change}
-use Rattle.rrd_change.proofs.Spanned.{spans_make}
-use Rattle.rrd_change.proofs.Stepping.{failed, nothing, steps_as}
-use Rattle.rrd_change.proofs.Stopping.{log_left}
+use Rattle.rrd_change.proofs.Common.{rules, ◌≡◌, ◌<◌, ◌≤◌, ◌+◌, ◌^◌, ◌++◌, ◌∙◌, ap, ℕ, List, [], ◌∷◌, length, arith, refl, inl, inr, AreAny, ArePut, IsCut, change_bytes, change_size, Torn, AreSpans, change_of, IsDatabase, Fails, Stores, Log, append_stopped, count_fits, fill_next, follows_more, next_made, whole_appended, stores_all, length-change, spans_make, failed, nothing, steps_as, log_left}
 use Rattle.rrd_change.proofs.log.Log.append.Goals as goal
 
 pub returns-then-not-is_database : goal.returns-then-not-is_database
@@ -20,17 +7,8 @@ returns-then-not-is_database g c = nothing _ _ (λ w now is agrees. inl (inr (in
 pub returns-then-self-new : goal.returns-then-self-new
 returns-then-self-new g c = nothing _ _ (λ w now is agrees. inl (inr (inr (log_left Torn c.args.new.now now c.args.self.now w is))))
 
-pub returns-in_err-push_change : goal.returns-in_err-push_change
-returns-in_err-push_change g c =
-    failed _ _ c.from_residual.result _ _ c.from_residual.ensures.0 (nothing _ _ (λ w now is agrees. inl (inr (inr (log_left Torn c.args.new.now now c.args.self.now w is)))))
-
 pub returns-in_default : goal.returns-in_default
 returns-in_default g c = nothing _ _ (λ w now is agrees. inl (inr (inr (log_left Torn c.args.new.now now c.args.self.now w is))))
-
-pub returns-in_err-extend_from_slice : goal.returns-in_err-extend_from_slice
-returns-in_err-extend_from_slice g c =
-    failed _ _ c.from_residual-in_err-extend_from_slice.result _ _ c.from_residual-in_err-extend_from_slice.ensures.0
-    (nothing _ _ (λ w now is agrees. inl (inr (inr (log_left Torn c.args.new.now now c.args.self.now w is)))))
 
 pub returns-in_err-write_and_sync : goal.returns-in_err-write_and_sync
 returns-in_err-write_and_sync g c =
@@ -75,9 +53,7 @@ returns g c =
       old = is.old;
       changes = is.changes ++ change ∷ [];
       follows = follows_more is.old now new is.changes log next changed is.follows is_new are agrees below refl end (omega (arith, count_fits is.old now is.changes log is.follows, c.in-Some.ensures, c.saturating_add-self.ensures)) c.in_ok-extend_from_slice.ensures.items;
-      world = stores_all (IsOpen is.old log.tail is.changes) (IsOpen is.old log.tail (is.changes ++ change ∷ [])) (ArePut at bytes) u v
-          (λ x y is_open put. whole_appended is.old log.tail is.changes change at bytes x y
-          (next_made is.old now new is.changes log changed bytes is.follows is_new are below spelled is.world.held.logged.log.fits few) is_open put) s is.world;
+      world = search (rules, stores_all, whole_appended, next_made);
     }) c.in_ok-write_and_sync.ensures
 
 pub write_and_sync-requires-clause-some : goal.write_and_sync-requires-clause-some

@@ -1,19 +1,5 @@
-use Rattle.std.proofs.Common.{rules, ◌≡◌, ℕ, List, length, inl, inr, subst}
-use Rattle.rrd_change.specs.Calls.{ArePut, AreWholeOrNot, IsSized, IsSizedOrNot, IsTorn}
-use Rattle.rrd_change.specs.Laws.{IsUnderCut}
-use Rattle.rrd_change.specs.Repairs.{Whole}
-use Rattle.rrd_change.specs.States.{AreAnyIn, ArePutIn, IsDatabase, IsLogOf, IsOpen, cut_of}
-use Rattle.rrd_change.specs.Views.{All, Effect, Fails, Steps, Stores, seen}
-use Rattle.rrd_change.specs.declared.span.Span.{Span}
-use Rattle.rrd_change.proofs.Holding.{fails_all, stores_all}
-use Rattle.rrd_change.proofs.Relogging.{old_below}
-use Rattle.rrd_change.proofs.Settling.{IsPlaced, cut_front_of, cut_placed, cut_sized, open_any, placed_put, reach_placed, sized_stands}
-use Rattle.rrd_change.proofs.Stepping.{does_then, failed, nothing, steps_as, steps_then}
-use Rattle.rrd_change.proofs.Stopping.{IsPlacedOrCut, front_left, log_left, open_left, placed_or_cut, placed_or_torn, under_left}
+use Rattle.rrd_change.proofs.Common.{rules, ◌≡◌, ℕ, List, length, inl, inr, subst, ArePut, AreWholeOrNot, IsSized, IsSizedOrNot, IsTorn, IsUnderCut, AreAnyIn, ArePutIn, IsDatabase, IsLogOf, IsOpen, cut_of, All, Effect, Fails, Steps, Stores, seen, Span, fails_all, stores_all, old_below, IsPlaced, cut_front_of, cut_placed, cut_sized, open_any, placed_put, reach_placed, sized_stands, does_then, failed, steps_as, steps_then, front_left, open_left, placed_marked, under_left}
 use Rattle.rrd_change.proofs.log.Log.settle.Goals as goal
-
-pub returns-then-not-is_database : goal.returns-then-not-is_database
-returns-then-not-is_database g c = nothing _ _ (λ w is. inr (inr (log_left Whole c.args.new.now c.args.new.now c.args.self.now w is)))
 
 pub returns-in_err-place_united : goal.returns-in_err-place_united
 returns-in_err-place_united g c =
@@ -22,8 +8,8 @@ returns-in_err-place_united g c =
     let spans = log.spans.items in
     let P : List Span → Type 0 = λ xs. Steps (Fails (AreAnyIn xs new) (AreAnyIn xs new)) (seen c.args.syncs (g.F.Bytes.view c.args.file.now)) (seen c.args.syncs (g.F.Bytes.view c.place_united.new.file)) in
     failed _ _ c.from_residual.result _ _ c.from_residual.ensures.0
-    (steps_as (Fails (AreAnyIn spans new) (AreAnyIn spans new)) _ _ _ (λ u v s is.
-    inr (inr (open_left Whole new new is.old log.tail is.changes v is.follows.leads is.follows.fill
+    (steps_as (Fails (AreAnyIn spans new) (AreAnyIn spans new)) _ _ _ (λ u v s end other is.
+    inr (inr (open_left end other new is.old log.tail is.changes v is.follows.leads is.follows.fill
     (fails_all (IsOpen is.old log.tail is.changes) (IsOpen is.old log.tail is.changes) (AreAnyIn spans new) (AreAnyIn spans new) u v
     (λ x f is_open any. open_any is.old new is.changes log x f is.follows is_open any) (λ x f is_open any. open_any is.old new is.changes log x f is.follows is_open any) s is.world))))
     (subst P c.deref.ensures.value c.in_err-place_united.ensures))
@@ -41,10 +27,9 @@ returns-in_err-mark_and_sync g c =
     let P : List Span → Type 0 = λ xs. Steps (Stores (ArePutIn xs new)) old mid in
     let Q : List ℕ → Type 0 = λ m. Steps (Fails (AreWholeOrNot 0 m) (IsTorn 0 m)) mid after in
     failed _ _ c.from_residual-in_err-mark_and_sync.result _ _ c.from_residual-in_err-mark_and_sync.ensures.0
-    (steps_then (Stores (ArePutIn spans new)) (Fails (AreWholeOrNot 0 front) (IsTorn 0 front)) _ old mid after (λ u v w s f is.
+    (steps_then (Stores (ArePutIn spans new)) (Fails (AreWholeOrNot 0 front) (IsTorn 0 front)) _ old mid after (λ u v w s f end other is.
     let below = old_below is.old log.tail is.changes u.held is.world.held.logged in
-    front_left is.old new is.changes log w is.follows (fails_all (IsPlaced is.old new is.changes log) (IsPlacedOrCut is.old new is.changes log) (AreWholeOrNot 0 front) (IsTorn 0 front) v w
-    (λ x y placed put. placed_or_cut is.old new is.changes log x y is.follows below placed put) (λ x y placed torn. placed_or_torn is.old new is.changes log x y is.follows below placed torn) f
+    front_left end other is.old new is.changes log w is.follows (placed_marked is.old new is.changes log v w is.follows below f
     (stores_all (IsOpen is.old log.tail is.changes) (IsPlaced is.old new is.changes log) (ArePutIn spans new) u v (λ x y is_open put. placed_put is.old new is.changes log x y is.follows is_open put) s is.world)))
     (subst P c.deref.ensures.value c.in_ok-place_united.ensures) (subst Q c.cut_front.ensures c.in_err-mark_and_sync.ensures))
 
@@ -65,7 +50,7 @@ returns g c =
     let Under : Effect = λ u w. IsLogOf new log u → All (IsUnderCut new) w in
     does_then Under _ _ _ _ c.resize_and_sync.result old cut after
     (λ x u v w under s is. record { is = is_new; world = stores_all (IsUnderCut new) (λ f. f ≡ cut_of new) (IsSized (length new)) v w (λ y z h sized. cut_sized new y z is_new h sized) s (under is) })
-    (λ u v w under f is. inr (inl (under_left new new w is_new
+    (λ u v w under f end other is. inr (inl (under_left other new w is_new
     (fails_all (IsUnderCut new) (IsUnderCut new) (IsSizedOrNot (length new)) (IsSizedOrNot (length new)) v w (λ y z h sized. sized_stands new y z h sized) (λ y z h sized. sized_stands new y z h sized) f (under is)))))
     (steps_then (Stores (ArePutIn spans new)) (Stores (ArePut 0 front)) Under old mid cut (λ u v w s f is.
     stores_all (IsPlaced is.old new is.changes log) (IsUnderCut new) (ArePut 0 front) v w

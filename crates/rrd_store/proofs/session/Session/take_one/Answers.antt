@@ -1,4 +1,4 @@
-use Rattle.std.proofs.Common.{◌∙◌}
+use Rattle.rrd_store.proofs.Common.{◌∙◌}
 use Rattle.rrd_store.proofs.session.Session.take_one.Goals as goal
 
 pub returns-in-Some-clause-encoded : goal.returns-in-Some-clause-encoded
