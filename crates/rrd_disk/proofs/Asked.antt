@@ -1,11 +1,5 @@
 -- What `rrd_change` and `rrd_store` are asked of a file, by what the record says.
-use Rattle.std.proofs.Common.{◌≡◌, ℕ, suc, true, false, not, List, [], ◌∷◌, ◌++◌, length, take, drop, IsTrue, inl, inr, refl, sym, ◌∙◌, ap, subst}
-use Rattle.std.proofs.Math.Seq.{drop-append_seam, take-append_seam}
-use Rattle.std.proofs.lemmas.Bool.{and_from, and_parts, cases_Bool, true≢false}
-use Rattle.rrd_store.specs.Storages.{Held, Missing, Bytes}
-use Rattle.rrd_disk.specs.Asked.{FallsAsked, code_by, code_of, content_of, held_of, is_asked, is_honest_in, kind_of, start_by, world_in, world_of}
-use Rattle.rrd_disk.specs.Events.{Event}
-use Rattle.rrd_disk.specs.Replayed.{World, bytes_of, held_after, is_honest_after, is_there, left, part_after}
+use Rattle.rrd_disk.proofs.Names.{◌≡◌, ℕ, suc, true, false, not, List, [], ◌∷◌, ◌++◌, length, take, drop, IsTrue, inl, inr, refl, sym, ◌∙◌, ap, subst, drop-append_seam, take-append_seam, and_from, and_parts, cases_Bool, true≢false, Held, Missing, Bytes, FallsAsked, code_by, code_of, content_of, held_of, is_asked, is_honest_in, kind_of, start_by, world_in, world_of, Event, World, bytes_of, held_after, is_honest_after, is_there, left, part_after}
 
 -- whatever is asked, the record is honest
 pub honest_in : (s : List ℕ) (events : List Event) → IsTrue (is_honest_in s events) → IsTrue (is_honest_after (world_of s) events)

@@ -1,11 +1,5 @@
 -- What the calls of the module once say, by the events that they note.
-use Rattle.std.proofs.Common.{◌≡◌, ℕ, ◌+◌, ◌-◌, ◌<◌, ◌≤◌, inl, inr, List, ◌∷◌, ◌++◌, length, take, slice_index, IsTrue, Result, Ok, Err, IfOk, sym, ◌∙◌, ap, subst, arith, length-append, length-take, get_or-take}
-use Rattle.std.specs.Io.{ReadsAtMost}
-use Rattle.std.proofs.lemmas.List.{get_or_append_left, get_or-append_right}
-use Rattle.std.proofs.lemmas.Bool.{cases_lt}
-use Rattle.rrd_disk.specs.Calls.{AreGot, IsGotAtOnce}
-use Rattle.rrd_disk.specs.Events.{Event, Got}
-use Rattle.rrd_disk.specs.Replayed.{World, bytes_after, is_honest_after, is_honest_read}
+use Rattle.rrd_disk.proofs.Names.{◌≡◌, ℕ, ◌+◌, ◌-◌, ◌<◌, ◌≤◌, inl, inr, List, ◌∷◌, ◌++◌, length, take, slice_index, IsTrue, Result, Ok, Err, IfOk, sym, ◌∙◌, ap, subst, arith, length-append, length-take, get_or-take, ReadsAtMost, get_or_append_left, get_or-append_right, cases_lt, AreGot, IsGotAtOnce, Event, Got, World, bytes_after, is_honest_after, is_honest_read}
 use Rattle.rrd_disk.proofs.Replaying.{read-AreGot, read_ends, read_is, read_within}
 
 -- ---- reading

@@ -1,23 +1,12 @@
 -- Calls that change the file, one after another, and what they are for `rrd_change`.
-use Rattle.std.proofs.Common.{◌≡◌, ℕ, zero, suc, ◌+◌, ◌%◌, ◌<◌, ◌≤◌, nat_le, Bool, List, [], ◌∷◌, length, take, Result, Ok, Err, IfOk, OnErr, OnOk, IsTrue, refl, sym, ◌∙◌, ap, subst, inl, arith}
-use Rattle.std.proofs.lemmas.Bool.{and_from, and_parts, leb-true, true≢false}
+use Rattle.rrd_disk.proofs.Names.{◌≡◌, ℕ, zero, suc, ◌+◌, ◌%◌, ◌<◌, ◌≤◌, nat_le, Bool, List, [], ◌∷◌, length, take, Result, Ok, Err, IfOk, OnErr, OnOk, IsTrue, refl, sym, ◌∙◌, ap, subst, inl, arith, and_from, and_parts, leb-true, true≢false, AreAny, AreAt, ArePut, AreWholeOrNot, IsCut, IsFrontPut, IsSized, IsSizedOrNot, IsTorn, Counts, Does, Effect, FailsToSize, FailsToWrite, FailsToWritePage, FailsToWriteWhole, IsSynced, IsUnsynced, Moves, Reads, Stays, Steps, Writes, WritesPage, WritesWhole, moves_as, moves_then, FallsAsked, file_of, is_asked, is_honest_in, view_of, world_asked, world_for, world_of, Did, DidOr, Falls, IsCutShort, IsPartPut, PlaceStays, Rests, Event, Put, PutFailed, Sized, SizeFailed, Synced, SyncFailed, HasLength, AreTorn, Follows, Leaves, moved, world_after, World, bytes_after, bytes_left, bytes_of, held_after, is_honest_after, is_honest_of, is_honest_part, is_small, is_there, left, overlaid, padded, padded_or_not, part_after, Held, Missing, Bytes}
 use Rattle.std.specs.Result.{IsErr}
-use Rattle.rrd_change.specs.Calls.{AreAny, AreAt, ArePut, AreWholeOrNot, IsCut, IsFrontPut, IsSized, IsSizedOrNot, IsTorn}
-use Rattle.rrd_change.specs.Views.{Counts, Does, Effect, FailsToSize, FailsToWrite, FailsToWritePage, FailsToWriteWhole, IsSynced, IsUnsynced, Moves, Reads, Stays, Steps, Writes, WritesPage, WritesWhole}
-use Rattle.rrd_change.specs.Views as views
-use Rattle.rrd_change.proofs.Stepping.{moves_as, moves_then}
-use Rattle.rrd_disk.specs.Asked.{FallsAsked, file_of, is_asked, is_honest_in, view_of, world_asked, world_for, world_of}
-use Rattle.rrd_disk.specs.Calls.{Did, DidOr, Falls, IsCutShort, IsPartPut, PlaceStays, Rests}
-use Rattle.rrd_disk.specs.Events.{Event, Put, PutFailed, Sized, SizeFailed, Synced, SyncFailed}
-use Rattle.rrd_disk.specs.Openings.{HasLength}
-use Rattle.rrd_disk.specs.Power.{AreTorn, Follows, Leaves, moved, world_after}
-use Rattle.rrd_disk.specs.Replayed.{World, bytes_after, bytes_left, bytes_of, held_after, is_honest_after, is_honest_of, is_honest_part, is_small, is_there, left, overlaid, padded, padded_or_not, part_after}
-use Rattle.rrd_store.specs.Storages.{Held, Missing, Bytes}
 use Rattle.rrd_disk.proofs.Asked.{for_each, honest_in}
 use Rattle.rrd_disk.proofs.Overlays.{padded-IsSized}
 use Rattle.rrd_disk.proofs.Parts.{cut_short, failed_size, part_all, part_cut, part_less, part_none, part_twice, part_whole, put_front, put_part, sized_over, sized_twice, torn_none, torn_twice, torn_within, within_page, within_sector}
 use Rattle.rrd_disk.proofs.Replaying.{honest_before, honest_now}
 use Rattle.rrd_disk.proofs.Resting.{held_is}
+use Rattle.rrd_change.specs.Views as views
 
 -- ---- several calls
 

@@ -1,31 +1,11 @@
 -- A failure of the power after any call of a change, or in the next one.
-use Rattle.std.proofs.Common.{◌≡◌, ◌⊎◌, ◌∙◌, ℕ, ◌<◌, ◌≤◌, Bool, IsTrue, List, [], ◌∷◌, ◌++◌, length, Result, Ok, Err, OnOk, inl, inr, refl, sym, ap, subst, arith}
-use Rattle.std.proofs.lemmas.Bool.{and_parts, true≢false}
-use Rattle.std.proofs.lemmas.List.{append_assoc}
-use Rattle.rrd_change.specs.Laws.{IsLogged, IsUnderCut}
-use Rattle.rrd_change.specs.Outcomes.{AllStandAsTold, IsEither}
-use Rattle.rrd_change.specs.Repairs.{IsLeft, IsLoose, IsOnDisk, IsStopped, LogEnd, Whole}
-use Rattle.rrd_change.specs.Settled.{settled}
-use Rattle.rrd_change.specs.States.{IsAtRest, IsDatabase, Represents, Tells}
-use Rattle.rrd_change.specs.Views.{Stays}
-use Rattle.rrd_change.specs.Views as views
-use Rattle.rrd_change.specs.declared.calls.Syncs.{Syncs}
-use Rattle.rrd_change.specs.declared.calls.Syncs.TheVariants.{Ordered}
-use Rattle.rrd_change.proofs.Outcomes.{broken_stand}
-use Rattle.rrd_change.proofs.Stopping.{left_told}
-use Rattle.rrd_file.specs.End.{file_end}
-use Rattle.rrd_store.specs.Storages.{Held, Missing, Bytes, IsAnyFile}
-use Rattle.rrd_disk.specs.Events.{Event, Put, PutFailed, Sized, SizeFailed, Synced, SyncFailed}
-use Rattle.rrd_disk.specs.Kills.{are_failed, interrupted, is_failed}
-use Rattle.rrd_disk.specs.Power.{moved, world_after, world_before}
-use Rattle.rrd_disk.specs.Replayed.{World, bytes_after, bytes_left, bytes_of, failures, held_after, is_there, part_after}
-use Rattle.rrd_disk.specs.Storing.{Laws}
-use Rattle.rrd_disk.specs.Surviving.{Becomes, BecomesOrNot, DoesOr, IsChange, IsChanged, Survives, SurvivesFailure, SurvivesPower, found_after}
+use Rattle.rrd_disk.proofs.Names.{left_represents, alone_left, ◌≡◌, ◌⊎◌, ◌∙◌, ℕ, ◌<◌, ◌≤◌, Bool, IsTrue, List, [], ◌∷◌, ◌++◌, length, Result, Ok, Err, OnOk, inl, inr, refl, sym, ap, subst, arith, and_parts, true≢false, append_assoc, IsLogged, IsUnderCut, AllStandAsTold, IsEither, IsLeft, IsLoose, IsOnDisk, IsStopped, LogEnd, Whole, settled, IsAtRest, IsDatabase, Represents, Tells, Stays, Syncs, Ordered, broken_stand, left_told, file_end, Held, Missing, Bytes, IsAnyFile, Event, Put, PutFailed, Sized, SizeFailed, Synced, SyncFailed, are_failed, interrupted, is_failed, moved, world_after, world_before, World, bytes_after, bytes_left, bytes_of, failures, held_after, is_honest_after, is_there, part_after, Laws, Becomes, BecomesOrNot, DoesOr, IsChange, IsChanged, Survives, SurvivesFailure, SurvivesPower, found_after}
 use Rattle.rrd_disk.proofs.Asked.{bytes_there, stays_there}
-use Rattle.rrd_disk.proofs.Kills.{counted_same, cut, cut_held, cut_honest, is_counted, missed_held, missed_honest, no_part_after, nothing_laid, split}
+use Rattle.rrd_disk.proofs.Kills.{counted_same, cut, cut_held, cut_honest, is_counted, interrupted_as, missed_held, missed_honest, no_part_after, nothing_laid}
 use Rattle.rrd_disk.proofs.Parts.{torn_none}
 use Rattle.rrd_disk.proofs.Resting.{held_is}
-use Rattle.rrd_disk.proofs.Storing.{any_database, left_represents, whole_end}
+use Rattle.rrd_disk.proofs.Storing.{any_database, whole_end}
+use Rattle.rrd_change.specs.Views as views
 
 -- ---- what survives in a world survives in one of which the disk may have less
 
@@ -39,18 +19,16 @@ module _ (u v : views.World) (same : Stays u v) where
   pub stays_left : (end : LogEnd) (other now : List ℕ) → IsLeft end other now u → IsLeft end other now v
   stays_left end other now (inl rest) = inl (stays_rest now rest)
   stays_left end other now (inr (inl left)) =
-      let P : List ℕ → Type 0 = λ b. (b ≡ now) ⊎ IsUnderCut now b in
       inr (inl (record {
         under = subst (IsUnderCut now) (sym same.held) left.under;
         uncut = record {
           is = left.uncut.is;
-          held = subst P (sym same.held) left.uncut.held;
+          held = subst (λ (b : List ℕ). (b ≡ now) ⊎ IsUnderCut now b) (sym same.held) left.uncut.held;
           leave = λ c may. left.uncut.leave c (same.leave c may);
           keep = λ c may. left.uncut.keep c (same.keep c may);
         };
       }))
   stays_left end other now (inr (inr log)) =
-      let P : List ℕ → Type 0 = λ b. IsLogged log.old log.tail log.changes b in
       inr (inr (record {
         old = log.old;
         tail = log.tail;
@@ -58,7 +36,7 @@ module _ (u v : views.World) (same : Stays u v) where
         leads = log.leads;
         fill = log.fill;
         world = record {
-          held = subst P (sym same.held) log.world.held;
+          held = subst (IsLogged log.old log.tail log.changes) (sym same.held) log.world.held;
           leave = λ c may. log.world.leave c (same.leave c may);
           keep = λ c may. log.world.keep c (same.keep c may);
         };
@@ -67,14 +45,13 @@ module _ (u v : views.World) (same : Stays u v) where
   module _ (P : List ℕ → Type 0) where
     stays_told : AllStandAsTold file_end P u → AllStandAsTold file_end P v
     stays_told all =
-        let Q : List ℕ → Type 0 = λ b. P (settled file_end b) in
         record {
-          held = subst Q (sym same.held) all.held;
+          held = subst (λ (b : List ℕ). P (settled file_end b)) (sym same.held) all.held;
           left = λ c may told. all.left c (same.leave c may) (subst (λ (b : List ℕ). Tells b c) same.held told);
           later = λ c may told. all.later c (same.keep c may) (subst (λ (b : List ℕ). Tells b c) same.held told);
         }
 
-    stays_surviving : SurvivesPower P u → SurvivesPower P v
+    pub stays_surviving : SurvivesPower P u → SurvivesPower P v
     stays_surviving power =
         let s = power.survives in
         record {
@@ -85,9 +62,9 @@ module _ (u v : views.World) (same : Stays u v) where
 -- ---- the calls after a failure of the power
 
 -- the disk may have as much, or more
-record Wider (u v : views.World) : Type 0 where
-  leave : (c : List ℕ) → u.may_leave c → v.may_leave c
-  keep : (c : List ℕ) → u.may_keep c → v.may_keep c
+pub record Wider (u v : views.World) : Type 0 where
+  pub leave : (c : List ℕ) → u.may_leave c → v.may_leave c
+  pub keep : (c : List ℕ) → u.may_keep c → v.may_keep c
 
 -- one more call, in which the same is left
 module _ (x y : List ℕ) (p q : ℕ) (u v : views.World) (wide : Wider u v) where
@@ -132,11 +109,11 @@ module _ (x : List ℕ) (u : views.World) where
   wider_failed SyncFailed k none is = record { leave = λ c may. may; keep = λ c may. inl may }
   wider_failed _ k none is = absurd (true≢false (sym is))
 
-wider_twice : (u v w : views.World) → Wider u v → Wider v w → Wider u w
+pub wider_twice : (u v w : views.World) → Wider u v → Wider v w → Wider u w
 wider_twice u v w first second = record { leave = λ c may. second.leave c (first.leave c may); keep = λ c may. second.keep c (first.keep c may) }
 
 module _ (d : List ℕ) (w : World) (m : ℕ) where
-  wider_cut : (events : List Event) → failures events ≤ m → Wider (world_after d w events) (world_after d (cut w m) events)
+  pub wider_cut : (events : List Event) → failures events ≤ m → Wider (world_after d w events) (world_after d (cut w m) events)
   wider_cut [] few = record { leave = λ c may. may; keep = λ c may. may }
   wider_cut (e ∷ earlier) few =
       let grow = counted_same w m e earlier few in
@@ -144,7 +121,7 @@ module _ (d : List ℕ) (w : World) (m : ℕ) where
       (world_after d w earlier) (world_after d (cut w m) earlier) (wider_cut earlier grow.0) e grow.1
 
   module _ (events : List Event) (all : failures events ≡ m) where
-    wider_missed : (missed : List Event) → IsTrue (are_failed missed) → Wider (world_after d (cut w m) events) (world_after d (cut w m) (missed ++ events))
+    pub wider_missed : (missed : List Event) → IsTrue (are_failed missed) → Wider (world_after d (cut w m) events) (world_after d (cut w m) (missed ++ events))
     wider_missed [] are = record { leave = λ c may. may; keep = λ c may. may }
     wider_missed (e ∷ more) are =
         let both = and_parts (is_failed e) (are_failed more) are in
@@ -154,12 +131,31 @@ module _ (d : List ℕ) (w : World) (m : ℕ) where
 
 -- ---- a change that was cut off
 
-long_under : (now bytes : List ℕ) → Represents now bytes → IsDatabase now → 0 < length bytes
+-- in the world in which the calls failed that were not made, the record with them is honest, and the disk may have as much or more
+pub record IsCutOff (missed events : List Event) (d : List ℕ) (w : World) : Type 0 where
+  pub honest : IsTrue (is_honest_after (cut w (failures events)) (missed ++ events))
+  pub stays : Stays (world_after d (cut w (failures events)) (missed ++ events)) (world_after d w events)
+
+pub cut_off : (missed events : List Event) → IsTrue (are_failed missed) → (d : List ℕ) (w : World) → IsTrue (is_honest_after w events) → held_after w events ≡ Bytes (bytes_of (held_after w events)) → IsCutOff missed events d w
+cut_off missed events are d w honest there =
+    let m = failures events in
+    let world = cut w m in
+    let same : held_after world events ≡ held_after w events = cut_held w m events (omega arith) in
+    let after : held_after world (missed ++ events) ≡ held_after w events = missed_held w m events refl missed are ∙ same in
+    let now = subst (λ (h : Held). h ≡ Bytes (bytes_of h)) (sym same) there in
+    let before = subst (λ (b : Bool). IsTrue b) (sym (cut_honest w m events (omega arith))) honest in
+    let wide = wider_twice (world_after d w events) (world_after d world events) (world_after d world (missed ++ events)) (wider_cut d w m events (omega arith)) (wider_missed d w m events refl missed are) in
+    record {
+      honest = missed_honest w m events refl missed are now before;
+      stays = record { held = held_is d w events ∙ ap bytes_of (sym after) ∙ sym (held_is d world (missed ++ events)); leave = wide.leave; keep = wide.keep };
+    }
+
+pub long_under : (now bytes : List ℕ) → Represents now bytes → IsDatabase now → 0 < length bytes
 long_under now bytes (inl same) is = let long = is.enough in omega (arith, long, ap (λ (b : List ℕ). length b) same)
 long_under now bytes (inr (inl under)) is = let inside = under.marked.within in omega (arith, inside)
 long_under now bytes (inr (inr log)) is = let inside = log.logged.log.marked.within in omega (arith, inside)
 
-there_start : (h : Held) → 0 < length (bytes_of h) → IsTrue (is_there h)
+pub there_start : (h : Held) → 0 < length (bytes_of h) → IsTrue (is_there h)
 there_start Missing some = absurd (omega (arith, some))
 there_start (Bytes bytes) some = refl
 
@@ -168,29 +164,20 @@ module _ (laws : Laws) (bytes : List ℕ) where
   there_before P d w s = there_start w.start
       (long_under s.now (bytes_of w.start) (left_represents s.end s.other s.now (world_after d w []) s.left) (any_database laws s.now s.is))
 
+  pub cut_power : (missed events : List Event) → IsTrue (are_failed missed) → (d : List ℕ) (w : World) → IsTrue (is_honest_after w events) → (P : List ℕ → Type 0) → Survives P (world_after d w [])
+      → (IsTrue (is_honest_after (cut w (failures events)) (missed ++ events)) → SurvivesPower P (world_after d (cut w (failures events)) (missed ++ events)))
+      → SurvivesPower P (world_after d w events)
+  cut_power missed events are d w honest P all change =
+      let off = cut_off missed events are d w honest (bytes_there (held_after w events) (stays_there w events (there_before P d w all))) in
+      stays_surviving (world_after d (cut w (failures events)) (missed ++ events)) (world_after d w events) off.stays P (change off.honest)
+
   cut_change : (missed events : List Event) → IsTrue (are_failed missed) → IsChange bytes (missed ++ events) → IsChange bytes events
   cut_change missed events are change d w honest P holds all =
-      let m = failures events in
-      let world = cut w m in
-      let same : held_after world events ≡ held_after w events = cut_held w m events (omega arith) in
-      let after : held_after world (missed ++ events) ≡ held_after w events = missed_held w m events refl missed are ∙ same in
-      let was : IsTrue (is_there w.start) = there_before (λ b. IsTrue (P b)) d w all in
-      let there = bytes_there (held_after world events) (stays_there world events was) in
-      let before = subst (λ (b : Bool). IsTrue b) (sym (cut_honest w m events (omega arith))) honest in
-      let wide = wider_twice (world_after d w events) (world_after d world events) (world_after d world (missed ++ events)) (wider_cut d w m events (omega arith)) (wider_missed d w m events refl missed are) in
-      stays_surviving (world_after d world (missed ++ events)) (world_after d w events) (record {
-        held = held_is d w events ∙ ap bytes_of (sym after) ∙ sym (held_is d world (missed ++ events));
-        leave = wide.leave;
-        keep = wide.keep;
-      }) (λ b. IsTrue (P b)) (change d world (missed_honest w m events refl missed are there before) P holds all)
+      cut_power missed events are d w honest (λ b. IsTrue (P b)) all (λ now. change d (cut w (failures events)) now P holds all)
 
   -- the same in the middle of a call
   pub interrupted_change : (missed events : List Event) → IsTrue (are_failed missed) → IsChange bytes (missed ++ events) → IsChange bytes (interrupted missed ++ events)
-  interrupted_change missed events are change =
-      let parts = split missed are in
-      let same : missed ++ events ≡ parts.later ++ (interrupted missed ++ events) =
-      ap (λ (l : List Event). l ++ events) parts.all ∙ append_assoc parts.later (interrupted missed) events in
-      cut_change parts.later (interrupted missed ++ events) parts.failed (subst (λ (l : List Event). IsChange bytes l) same change)
+  interrupted_change = interrupted_as (λ l. IsChange bytes l) cut_change
 
 -- ---- a record that begins with the change
 
@@ -200,7 +187,7 @@ module _ (laws : Laws) (P : List ℕ → Type 0) where
   either_holds other now b was is (inr same) = subst P (sym same) is
 
   -- what is left of two databases, of which P holds
-  left_survives : (end : LogEnd) (other now : List ℕ) (v : views.World) → IsAnyFile other → IsAnyFile now → P other → P now → IsLeft end other now v → SurvivesPower P v
+  pub left_survives : (end : LogEnd) (other now : List ℕ) (v : views.World) → IsAnyFile other → IsAnyFile now → P other → P now → IsLeft end other now v → SurvivesPower P v
   left_survives end other now v was is held holds left =
       let told = broken_stand file_end other now v (whole_end laws other was) (whole_end laws now is) (left_told end other now v left) in
       record {
@@ -254,47 +241,9 @@ either_same : (c x : List ℕ) → (x ≡ c) ⊎ (x ≡ c) → x ≡ c
 either_same c x (inl same) = same
 either_same c x (inr same) = same
 
--- the file and the disk have the same
-module _ (now c : List ℕ) (is : IsDatabase now) where
-  loose : IsUnderCut now c → IsLoose now now c
-  loose under = record {
-    reaches = under.reaches;
-    placed = λ k from below. under.same k (omega (arith, from)) below;
-    stands = inl (inr (inl under));
-  }
-
-  found_left : Represents now c → IsLeft Whole now now (world_before c c)
-  found_left (inl same) = inl (record {
-    is = is;
-    world = record { held = same; leave = λ x may. inl (either_same c x may ∙ same); keep = λ x may. inl (either_same c x may ∙ same) };
-  })
-  found_left (inr (inl under)) = inr (inl (record {
-    under = under;
-    uncut = record {
-      is = is;
-      held = inr under;
-      leave = λ x may. subst (IsLoose now now) (sym (either_same c x may)) (loose under);
-      keep = λ x may. subst (IsLoose now now) (sym (either_same c x may)) (loose under);
-    };
-  }))
-  found_left (inr (inr log)) =
-      let P : List ℕ → Type 0 = λ b. IsOnDisk Whole now now log.old log.tail log.changes b in
-      inr (inr (record {
-        old = log.old;
-        tail = log.tail;
-        changes = log.changes;
-        leads = log.leads;
-        fill = log.fill;
-        world = record {
-          held = log.logged;
-          leave = λ x may. subst P (sym (either_same c x may)) (inl log.logged);
-          keep = λ x may. subst P (sym (either_same c x may)) (inl log.logged);
-        };
-      }))
-
-found_survives : Laws → (P : List ℕ → Type 0) (now c : List ℕ) → IsAnyFile now → P now → Represents now c → Survives P (world_after c (found_after c) [])
+pub found_survives : Laws → (P : List ℕ → Type 0) (now c : List ℕ) → IsAnyFile now → P now → Represents now c → Survives P (world_after c (found_after c) [])
 found_survives laws P now c any holds represents =
-    record { now = now; other = now; is = any; was = any; holds = holds; held = holds; end = Whole; left = found_left now c (any_database laws now any) represents }
+    record { now = now; other = now; is = any; was = any; holds = holds; held = holds; end = Whole; left = alone_left now (world_before c c) (any_database laws now any) represents (record { leave = λ x may. either_same c x may; keep = λ x may. either_same c x may }) }
 
 pub failure_survived : Laws → (P : List ℕ → Bool) (d : List ℕ) (w : World) (events : List Event) → SurvivesFailure P d w events
 failure_survived laws P d w events s c may tells =

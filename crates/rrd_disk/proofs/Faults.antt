@@ -1,8 +1,5 @@
 -- The faults of a load: they are about the place, and about no command and no stream.
-use Rattle.std.proofs.Common.{None, Err}
-use Rattle.rrd_store.specs.Runs.{IsOfPlace}
-use Rattle.rrd_store.specs.Single.{FindsOne}
-use Rattle.rrd_store.specs.declared.faults.TaskFault.{TaskFault}
+use Rattle.rrd_disk.proofs.Names.{None, Err, IsOfPlace, FindsOne, TaskFault}
 use Rattle.rrd_store.specs.declared.faults.TaskFault.TheVariants as task
 
 pub of_place : (fault : TaskFault) → FindsOne None (Err fault) → IsOfPlace fault

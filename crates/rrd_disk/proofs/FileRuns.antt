@@ -1,18 +1,9 @@
 -- Runs on the file at a path, by the records of their calls.
-use Rattle.std.proofs.Common.{◌≡◌, IsTrue, List, [], ◌∷◌, map, Option, Some, None, refl, sym, ◌∙◌, subst}
-use Rattle.rrd_spec.specs.Journal.Survivors.{Stored}
-use Rattle.rrd_store.specs.Runs as runs
-use Rattle.rrd_store.specs.Storages.{Held}
-use Rattle.rrd_disk.specs.Asked.{held_of, world_in}
-use Rattle.rrd_disk.specs.Contents.{IsSound, contents_after, is_honest_by, represented}
-use Rattle.rrd_disk.specs.Events.{Event}
-use Rattle.rrd_disk.specs.Replayed.{World, held_after, is_honest_after}
-use Rattle.rrd_disk.specs.Runs.{AreHonest, AreRuns, FilesFollowSpecification, IsRecordOf, IsRun, Recorded, last_of, left_by}
+use Rattle.rrd_disk.proofs.Names.{◌≡◌, IsTrue, List, [], ◌∷◌, map, Option, Some, None, refl, sym, ◌∙◌, subst, Stored, Held, held_of, world_in, IsSound, contents_after, is_honest_by, represented, Event, World, held_after, is_honest_after, AreHonest, AreRuns, FilesFollowSpecification, IsRecordOf, IsRun, Recorded, left_by, Laws, is_sound_by, Found, Unopened}
 use Rattle.rrd_disk.proofs.Asked.{world_in_held}
-use Rattle.rrd_disk.specs.Storing.{Laws, is_sound_by}
-use Rattle.rrd_disk.specs.declared.storage.Found.{Found}
-use Rattle.rrd_disk.specs.declared.storage.Found.TheVariants.{Unopened}
 use Rattle.rrd_disk.proofs.Storing.{database_unmarked, file_database, itself, sound_as, sound_unmarked}
+use Rattle.rrd_disk.specs.Runs.{last_of}
+use Rattle.rrd_store.specs.Runs as runs
 
 -- ---- one run
 
@@ -21,19 +12,14 @@ pub run_from : (f0 f1 : Found) (before after : List Event) (run : runs.Run) → 
     → ((s : Option Held) → is_honest_by s after → is_sound_by s f0 before → is_sound_by s f1 after)
     → ((s : Option Held) → is_honest_by s after → is_sound_by s f0 before → runs.DidIn (contents_after s before) run (contents_after s after))
     → IsRun after run
-run_from f0 f1 before after run none closed sound did = λ w honest is.
+run_from f0 f1 before after run none closed sound did = λ w.
+    subst (λ (v : World). IsTrue (is_honest_after v after) → IsSound v.start → IsSound (held_after v after) × runs.Did (represented v.start) run (represented (held_after v after))) (world_in_held w) (λ honest is.
     let code = held_of w in
-    let same = world_in_held w in
-    let now : IsTrue (is_honest_after (world_in code) after) = subst (λ (v : World). IsTrue (is_honest_after v after)) (sym same) honest in
-    let first : IsSound (world_in code).start = subst (λ (v : World). IsSound v.start) (sym same) is in
-    let unopened : is_sound_by (Some code) Unopened before = subst (λ (events : List Event). is_sound_by (Some code) Unopened events) (sym none) first in
-    let begun : is_sound_by (Some code) f0 before = subst (λ (f : Found). is_sound_by (Some code) f before) (sym closed) unopened in
-    let last : IsSound (held_after (world_in code) after) = sound_as f1 (held_after (world_in code) after) (sound (Some code) now begun) in
-    let ran : runs.Did (represented (world_in code).start) run (represented (held_after (world_in code) after)) =
-    subst (λ (events : List Event). runs.DidIn (contents_after (Some code) events) run (contents_after (Some code) after)) none (did (Some code) now begun) in (
-      subst (λ (v : World). IsSound (held_after v after)) same last,
-      subst (λ (v : World). runs.Did (represented v.start) run (represented (held_after v after))) same ran,
-    )
+    let v = world_in code in
+    let begun : is_sound_by (Some code) f0 before = subst (λ (f : Found). is_sound_by (Some code) f before) (sym closed) (subst (λ (events : List Event). is_sound_by (Some code) Unopened events) (sym none) is) in (
+      sound_as f1 (held_after v after) (sound (Some code) honest begun),
+      subst (λ (events : List Event). runs.DidIn (contents_after (Some code) events) run (contents_after (Some code) after)) none (did (Some code) honest begun),
+    ))
 
 -- ---- one run after another
 
@@ -41,7 +27,7 @@ abbrev happenings : List Recorded → List runs.Event
 happenings recorded = map (λ (r : Recorded). r.run) recorded
 
 -- one run, ended or killed
-one_happened : (w : World) (events : List Event) (run : runs.Event) → IsSound w.start → IsRecordOf events run → IsTrue (is_honest_after w events)
+pub one_happened : (w : World) (events : List Event) (run : runs.Event) → IsSound w.start → IsRecordOf events run → IsTrue (is_honest_after w events)
     → IsSound (held_after w events) × runs.Happened (represented w.start) run (represented (held_after w events))
 one_happened w events (runs.Ended run) sound is honest = is w honest sound
 one_happened w events (runs.Killed run) sound is honest = is w honest sound

@@ -1,32 +1,10 @@
 -- What the first bytes of a file with a cut mark say of the database under it.
-use Rattle.std.proofs.Common.{◌≡◌, ◌∙◌, ◌++◌, ◌<◌, ◌≤◌, ℕ, Bool, false, List, Option, Some, None, Err, IfNone, IfSome, length, drop, take, slice_index, true, refl, sym, ap, subst, inl, inr, arith, append_assoc, get_or-take}
-use Rattle.std.proofs.lemmas.Bool.{cases_lt}
-use Rattle.std.proofs.Math.Seq.{take-append_seam}
-use Rattle.std.proofs.lemmas.List.{get_or_append_left, take-append-drop, take-append-le, take_all}
-use Rattle.std.proofs.lemmas.List.Prefix.{front_from_reads}
-use Rattle.rrd_change.specs.Bytes.{begins_with}
-use Rattle.rrd_change.specs.Found.{database_of}
-use Rattle.rrd_change.specs.Laws.{IsUnderCut}
-use Rattle.rrd_change.specs.Marks.{IsMarkOf}
-use Rattle.rrd_change.specs.Settled.{cut_mark, database_mark, mark_of, settled, unmarked}
-use Rattle.rrd_change.specs.Settled as marks
-use Rattle.rrd_change.specs.States.{Represents}
-use Rattle.rrd_change.specs.declared.finding.FoundDatabase.{FoundDatabase}
-use Rattle.rrd_change.specs.declared.finding.Mark.{Mark}
-use Rattle.rrd_change.specs.declared.finding.Mark.TheVariants as found
-use Rattle.rrd_change.proofs.Fronts.{begins_from, front_of}
-use Rattle.rrd_change.proofs.Logs.{cut_stands, is_cut, log_read}
-use Rattle.rrd_change.proofs.Overlaid.{settled_cut}
-use Rattle.rrd_file.specs.End.{file_end}
-use Rattle.rrd_file.specs.Laws.{FrontHasTheFault, HasOneAnswer}
-use Rattle.rrd_file.specs.declared.fault.FileFault.{FileFault}
-use Rattle.rrd_store.specs.Storages.{Bytes, Decodes, IsAnyFile}
-use Rattle.rrd_disk.specs.Contents.{StandFor}
-use Rattle.rrd_disk.specs.Fronts.{Begins}
-use Rattle.rrd_disk.specs.Loading.{IsForged}
-use Rattle.rrd_disk.specs.Storing.{Laws}
+use Rattle.rrd_disk.proofs.Names.{◌≡◌, ◌∙◌, ◌++◌, ◌<◌, ◌≤◌, ℕ, Bool, false, List, Option, Some, None, Err, IfNone, IfSome, length, drop, take, slice_index, true, refl, sym, ap, subst, inl, inr, arith, get_or-take, cases_lt, take-append_seam, get_or_append_left, take-append-drop, take-append-le, take_all, front_from_reads, begins_with, database_of, IsUnderCut, IsMarkOf, cut_mark, mark_of, settled, unmarked, Represents, FoundDatabase, Mark, begins_from, front_of, cut_stands, is_cut, log_read, settled_cut, file_end, FrontHasTheFault, HasOneAnswer, FileFault, Bytes, Decodes, IsAnyFile, StandFor, Begins, IsForged, Laws}
+use Rattle.std.proofs.Common.{append_assoc}
 use Rattle.rrd_disk.proofs.Loaded.{no_file, reads_judged}
 use Rattle.rrd_disk.proofs.Storing.{any_database, database_unmarked}
+use Rattle.rrd_change.specs.Settled as marks
+use Rattle.rrd_change.specs.declared.finding.Mark.TheVariants as found
 
 assoc : (a b c : List ℕ) → (a ++ b) ++ c ≡ a ++ (b ++ c)
 assoc a b c = simp append_assoc

@@ -1,7 +1,5 @@
 -- What a front shows of a file.
-use Rattle.std.proofs.Common.{◌≡◌, ℕ, List, length}
-use Rattle.std.proofs.lemmas.List.{ext_get_or}
-use Rattle.rrd_disk.specs.Fronts.{Begins}
+use Rattle.rrd_disk.proofs.Names.{◌≡◌, ℕ, List, length, ext_get_or, Begins}
 
 -- bytes with which a file begins, and that are as many as the file has, are all of them
 pub whole : (file front : List ℕ) → Begins file front → length front ≡ length file → front ≡ file

@@ -1,22 +1,7 @@
 -- What the head of a log says of a file with a log mark.
-use Rattle.std.proofs.Common.{◌≡◌, ◌∙◌, ◌++◌, ◌+◌, ◌-◌, ◌<◌, ◌≤◌, [], ◌∷◌, ℕ, List, length, drop, take, slice_index, nat_eq, false, true, refl, sym, ap, subst, inl, inr, arith, lit<, get_or-take}
-use Rattle.std.specs.Int.{w64, to_be_bytes, from_be_bytes}
-use Rattle.std.proofs.lemmas.Bool.{eq-eqb, false≢true}
-use Rattle.std.proofs.lemmas.Grind.{same_number_lists}
-use Rattle.std.proofs.lemmas.List.{length-drop, take_all}
-use Rattle.std.proofs.lemmas.Nat.{from_be_bytes-to_be_bytes_8}
-use Rattle.rrd_change.specs.Bytes.{StandsAt, begins_with}
-use Rattle.rrd_change.specs.Calls.{AreAt}
-use Rattle.rrd_change.specs.Changes.{Change, body_bytes, change_bytes, change_head}
-use Rattle.rrd_change.specs.Laws.{first_of}
-use Rattle.rrd_change.specs.Settled.{log_mark}
-use Rattle.rrd_change.specs.States.{IsLogFor, Represents}
-use Rattle.rrd_change.proofs.Fronts.{front_of}
-use Rattle.rrd_change.proofs.Reading.{change_stands, length-change}
-use Rattle.rrd_change.proofs.Standing.{standing_begins}
-use Rattle.rrd_store.specs.Storages.{IsAnyFile}
-use Rattle.rrd_disk.specs.Contents.{StandFor}
-use Rattle.rrd_disk.specs.Storing.{Laws}
+use Rattle.rrd_disk.proofs.Names.{◌≡◌, ◌∙◌, ◌++◌, ◌+◌, ◌-◌, ◌<◌, ◌≤◌, [], ◌∷◌, ℕ, List, length, drop, take, slice_index, nat_eq, false, true, refl, sym, ap, subst, inl, inr, arith, lit<, get_or-take, w64, to_be_bytes, from_be_bytes, eq-eqb, false≢true, same_number_lists, take_all, from_be_bytes-to_be_bytes_8, StandsAt, begins_with, AreAt, Change, body_bytes, change_bytes, first_of, log_mark, IsLogFor, Represents, front_of, change_stands, length-change, standing_begins, IsAnyFile, StandFor, Laws}
+use Rattle.std.proofs.lemmas.List.{length-drop}
+use Rattle.rrd_change.specs.Changes.{change_head}
 use Rattle.rrd_disk.proofs.Storing.{any_database}
 
 abbrev pub log_word : List ℕ

@@ -1,16 +1,7 @@
 -- The calls that a killed run did not make: with them, or without them, the file is the same.
-use Rattle.std.proofs.Common.{◌≡◌, ◌∙◌, ℕ, suc, ◌≤◌, ◌&&◌, not, Bool, true, false, IsTrue, List, [], ◌∷◌, ◌++◌, length, take, inl, inr, refl, sym, ap, subst, arith, get_or-take, length-take}
-use Rattle.std.proofs.Math.Bool.{or-true}
-use Rattle.std.proofs.lemmas.Bool.{and_from, and_parts, true≢false}
-use Rattle.std.proofs.lemmas.List.{append_assoc, get_or_past}
+use Rattle.rrd_disk.proofs.Names.{◌≡◌, ◌∙◌, ℕ, suc, ◌≤◌, ◌&&◌, not, Bool, true, false, IsTrue, List, [], ◌∷◌, ◌++◌, length, take, inl, inr, refl, sym, ap, subst, arith, get_or-take, length-take, or-true, and_from, and_parts, true≢false, append_assoc, get_or_past, Held, Missing, Bytes, IsSound, represented, Event, Made, PutFailed, SizeFailed, SyncFailed, NotFound, are_failed, interrupted, is_failed, World, bytes_of, failures, held_after, is_honest_after, is_honest_of, is_small, left, padded_or_not, part_after, IsKilledRun, IsRun}
+use Rattle.rrd_disk.specs.Replayed.{is_honest_part, overlaid}
 use Rattle.rrd_store.specs.Runs as runs
-use Rattle.rrd_store.specs.Storages.{Held, Missing, Bytes}
-use Rattle.rrd_disk.specs.Contents.{IsSound, represented}
-use Rattle.rrd_disk.specs.Events.{Event, Made, PutFailed, SizeFailed, SyncFailed}
-use Rattle.rrd_disk.specs.Events.{Missing as NotFound}
-use Rattle.rrd_disk.specs.Kills.{are_failed, interrupted, is_failed}
-use Rattle.rrd_disk.specs.Replayed.{World, bytes_of, failures, held_after, is_honest_after, is_honest_part, is_honest_of, is_small, left, overlaid, padded_or_not, part_after}
-use Rattle.rrd_disk.specs.Runs.{IsKilledRun, IsRun}
 
 -- ---- one call that failed, and left nothing
 
@@ -134,12 +125,15 @@ module _ (w : World) (m : ℕ) where
         and_from (is_honest_of h (part_after cut (more ++ events)) e) (is_honest_after cut (more ++ events))
         (honest_there h (part_after cut (more ++ events)) e is (no_part (more ++ events) (many more)) both.0) (missed_honest more both.1 there honest)
 
+pub there_is : (h : Held) (file : List ℕ) → h ≡ Bytes file → h ≡ Bytes (bytes_of h)
+there_is h file is = is ∙ subst (λ (g : Held). Bytes file ≡ Bytes (bytes_of g)) (sym is) refl
+
 -- no call removes a file
-left_missing : (h : Held) (part : ℕ) (e : Event) → left h part e ≡ Missing → h ≡ Missing
+pub left_missing : (h : Held) (part : ℕ) (e : Event) → left h part e ≡ Missing → h ≡ Missing
 left_missing Missing part e is = refl
 left_missing (Bytes bytes) part e is = absurd cc
 
-never_there : (w : World) (events : List Event) → held_after w events ≡ Missing → w.start ≡ Missing
+pub never_there : (w : World) (events : List Event) → held_after w events ≡ Missing → w.start ≡ Missing
 never_there w [] is = is
 never_there w (e ∷ earlier) is = never_there w earlier (left_missing (held_after w earlier) (part_after w earlier) e is)
 
@@ -168,7 +162,7 @@ module _ (w : World) (missed events : List Event) (run : runs.Run) where
       let none = never_there w events is in
       (subst IsSound (sym is) tt, inl (subst (λ (h : Held). represented (held_after w events) ≡ represented h) (is ∙ sym none) refl))
   killed_at (Bytes bytes) is are honest sound did =
-      killed_there are (is ∙ subst (λ (h : Held). Bytes bytes ≡ Bytes (bytes_of h)) (sym is) refl) honest sound did
+      killed_there are (there_is (held_after w events) bytes is) honest sound did
 
 killed_run : (missed events : List Event) (run : runs.Run) → IsTrue (are_failed missed) → IsKilledRun (missed ++ events) run → IsKilledRun events run
 killed_run missed events run are did = λ w honest sound. killed_at w missed events run (held_after w events) refl are honest sound did
@@ -189,10 +183,14 @@ split (e ∷ f ∷ more) are =
     let rest = split (f ∷ more) both.1 in
     record { later = e ∷ rest.later; all = ap (λ (l : List Event). e ∷ l) rest.all; failed = and_from (is_failed e) (are_failed rest.later) both.0 rest.failed }
 
+-- what is so without calls that failed and left nothing is so without those after the first one
+pub interrupted_as : (P : List Event → Type 0) → ((later last : List Event) → IsTrue (are_failed later) → P (later ++ last) → P last) → (missed events : List Event) → IsTrue (are_failed missed)
+    → P (missed ++ events) → P (interrupted missed ++ events)
+interrupted_as P without missed events are all =
+    let parts = split missed are in
+    without parts.later (interrupted missed ++ events) parts.failed
+    (subst P (ap (λ (l : List Event). l ++ events) parts.all ∙ append_assoc parts.later (interrupted missed) events) all)
+
 pub interrupted_run : (missed events : List Event) (run : runs.Run) → IsTrue (are_failed missed) → IsRun (missed ++ events) run → IsKilledRun (interrupted missed ++ events) run
 interrupted_run missed events run are did =
-    let parts = split missed are in
-    let same : missed ++ events ≡ parts.later ++ (interrupted missed ++ events) =
-    ap (λ (l : List Event). l ++ events) parts.all ∙ append_assoc parts.later (interrupted missed) events in
-    killed_run parts.later (interrupted missed ++ events) run parts.failed
-    (subst (λ (l : List Event). IsKilledRun l run) same (λ w honest sound. let one = did w honest sound in (one.0, inr (inl one.1))))
+    interrupted_as (λ l. IsKilledRun l run) (λ later last failed. killed_run later last run failed) missed events are (λ w honest sound. let one = did w honest sound in (one.0, inr (inl one.1)))

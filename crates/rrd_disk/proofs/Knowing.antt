@@ -1,17 +1,5 @@
 -- What is known in memory of a file, after its calls.
-use Rattle.std.proofs.Common.{◌≡◌, ℕ, ◌+◌, ◌-◌, ◌<◌, ◌≤◌, ◌++◌, max, List, Option, Some, None, IsTrue, IfOk, Result, Ok, Err, length, take, slice_index, option_map, refl, sym, ◌∙◌, ap, subst, inl, inr, arith, length-append}
-use Rattle.std.specs.Io.{ReadsAtMost}
-use Rattle.std.proofs.Math.Seq.{take-append-add}
-use Rattle.std.proofs.lemmas.Bool.{cases_lt}
-use Rattle.std.proofs.lemmas.List.{get_or_append_left, get_or-append_right, length-take-le, take-take}
-use Rattle.rrd_disk.specs.Events.{Event}
-use Rattle.rrd_disk.specs.Calls.{Falls, IsGot}
-use Rattle.rrd_disk.specs.Fronts.{Begins}
-use Rattle.rrd_disk.specs.Known.{Measures}
-use Rattle.rrd_disk.specs.Locks.{Guards, KeepsGuard}
-use Rattle.rrd_disk.specs.declared.locks.LockedFile.{LockedFile}
-use Rattle.rrd_disk.specs.Replayed.{World, bytes_after, is_honest_after}
-use Rattle.rrd_change.specs.Calls.{ArePut}
+use Rattle.rrd_disk.proofs.Names.{◌≡◌, ℕ, ◌+◌, ◌-◌, ◌<◌, ◌≤◌, ◌++◌, max, List, Option, Some, None, IsTrue, IfOk, Result, Ok, Err, length, take, slice_index, option_map, refl, sym, ◌∙◌, ap, subst, inl, inr, arith, length-append, ReadsAtMost, take-append-add, cases_lt, get_or_append_left, get_or-append_right, length-take-le, take-take, Event, Falls, IsGot, Begins, Measures, Guards, KeepsGuard, LockedFile, World, bytes_after, is_honest_after, ArePut}
 
 -- the length, if a known one became longer
 longer_is : (known : Option ℕ) (end n old new : ℕ) → option_map (λ m. max m end) known ≡ Some n → ((m : ℕ) → known ≡ Some m → m ≡ old) → new ≡ max old end → n ≡ new

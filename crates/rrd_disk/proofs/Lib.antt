@@ -1,3 +1,5 @@
+pub mod Names
+pub mod Common
 pub mod Asked
 pub mod Calling
 pub mod Doing
@@ -8,15 +10,20 @@ pub mod Finishing
 pub mod Fronts
 pub mod Kills
 pub mod Knowing
+pub mod Lacking
 pub mod Loaded
+pub mod Making
 pub mod Marked
 pub mod OpenRuns
 pub mod Overlays
 pub mod Parts
 pub mod Powering
+pub mod Programs
 pub mod Repairing
 pub mod Replaying
 pub mod Resting
+pub mod Safe
+pub mod SafeOpen
 pub mod Spans
 pub mod Stages
 pub mod Storing

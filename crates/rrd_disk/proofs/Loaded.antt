@@ -1,16 +1,6 @@
 -- What the bytes of a file, and the first of them, say of the result of reading the file.
-use Rattle.std.proofs.Common.{◌≡◌, ◌++◌, ℕ, IfOk, List, length, drop, true, Some, Result, Ok, Err, refl, sym, subst, arith}
-use Rattle.std.proofs.lemmas.List.Prefix.{front_from_reads}
-use Rattle.rrd_file.specs.declared.fault.FileFault.{FileFault}
-use Rattle.rrd_file.specs.declared.fault.FileFault.TheVariants.{NotOurs, Version as WrongVersion, Truncated, BadBlock, BadEntry, Trailing, Read, OutOfMemory}
-use Rattle.rrd_file.specs.Faults.{IsFault, IsFile, IsOfFile}
-use Rattle.rrd_file.specs.Laws.{FrontHasTheFault, HasOneAnswer}
-use Rattle.rrd_spec.specs.Journal.Survivors.{Stored}
-use Rattle.rrd_store.specs.Storages.{Bytes, Decodes, IsNoFile}
-use Rattle.rrd_store.specs.declared.faults.TaskFault.{TaskFault}
-use Rattle.rrd_store.specs.declared.faults.TaskFault.TheVariants.{Command, Stream, File, CannotOpen, CannotWrite}
-use Rattle.rrd_disk.specs.Fronts.{Begins}
-use Rattle.rrd_disk.specs.Loading.{IsJudged, IsJudgedFault, is_fault_of_bytes, is_of_bytes}
+use Rattle.rrd_disk.proofs.Names.{◌≡◌, ◌++◌, ℕ, IfOk, List, length, drop, true, Some, Result, Ok, Err, refl, sym, subst, arith, front_from_reads, FileFault, NotOurs, WrongVersion, Truncated, BadBlock, BadEntry, Trailing, OutOfMemory, IsFault, IsFile, IsOfFile, FrontHasTheFault, HasOneAnswer, Stored, Bytes, Decodes, IsNoFile, TaskFault, Command, Stream, File, CannotOpen, CannotWrite, Begins, IsJudged, IsJudgedFault, is_fault_of_bytes, is_of_bytes}
+use Rattle.rrd_file.specs.declared.fault.FileFault.TheVariants.{Read}
 
 -- ---- the first bytes
 

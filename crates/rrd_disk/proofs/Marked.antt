@@ -1,13 +1,6 @@
 -- The first sixteen bytes of a file say its mark.
-use Rattle.std.proofs.Common.{◌≡◌, ℕ, ◌+◌, ◌<◌, ◌≤◌, min, Bool, true, List, Option, Some, None, length, take, drop, sym, ◌∙◌, ap, inl, inr, arith, length-drop, length-take, get_or-take, get_or-drop, if◌then◌else◌}
-use Rattle.std.specs.Int.{w64, from_be_bytes}
-use Rattle.std.proofs.lemmas.Bool.{cases_Bool, cases_lt, true≢false}
-use Rattle.std.proofs.lemmas.List.{ext_get_or}
-use Rattle.std.proofs.lemmas.List.Prefix.{front_from_reads, front_reads}
-use Rattle.rrd_change.specs.Bytes.{begins_with}
-use Rattle.rrd_change.specs.Settled.{Cut, Log, Mark, cut_mark, log_mark, mark_of, spelled_tail}
-use Rattle.rrd_change.proofs.Fronts.{begins_from, front_of}
-use Rattle.rrd_disk.specs.Fronts.{Begins}
+use Rattle.rrd_disk.proofs.Names.{◌≡◌, ℕ, ◌+◌, ◌<◌, ◌≤◌, min, Bool, true, List, Option, Some, None, length, take, drop, sym, ◌∙◌, ap, inl, inr, arith, length-drop, length-take, get_or-take, get_or-drop, if◌then◌else◌, w64, from_be_bytes, cases_Bool, cases_lt, true≢false, ext_get_or, front_from_reads, front_reads, begins_with, Cut, cut_mark, log_mark, spelled_tail, begins_from, front_of, Begins}
+use Rattle.rrd_change.specs.Settled.{Log, Mark, mark_of}
 use Rattle.rrd_disk.proofs.Fronts.{whole}
 
 module _ (file front : List ℕ) (begins : Begins file front) where

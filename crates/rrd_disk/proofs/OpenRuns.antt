@@ -1,19 +1,9 @@
 -- Runs on a file that stays open, by the record of their calls.
-use Rattle.std.proofs.Common.{◌∙◌, IsTrue, List, [], ◌∷◌, map, Option, Some, None, refl, subst, sym}
-use Rattle.rrd_file.specs.declared.encoded.Encoded.{Encoded}
-use Rattle.rrd_spec.specs.Journal.Survivors.{Stored}
-use Rattle.rrd_store.specs.Runs as runs
-use Rattle.rrd_store.specs.Sessions.{IsInMemory}
-use Rattle.rrd_store.specs.Storages.{Held}
-use Rattle.rrd_disk.specs.Asked.{held_of, world_in}
-use Rattle.rrd_disk.specs.Contents.{IsSound, contents_after, is_honest_by, represented}
-use Rattle.rrd_disk.specs.Events.{Event}
-use Rattle.rrd_disk.specs.OpenRuns.{AreOpenRuns, IsKept, IsKeptOf, IsOpenRun, OpenFilesFollowSpecification, RecordedOpen, record_of}
-use Rattle.rrd_disk.specs.Replayed.{World, held_after, is_honest_after}
-use Rattle.rrd_disk.specs.Storing.{Laws, is_sound_by}
-use Rattle.rrd_disk.specs.declared.storage.Found.{Found}
+use Rattle.rrd_disk.proofs.Names.{◌≡◌, ◌∙◌, ap, IsTrue, List, [], ◌∷◌, map, Option, Some, None, refl, subst, sym, Encoded, Stored, IsInMemory, Held, held_of, world_in, Rests, IsSound, contents_after, is_honest_by, represented, Event, AreOpenRuns, IsKept, IsKeptOf, IsOpenRun, IsReload, OpenFilesFollowSpecification, RecordedOpen, record_of, World, held_after, is_honest_after, IsSoundAs, Laws, is_sound_by, Found, Unopened}
 use Rattle.rrd_disk.proofs.Asked.{world_in_held}
 use Rattle.rrd_disk.proofs.FileRuns.{first_itself, first_sound}
+use Rattle.rrd_disk.proofs.Storing.{sound_as}
+use Rattle.rrd_store.specs.Runs as runs
 
 abbrev pub held_or : Held → Option Held → Held
 held_or or None = or
@@ -26,25 +16,68 @@ module _ (f0 f1 : Found) (old new : List Event) (d0 d1 : Option Stored) (e0 e1 :
   pub kept_from : ((s : Option Held) → is_honest_by s new → is_sound_by s f0 old → IsInMemory (contents_after s old) d0 e0 → is_sound_by s f1 new)
       → ((s : Option Held) → is_honest_by s new → is_sound_by s f0 old → IsInMemory (contents_after s old) d0 e0 → IsInMemory (contents_after s new) d1 e1)
       → IsKept f0 old d0 e0 → IsKept f1 new d1 e1
-  kept_from sound memory kept w honest is =
-      let code = held_of w in
-      let same = world_in_held w in
-      let now : IsTrue (is_honest_after (world_in code) new) = subst (λ (v : World). IsTrue (is_honest_after v new)) (sym same) honest in
-      let was = kept (world_in code) (falls (Some code) now) (subst (λ (v : World). IsSound v.start) (sym same) is) in
-      subst (λ (v : World). IsKeptOf f1 (held_after v new) d1 e1) same
-      (record { sound = sound (Some code) now was.sound was.memory; memory = memory (Some code) now was.sound was.memory })
+  kept_from sound memory kept w = subst (λ (v : World). IsTrue (is_honest_after v new) → IsSound v.start → IsKeptOf f1 (held_after v new) d1 e1) (world_in_held w) (λ honest is.
+      let was = kept (world_in (held_of w)) (falls (Some (held_of w)) honest) is in
+      record { sound = sound (Some (held_of w)) honest was.sound was.memory; memory = memory (Some (held_of w)) honest was.sound was.memory })
 
   pub open_from : (run : runs.Run)
       → ((s : Option Held) → is_honest_by s new → is_sound_by s f0 old → IsInMemory (contents_after s old) d0 e0 → runs.DidIn (contents_after s old) run (contents_after s new))
       → IsKept f0 old d0 e0 → IsOpenRun old new run
-  open_from run did kept w honest is =
-      let code = held_of w in
-      let same = world_in_held w in
-      let now : IsTrue (is_honest_after (world_in code) new) = subst (λ (v : World). IsTrue (is_honest_after v new)) (sym same) honest in
-      let before = falls (Some code) now in
-      let was = kept (world_in code) before (subst (λ (v : World). IsSound v.start) (sym same) is) in
-      subst (λ (v : World). IsTrue (is_honest_after v old) × runs.Did (represented (held_after v old)) run (represented (held_after v new))) same
-      (before, did (Some code) now was.sound was.memory)
+  open_from run did kept w =
+      subst (λ (v : World). IsTrue (is_honest_after v new) → IsSound v.start → IsTrue (is_honest_after v old) × runs.Did (represented (held_after v old)) run (represented (held_after v new))) (world_in_held w) (λ honest is.
+      let before = falls (Some (held_of w)) honest in
+      let was = kept (world_in (held_of w)) before is in (before, did (Some (held_of w)) honest was.sound was.memory))
+
+  pub reload_from : ((s : Option Held) → is_honest_by s new → is_sound_by s f0 old → contents_after s new ≡ contents_after s old) → IsKept f0 old d0 e0 → IsReload old new
+  reload_from stays kept w =
+      subst (λ (v : World). IsTrue (is_honest_after v new) → IsSound v.start → IsTrue (is_honest_after v old) × (represented (held_after v new) ≡ represented (held_after v old))) (world_in_held w) (λ honest is.
+      let before = falls (Some (held_of w)) honest in
+      let was = kept (world_in (held_of w)) before is in (before, ap (held_or w.start) (stays (Some (held_of w)) honest was.sound)))
+
+-- ---- calls that change nothing, before a run and after it
+
+-- nothing is in memory
+pub in_none : (held : Option Held) → IsInMemory held None None
+in_none None = record { read = tt; bytes = tt }
+in_none (Some h) = record { read = tt; bytes = tt }
+
+-- what is in memory stays, or is forgotten; and the file is as it was found, or closed
+pub kept_rests : (f0 f1 : Found) (old new : List Event) (d0 d1 : Option Stored) (e0 e1 : Option Encoded) → Rests old new
+    → ((h : Held) → IsSoundAs f0 h → IsSoundAs f1 h) → ((held : Option Held) → IsInMemory held d0 e0 → IsInMemory held d1 e1)
+    → IsKept f0 old d0 e0 → IsKept f1 new d1 e1
+kept_rests f0 f1 old new d0 d1 e0 e1 rests sound memory kept w honest is =
+    let was = kept w (rests.falls w honest) is in
+    subst (λ (h : Held). IsKeptOf f1 h d1 e1) (sym (rests.held w))
+    (record { sound = sound (held_after w old) was.sound; memory = memory (Some (represented (held_after w old))) was.memory })
+
+pub kept_as : (f0 f1 : Found) (old new : List Event) (d0 d1 : Option Stored) (e0 e1 : Option Encoded) → Rests old new → f1 ≡ f0 → d1 ≡ d0 → e1 ≡ e0
+    → IsKept f0 old d0 e0 → IsKept f1 new d1 e1
+kept_as f0 f1 old new d0 d1 e0 e1 rests found database encoded =
+    kept_rests f0 f1 old new d0 d1 e0 e1 rests (λ h is. subst (λ (f : Found). IsSoundAs f h) (sym found) is)
+    (λ held is. subst (λ (d : Option Stored). IsInMemory held d e1) (sym database) (subst (λ (e : Option Encoded). IsInMemory held d0 e) (sym encoded) is))
+
+pub kept_closed : (f0 f1 : Found) (old new : List Event) (d0 d1 : Option Stored) (e0 e1 : Option Encoded) → Rests old new → f1 ≡ Unopened → d1 ≡ None → e1 ≡ None
+    → IsKept f0 old d0 e0 → IsKept f1 new d1 e1
+kept_closed f0 f1 old new d0 d1 e0 e1 rests found database encoded =
+    kept_rests f0 f1 old new d0 d1 e0 e1 rests (λ h is. subst (λ (f : Found). IsSoundAs f h) (sym found) (sound_as f0 h is))
+    (λ held is. subst (λ (d : Option Stored). IsInMemory held d e1) (sym database) (subst (λ (e : Option Encoded). IsInMemory held None e) (sym encoded) (in_none held)))
+
+-- the same where nothing was in memory
+pub kept_none : (f0 f1 : Found) (old new : List Event) (d : Option Stored) (e : Option Encoded) → Rests old new → f1 ≡ Unopened
+    → IsKept f0 old d e → IsKept f1 new d e
+kept_none f0 f1 old new d e rests found =
+    kept_rests f0 f1 old new d d e e rests (λ h is. subst (λ (f : Found). IsSoundAs f h) (sym found) (sound_as f0 h is)) (λ held is. is)
+
+pub run_between : (run : runs.Run) (old before after new : List Event) → Rests old before → Rests after new → IsOpenRun before after run → IsOpenRun old new run
+run_between run old before after new first second ran w honest is =
+    let did = ran w (second.falls w honest) is in
+    let begun = subst (λ (h : Held). runs.Did (represented h) run (represented (held_after w after))) (first.held w) did.1 in
+    (first.falls w did.0, subst (λ (h : Held). runs.Did (represented (held_after w old)) run (represented h)) (sym (second.held w)) begun)
+
+pub reload_between : (old before after new : List Event) → Rests old before → Rests after new → IsReload before after → IsReload old new
+reload_between old before after new first second reloaded w honest is =
+    let same = reloaded w (second.falls w honest) is in
+    (first.falls w same.0, ap represented (second.held w) ∙ same.1 ∙ ap represented (first.held w))
 
 -- ---- one run after another
 

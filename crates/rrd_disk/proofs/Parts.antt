@@ -1,13 +1,7 @@
 -- A write that may have been done in part, and calls that are made again after it.
-use Rattle.std.proofs.Common.{◌≡◌, ℕ, zero, suc, ◌+◌, ◌%◌, ◌<◌, ◌≤◌, ◌⊎◌, inl, inr, ◌==◌, ◌&&◌, ◌||◌, nat_le, min, not, Bool, List, length, take, slice_index, IsTrue, refl, sym, ◌∙◌, ap, subst, arith, length-take, get_or-take}
-use Rattle.std.proofs.Math.Bool.{or-true}
-use Rattle.std.proofs.lemmas.Bool.{cases_lt, eqb-true, le-leb, leb-true, not-true, or_cases, true≢false}
-use Rattle.std.proofs.lemmas.List.{take_all, take_min}
-use Rattle.rrd_change.specs.Calls.{AreAny, ArePut, AreWholeOrNot, IsCut, IsFrontPut, IsSized, IsSizedOrNot, IsTorn}
-use Rattle.rrd_disk.specs.Calls.{IsPartPut}
-use Rattle.rrd_disk.specs.Power.{AreTorn}
-use Rattle.rrd_disk.specs.Replayed.{is_honest_part, is_small, overlaid, padded_or_not}
+use Rattle.rrd_disk.proofs.Names.{◌≡◌, ℕ, zero, suc, ◌+◌, ◌%◌, ◌<◌, ◌≤◌, ◌⊎◌, inl, inr, ◌==◌, ◌&&◌, ◌||◌, nat_le, min, not, Bool, List, length, take, slice_index, IsTrue, refl, sym, ◌∙◌, ap, subst, arith, length-take, get_or-take, or-true, cases_lt, eqb-true, le-leb, leb-true, not-true, or_cases, true≢false, take_all, take_min, AreAny, ArePut, AreWholeOrNot, IsCut, IsFrontPut, IsSized, IsSizedOrNot, IsTorn, IsPartPut, AreTorn, is_small, overlaid, padded_or_not}
 use Rattle.rrd_disk.proofs.Overlays.{overlaid-ArePut, overlaid_none, padded-IsSized}
+use Rattle.rrd_disk.specs.Replayed.{is_honest_part}
 
 -- ---- writes at one offset
 

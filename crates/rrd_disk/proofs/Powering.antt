@@ -1,41 +1,13 @@
 -- What the steps of replacing a database leave for a failure of the power.
-use Rattle.std.proofs.Common.{◌≡◌, ℕ, List, [], ◌∷◌, Option, Some, None, Result, Ok, Err, IfNone, IfOk, IfSome, IsErr, IsTrue, length, take, slice_index, arith, lit<, sym, ◌∙◌, ap, subst, inl, inr}
-use Rattle.std.proofs.lemmas.Bool.{false≢true}
-use Rattle.rrd_change.specs.Found.{database_of}
-use Rattle.rrd_change.specs.Marks.{IsMarkOf}
-use Rattle.rrd_change.specs.Repairs.{IsFound, IsLeft, LogEnd, Whole}
-use Rattle.rrd_change.specs.Bytes.{StandsAt}
-use Rattle.rrd_change.specs.Settled.{cut_mark, log_mark, mark_of}
-use Rattle.rrd_change.specs.Spans.{AgreesOutside}
-use Rattle.rrd_change.specs.States.{IsAtRest, IsDatabase, Represents}
-use Rattle.rrd_change.specs.Views.{Does, Effect, Stays, Steps, seen}
-use Rattle.rrd_change.specs.Views as views
-use Rattle.rrd_change.specs.declared.calls.Syncs.{Syncs}
-use Rattle.rrd_change.specs.declared.calls.Syncs.TheVariants.{Ordered}
-use Rattle.rrd_change.specs.declared.log.Base.{Base}
-use Rattle.rrd_file.specs.Faults.{IsFile}
-use Rattle.rrd_file.specs.Laws.{HasOneAnswer}
-use Rattle.rrd_store.specs.Storages.{IsAnyFile}
-use Rattle.rrd_store.specs.declared.faults.TaskFault.{TaskFault}
-use Rattle.rrd_disk.specs.Asked.{view_of}
-use Rattle.rrd_disk.specs.Calls.{Falls, KeepsHeldFor, Rests, RestsFor}
-use Rattle.rrd_disk.specs.Contents.{StandFor}
-use Rattle.rrd_disk.specs.Events.{Event}
-use Rattle.rrd_disk.specs.Loading.{IsFaultIn, IsStandingIn, is_of_bytes}
-use Rattle.rrd_disk.specs.Power.{world_after}
-use Rattle.rrd_disk.specs.Replayed.{World, bytes_after, bytes_of, is_honest_after}
-use Rattle.rrd_disk.specs.Storing.{HasNoDatabase, IsBased, Laws}
-use Rattle.rrd_disk.specs.Surviving.{Becomes, BecomesOrNot, DoesOr, Readies, Replaces, ReplacesOrNot, StaysLeft}
-use Rattle.rrd_disk.specs.declared.disk.Opening.{Opening}
-use Rattle.rrd_disk.specs.declared.disk.Opening.TheVariants.{Read, Write, Make}
-use Rattle.rrd_disk.specs.declared.loading.Standing.{Standing}
+use Rattle.rrd_disk.proofs.Names.{left_represents, ◌≡◌, ℕ, List, [], ◌∷◌, Option, Some, None, Result, Ok, Err, IfNone, IfOk, IfSome, IsErr, IsTrue, length, take, slice_index, arith, lit<, sym, ◌∙◌, ap, subst, inl, inr, false≢true, database_of, IsMarkOf, IsFound, IsLeft, LogEnd, Whole, StandsAt, cut_mark, log_mark, mark_of, AgreesOutside, IsAtRest, IsDatabase, Represents, Does, Effect, Stays, Steps, seen, Syncs, Ordered, Base, IsFile, HasOneAnswer, IsAnyFile, TaskFault, view_of, Falls, KeepsHeldFor, Rests, RestsFor, StandFor, Event, IsFaultIn, IsStandingIn, is_of_bytes, world_after, World, bytes_after, bytes_of, is_honest_after, HasNoDatabase, IsBased, Laws, Becomes, BecomesOrNot, DoesOr, Readies, Replaces, ReplacesOrNot, StaysLeft, Opening, Read, Write, Make, Standing}
 use Rattle.rrd_disk.proofs.Doing.{steps_each}
 use Rattle.rrd_disk.proofs.Failures.{stays_left, stays_rest}
 use Rattle.rrd_disk.proofs.Loaded.{no_file}
 use Rattle.rrd_disk.proofs.Repairing.{FailsToRepair, Repairs}
 use Rattle.rrd_disk.proofs.Resting.{held_is}
-use Rattle.rrd_disk.proofs.Storing.{any_database, left_represents, unmarked_is}
+use Rattle.rrd_disk.proofs.Storing.{any_database, unmarked_is}
 use Rattle.rrd_disk.proofs.Writing.{FailsToReplace as FailsToOverwrite, Replaces as Overwrites}
+use Rattle.rrd_change.specs.Views as views
 
 -- ---- the results
 
@@ -126,10 +98,10 @@ log_not file tail marked is =
     omega (arith, one, other)
 
 module _ (laws : Laws) (end : LogEnd) (other now : List ℕ) (v : views.World) (any : IsAnyFile now) (none : mark_of v.held ≡ None) where
-  held_now : IsLeft end other now v → v.held ≡ now
+  pub held_now : IsLeft end other now v → v.held ≡ now
   held_now left = unmarked_is laws now v.held any (left_represents end other now v left) none
 
-  rest_by : (left : IsLeft end other now v) → v.held ≡ now → IsAtRest now v
+  pub rest_by : (left : IsLeft end other now v) → v.held ≡ now → IsAtRest now v
   rest_by (inl rest) is = rest
   rest_by (inr (inl cut)) is = absurd (cut_not v.held cut.under.marked (subst IsDatabase (sym is) (any_database laws now any)))
   rest_by (inr (inr log)) is = absurd (log_not v.held log.tail log.world.held.log.marked (subst IsDatabase (sym is) (any_database laws now any)))
@@ -213,3 +185,13 @@ module _ (old mid ready new : List Event) (made : RestsFor Make old mid) (bytes 
   pub unready_power : (one ≡ Ordered → (d : List ℕ) (w : World) → IsTrue (is_honest_after w ready) → StaysLeft (world_after d w mid) (world_after d w ready))
       → syncs ≡ Ordered → (d : List ℕ) (w : World) → IsTrue (is_honest_after w ready) → BecomesOrNot bytes (world_after d w old) (world_after d w ready)
   unready_power stays is d w honest end other now any left = inl (stays (is_one ∙ is) d w honest end other now any (rests_left Make old mid made d w end other now any left))
+
+-- a file that is only prepared
+pub settled_power : {E : Type 0} (r : Result (Option Base) E) (syncs one : Syncs) → one ≡ syncs → (old mid new : List Event) → Rests old mid → DoesOr Readies StaysLeft r one mid new
+    → syncs ≡ Ordered → (d : List ℕ) (w : World) → IsTrue (is_honest_after w new) → StaysLeft (world_after d w old) (world_after d w new)
+settled_power (Ok None) syncs one is old mid new rests does ordered d w honest end other now any left =
+    absurd (does (is ∙ ordered) d w honest end other now any (rests_left Read old mid rests d w end other now any left))
+settled_power (Ok (Some base)) syncs one is old mid new rests does ordered d w honest end other now any left =
+    inl (does (is ∙ ordered) d w honest end other now any (rests_left Read old mid rests d w end other now any left)).1
+settled_power (Err e) syncs one is old mid new rests does ordered d w honest end other now any left =
+    does (is ∙ ordered) d w honest end other now any (rests_left Read old mid rests d w end other now any left)

@@ -1,34 +1,9 @@
 -- What the repair of a file with a mark does to one file.
-use Rattle.std.proofs.Common.{◌≡◌, ℕ, List, Option, Some, Result, Ok, Err, IsErr, IsSome, IsTrue, length, take, sym, ◌∙◌, ap, subst, true}
-use Rattle.std.proofs.lemmas.Bool.{false≢true}
-use Rattle.rrd_change.specs.Found.{database_of}
-use Rattle.rrd_change.specs.Repairs.{IsFound, IsLeft, LogEnd, Whole}
-use Rattle.rrd_change.specs.Settled.{mark_of}
-use Rattle.rrd_change.specs.States.{IsAtRest, Represents}
-use Rattle.rrd_change.specs.Views.{Effect, Steps, seen}
-use Rattle.rrd_change.specs.declared.calls.Syncs.{Syncs}
-use Rattle.rrd_change.specs.declared.finding.FoundDatabase.{FoundDatabase}
-use Rattle.rrd_change.specs.declared.log.Base.{Base}
-use Rattle.rrd_file.specs.Faults.{IsFile}
-use Rattle.rrd_file.specs.Laws.{HasOneAnswer}
-use Rattle.rrd_store.specs.Storages.{Bytes, Finds, Held, IsAnyFile}
-use Rattle.rrd_spec.specs.Journal.Survivors.{Stored}
-use Rattle.rrd_store.specs.declared.faults.TaskFault.{TaskFault}
-use Rattle.rrd_store.specs.declared.faults.TaskFault.TheVariants.{CannotOpen}
-use Rattle.rrd_disk.specs.Asked.{view_of}
-use Rattle.rrd_disk.specs.Calls.{Falls, KeepsHeld, Rests}
-use Rattle.rrd_disk.specs.Contents.{IsSound, StandFor, represented}
-use Rattle.rrd_disk.specs.Events.{Event}
-use Rattle.rrd_disk.specs.Loading.{IsFaultIn, IsStandingIn, is_of_bytes}
-use Rattle.rrd_disk.specs.Replayed.{World, bytes_after, bytes_of, held_after, is_honest_after}
-use Rattle.rrd_disk.specs.Storing.{IsLoaded, IsPrepared, IsSoundAs, Laws, LoadsMarked, LoadsUnmarked, StaysAs, alone}
-use Rattle.rrd_disk.specs.declared.loading.Standing.{Standing}
-use Rattle.rrd_disk.specs.declared.storage.Found.{Found}
-use Rattle.rrd_disk.specs.declared.storage.Found.TheVariants.{Open, Unopened}
+use Rattle.rrd_disk.proofs.Names.{left_represents, ◌≡◌, ℕ, List, Option, Some, Result, Ok, Err, IsErr, IsSome, IsTrue, length, take, sym, ◌∙◌, ap, subst, true, false≢true, database_of, IsFound, IsLeft, LogEnd, Whole, mark_of, IsAtRest, Represents, Effect, Steps, seen, Syncs, FoundDatabase, Base, IsFile, HasOneAnswer, Bytes, Finds, Held, IsAnyFile, Stored, TaskFault, CannotOpen, view_of, Falls, KeepsHeld, Rests, IsSound, StandFor, represented, Event, IsFaultIn, IsStandingIn, is_of_bytes, World, bytes_after, bytes_of, held_after, is_honest_after, IsLoaded, IsPrepared, IsSoundAs, Laws, LoadsMarked, LoadsUnmarked, StaysAs, alone, Standing, Found, Open, Unopened}
 use Rattle.rrd_disk.proofs.Asked.{falls_asked}
 use Rattle.rrd_disk.proofs.Loaded.{no_file}
 use Rattle.rrd_disk.proofs.Resting.{rests_refl}
-use Rattle.rrd_disk.proofs.Storing.{any_database, database_unmarked, each_alone, finds_closed, found_open, itself, left_represents, loaded_from, loaded_same, marked_for, represented_standing, sound_standing, stand_sound, stays_open, steps_falls}
+use Rattle.rrd_disk.proofs.Storing.{any_database, database_unmarked, each_alone, finds_closed, found_open, itself, loaded_from, loaded_same, marked_for, represented_standing, sound_standing, stand_sound, stays_open, steps_falls}
 
 -- what a repair does
 abbrev pub Repairs : FoundDatabase → Effect

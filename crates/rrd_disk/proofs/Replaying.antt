@@ -1,12 +1,7 @@
 -- What the calls of an honest record say of the file's bytes.
-use Rattle.std.proofs.Common.{◌≡◌, ℕ, ◌+◌, ◌<◌, ◌≤◌, inl, inr, ◌==◌, nat_le, List, [], ◌∷◌, length, take, drop, slice_index, IsTrue, refl, sym, ◌∙◌, ap, arith, length-drop, length-take, get_or-take, get_or-drop}
-use Rattle.std.proofs.lemmas.Bool.{and_parts, or_cases, eqb-true, leb-true, true≢false}
-use Rattle.std.proofs.lemmas.Slice.Eq.{bytes_eq-Decides}
-use Rattle.rrd_store.specs.Storages.{Held, Missing, Bytes}
-use Rattle.rrd_disk.specs.Calls.{AreGot}
-use Rattle.rrd_disk.specs.Events.{Event, Found, Made, Measured, Got}
-use Rattle.rrd_disk.specs.Events.{Missing as NotFound}
-use Rattle.rrd_disk.specs.Replayed.{World, bytes_after, bytes_of, held_after, is_honest_after, is_honest_of, is_honest_read, left, part_after}
+use Rattle.rrd_disk.proofs.Names.{◌≡◌, ℕ, ◌+◌, ◌<◌, ◌≤◌, inl, inr, ◌==◌, nat_le, List, [], ◌∷◌, length, take, drop, slice_index, IsTrue, refl, sym, ◌∙◌, ap, arith, length-drop, length-take, get_or-take, get_or-drop, and_parts, or_cases, eqb-true, leb-true, true≢false, bytes_eq-Decides, Held, Missing, Bytes, AreGot, Event, Made, Measured, Got, NotFound, World, bytes_after, bytes_of, held_after, is_honest_after, is_honest_of, left, part_after}
+use Rattle.rrd_disk.specs.Events.{Found}
+use Rattle.rrd_disk.specs.Replayed.{is_honest_read}
 
 -- ---- honest reads
 

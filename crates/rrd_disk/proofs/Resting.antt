@@ -1,19 +1,9 @@
 -- Calls that change nothing, one after another.
-use Rattle.std.proofs.Common.{◌≡◌, ◌⊎◌, ℕ, Bool, true, false, List, [], ◌∷◌, Option, Some, None, IsTrue, refl, sym, ◌∙◌, subst, inl, inr}
-use Rattle.rrd_change.specs.Views as views
-use Rattle.rrd_disk.specs.Calls.{KeepsHeldFor, Rests, RestsFor, opened, seen}
-use Rattle.rrd_disk.specs.Events.{Event, Found, Made, Missing, Locked, NoLocks, Measured, Got, Put, PutFailed, Sized, SizeFailed, Synced, SyncFailed, Streamed}
-use Rattle.rrd_disk.specs.Locks.{locked}
-use Rattle.rrd_disk.specs.Power.{moved, world_after}
-use Rattle.rrd_disk.specs.Replayed.{World, bytes_after, held_after, left, part_after}
-use Rattle.rrd_disk.specs.declared.disk.Facts.{Facts}
-use Rattle.rrd_disk.specs.declared.disk.Lock.{Lock}
-use Rattle.rrd_disk.specs.declared.disk.LockResult.{LockResult}
-use Rattle.rrd_disk.specs.declared.disk.LockResult.TheVariants.{Taken, NoLocks as Lacking}
-use Rattle.rrd_disk.specs.declared.disk.Opening.{Opening}
-use Rattle.rrd_disk.specs.declared.disk.Opening.TheVariants.{Read, Write, Make}
-use Rattle.rrd_store.specs.Storages.{Held, Missing as NoFile, Bytes}
+use Rattle.rrd_disk.proofs.Names.{◌≡◌, ◌⊎◌, ℕ, Bool, true, false, List, [], ◌∷◌, Option, Some, None, IsTrue, refl, sym, ◌∙◌, subst, inl, inr, KeepsHeldFor, Rests, RestsFor, opened, Event, Made, Locked, NoLocks, Measured, Got, Put, PutFailed, Sized, SizeFailed, Synced, SyncFailed, Streamed, locked, moved, world_after, World, bytes_after, held_after, left, part_after, Facts, Lock, LockResult, Taken, Lacking, Opening, Read, Write, Make, Held, NoFile, Bytes}
 use Rattle.rrd_disk.proofs.Replaying.{honest_before}
+use Rattle.rrd_disk.specs.Calls.{seen}
+use Rattle.rrd_disk.specs.Events.{Found, Missing}
+use Rattle.rrd_change.specs.Views as views
 
 -- ---- the file of a world
 

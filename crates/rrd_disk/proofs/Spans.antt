@@ -1,14 +1,7 @@
 -- Spans, as the crate names them that encodes databases, and as the crate does that changes files.
-use Rattle.std.proofs.Common.{◌≡◌, ◌⊎◌, [], ◌∷◌, ◌++◌, ℕ, ◌+◌, ◌<◌, ◌≤◌, List, get_or, length, min, take, inl, inr, arith}
+use Rattle.rrd_disk.proofs.Names.{◌≡◌, ◌⊎◌, [], ◌∷◌, ◌++◌, ℕ, ◌+◌, ◌<◌, ◌≤◌, List, get_or, length, min, take, inl, inr, arith, cases_lt, All-more, in_left, in_right, IsIn, Span, IsBeside, FileSpan, AreMore, AreOf}
 use Rattle.std.specs.List.{All}
-use Rattle.std.proofs.lemmas.Bool.{cases_lt}
-use Rattle.std.proofs.lemmas.List.Elements.{All-more}
-use Rattle.rrd_change.proofs.Placing.{in_left, in_right}
-use Rattle.rrd_change.specs.Spans.{IsIn}
-use Rattle.rrd_change.specs.declared.span.Span.{Span}
-use Rattle.rrd_file.specs.Spans.{AgreesOutside, IsBeside}
-use Rattle.rrd_file.specs.declared.span.Span.{Span as FileSpan}
-use Rattle.rrd_disk.specs.Storing.{AreMore, AreOf}
+use Rattle.rrd_file.specs.Spans.{AgreesOutside}
 
 pub are_none : (count : ℕ) (changed : List FileSpan) → AreOf count (take 0 changed) []
 are_none count changed = λ k low. inl (λ i d none. absurd (omega (arith, none)))

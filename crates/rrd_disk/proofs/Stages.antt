@@ -1,25 +1,9 @@
 -- What the steps of loading say of one file, one after another.
-use Rattle.std.proofs.Common.{◌≡◌, ℕ, true, false, List, Option, Some, None, Result, Ok, Err, IfNone, IfOk, IfSome, IsErr, IsSome, IsTrue, OnErr, OnOk, inl, refl, sym, ◌∙◌, ap, subst}
-use Rattle.std.proofs.lemmas.Bool.{false≢true}
-use Rattle.rrd_change.specs.Settled.{mark_of}
-use Rattle.rrd_change.specs.declared.log.Base.{Base}
-use Rattle.rrd_file.specs.Faults.{IsFile}
-use Rattle.rrd_file.specs.declared.span.Span.{Span as FileSpan}
-use Rattle.rrd_spec.specs.Journal.Survivors.{Stored}
-use Rattle.rrd_store.specs.Storages.{Becomes, Bytes, Finds, HasNone, Held, IsAfterFailure, Missing}
-use Rattle.rrd_store.specs.declared.faults.TaskFault.{TaskFault}
-use Rattle.rrd_store.specs.declared.faults.TaskFault.TheVariants.{CannotOpen}
-use Rattle.rrd_disk.specs.Calls.{Falls, KeepsHeld, Rests}
-use Rattle.rrd_disk.specs.Asked.{world_in}
-use Rattle.rrd_disk.specs.Contents.{IsSound, contents_after, is_honest_by, represented}
-use Rattle.rrd_disk.specs.Events.{Event}
-use Rattle.rrd_disk.specs.Known.{TellsMark}
-use Rattle.rrd_disk.specs.Openings.{IsThere}
-use Rattle.rrd_disk.specs.Replayed.{World, bytes_after, bytes_of, held_after, is_honest_after}
-use Rattle.rrd_disk.specs.Storing.{HasNoDatabase, IsAsLoaded, IsBased, IsLoaded, IsPrepared, IsSoundAs, Laws, Loads, LoadsAs, LoadsMarked, LoadsOpen, LoadsUnmarked, MayDiffer, Prepares, PreparesMarked, Writes, is_sound_by}
-use Rattle.rrd_disk.specs.declared.storage.Found.{Found}
-use Rattle.rrd_disk.specs.declared.storage.Found.TheVariants.{Unopened, Missing as NotFound, Unwritable, Open, Kept}
+use Rattle.rrd_disk.proofs.Names.{◌≡◌, ℕ, true, false, List, Option, Some, None, Result, Ok, Err, IfNone, IfOk, IfSome, IsErr, IsSome, IsTrue, OnErr, OnOk, inl, refl, sym, ◌∙◌, ap, subst, false≢true, mark_of, Base, IsFile, FileSpan, Stored, Bytes, Finds, HasNone, Held, IsAfterFailure, Missing, TaskFault, CannotOpen, Falls, KeepsHeld, Rests, world_in, IsSound, contents_after, is_honest_by, represented, Event, TellsMark, IsThere, World, bytes_after, bytes_of, held_after, is_honest_after, HasNoDatabase, IsAsLoaded, IsBased, IsLoaded, IsPrepared, IsSoundAs, Laws, Loads, LoadsAs, LoadsMarked, LoadsOpen, LoadsUnmarked, MayDiffer, Prepares, PreparesMarked, is_sound_by, Found, Unopened, Unwritable, Open, Kept}
+use Rattle.rrd_store.specs.Storages.{Becomes}
 use Rattle.rrd_disk.proofs.Storing.{finds_closed, found_open, itself, loaded_from, loaded_same, sound_as, sound_unmarked, told_unmarked}
+use Rattle.rrd_disk.specs.Storing.{Writes}
+use Rattle.rrd_disk.specs.declared.storage.Found.TheVariants.{Missing as NotFound}
 
 -- ---- a file without a mark
 
@@ -71,9 +55,6 @@ module _ (found : Found) (result : Result (Option Stored) TaskFault) (old mid ne
   pub marked_from : LoadsMarked mid new found result → LoadsMarked old new found result
   marked_from loads = λ s honest sound there marked.
       onward s (loads s honest (sound_mid s sound) (there_mid s there) (subst (λ (h : Held). IsSome (mark_of (bytes_of h))) (sym (same s)) marked))
-
-  pub marked_from_open : LoadsOpen mid new found result → LoadsMarked old new found result
-  marked_from_open loads = λ s honest sound there marked. onward s (loads s honest (sound_mid s sound) (there_mid s there))
 
   pub open_from_marked : TellsMark true mid → LoadsMarked mid new found result → LoadsOpen old new found result
   open_from_marked tells loads = λ s honest sound there.

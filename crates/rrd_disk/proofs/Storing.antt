@@ -1,50 +1,13 @@
 -- What the steps of loading and replacing the database of a file do to one file.
-use Rattle.std.proofs.Common.{◌≡◌, ◌⊎◌, ◌↔◌, ◌∷◌, [], ℕ, ◌+◌, ◌<◌, ◌≤◌, Bool, false, List, Option, Some, None, Result, Ok, Err, IfOk, IsSome, IsTrue, OnErr, length, drop, take, slice_index, refl, sym, ◌∙◌, ap, subst, inl, inr, arith, get_or-take}
-use Rattle.std.proofs.lemmas.Bool.{false≢true}
-use Rattle.rrd_change.specs.Bytes.{begins_with}
-use Rattle.rrd_change.specs.Marks.{IsMarkOf}
-use Rattle.rrd_change.specs.Outcomes.{IsWhole}
-use Rattle.rrd_change.specs.Repairs.{IsFound, IsLeft, IsStopped, LogEnd, Whole}
-use Rattle.rrd_change.specs.Settled.{cut_mark, database_mark, log_mark, mark_of, settled, settled_by, spelled_tail}
-use Rattle.rrd_change.specs.Settled as marks
-use Rattle.rrd_change.specs.Spans.{AgreesOutside, IsIn}
-use Rattle.rrd_change.specs.States.{Began, IsAtRest, IsDatabase, IsKept, Represents, RepresentsEither}
-use Rattle.rrd_change.specs.Views.{Does, Effect, Steps, seen}
-use Rattle.rrd_change.specs.Views as views
-use Rattle.rrd_change.specs.declared.calls.Syncs.{Syncs}
-use Rattle.rrd_change.specs.declared.calls.Syncs.TheVariants.{Never, Ordered}
-use Rattle.rrd_change.specs.declared.finding.Mark.{Mark}
-use Rattle.rrd_change.specs.declared.log.Base.{Base}
-use Rattle.rrd_change.specs.declared.log.Log.{Log}
-use Rattle.rrd_change.specs.declared.span.Span.{Span}
-use Rattle.rrd_change.proofs.Logs.{by_mark, is_plain, plain_read}
-use Rattle.rrd_change.proofs.Marking.{cut_under}
-use Rattle.rrd_change.proofs.Settling.{log_stands_all}
-use Rattle.rrd_file.specs.End.{file_end}
-use Rattle.rrd_file.specs.Faults.{IsFile, IsOfFile}
-use Rattle.rrd_file.specs.Laws.{HasOneAnswer}
-use Rattle.rrd_file.specs.Spans.{IsBeside}
-use Rattle.rrd_file.specs.Spans as file
-use Rattle.rrd_file.specs.declared.fault.FileFault.{FileFault}
-use Rattle.rrd_file.specs.declared.span.Span.{Span as FileSpan}
-use Rattle.rrd_spec.specs.Journal.Survivors.{Stored}
-use Rattle.rrd_store.specs.Storages.{Bytes, Decodes, Finds, Held, IsAfterFailure, IsAnyFile, IsNoFile, Missing}
-use Rattle.rrd_store.specs.declared.faults.TaskFault.{TaskFault}
-use Rattle.rrd_store.specs.declared.faults.TaskFault.TheVariants.{CannotOpen, File}
-use Rattle.rrd_disk.specs.Asked.{FallsAsked, code_of, is_honest_in, view_of, world_of}
-use Rattle.rrd_disk.specs.Calls.{Falls}
-use Rattle.rrd_disk.specs.Contents.{IsSound, StandFor, represented}
-use Rattle.rrd_disk.specs.Entries.{SaysEntry}
-use Rattle.rrd_disk.specs.Events.{Event}
-use Rattle.rrd_disk.specs.Power.{world_after}
-use Rattle.rrd_disk.specs.Replayed.{World, bytes_after, bytes_of, held_after, is_honest_after, is_there}
-use Rattle.rrd_disk.specs.Storing.{AreOf, Breaks, Changes, IsFoundAs, IsLoaded, IsOpen, IsSoundAs, IsWritten, Laws, MayDiffer, StaysAs, alone}
-use Rattle.rrd_disk.specs.declared.file_bytes.Entry.{Entry}
-use Rattle.rrd_disk.specs.declared.storage.Found.{Found}
-use Rattle.rrd_disk.specs.declared.storage.Found.TheVariants.{Unopened, Missing as NotFound, Unwritable, Open, Kept}
+use Rattle.rrd_disk.proofs.Names.{left_represents, alone_left, ◌≡◌, ◌⊎◌, ◌↔◌, ◌∷◌, [], ℕ, ◌+◌, ◌<◌, ◌≤◌, Bool, false, List, Option, Some, None, Result, Ok, Err, IfOk, IsSome, IsTrue, OnErr, length, drop, take, slice_index, refl, sym, ◌∙◌, ap, subst, inl, inr, arith, get_or-take, false≢true, begins_with, IsMarkOf, IsWhole, IsFound, IsLeft, IsStopped, LogEnd, Whole, cut_mark, database_mark, log_mark, mark_of, settled, settled_by, spelled_tail, AgreesOutside, IsIn, Began, IsAtRest, IsDatabase, Represents, RepresentsEither, Does, Effect, Steps, seen, Syncs, Never, Ordered, Mark, Base, Log, Span, by_mark, is_plain, plain_read, cut_under, log_stands_all, file_end, IsFile, IsOfFile, HasOneAnswer, IsBeside, FileFault, FileSpan, Stored, Bytes, Decodes, Finds, Held, IsAfterFailure, IsAnyFile, IsNoFile, Missing, TaskFault, CannotOpen, File, FallsAsked, code_of, is_honest_in, view_of, world_of, Falls, IsSound, StandFor, represented, SaysEntry, Event, world_after, World, bytes_after, bytes_of, held_after, is_honest_after, is_there, AreOf, Breaks, Changes, IsFoundAs, IsLoaded, IsOpen, IsSoundAs, IsWritten, Laws, MayDiffer, StaysAs, alone, Entry, Found, Unopened, Unwritable, Open, Kept}
+use Rattle.rrd_change.specs.States.{IsKept}
 use Rattle.rrd_disk.proofs.Asked.{code_honest, falls_asked, still_there, world_of_code}
 use Rattle.rrd_disk.proofs.Resting.{held_is}
 use Rattle.rrd_disk.proofs.Spans.{all_agree}
+use Rattle.rrd_disk.specs.declared.storage.Found.TheVariants.{Missing as NotFound}
+use Rattle.rrd_change.specs.Settled as marks
+use Rattle.rrd_change.specs.Views as views
+use Rattle.rrd_file.specs.Spans as file
 
 -- ---- calls of `rrd_change`, for each file
 
@@ -160,28 +123,12 @@ kept_represents : (now bytes : List ℕ) (log : Option Log) → IsKept now log (
 kept_represents now bytes None is = inr (inl (cut_under now bytes is.is is.world.held))
 kept_represents now bytes (Some log) is = (log_stands_all now log (alone bytes) is).held
 
--- whatever kills and failed calls leave, programs read that it stands for the database
-pub left_represents : (end : LogEnd) (other now : List ℕ) (w : views.World) → IsLeft end other now w → Represents now w.held
-left_represents end other now w (inl rest) = inl rest.world.held
-left_represents end other now w (inr (inl cut)) = inr (inl cut.under)
-left_represents end other now w (inr (inr log)) = inr (inr (record { old = log.old; tail = log.tail; changes = log.changes; logged = log.world.held; leads = log.leads; fill = log.fill }))
-
 pub stopped_represents : (end : LogEnd) (old new : List ℕ) (w : views.World) → IsStopped end old new w → RepresentsEither old new w.held
 stopped_represents end old new w (inl left) = inl (left_represents end new old w left)
 stopped_represents end old new w (inr left) = inr (left_represents end old new w left)
 
 pub represents_left : (now bytes : List ℕ) → IsDatabase now → Represents now bytes → IsLeft Whole now now (alone bytes)
-represents_left now bytes is (inl same) = inl (record { is = is; world = record { held = same; leave = λ c may. absurd may; keep = λ c may. absurd may } })
-represents_left now bytes is (inr (inl under)) =
-    inr (inl (record { under = under; uncut = record { is = is; held = inr under; leave = λ c may. absurd may; keep = λ c may. absurd may } }))
-represents_left now bytes is (inr (inr log)) = inr (inr (record {
-  old = log.old;
-  tail = log.tail;
-  changes = log.changes;
-  leads = log.leads;
-  fill = log.fill;
-  world = record { held = log.logged; leave = λ c may. absurd may; keep = λ c may. absurd may };
-}))
+represents_left now bytes is represents = alone_left now (alone bytes) is represents (record { leave = λ c may. absurd may; keep = λ c may. absurd may })
 
 pub found_represents : (found : Found) (now bytes : List ℕ) → IsFoundAs found now (alone bytes) → Represents now bytes
 found_represents Unopened now bytes is = left_represents is.end is.other now (alone bytes) is.left

@@ -1,15 +1,7 @@
 -- The answers of a file that does what it is told are honest.
-use Rattle.std.proofs.Common.{◌≡◌, ◌∙◌, ℕ, zero, suc, ◌==◌, ◌||◌, nat_le, not, Bool, IsTrue, List, [], ◌∷◌, length, take, drop, refl, sym, ap, subst, arith, length-take, length-drop}
-use Rattle.std.proofs.Math.Bool.{or-true}
-use Rattle.std.proofs.lemmas.Bool.{and_from, eq-eqb, le-leb}
-use Rattle.std.proofs.lemmas.List.{take_min}
-use Rattle.std.proofs.lemmas.Slice.Eq.{bytes_eq-Decides}
-use Rattle.rrd_store.specs.Storages.{Held, Missing, Bytes}
-use Rattle.rrd_disk.specs.Events.{Event}
-use Rattle.rrd_disk.specs.Replayed.{World, held_after, is_honest_after, is_honest_call, is_honest_of, is_honest_part, is_honest_read, is_small, part_after}
-use Rattle.rrd_disk.specs.Told.{Call, HonestRecordsExist, Locks, Measures, Opens, Reads, Sizes, Syncs, Writes, answer, opened_none, told, told_to, world_from}
-use Rattle.rrd_disk.specs.declared.disk.Opening.{Opening}
-use Rattle.rrd_disk.specs.declared.disk.Opening.TheVariants.{Read, Write, Make}
+use Rattle.rrd_disk.proofs.Names.{◌≡◌, ◌∙◌, ℕ, zero, suc, ◌==◌, ◌||◌, nat_le, not, Bool, IsTrue, List, [], ◌∷◌, length, take, drop, refl, sym, ap, subst, arith, length-take, length-drop, or-true, and_from, eq-eqb, le-leb, take_min, bytes_eq-Decides, Held, Missing, Bytes, Event, World, held_after, is_honest_after, is_honest_call, is_honest_of, is_small, part_after, Call, HonestRecordsExist, Locks, Sizes, answer, opened_none, told, told_to, world_from, Opening, Read, Write, Make}
+use Rattle.rrd_disk.specs.Replayed.{is_honest_part, is_honest_read}
+use Rattle.rrd_disk.specs.Told.{Measures, Opens, Reads, Syncs, Writes}
 
 read_honest : (file : List ℕ) (at wanted : ℕ) (bytes : List ℕ) → bytes ≡ take wanted (drop at file) → IsTrue (is_honest_read file at wanted bytes)
 unfolding is_honest_read

@@ -1,25 +1,5 @@
 -- What the steps of replacing the database of a file that was not found open do to one file.
-use Rattle.std.proofs.Common.{◌≡◌, ◌⊎◌, [], ◌∷◌, ℕ, List, Option, Some, None, Result, Ok, Err, IsErr, IsTrue, length, take, slice_index, refl, sym, ◌∙◌, ap, subst, inl, inr, arith, lit<}
-use Rattle.std.proofs.lemmas.Bool.{false≢true}
-use Rattle.rrd_change.specs.Calls.{IsSized, IsSizedOrNot}
-use Rattle.rrd_change.specs.Making.{IsEmpty, IsUnmade}
-use Rattle.rrd_change.specs.Repairs.{IsStopped, Whole}
-use Rattle.rrd_change.specs.Settled.{mark_of}
-use Rattle.rrd_change.specs.Spans.{AgreesOutside}
-use Rattle.rrd_change.specs.States.{Began, IsAtRest, IsDatabase}
-use Rattle.rrd_change.specs.Views.{All, Effect, Fails, Steps, Stores, seen}
-use Rattle.rrd_change.specs.declared.calls.Syncs.{Syncs}
-use Rattle.rrd_change.specs.declared.log.Base.{Base}
-use Rattle.rrd_store.specs.Storages.{Bytes, HasNone, Held, IsAfterFailure, IsAnyFile, IsNoFile, Missing}
-use Rattle.rrd_disk.specs.Asked.{view_of}
-use Rattle.rrd_disk.specs.Calls.{Falls}
-use Rattle.rrd_disk.specs.Contents.{IsSound, represented}
-use Rattle.rrd_disk.specs.Events.{Event}
-use Rattle.rrd_disk.specs.Openings.{IsThere}
-use Rattle.rrd_disk.specs.Replayed.{World, bytes_after, bytes_of, held_after, is_honest_after}
-use Rattle.rrd_disk.specs.Storing.{IsPrepared, IsSoundAs, IsWritten, Laws, Prepares, StaysAs, WritesAll, WritesFirst, WritesOver, alone}
-use Rattle.rrd_disk.specs.declared.storage.Found.{Found}
-use Rattle.rrd_disk.specs.declared.storage.Found.TheVariants.{Unopened, Open}
+use Rattle.rrd_disk.proofs.Names.{◌≡◌, ◌⊎◌, [], ◌∷◌, ℕ, List, Option, Some, None, Result, Ok, Err, IsErr, IsTrue, length, take, slice_index, refl, sym, ◌∙◌, ap, subst, inl, inr, arith, lit<, false≢true, IsSized, IsSizedOrNot, IsEmpty, IsUnmade, IsStopped, Whole, mark_of, AgreesOutside, Began, IsAtRest, IsDatabase, All, Effect, Fails, Steps, Stores, seen, Syncs, Base, Bytes, HasNone, Held, IsAfterFailure, IsAnyFile, IsNoFile, Missing, view_of, Falls, IsSound, represented, Event, IsThere, World, bytes_after, bytes_of, held_after, is_honest_after, IsPrepared, IsSoundAs, IsWritten, Laws, Prepares, StaysAs, WritesAll, WritesFirst, WritesOver, alone, Found, Unopened, Open}
 use Rattle.rrd_disk.proofs.Storing.{any_database, began_at, database_unmarked, each_alone, file_database, itself, left_broken, represented_standing, sound_found, sound_unmarked, stays_open, steps_falls, stopped_represents, zero_unmarked}
 
 -- ---- what a file represents, nearly
@@ -79,10 +59,10 @@ made_sound old new (inr (missing, empty)) sound = sound_unmarked new [] empty (z
 
 -- ---- a file that is emptied, and written
 
-zero_database : (bytes : List ℕ) → slice_index bytes 0 ≡ 0 → IsDatabase bytes → ⊥
+pub zero_database : (bytes : List ℕ) → slice_index bytes 0 ≡ 0 → IsDatabase bytes → ⊥
 zero_database bytes zeroed is = let first : slice_index bytes 0 ≡ 82 = is.begins.each 0 (lit< tt) in absurd (omega (arith, zeroed, first))
 
-database_none : Laws → (bytes : List ℕ) → IsAnyFile bytes → mark_of bytes ≡ None
+pub database_none : Laws → (bytes : List ℕ) → IsAnyFile bytes → mark_of bytes ≡ None
 database_none laws bytes any = database_unmarked bytes (any_database laws bytes any)
 
 -- the file has no database, and no mark

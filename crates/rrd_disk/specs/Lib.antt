@@ -9,12 +9,15 @@ pub mod Kills
 pub mod Known
 pub mod Loading
 pub mod Locks
+pub mod Making
 pub mod Noting
 pub mod OpenRuns
 pub mod Openings
 pub mod Power
+pub mod Programs
 pub mod Replayed
 pub mod Runs
+pub mod Safe
 pub mod Storing
 pub mod Told
 pub mod Surviving

@@ -35,9 +35,10 @@ GuardsFor lock events = lock ≡ Own → IsTrue (is_guarded events)
 abbrev pub Guards : {F : Type 0} → Option (LockedFile F) → List Event → Type 0
 Guards file events = (locked : LockedFile _) → file ≡ Some locked → GuardsFor locked.lock events
 
--- a file that is open, if one is, is not open for a change
-abbrev pub IsToRead : {F : Type 0} → Option (LockedFile F) → Type 0
-IsToRead file = (locked : LockedFile _) → file ≡ Some locked → locked.lock ≡ Own → ⊥
+-- the lock of an open file was turned into this one: a shared one guards the file no more
+abbrev pub IsTurned : Lock → List Event → Type 0
+IsTurned Shared events = is_guarded events ≡ false
+IsTurned Own events = IsTrue (is_guarded events)
 
 abbrev pub GuardsOpened : {F P : Type 0} → Opened F P → List Event → Type 0
 GuardsOpened (Regular locked count) events = GuardsFor locked.lock events

@@ -1,16 +1,17 @@
 -- Definition: runs on a file that stays open, with the record of all calls on the file. Law: after any list of such runs on
 -- one honest file, its bytes and all printed text are what the definitions compute.
-use Rattle.std.specs.Prelude.{◌≡◌, IsTrue, List, [], ◌∷◌, map, Option, Some, ⊤}
+use Rattle.std.specs.Prelude.{◌≡◌, false, IsTrue, List, [], ◌∷◌, map, Option, Some, ⊤}
 use Rattle.rrd_disk.specs.Contents.{IsSound, represented}
 use Rattle.rrd_disk.specs.Events.{Event}
-use Rattle.rrd_disk.specs.Replayed.{World, held_after, is_honest_after}
-use Rattle.rrd_disk.specs.Storing.{IsSoundAs}
+use Rattle.rrd_disk.specs.Locks.{is_guarded}
+use Rattle.rrd_disk.specs.Replayed.{World, bytes_after, held_after, is_honest_after}
+use Rattle.rrd_disk.specs.Storing.{IsOpen, IsSoundAs}
 use Rattle.rrd_disk.specs.declared.storage.Found.{Found}
 use Rattle.rrd_file.specs.declared.encoded.Encoded.{Encoded}
 use Rattle.rrd_spec.specs.Journal.Survivors.{Stored}
 use Rattle.rrd_store.specs.Runs as runs
 use Rattle.rrd_store.specs.Sessions.{IsInMemory}
-use Rattle.rrd_store.specs.Storages.{Held}
+use Rattle.rrd_store.specs.Storages.{Bytes, Held}
 
 -- the file is in the state in which it was found, so that the next run can read it; and what is in memory, a database and its
 -- bytes, is what the file represents
@@ -36,11 +37,26 @@ IsReload before after =
     → IsTrue (is_honest_after w before)
     × (represented (held_after w after) ≡ represented (held_after w before))
 
--- the calls between the two records changed nothing that the file represents, if it was in the state in which it was found
+-- the calls between the two records left a sound file and changed nothing that it represents, if it was in the state in which it
+-- was found
 abbrev pub Finishes : Found → List Event → List Event → Type 0
 Finishes found before after =
     (w : World) → IsTrue (is_honest_after w after) → IsSoundAs found (held_after w before)
-    → represented (held_after w after) ≡ represented (held_after w before)
+    → IsSound (held_after w after) × (represented (held_after w after) ≡ represented (held_after w before))
+
+-- the same of an open file that is sound
+abbrev pub Settles : List Event → List Event → Type 0
+Settles before after =
+    (w : World) → IsTrue (is_honest_after w after) → IsSound (held_after w before) → held_after w before ≡ Bytes (bytes_after w before)
+    → IsSound (held_after w after) × (represented (held_after w after) ≡ represented (held_after w before))
+
+-- the file is sound after these calls, so that the next program can read it
+abbrev pub LeavesSound : List Event → Type 0
+LeavesSound events = (w : World) → IsTrue (is_honest_after w events) → IsSound w.start → IsSound (held_after w events)
+
+-- a file that stays open lets others read it between two runs: its lock is not the run's own
+abbrev pub LetsRead : Found → List Event → Type 0
+LetsRead found events = IsOpen found → is_guarded events ≡ false
 
 -- the record has these calls before the run, and those after it. From each file for which all answers are honest, the run did
 -- what the definitions say to the file that the calls before it left

@@ -1,6 +1,6 @@
 -- Definition: what survives a failure of the power, of a file that is changed by a run that syncs (own).
 use Rattle.std.specs.Prelude.{◌≡◌, ◌⊎◌, ℕ, Bool, IsTrue, List, [], Option, Some, None, Result, Ok, Err}
-use Rattle.rrd_change.specs.Outcomes.{AllStandAsTold}
+use Rattle.rrd_change.specs.Outcomes.{AllStand, AllStandAsTold}
 use Rattle.rrd_change.specs.Repairs.{IsLeft, IsStopped, LogEnd, Whole}
 use Rattle.rrd_change.specs.States.{Began, IsAtRest, Tells}
 use Rattle.rrd_change.specs.Views as views
@@ -11,7 +11,7 @@ use Rattle.rrd_disk.specs.Events.{Event}
 use Rattle.rrd_disk.specs.Power.{world_after}
 use Rattle.rrd_disk.specs.Replayed.{World, bytes_after, is_honest_after}
 use Rattle.rrd_file.specs.End.{file_end}
-use Rattle.rrd_store.specs.Storages.{Bytes, IsAnyFile}
+use Rattle.rrd_store.specs.Storages.{Bytes, IsAnyFile, IsNoFile, Missing}
 
 -- programs read that the file stands for a database of which `P` holds. The disk may yet have what stands for another one, as kills and
 -- failed calls leave it, and `P` holds of that one too
@@ -42,6 +42,18 @@ IsChange bytes events = (d : List ℕ) (w : World) → IsTrue (is_honest_after w
 abbrev pub IsChanged : List ℕ → List Event → Type 0
 IsChanged bytes events = (d : List ℕ) (w : World) → IsTrue (is_honest_after w events) → (P : List ℕ → Bool)
     → Survives (λ b. IsTrue (P b)) (world_after d w []) → SurvivesPower (λ b. b ≡ bytes) (world_after d w events)
+
+-- what a file stands for that was made with these bytes, or began to be made: these, or no database
+abbrev pub IsMadeOrNone : List ℕ → List ℕ → Type 0
+IsMadeOrNone bytes now = (now ≡ bytes) ⊎ IsNoFile now
+
+-- these calls made a file where there was none, nor anything of it on the disk, or began to: so does whatever the power may leave
+abbrev pub IsMaking : List ℕ → List Event → Type 0
+IsMaking bytes events = (w : World) → IsTrue (is_honest_after w events) → w.start ≡ Missing → AllStand file_end (IsMadeOrNone bytes) (world_after [] w events)
+
+-- they made it: whatever the power may leave stands for these bytes
+abbrev pub IsMade : List ℕ → List Event → Type 0
+IsMade bytes events = (w : World) → IsTrue (is_honest_after w events) → w.start ≡ Missing → AllStand file_end (λ b. b ≡ bytes) (world_after [] w events)
 
 -- after the power failed, the file has what the disk has
 abbrev pub found_after : List ℕ → World

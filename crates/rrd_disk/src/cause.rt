@@ -1,4 +1,4 @@
-//! The reason why a call on a file failed.
+//! The reason why a run on a file failed: a call failed, or the file is not one of rrdi.
 use std::cell::Cell;
 use std::io::{self, Error};
 
@@ -9,6 +9,7 @@ use std::io::{self, Error};
 pub struct Cause {
     last: Cell<Option<Error>>,
     is_written: Cell<bool>,
+    mark: Cell<[u8; 4]>,
 }
 
 impl Cause {
@@ -17,6 +18,7 @@ impl Cause {
         Cause {
             last: Cell::new(None),
             is_written: Cell::new(false),
+            mark: Cell::new([0; 4]),
         }
     }
 
@@ -32,6 +34,17 @@ impl Cause {
     /// Checks whether a database was written to the file.
     pub fn is_written(&self) -> bool {
         self.is_written.get()
+    }
+
+    /// Returns the first four bytes of the file that was refused because it is not one of rrdi: they show whose it is. They
+    /// are zeros if no file was, or it came by a pipe.
+    pub fn mark(&self) -> [u8; 4] {
+        self.mark.get()
+    }
+
+    /// Notes how a file begins that is not one of rrdi.
+    pub fn set_mark(&self, mark: [u8; 4]) {
+        self.mark.set(mark);
     }
 
     /// Notes that a database was written, or why that failed.

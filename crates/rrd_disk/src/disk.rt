@@ -116,7 +116,11 @@ pub trait Disk {
         ensures ok { IfOk result (λ pipe. events self.new ≡ opened Read pipe ∷ events self.old) }
         ensures err { OnErr result (events self.new ≡ events self.old) };
 
-    /// Tries once to lock an open file, without waiting. If the call fails, this open file holds no lock.
+    /// Tries once to lock an open file, without waiting. If the open file holds a lock, the call turns that lock into the
+    /// other one. If the call fails, this open file holds no lock.
+    ///
+    /// If nobody else holds a lock, the call turns a shared lock into the run's own in one step, in which nobody else can
+    /// lock the file: flock(2) does so on Linux since version 4.1.
     ///
     /// # Errors
     ///
@@ -169,8 +173,8 @@ pub trait Disk {
         ensures ok { OnOk result (events self.new ≡ Streamed ∷ events self.old) }
         ensures err { OnErr result (events self.new ≡ events self.old) };
 
-    /// Writes bytes from byte `at` on by one call, and returns the number of bytes that were written. Since the last
-    /// opening of the file, the record has the run's own lock, or that the file system has no locks.
+    /// Writes bytes from byte `at` on by one call, and returns the number of bytes that were written. The last lock in the
+    /// record, since the last opening of the file, is the run's own, or the file system has no locks.
     ///
     /// # Errors
     ///
@@ -200,6 +204,6 @@ pub trait Disk {
         ensures ok { OnOk result (events self.new ≡ Synced ∷ events self.old) }
         ensures err { OnErr result (events self.new ≡ SyncFailed ∷ events self.old) };
 
-    /// Waits for `milliseconds`.
-    fn pause(&self, milliseconds: u64);
+    /// Waits for `milliseconds`, and returns how many milliseconds have passed since the pause before, or since the opening.
+    fn pause(&self, milliseconds: u64) -> u64;
 }

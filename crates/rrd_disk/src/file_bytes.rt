@@ -1,23 +1,21 @@
 //! The file of a run: its bytes, which are read and changed by the calls of the system.
-ghost use Rattle.std.specs.Prelude.{◌≡◌, ◌<◌, ◌≤◌, ℕ, IfOk, IfSome, IsTrue, List, None, OnOk, false, length, max, option_map};
+ghost use Rattle.std.specs.Prelude.{◌≡◌, ◌<◌, ◌≤◌, ℕ, IfOk, IfSome, IsTrue, List, None, OnOk, length, max, option_map};
 ghost use Rattle.rrd_change.specs.Calls.{AreAt, ArePut, IsSized, IsSizedOrNot};
 ghost use Rattle.rrd_change.specs.Views.{Does, Fails, Moves, Stores, seen};
 ghost use Rattle.rrd_disk.specs.Asked.{view_of};
 ghost use Rattle.rrd_disk.specs.Calls.{DidOr, Falls, IsCutShort, IsPartPut, PlaceStays, Rests, RestsFor};
 ghost use Rattle.rrd_disk.specs.Fronts.{Shows};
 ghost use Rattle.rrd_disk.specs.Known.{AreAll, AreFirst, Measures, ShowsBytes, TellsBase, TellsMark};
-ghost use Rattle.rrd_disk.specs.Locks.{Guards, IsToRead};
+ghost use Rattle.rrd_disk.specs.Locks.{Guards, IsTurned};
 ghost use Rattle.rrd_disk.specs.Openings.{HasLength};
 ghost use Rattle.rrd_disk.specs.Power.{AreTorn};
 ghost use Rattle.rrd_disk.specs.Replayed.{World, bytes_after, is_honest_after};
 
 use crate::front::Front;
-use crate::locks::LockedFile;
-use crate::once::{
-    get, get_behind, get_next, measure, no_space, open, put, put_some, set_length, sync,
-};
+use crate::locks::{LockedFile, turn_lock};
+use crate::once::{get, get_behind, get_next, measure, no_space, put, put_some, set_length, sync};
 use crate::opening::{Opened, open_locked};
-use crate::{Disk, Opening, Syncs};
+use crate::{Disk, Lock, Opening, Syncs};
 use rrd_change::{Base, Bytes, PAGE, has_mark};
 use std::io::{self, Error, ErrorKind};
 
@@ -161,24 +159,28 @@ impl<D: Disk> FileBytes<D> {
         }
     }
 
-    // Checks whether the file is open for a change.
-    fn is_to_change(&self) -> bool
-        ensures { result ≡ false → IsToRead self.now.file }
+    /// Turns the lock of the open file into another one, by one try.
+    ///
+    /// # Errors
+    ///
+    /// The file could not be locked so at once. It is closed.
+    pub(crate) fn turn_lock(&mut self, lock: Lock) -> io::Result<()>
+        ensures rests { Rests (D.events self.old.disk) (D.events self.new.disk) }
+        ensures turned { OnOk result (IsTurned lock (D.events self.new.disk)) }
     {
-        match &self.file {
-            Some(file) => file.is_to_change(),
-            None => false,
+        let Some(locked) = self.file.take() else {
+            return Err(not_open());
+        };
+        match turn_lock(&mut self.disk, locked, lock) {
+            Ok(turned) => {
+                self.file = Some(turned);
+                Ok(())
+            }
+            Err(error) => {
+                self.close();
+                Err(error)
+            }
         }
-    }
-
-    /// Checks whether this run may open the file for writing.
-    pub(crate) fn may_write(&mut self) -> bool
-        ensures { Rests (D.events self.old.disk) (D.events self.new.disk) }
-    {
-        if self.is_to_change() {
-            return true;
-        }
-        matches!(open(&mut self.disk, Opening::Write), Ok(Some(_)))
     }
 
     // Returns the length of the file in bytes.

@@ -5,15 +5,19 @@
 //! own code on such a system.
 ghost use Rattle.std.specs.Prelude.{◌≡◌, ◌+◌, ◌++◌, ◌<◌, [], IsTrue};
 ghost use Rattle.rrd_disk.specs.Kills.{are_failed, interrupted};
+ghost use Rattle.rrd_change.specs.declared.calls.Syncs.TheVariants.{Ordered};
+ghost use Rattle.rrd_disk.specs.Making.{SurvivesMaking};
 ghost use Rattle.rrd_disk.specs.Runs.{IsKilledRun};
+ghost use Rattle.rrd_disk.specs.Safe.{SurvivesRun};
 ghost use Rattle.rrd_store.specs.Runs.{batch_run, command_run};
 
+use crate::laws::file_laws;
 use crate::{
     Disk, Facts, FileRun, Lock, LockResult, Noted, Opening, Place, Record, run_batch_at,
     run_command_at,
 };
 use rrd_store::{Always, FileBatchEnd, TaskFault};
-use rrd_tool::Words;
+use rrd_tool::{Unobserved, Words};
 use std::alloc::Global;
 use std::io::{self, Error, ErrorKind, Read, Write};
 
@@ -141,10 +145,11 @@ impl<D: Disk> Disk for Killed<D> {
         self.system.sync(file)
     }
 
-    fn pause(&self, milliseconds: u64) {
-        if self.calls_left > 0 {
-            self.system.pause(milliseconds);
+    fn pause(&self, milliseconds: u64) -> u64 {
+        if self.calls_left == 0 {
+            return milliseconds;
         }
+        self.system.pause(milliseconds)
     }
 }
 
@@ -167,11 +172,16 @@ pub fn run_command_killed<D: Disk, W: Write>(
     out: &mut W,
 ) -> FileRun<Killed<D>, Result<(), TaskFault>>
     requires { D.events disk ≡ [] }
-    ensures { IsKilledRun (interrupted result.disk.missed.events ++ D.events result.disk.system)
+    ensures killed { IsKilledRun (interrupted result.disk.missed.events ++ D.events result.disk.system)
+        (command_run words.now now (W.contents out.old) (W.contents out.new) result.end) }
+    ensures power { place.entry.settings.syncs ≡ Ordered → SurvivesRun (interrupted result.disk.missed.events ++ D.events result.disk.system)
+        (command_run words.now now (W.contents out.old) (W.contents out.new) result.end) }
+    ensures making { place.entry.settings.syncs ≡ Ordered → SurvivesMaking (interrupted result.disk.missed.events ++ D.events result.disk.system)
         (command_run words.now now (W.contents out.old) (W.contents out.new) result.end) }
 {
+    file_laws();
     let killed = Killed::new(disk, calls);
-    run_command_at(alloc, killed, place, words, now, out)
+    run_command_at(alloc, killed, place, words, now, out, &Unobserved)
 }
 
 /// Runs each line of `reader` as [`run_batch_at`] does, but kills the run in the call on the file that follows `calls`
@@ -189,10 +199,17 @@ pub fn run_batch_killed<D: Disk, R: Read, W: Write>(
     out: &mut W,
 ) -> FileRun<Killed<D>, Result<FileBatchEnd, TaskFault>>
     requires { D.events disk ≡ [] }
-    ensures { IsKilledRun (interrupted result.disk.missed.events ++ D.events result.disk.system)
+    ensures killed { IsKilledRun (interrupted result.disk.missed.events ++ D.events result.disk.system)
+        (batch_run now numbered (R.remaining reader.old) (R.remaining reader.new)
+        (W.contents out.old) (W.contents out.new) result.end) }
+    ensures power { place.entry.settings.syncs ≡ Ordered → SurvivesRun (interrupted result.disk.missed.events ++ D.events result.disk.system)
+        (batch_run now numbered (R.remaining reader.old) (R.remaining reader.new)
+        (W.contents out.old) (W.contents out.new) result.end) }
+    ensures making { place.entry.settings.syncs ≡ Ordered → SurvivesMaking (interrupted result.disk.missed.events ++ D.events result.disk.system)
         (batch_run now numbered (R.remaining reader.old) (R.remaining reader.new)
         (W.contents out.old) (W.contents out.new) result.end) }
 {
+    file_laws();
     let killed = Killed::new(disk, calls);
     run_batch_at(alloc, killed, place, now, numbered, reader, out, &Always)
 }

@@ -3,16 +3,23 @@
 //! the contract too.
 //!
 //! The module is public only for readers of the contracts: no other crate calls these functions.
-ghost use Rattle.std.specs.Prelude.{◌≡◌, ◌++◌, ℕ, Bool, List, [], OnOk, Option};
+ghost use Rattle.std.specs.Prelude.{◌≡◌, ◌++◌, ℕ, Bool, IsTrue, List, [], OnOk, Option};
 ghost use Rattle.rrd_disk.specs.Events.{Event};
-ghost use Rattle.rrd_disk.specs.Kills.{interrupted};
+ghost use Rattle.rrd_disk.specs.Kills.{are_failed, interrupted};
+ghost use Rattle.rrd_disk.specs.Making.{SurvivesMaking, SurvivesMakingFailure};
 ghost use Rattle.rrd_disk.specs.OpenRuns.{OpenFilesFollowSpecification, RecordedOpen};
+ghost use Rattle.rrd_disk.specs.Programs.{CommittedRunsStand, Program, ProgramsFollowSpecification};
 ghost use Rattle.rrd_disk.specs.Replayed.{World};
 ghost use Rattle.rrd_disk.specs.Runs.{FilesFollowSpecification, Recorded};
 ghost use Rattle.rrd_disk.specs.Storing.{Laws};
-ghost use Rattle.rrd_disk.specs.Surviving.{IsChange, IsChanged, SurvivesFailure};
+ghost use Rattle.rrd_disk.specs.Power.{world_after};
+ghost use Rattle.rrd_disk.specs.Safe.{IsSafeOpen, SurvivesRun};
+ghost use Rattle.rrd_disk.specs.Surviving.{IsChange, IsChanged, IsMade, IsMaking, SurvivesFailure, SurvivesPower};
+ghost use Rattle.rrd_disk.specs.declared.storage.Found.{Found};
+ghost use Rattle.rrd_change.specs.declared.calls.Syncs.{Syncs};
 ghost use Rattle.rrd_disk.specs.Told.{Call, HonestRecordsExist};
 ghost use Rattle.rrd_spec.specs.Journal.Survivors.{Stored};
+ghost use Rattle.rrd_store.specs.Runs.{Run};
 ghost use Rattle.rrd_store.specs.Storages.{Held, IsAnyFile};
 ghost use Rattle.rrd_change.specs.declared.calls.Syncs.TheVariants.{Ordered};
 
@@ -20,7 +27,7 @@ use crate::{Disk, FileRun, FileStorage, Killed, Location};
 use rrd_change::laws::represented_stand;
 use rrd_file::Span;
 use rrd_file::laws::{ends_are_found, file_begins};
-use rrd_store::laws::runs_follow_specification;
+use rrd_store::laws::{committed_runs_lead_alone, runs_follow_specification};
 use std::io;
 
 // Theorem: what is so of the files of databases, and of files that stand for them.
@@ -61,6 +68,34 @@ pub fn open_files_follow_specification()
     runs_follow_specification();
 }
 
+/// Theorem: after any list of programs that used one file, the bytes that the file represents and all printed text are what
+/// the definitions compute. What a run acknowledged stands, whenever a later one was killed.
+///
+/// Each program ran once on the path of the file, as in [`files_follow_specification`]; or it kept the file open, as in
+/// [`open_files_follow_specification`], and closed it or was killed: as by [`crate::open_killed`],
+/// [`crate::load_open_killed`], [`crate::run_open_killed`], [`crate::run_request_killed`], [`crate::run_lines_killed`] or
+/// [`crate::close_killed`]. A killed change was done or not done. The premises are those of [`files_follow_specification`].
+pub fn programs_follow_specification()
+    ensures { (start : Held) (first : Option Stored) (programs : List Program) →
+        ProgramsFollowSpecification start first programs }
+{
+    file_laws();
+    runs_follow_specification();
+}
+
+/// Theorem: after any list of programs whose runs were accepted, refused, failed or killed, the file stands for what the
+/// definitions compute from the runs that committed, and from no other.
+///
+/// A run that ended well committed. One that ended with `cannot write`, or was killed, committed or did not; any other changed
+/// nothing. The premises are those of [`programs_follow_specification`].
+pub fn committed_runs_stand()
+    ensures { (start : Held) (first : Option Stored) (programs : List Program) → CommittedRunsStand start first programs }
+{
+    file_laws();
+    runs_follow_specification();
+    committed_runs_lead_alone();
+}
+
 /// Theorem: the records that the theorems ask for exist. From each file, a file that does what it is told answers any calls
 /// of a run by answers that are honest.
 pub fn honest_records_exist()
@@ -75,6 +110,9 @@ pub fn honest_records_exist()
 /// than the file, as kills and failed calls of a change leave them: what holds of the databases that they stand for, and of
 /// the new bytes, holds of all that the power may leave. The premises about the disk are those of `AreTorn`,
 /// `IsSizedOrNot` and `Tells`, and that a sync that ends well stores what was written since the last one that failed.
+///
+/// The clauses `making` and `made` say the same of a file that was missing: whatever the disk then has stands for the new bytes,
+/// or for no database, and if the call ended without an error, for the new bytes.
 pub fn changes_survive_power_failures<D: Disk, L: Location>(
     disk: D,
     calls: u64,
@@ -86,6 +124,8 @@ pub fn changes_survive_power_failures<D: Disk, L: Location>(
     requires syncs { L.syncs place ≡ Ordered }
     ensures left { IsChange bytes.now (interrupted result.disk.missed.events ++ D.events result.disk.system) }
     ensures stored { OnOk result.end (IsChanged bytes.now (result.disk.missed.events ++ D.events result.disk.system)) }
+    ensures making { IsMaking bytes.now (interrupted result.disk.missed.events ++ D.events result.disk.system) }
+    ensures made { OnOk result.end (IsMade bytes.now (result.disk.missed.events ++ D.events result.disk.system)) }
 {
     file_laws();
     let killed = Killed::new(disk, calls);
@@ -106,6 +146,35 @@ pub fn changes_survive_power_failures<D: Disk, L: Location>(
 /// After a failure the file has what the disk has, and nothing else is left to store.
 pub fn power_failures_are_survived()
     ensures { (P : List ℕ → Bool) (d : List ℕ) (w : World) (events : List Event) → SurvivesFailure P d w events }
+{
+    file_laws();
+}
+
+/// Theorem: what survived a run that makes a file, until the power failed, is what the next run finds: a database, as
+/// [`power_failures_are_survived`] says; or none, as the clauses `making` of [`crate::run_command_at`] ask of their first file.
+pub fn makings_are_survived()
+    ensures { (P : List ℕ → Bool) (d : List ℕ) (w : World) (events : List Event) → SurvivesMakingFailure P d w events }
+{
+    file_laws();
+}
+
+/// Theorem: power failures of open files. What survives in an open file between two runs that sync, as [`crate::OpenFile`]
+/// ensures, is what a failure of the power leaves.
+pub fn open_files_survive_power_failures()
+    ensures { (P : List ℕ → Bool) (d : List ℕ) (w : World) (syncs : Syncs) (found : Found) (events : List Event) →
+        IsSafeOpen syncs found events P d w → SurvivesPower (λ b. IsTrue (P b)) (world_after d w events) }
+{
+    file_laws();
+}
+
+/// Theorem: if the power fails in a call of a run, the file has what it has when this call and all later ones fail.
+///
+/// `missed` are the calls that the run would have made from then on, and that all failed.
+pub fn power_fails_in_a_call()
+    ensures power { (missed events : List Event) (run : Run) → IsTrue (are_failed missed)
+        → SurvivesRun (missed ++ events) run → SurvivesRun (interrupted missed ++ events) run }
+    ensures making { (missed events : List Event) (run : Run) → IsTrue (are_failed missed)
+        → SurvivesMaking (missed ++ events) run → SurvivesMaking (interrupted missed ++ events) run }
 {
     file_laws();
 }

@@ -8,6 +8,7 @@ mod disk;
 mod file_bytes;
 mod front;
 mod killed;
+mod killed_open;
 pub mod laws;
 mod loading;
 mod locks;
@@ -25,6 +26,10 @@ pub use begun::Begun;
 pub use cause::Cause;
 pub use disk::{Disk, DiskFile, Facts, Kind, Lock, LockResult, Opening};
 pub use killed::{Killed, run_batch_killed, run_command_killed};
+pub use killed_open::{
+    close_killed, load_open_killed, open_killed, run_lines_killed, run_open_killed,
+    run_request_killed,
+};
 pub use locks::note_lock;
 pub use open_file::{OpenFault, OpenFile};
 pub use place::{Location, OwnPlace, Place, directory_of};

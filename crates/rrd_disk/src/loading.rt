@@ -71,7 +71,14 @@ fn judged(alloc: Global, front: &[u8], is_whole: bool) -> Option<Result<Database
     None
 }
 
-/// Reads the database of an open file.
+// Notes how a file begins, if it is not one of rrdi.
+fn note_other(read: &Result<Database, TaskFault>, front: &[u8], cause: &Cause) {
+    if let (Err(TaskFault::File(FileFault::NotOurs)), [a, b, c, d, ..]) = (read, front) {
+        cause.set_mark([*a, *b, *c, *d]);
+    }
+}
+
+/// Reads the database of an open file. If the file is not one of rrdi, notes how it begins.
 ///
 /// Reads a first part, and more only if that part can be the first part of a database.
 ///
@@ -91,6 +98,7 @@ pub(crate) fn load<D: Disk>(
 {
     for _ in 0..PARTS {
         if let Some(read) = judged(alloc, file.front(), file.is_whole()) {
+            note_other(&read, file.front(), cause);
             return read;
         }
         if let Err(error) = file.read_more() {

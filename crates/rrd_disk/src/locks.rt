@@ -1,16 +1,16 @@
 //! The advisory lock on an open file.
-ghost use Rattle.std.specs.Prelude.{◌≡◌, ◌+◌, ◌∷◌, IfOk, IfSome, OnErr, OnOk, false};
+ghost use Rattle.std.specs.Prelude.{◌≡◌, ◌+◌, ◌≤◌, ◌∷◌, IfOk, IfSome, OnErr, OnOk};
 ghost use Rattle.rrd_disk.specs.Calls.{Rests};
-ghost use Rattle.rrd_disk.specs.Locks.{GuardsFor, locked};
+ghost use Rattle.rrd_disk.specs.Locks.{GuardsFor, IsTurned, locked};
 ghost use Rattle.rrd_disk.specs.declared.disk.Lock.TheVariants.{Own};
 
 use crate::{Disk, DiskFile, Lock, LockResult, Noted, Record, Settings};
 use std::io::{self, Error, ErrorKind};
 
-/// The longest pause between two tries, in milliseconds.
-const MAX_PAUSE: u64 = 50;
+/// The longest pause between two tries, in milliseconds. It is short, because nobody wakes a run whose lock is free again.
+const MAX_PAUSE: u64 = 5;
 
-/// The pauses between the tries, in milliseconds: each pause is twice as long as the pause before, up to 50.
+/// The pauses between the tries, in milliseconds: each pause is twice as long as the pause before, up to 5.
 #[derive(Drop)]
 pub(crate) struct Pauses {
     left: u64,
@@ -39,15 +39,22 @@ impl Pauses {
         self.next = self.next.saturating_mul(2).min(MAX_PAUSE);
         Some(pause)
     }
+
+    // Counts what a pause took in all, of which it was to take `asked` milliseconds.
+    fn count(&mut self, asked: u64, taken: u64)
+        ensures { self.new.left ≤ self.old.left }
+    {
+        self.left = self.left.saturating_sub(taken.saturating_sub(asked));
+    }
 }
 
-/// An open file, and the lock that this run holds on the file, if the file system has locks.
+/// An open file, and the lock that this run holds on it, if the file system has locks.
 ///
 /// The lock is released when the value is dropped. To close the file would not be enough: a process that was forked in
 /// the meantime has the file open too, and would hold the lock for as long as that process lives.
 pub(crate) struct LockedFile<F: DiskFile> {
     file: F,
-    // The lock that the run asked for.
+    // The lock that the run asked for last.
     lock: Lock,
     lock_result: LockResult,
 }
@@ -62,7 +69,7 @@ impl<F: DiskFile> LockedFile<F> {
     ///
     /// # Errors
     ///
-    /// The run opened the file to read it, under a lock that it shares with other readers.
+    /// The run shares the lock with others, who read the file.
     pub(crate) fn file_to_change(&self) -> io::Result<&F>
         ensures { OnOk result (self.now.lock ≡ Own) }
     {
@@ -70,13 +77,6 @@ impl<F: DiskFile> LockedFile<F> {
             Lock::Own => Ok(&self.file),
             Lock::Shared => Err(Error::from(ErrorKind::PermissionDenied)),
         }
-    }
-
-    /// Checks whether the run opened the file for a change.
-    pub(crate) fn is_to_change(&self) -> bool
-        ensures { result ≡ false → self.now.lock ≡ Own → ⊥ }
-    {
-        self.lock == Lock::Own
     }
 
     /// Checks whether this run holds the lock. Without the lock another program may be changing the file.
@@ -156,7 +156,8 @@ fn try_until_locked<D: Disk>(
         let Some(pause) = pauses.take() else {
             break;
         };
-        disk.pause(pause);
+        let taken = disk.pause(pause);
+        pauses.count(pause, taken);
     }
     Err(Error::new(ErrorKind::WouldBlock, "in use by another program"))
 }
@@ -182,4 +183,28 @@ pub(crate) fn lock<D: Disk>(
         lock,
         lock_result,
     })
+}
+
+/// Turns the lock of an open file into another one, by one try.
+///
+/// # Errors
+///
+/// The file holds no lock now. It is closed, so that nobody uses it without one.
+pub(crate) fn turn_lock<D: Disk>(
+    disk: &mut D,
+    locked: LockedFile<D::File>,
+    lock: Lock,
+) -> io::Result<LockedFile<D::File>>
+    ensures rests { Rests (D.events disk.old) (D.events disk.new) }
+    ensures guard { IfOk result (λ file. GuardsFor file.lock (D.events disk.new)) }
+    ensures turned { OnOk result (IsTurned lock (D.events disk.new)) }
+{
+    let mut turned = locked;
+    match disk.try_lock(&turned.file, lock)? {
+        LockResult::Taken => {
+            turned.lock = lock;
+            Ok(turned)
+        }
+        LockResult::NoLocks => Err(Error::from(ErrorKind::Unsupported)),
+    }
 }

@@ -2,6 +2,7 @@
 ghost use Rattle.std.specs.Prelude.{◌≡◌, ◌≤◌, IfNone, IfOk, IfSome, List, Option, length, take};
 ghost use Rattle.rrd_disk.specs.Calls.{Falls, Rests};
 ghost use Rattle.rrd_disk.specs.Storing.{HasNoDatabase, IsBased, Prepares, PreparesMarked};
+ghost use Rattle.rrd_disk.specs.Making.{StaysUnmarked};
 ghost use Rattle.rrd_disk.specs.Surviving.{DoesOr, Readies, StaysLeft};
 
 use crate::file_bytes::FileBytes;
@@ -98,6 +99,7 @@ pub(crate) fn prepare<D: Disk>(
     ensures falls { Falls (D.events file.old.disk) (D.events file.new.disk) }
     ensures prepares { Prepares (D.events file.old.disk) (D.events file.new.disk) result }
     ensures power { DoesOr Readies StaysLeft result syncs (D.events file.old.disk) (D.events file.new.disk) }
+    ensures unmarked { StaysUnmarked (D.events file.old.disk) (D.events file.new.disk) }
 {
     file_laws();
     if file.is_marked()? {

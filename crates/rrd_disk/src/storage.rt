@@ -1,29 +1,32 @@
-//! A file as the storage of a database. A run opens the file once: the run reads and writes one file, under one lock,
-//! even if another file gets the name meanwhile.
-ghost use Rattle.std.specs.Prelude.{◌≡◌, IfErr, IfOk, IsTrue, None, Ok, OnErr, OnOk, Some};
+//! A file as the storage of a database. A run opens it once, and uses this file under one lock, whatever gets its name.
+ghost use Rattle.std.specs.Prelude.{◌≡◌, IfErr, IfOk, IsTrue, None, Ok, OnErr, OnOk, Some, false};
 ghost use Rattle.rrd_change.specs.Views.{Does, seen};
 ghost use Rattle.rrd_change.specs.declared.log.Base.{Base};
 ghost use Rattle.rrd_disk.specs.Asked.{view_of};
 ghost use Rattle.rrd_disk.specs.Calls.{Falls, Rests, RestsFor};
 ghost use Rattle.rrd_disk.specs.Entries.{SaysEntry};
 ghost use Rattle.rrd_disk.specs.Known.{TellsMark};
+ghost use Rattle.rrd_disk.specs.Locks.{IsTurned};
 ghost use Rattle.rrd_disk.specs.Loading.{IsStandingIn};
-ghost use Rattle.rrd_disk.specs.OpenRuns.{Finishes};
+ghost use Rattle.rrd_disk.specs.OpenRuns.{Finishes, Settles};
 ghost use Rattle.rrd_disk.specs.Openings.{IsThere};
+ghost use Rattle.rrd_disk.specs.Making.{IsUnwritable, Makes, MakesOrNot, MakesSafely, MayLoad, StaysUnmarked};
+ghost use Rattle.rrd_disk.specs.Safe.{BeganAs, DoesSafely, DoesSafelyUnmarked, Opens, PutsSafely, Reopens};
 ghost use Rattle.rrd_disk.specs.Storing.{AreMore, AreOf, Breaks, Changes, HasDecoded, IsAsLoaded, IsEmpty, IsOpen, Loads, LoadsAs, LoadsMarked, LoadsOpen, LoadsUnmarked, RepresentsBytes, Writes, WritesAll, WritesFirst, WritesOver};
 ghost use Rattle.rrd_disk.specs.declared.disk.Opening.TheVariants.{Make};
 ghost use Rattle.rrd_disk.specs.declared.storage.Found.TheVariants.{Kept, Missing, Open, Unopened, Unwritable};
 ghost use Rattle.rrd_file.specs.Faults.{IsFile};
 ghost use Rattle.rrd_store.specs.Storages.{Finds, IsAnyFile};
+ghost use Rattle.rrd_store.specs.declared.storage.Access.TheVariants.{Read};
 ghost use Rattle.rrd_store.specs.declared.faults.TaskFault.TheVariants.{CannotOpen};
-ghost use Rattle.rrd_disk.specs.Surviving.{Becomes, BecomesOrNot, DoesOr, Replaces, ReplacesOrNot};
+ghost use Rattle.rrd_disk.specs.Surviving.{Becomes, BecomesOrNot, DoesOr, Replaces, ReplacesOrNot, StaysLeft};
 
 use crate::file_bytes::{Entry, FileBytes};
 use crate::laws::file_laws;
 use crate::loading::{Standing, find_standing, load, load_pipe};
 use crate::opening::not_regular;
 use crate::preparing::{base_of, prepare};
-use crate::{Disk, Location, Opening, Syncs};
+use crate::{Disk, Location, Lock, Opening, Syncs};
 use rrd_base::Database;
 use rrd_change::{Base, Log, Span, change, create, mark, replace};
 use rrd_file::Span as FileSpan;
@@ -116,9 +119,7 @@ impl<D: Disk, L: Location> FileStorage<D, L> {
         }
     }
 
-    /// Creates the storage for the file of `disk`, for one run. The storage notes at `place` why a call failed.
-    ///
-    /// Makes no call of the system: [`Storage::load`] and [`Storage::replace`] do.
+    /// Creates the storage for the file of `disk`, for one run, without a call. Why a later one failed, it notes at `place`.
     pub fn new(disk: D, place: L) -> FileStorage<D, L>
         ensures disk { result.bytes.disk ≡ disk }
         ensures found { result.found ≡ Unopened }
@@ -130,10 +131,11 @@ impl<D: Disk, L: Location> FileStorage<D, L> {
     /// Creates the storage for the file of `disk`, for several runs, as [`FileStorage::new`] does for one.
     ///
     /// The file stays open and locked after [`Storage::load`] for a change, and after [`Storage::replace`], until one of
-    /// these calls fails. A file that is missing, or cannot be locked, written or repaired, is not loaded: nobody could
-    /// promise that it stays as it is.
+    /// these calls fails, or [`FileStorage::turn_lock`]. A file that is missing, or cannot be locked, written or repaired,
+    /// is not loaded: nobody could promise that it stays as it is.
     pub fn staying_open(disk: D, place: L) -> FileStorage<D, L>
         ensures disk { result.bytes.disk ≡ disk }
+        ensures place { result.place ≡ place }
         ensures found { result.found ≡ Unopened }
     {
         FileStorage::at(disk, place, Afterwards::Open)
@@ -147,6 +149,11 @@ impl<D: Disk, L: Location> FileStorage<D, L> {
     /// Returns why the last call failed. Returns `None` if no call failed.
     pub(crate) fn last_error(&self) -> Option<Error> {
         self.place.cause().last()
+    }
+
+    /// Returns how a file begins that is not one of rrdi.
+    pub(crate) fn mark(&self) -> [u8; 4] {
+        self.place.cause().mark()
     }
 
     /// Closes the file, and returns the system with the record of its calls.
@@ -195,6 +202,7 @@ impl<D: Disk, L: Location> FileStorage<D, L> {
     fn miss(&mut self) -> LoadResult
         ensures disk { self.new.bytes ≡ self.old.bytes }
         ensures found { self.new.found ≡ Missing }
+        ensures place { self.new.place ≡ self.old.place }
         ensures none { result ≡ Ok None }
     {
         self.found = Found::Missing;
@@ -206,6 +214,7 @@ impl<D: Disk, L: Location> FileStorage<D, L> {
     fn is_marked(&mut self) -> Result<bool, TaskFault>
         ensures rests { Rests (D.events self.old.bytes.disk) (D.events self.new.bytes.disk) }
         ensures found { self.new.found ≡ self.old.found }
+        ensures place { self.new.place ≡ self.old.place }
         ensures ok { IfOk result (λ is. TellsMark is (D.events self.new.bytes.disk)) }
         ensures err { IfErr result (λ fault. fault ≡ CannotOpen) }
     {
@@ -229,6 +238,8 @@ impl<D: Disk, L: Location> FileStorage<D, L> {
     #[tactic(auto, using(crate::proofs::Resting::rests_refl, crate::proofs::Resting::rests_trans))]
     fn load_unmarked(&mut self, alloc: Global) -> LoadResult
         ensures rests { Rests (D.events self.old.bytes.disk) (D.events self.new.bytes.disk) }
+        ensures place { self.new.place ≡ self.old.place }
+        ensures power { DoesSafelyUnmarked (Opens self.new.found) (L.syncs self.old.place) (D.events self.old.bytes.disk) (D.events self.new.bytes.disk) }
         ensures loads { LoadsUnmarked (D.events self.old.bytes.disk) (D.events self.new.bytes.disk) self.new.found result }
         ensures held { HasDecoded self.new.found self.new.bytes.front.bytes.items result }
         ensures valid { Finds None result }
@@ -248,6 +259,8 @@ impl<D: Disk, L: Location> FileStorage<D, L> {
     // file cannot be repaired, the run only reads the file. A file that is to stay open has to be repaired.
     fn load_marked(&mut self, alloc: Global) -> LoadResult
         ensures falls { Falls (D.events self.old.bytes.disk) (D.events self.new.bytes.disk) }
+        ensures place { self.new.place ≡ self.old.place }
+        ensures power { DoesSafely (Opens self.new.found) (L.syncs self.old.place) (D.events self.old.bytes.disk) (D.events self.new.bytes.disk) }
         ensures loads { LoadsMarked (D.events self.old.bytes.disk) (D.events self.new.bytes.disk) self.new.found result }
         ensures held { HasDecoded self.new.found self.new.bytes.front.bytes.items result }
         ensures valid { Finds None result }
@@ -265,6 +278,8 @@ impl<D: Disk, L: Location> FileStorage<D, L> {
         requires found { self.old.found ≡ Unopened }
         requires stands { IsStandingIn standing (D.events self.old.bytes.disk) }
         ensures falls { Falls (D.events self.old.bytes.disk) (D.events self.new.bytes.disk) }
+        ensures place { self.new.place ≡ self.old.place }
+        ensures power { DoesSafely (Opens self.new.found) (L.syncs self.old.place) (D.events self.old.bytes.disk) (D.events self.new.bytes.disk) }
         ensures loads { LoadsMarked (D.events self.old.bytes.disk) (D.events self.new.bytes.disk) self.new.found result }
         ensures held { HasDecoded self.new.found self.new.bytes.front.bytes.items result }
         ensures valid { Finds None result }
@@ -286,8 +301,10 @@ impl<D: Disk, L: Location> FileStorage<D, L> {
     }
 
     // Loads the database that an open file with a mark stands for. Does not change the file.
+    #[tactic(auto, using(crate::proofs::Resting::rests_refl, crate::proofs::Resting::rests_trans))]
     fn read_marked(&mut self, alloc: Global) -> LoadResult
-        ensures falls { Falls (D.events self.old.bytes.disk) (D.events self.new.bytes.disk) }
+        ensures rests { Rests (D.events self.old.bytes.disk) (D.events self.new.bytes.disk) }
+        ensures place { self.new.place ≡ self.old.place }
         ensures loads { LoadsMarked (D.events self.old.bytes.disk) (D.events self.new.bytes.disk) self.new.found result }
         ensures valid { Finds None result }
     {
@@ -302,6 +319,9 @@ impl<D: Disk, L: Location> FileStorage<D, L> {
     // Loads the database of an open file, which the run may then change.
     fn load_open(&mut self, alloc: Global) -> LoadResult
         ensures falls { Falls (D.events self.old.bytes.disk) (D.events self.new.bytes.disk) }
+        ensures place { self.new.place ≡ self.old.place }
+        ensures power { DoesSafely (Opens self.new.found) (L.syncs self.old.place) (D.events self.old.bytes.disk) (D.events self.new.bytes.disk) }
+        ensures unmarked { StaysUnmarked (D.events self.old.bytes.disk) (D.events self.new.bytes.disk) }
         ensures loads { LoadsOpen (D.events self.old.bytes.disk) (D.events self.new.bytes.disk) self.new.found result }
         ensures held { HasDecoded self.new.found self.new.bytes.front.bytes.items result }
         ensures valid { Finds None result }
@@ -314,42 +334,18 @@ impl<D: Disk, L: Location> FileStorage<D, L> {
         }
     }
 
-    // Checks whether the run may repair an open file that it was to read only. Without locks another program may still be
-    // changing the file, so the run does not repair it.
+    // Loads the database of a file that the run only reads, under a lock that readers share. A file with a mark may be open
+    // in another program, which has its log; or a change of it was interrupted, and the next change repairs it.
     #[tactic(auto, using(crate::proofs::Resting::rests_refl, crate::proofs::Resting::rests_trans))]
-    fn may_repair(&mut self) -> bool
-        ensures rests { Rests (D.events self.old.bytes.disk) (D.events self.new.bytes.disk) }
-    {
-        self.bytes.is_locked() && self.bytes.may_write()
-    }
-
-    // Loads the database of a file with a mark, under a lock that readers share. If this run may write the file, the run
-    // opens the file again under its own lock, and repairs it.
-    fn load_interrupted(&mut self, alloc: Global) -> LoadResult
-        ensures falls { Falls (D.events self.old.bytes.disk) (D.events self.new.bytes.disk) }
-        ensures loads { LoadsMarked (D.events self.old.bytes.disk) (D.events self.new.bytes.disk) self.new.found result }
-        ensures valid { Finds None result }
-    {
-        if !self.may_repair() {
-            return self.read_marked(alloc);
-        }
-        match self.open(Opening::Write) {
-            Ok(Entry::Open) => self.load_open(alloc),
-            Ok(Entry::Missing) => self.miss(),
-            Ok(Entry::Pipe(_)) => Err(self.cannot_open(not_regular())),
-            Ok(Entry::Refused(error)) | Err(error) => Err(self.cannot_open(error)),
-        }
-    }
-
-    // Loads the database of a file that the run only reads, under a lock that readers share.
     fn load_shared(&mut self, alloc: Global) -> LoadResult
-        ensures falls { Falls (D.events self.old.bytes.disk) (D.events self.new.bytes.disk) }
+        ensures rests { Rests (D.events self.old.bytes.disk) (D.events self.new.bytes.disk) }
+        ensures place { self.new.place ≡ self.old.place }
         ensures loads { LoadsOpen (D.events self.old.bytes.disk) (D.events self.new.bytes.disk) self.new.found result }
         ensures valid { Finds None result }
     {
         self.found = Found::Unopened;
         match self.is_marked() {
-            Ok(true) => self.load_interrupted(alloc),
+            Ok(true) => self.read_marked(alloc),
             Ok(false) => self.load_unmarked(alloc),
             Err(fault) => Err(fault),
         }
@@ -359,18 +355,23 @@ impl<D: Disk, L: Location> FileStorage<D, L> {
     fn leave(&mut self, unwritable: Error)
         ensures disk { self.new.bytes.disk ≡ self.old.bytes.disk }
         ensures found { self.new.found ≡ Unwritable unwritable }
+        ensures place { self.new.place ≡ self.old.place }
     {
         self.bytes.close();
         self.found = Found::Unwritable(unwritable);
     }
 
-    // Loads the database of a file that the run only reads. `unwritable` is the reason why the run cannot write the file.
+    // Loads the database of a file that the run only reads. `unwritable` is the reason why the run cannot write it.
+    #[tactic(auto, using(crate::proofs::Resting::rests_refl, crate::proofs::Resting::rests_trans))]
     fn load_to_read(&mut self, alloc: Global, unwritable: Error) -> LoadResult
-        ensures falls { Falls (D.events self.old.bytes.disk) (D.events self.new.bytes.disk) }
+        ensures rests { Rests (D.events self.old.bytes.disk) (D.events self.new.bytes.disk) }
+        ensures place { self.new.place ≡ self.old.place }
+        ensures power { DoesSafely (Opens self.new.found) (L.syncs self.old.place) (D.events self.old.bytes.disk) (D.events self.new.bytes.disk) }
         ensures loads { Loads (D.events self.old.bytes.disk) (D.events self.new.bytes.disk) self.new.found result }
         ensures held { HasDecoded self.new.found self.new.bytes.front.bytes.items result }
         ensures valid { Finds None result }
     {
+        file_laws();
         match self.open(Opening::Read) {
             Ok(Entry::Open) => {
                 let loaded = self.load_shared(alloc);
@@ -388,8 +389,7 @@ impl<D: Disk, L: Location> FileStorage<D, L> {
     }
 
     // Checks whether a run may go on without a file, and create it. A file that is to stay open has to be there: a later
-    // run would take it for missing still. Without a directory the run could not create the file: a batch then fails
-    // before its first line, and not after its last line.
+    // run would take it for missing still. Without a directory a batch fails before its first line, not after its last.
     fn may_create(&self) -> bool {
         self.afterwards == Afterwards::Closed && self.bytes.disk().has_directory()
     }
@@ -397,10 +397,14 @@ impl<D: Disk, L: Location> FileStorage<D, L> {
     // Loads the database of a file under this run's own lock. If the run may not write the file, the run only reads it.
     fn load_to_change(&mut self, alloc: Global) -> LoadResult
         ensures falls { Falls (D.events self.old.bytes.disk) (D.events self.new.bytes.disk) }
+        ensures place { self.new.place ≡ self.old.place }
+        ensures power { DoesSafely (Opens self.new.found) (L.syncs self.old.place) (D.events self.old.bytes.disk) (D.events self.new.bytes.disk) }
+        ensures unmarked { StaysUnmarked (D.events self.old.bytes.disk) (D.events self.new.bytes.disk) }
         ensures loads { Loads (D.events self.old.bytes.disk) (D.events self.new.bytes.disk) self.new.found result }
         ensures held { HasDecoded self.new.found self.new.bytes.front.bytes.items result }
         ensures valid { Finds None result }
     {
+        file_laws();
         match self.open(Opening::Write) {
             Ok(Entry::Open) => self.load_open(alloc),
             Ok(Entry::Missing) if self.may_create() => self.miss(),
@@ -420,9 +424,24 @@ impl<D: Disk, L: Location> FileStorage<D, L> {
         matches!(self.found, Found::Open(_) | Found::Kept(_, _))
     }
 
-    // Loads the database, for reading or for a change. A file that stayed open is read again under the same lock.
+    // Checks whether the file may be loaded: the run has not found that it cannot write the file.
+    fn may_load(&self) -> bool
+        ensures { IsTrue result → MayLoad self.now.found }
+    {
+        matches!(
+            self.found,
+            Found::Unopened | Found::Missing | Found::Open(_) | Found::Kept(_, _)
+        )
+    }
+
+    // Loads the database, for reading or for a change. A file that stayed open is read again under the same lock. Only a
+    // load for a change may repair the file.
     fn load_for(&mut self, alloc: Global, access: Access) -> LoadResult
         ensures falls { Falls (D.events self.old.bytes.disk) (D.events self.new.bytes.disk) }
+        ensures reads { access ≡ Read → Rests (D.events self.old.bytes.disk) (D.events self.new.bytes.disk) }
+        ensures place { self.new.place ≡ self.old.place }
+        ensures power { DoesSafely (Reopens self.old.found self.new.found) (L.syncs self.old.place) (D.events self.old.bytes.disk) (D.events self.new.bytes.disk) }
+        ensures unmarked { StaysUnmarked (D.events self.old.bytes.disk) (D.events self.new.bytes.disk) }
         ensures loads { LoadsAs self.old.found (D.events self.old.bytes.disk) (D.events self.new.bytes.disk) self.new.found result }
         ensures held { HasDecoded self.new.found self.new.bytes.front.bytes.items result }
         ensures valid { Finds None result }
@@ -439,6 +458,7 @@ impl<D: Disk, L: Location> FileStorage<D, L> {
         requires { (base : Base) → self.old.found ≡ Open base → IsFile self.old.bytes.front.bytes.items database }
         ensures disk { self.new.bytes.disk ≡ self.old.bytes.disk }
         ensures found { self.new.found ≡ self.old.found }
+        ensures place { self.new.place ≡ self.old.place }
         ensures database { result.database ≡ Some database }
         ensures bytes { RepresentsBytes result.encoded (D.events self.new.bytes.disk) }
     {
@@ -454,31 +474,59 @@ impl<D: Disk, L: Location> FileStorage<D, L> {
     // Closes the file, and forgets what was found.
     fn let_go(&mut self)
         ensures disk { self.new.bytes.disk ≡ self.old.bytes.disk }
+        ensures place { self.new.place ≡ self.old.place }
         ensures found { self.new.found ≡ Unopened }
     {
         self.found = Found::Unopened;
         self.bytes.close();
     }
 
+    /// Turns the lock of a file that stays open, by one try. If that fails (`false`), closes the file: others may change it.
+    pub(crate) fn turn_lock(&mut self, lock: Lock) -> bool
+        ensures rests { Rests (D.events self.old.bytes.disk) (D.events self.new.bytes.disk) }
+        ensures place { self.new.place ≡ self.old.place }
+        ensures turned { IsTrue result → (self.new.found ≡ self.old.found) × IsTurned lock (D.events self.new.bytes.disk) }
+        ensures closed { result ≡ false → self.new.found ≡ Unopened }
+    {
+        if self.is_open() {
+            match self.bytes.turn_lock(lock) {
+                Ok(()) => return true,
+                Err(error) => self.place.cause().set(error),
+            }
+        }
+        self.let_go();
+        false
+    }
+
+    // Brings into place what waits in the log of a file that stayed open, and removes the mark.
+    fn settle(&mut self)
+        ensures falls { Falls (D.events self.old.bytes.disk) (D.events self.new.bytes.disk) }
+        ensures prepares { Settles (D.events self.old.bytes.disk) (D.events self.new.bytes.disk) }
+        ensures power { DoesSafely StaysLeft (L.syncs self.old.place) (D.events self.old.bytes.disk) (D.events self.new.bytes.disk) }
+    {
+        if !self.turn_lock(Lock::Own) {
+            return;
+        }
+        let alloc = self.bytes.disk().alloc();
+        let syncs = self.syncs();
+        let _ended = prepare(alloc, &mut self.bytes, self.place.cause(), syncs);
+    }
+
     /// Ends the runs on a file that stayed open: brings into place what waits in its log, and removes the mark. If a call
-    /// fails, the next run on the file does so.
+    /// fails, or somebody reads the file at this moment, the next change of the file does so.
     pub(crate) fn finish(&mut self)
         ensures falls { Falls (D.events self.old.bytes.disk) (D.events self.new.bytes.disk) }
         ensures same { Finishes self.old.found (D.events self.old.bytes.disk) (D.events self.new.bytes.disk) }
+        ensures power { DoesSafely (Reopens self.old.found Unopened) (L.syncs self.old.place) (D.events self.old.bytes.disk) (D.events self.new.bytes.disk) }
     {
         file_laws();
         match &self.found {
-            Found::Kept(_, _) => {
-                let alloc = self.bytes.disk().alloc();
-                let syncs = self.syncs();
-                let _ended = prepare(alloc, &mut self.bytes, self.place.cause(), syncs);
-            }
+            Found::Kept(_, _) => self.settle(),
             _ => {}
         }
     }
 
-    // Opens the file for writing, whatever the file contains. If there is no file, the system creates the file, or the
-    // file that a symbolic link names.
+    // Opens the file for writing, whatever it contains. Creates it if there is none, also where a symbolic link leads.
     fn make(&mut self) -> io::Result<()>
         ensures rests { RestsFor Make (D.events self.old.bytes.disk) (D.events self.new.bytes.disk) }
         ensures there { OnOk result (IsThere (D.events self.new.bytes.disk)) }
@@ -514,7 +562,10 @@ impl<D: Disk, L: Location> FileStorage<D, L> {
     fn put_new(&mut self, bytes: &[u8]) -> io::Result<()>
         requires { IsAnyFile bytes.now }
         ensures falls { Falls (D.events self.old.bytes.disk) (D.events self.new.bytes.disk) }
+        ensures place { self.new.place ≡ self.old.place }
         ensures writes { WritesAll Missing self.new.found bytes.now (D.events self.old.bytes.disk) (D.events self.new.bytes.disk) result }
+        ensures began { OnOk result (BeganAs bytes.now self.new.found) }
+        ensures makes { DoesOr (λ _. Makes Missing bytes.now) (MakesOrNot Missing bytes.now) result (L.syncs self.old.place) (D.events self.old.bytes.disk) (D.events self.new.bytes.disk) }
     {
         file_laws();
         self.make_empty()?;
@@ -529,6 +580,8 @@ impl<D: Disk, L: Location> FileStorage<D, L> {
         requires any { IsAnyFile bytes.now }
         requires found { self.old.found ≡ Unopened }
         ensures falls { Falls (D.events self.old.bytes.disk) (D.events self.new.bytes.disk) }
+        ensures place { self.new.place ≡ self.old.place }
+        ensures began { OnOk result (BeganAs bytes.now self.new.found) }
         ensures writes { WritesOver base.now self.new.found bytes.now (D.events self.old.bytes.disk) (D.events self.new.bytes.disk) result }
         ensures power { DoesOr (λ _. Replaces base.now bytes.now) (ReplacesOrNot base.now bytes.now) result (L.syncs self.old.place) (D.events self.old.bytes.disk) (D.events self.new.bytes.disk) }
     {
@@ -552,7 +605,10 @@ impl<D: Disk, L: Location> FileStorage<D, L> {
         requires any { IsAnyFile bytes.now }
         requires found { self.old.found ≡ Unopened }
         ensures falls { Falls (D.events self.old.bytes.disk) (D.events self.new.bytes.disk) }
+        ensures place { self.new.place ≡ self.old.place }
+        ensures began { OnOk result (BeganAs bytes.now self.new.found) }
         ensures writes { WritesFirst self.new.found bytes.now (D.events self.old.bytes.disk) (D.events self.new.bytes.disk) result }
+        ensures makes { DoesOr (λ _. Makes Unopened bytes.now) (MakesOrNot Unopened bytes.now) result (L.syncs self.old.place) (D.events self.old.bytes.disk) (D.events self.new.bytes.disk) }
     {
         file_laws();
         let syncs = self.syncs();
@@ -570,8 +626,11 @@ impl<D: Disk, L: Location> FileStorage<D, L> {
     fn put_anew(&mut self, alloc: Global, bytes: &[u8]) -> io::Result<()>
         requires { IsAnyFile bytes.now }
         ensures falls { Falls (D.events self.old.bytes.disk) (D.events self.new.bytes.disk) }
+        ensures place { self.new.place ≡ self.old.place }
+        ensures began { OnOk result (BeganAs bytes.now self.new.found) }
         ensures writes { WritesAll Unopened self.new.found bytes.now (D.events self.old.bytes.disk) (D.events self.new.bytes.disk) result }
         ensures power { DoesOr (λ _. Becomes bytes.now) (BecomesOrNot bytes.now) result (L.syncs self.old.place) (D.events self.old.bytes.disk) (D.events self.new.bytes.disk) }
+        ensures makes { DoesOr (λ _. Makes Unopened bytes.now) (MakesOrNot Unopened bytes.now) result (L.syncs self.old.place) (D.events self.old.bytes.disk) (D.events self.new.bytes.disk) }
     {
         file_laws();
         self.make()?;
@@ -595,6 +654,8 @@ impl<D: Disk, L: Location> FileStorage<D, L> {
         requires { IsAnyFile bytes.now }
         ensures does { Does (λ _. Changes (Kept base.now log) self.new.found spans.now bytes.now) (Breaks (Kept base.now log) spans.now bytes.now) result
             (seen (L.syncs self.old.place) (view_of (D.events self.old.bytes.disk))) (seen (L.syncs self.old.place) (view_of (D.events self.new.bytes.disk))) }
+        ensures place { self.new.place ≡ self.old.place }
+        ensures open { OnOk result (IsOpen self.new.found) }
         ensures found { OnErr result (self.new.found ≡ self.old.found) }
     {
         file_laws();
@@ -615,6 +676,8 @@ impl<D: Disk, L: Location> FileStorage<D, L> {
         requires { IsAnyFile bytes.now }
         ensures does { Does (λ _. Changes (Open base.now) self.new.found spans.now bytes.now) (Breaks (Open base.now) spans.now bytes.now) result
             (seen (L.syncs self.old.place) (view_of (D.events self.old.bytes.disk))) (seen (L.syncs self.old.place) (view_of (D.events self.new.bytes.disk))) }
+        ensures place { self.new.place ≡ self.old.place }
+        ensures open { OnOk result (IsOpen self.new.found) }
         ensures found { OnErr result (self.new.found ≡ self.old.found) }
     {
         file_laws();
@@ -637,7 +700,10 @@ impl<D: Disk, L: Location> FileStorage<D, L> {
         requires { IsAnyFile bytes.now }
         ensures falls { Falls (D.events self.old.bytes.disk) (D.events self.new.bytes.disk) }
         ensures writes { Writes self.old.found self.new.found changed.now bytes.now (D.events self.old.bytes.disk) (D.events self.new.bytes.disk) result }
+        ensures place { self.new.place ≡ self.old.place }
+        ensures safe { PutsSafely (L.syncs self.old.place) self.old.found self.new.found changed.now bytes.now (D.events self.old.bytes.disk) (D.events self.new.bytes.disk) result }
         ensures power { self.old.found ≡ Unopened → DoesOr (λ _. Becomes bytes.now) (BecomesOrNot bytes.now) result (L.syncs self.old.place) (D.events self.old.bytes.disk) (D.events self.new.bytes.disk) }
+        ensures makes { MakesSafely (L.syncs self.old.place) self.old.found self.new.found bytes.now (D.events self.old.bytes.disk) (D.events self.new.bytes.disk) result }
     {
         file_laws();
         let spans = spans_within(alloc, changed, bytes.len())?;
@@ -650,19 +716,25 @@ impl<D: Disk, L: Location> FileStorage<D, L> {
         }
     }
 
-    /// Replaces the bytes of the file, of which only these may differ. Then keeps the file open, or closes it.
+    /// Replaces the bytes of the file, of which only these may differ. Then keeps the file open, or closes it. A run that
+    /// fails to write the file does not write it again.
     pub(crate) fn write(&mut self, bytes: &[u8], changed: &[FileSpan]) -> io::Result<()>
         requires { IsAnyFile bytes.now }
         ensures falls { Falls (D.events self.old.bytes.disk) (D.events self.new.bytes.disk) }
         ensures writes { Writes self.old.found self.new.found changed.now bytes.now (D.events self.old.bytes.disk) (D.events self.new.bytes.disk) result }
+        ensures place { self.new.place ≡ self.old.place }
+        ensures safe { PutsSafely (L.syncs self.old.place) self.old.found self.new.found changed.now bytes.now (D.events self.old.bytes.disk) (D.events self.new.bytes.disk) result }
+        ensures closed { OnErr result (IsUnwritable self.new.found) }
         ensures power { self.old.found ≡ Unopened → DoesOr (λ _. Becomes bytes.now) (BecomesOrNot bytes.now) result (L.syncs self.old.place) (D.events self.old.bytes.disk) (D.events self.new.bytes.disk) }
+        ensures makes { MakesSafely (L.syncs self.old.place) self.old.found self.new.found bytes.now (D.events self.old.bytes.disk) (D.events self.new.bytes.disk) result }
     {
         file_laws();
         let alloc = self.bytes.disk().alloc();
         let ended = self.put(alloc, bytes, changed);
         match (&ended, self.afterwards) {
             (Ok(()), Afterwards::Open) => {}
-            (Ok(()), Afterwards::Closed) | (Err(_), _) => self.let_go(),
+            (Ok(()), Afterwards::Closed) => self.let_go(),
+            (Err(error), _) => self.leave(*error),
         }
         ended
     }
@@ -670,6 +742,7 @@ impl<D: Disk, L: Location> FileStorage<D, L> {
 
 impl<D: Disk, L: Location> Storage for FileStorage<D, L> {
     ghost use Rattle.rrd_disk.specs.Contents.{contents_after, is_honest_by};
+    ghost use Rattle.rrd_disk.specs.Making.{is_safe_by};
     ghost use Rattle.rrd_disk.specs.Storing.{is_sound_by};
 
     ghost contents = { λ s f. contents_after s (D.Disk.events f.bytes.disk) };
@@ -678,8 +751,13 @@ impl<D: Disk, L: Location> Storage for FileStorage<D, L> {
 
     ghost is_sound = { λ s f. is_sound_by s f.found (D.Disk.events f.bytes.disk) };
 
+    ghost is_safe = { λ s d q f. is_safe_by s d q (L.Location.syncs f.place) f.found (D.Disk.events f.bytes.disk) };
+
     fn load(&mut self, alloc: Global, access: Access) -> Result<Option<Database>, TaskFault> {
         file_laws();
+        if !self.may_load() {
+            return Err(TaskFault::CannotOpen);
+        }
         let loaded = self.load_for(alloc, access);
         if loaded.is_err() {
             self.let_go();
@@ -689,6 +767,9 @@ impl<D: Disk, L: Location> Storage for FileStorage<D, L> {
 
     fn load_to_update(&mut self, alloc: Global) -> Result<Loaded, TaskFault> {
         file_laws();
+        if !self.may_load() {
+            return Err(TaskFault::CannotOpen);
+        }
         match self.load_for(alloc, Access::ReadWrite) {
             Ok(Some(database)) => Ok(self.with_bytes(database)),
             Ok(None) => Ok(Loaded::without_bytes(None)),
@@ -700,6 +781,7 @@ impl<D: Disk, L: Location> Storage for FileStorage<D, L> {
     }
 
     fn replace(&mut self, bytes: &[u8]) -> io::Result<()> {
+        file_laws();
         let all = [FileSpan {
             start: 0,
             end: bytes.len(),
@@ -710,6 +792,7 @@ impl<D: Disk, L: Location> Storage for FileStorage<D, L> {
     }
 
     fn replace_where(&mut self, bytes: &[u8], changed: &[FileSpan]) -> io::Result<()> {
+        file_laws();
         let ended = self.write(bytes, changed);
         self.place.cause().note_write(&ended);
         ended

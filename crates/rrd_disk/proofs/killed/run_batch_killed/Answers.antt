@@ -1,7 +1,5 @@
-use Rattle.std.proofs.Common.{◌∙◌, ◌++◌, List, ap}
-use Rattle.rrd_disk.specs.Events.{Event}
+use Rattle.rrd_disk.proofs.Common.{◌∙◌, ◌++◌, List, ap, Event, interrupted_makes, interrupted_run, interrupted_survives}
 use Rattle.rrd_store.specs.Runs as runs
-use Rattle.rrd_disk.proofs.Kills.{interrupted_run}
 use Rattle.rrd_disk.proofs.killed.run_batch_killed.Goals as goal
 
 pub run_batch_at-requires : goal.run_batch_at-requires
@@ -12,6 +10,12 @@ run_batch_at-requires g c =
 pub returns : goal.returns
 returns g c =
     let killed = c.run_batch_at.result.disk in
+    let events = g.D.Disk.events killed.system in
+    let missed = killed.missed.events in
     let run = runs.batch_run c.args.now c.args.numbered (g.R.Read.remaining c.args.reader.now) (g.R.Read.remaining c.run_batch_at.new.reader)
     (g.W.Write.contents c.args.out.now) (g.W.Write.contents c.run_batch_at.new.out) c.run_batch_at.result.end in
-    interrupted_run killed.missed.events (g.D.Disk.events killed.system) run killed.failed c.run_batch_at.ensures
+    record {
+      killed = interrupted_run missed events run killed.failed c.run_batch_at.ensures.run;
+      power = λ ordered. interrupted_survives c.file_laws.ensures missed events run killed.failed (c.run_batch_at.ensures.power ordered);
+      making = λ ordered. interrupted_makes c.file_laws.ensures run missed events killed.failed (c.run_batch_at.ensures.making ordered);
+    }

@@ -1,4 +1,4 @@
-use Rattle.rrd_file.specs.End.{file_end}
+use Rattle.rrd_disk.proofs.Common.{file_end}
 use Rattle.rrd_disk.proofs.laws.file_laws.Goals as goal
 
 pub returns : goal.returns

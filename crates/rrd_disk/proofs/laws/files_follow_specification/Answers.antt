@@ -1,4 +1,4 @@
-use Rattle.rrd_disk.proofs.FileRuns.{files_follow}
+use Rattle.rrd_disk.proofs.Common.{files_follow}
 use Rattle.rrd_disk.proofs.laws.files_follow_specification.Goals as goal
 
 pub returns : goal.returns

@@ -1,4 +1,4 @@
-use Rattle.rrd_disk.proofs.OpenRuns.{open_files_follow}
+use Rattle.rrd_disk.proofs.Common.{open_files_follow}
 use Rattle.rrd_disk.proofs.laws.open_files_follow_specification.Goals as goal
 
 pub returns : goal.returns

@@ -1,12 +1,4 @@
-use Rattle.std.proofs.Common.{◌≡◌, ℕ, List, rules, subst, true}
-use Rattle.rrd_change.specs.Bytes.{begins_with}
-use Rattle.rrd_change.specs.Settled.{cut_mark}
-use Rattle.rrd_file.specs.Faults.{IsFile}
-use Rattle.rrd_disk.specs.Replayed.{bytes_after}
-use Rattle.rrd_disk.specs.Storing.{Laws}
-use Rattle.rrd_disk.specs.Known.{ShowsBytes}
-use Rattle.rrd_disk.specs.Loading.{HasNoChange}
-use Rattle.rrd_disk.proofs.Forged.{cut_database, cut_marked, if_none_at, if_some_at}
+use Rattle.rrd_disk.proofs.Common.{◌≡◌, ℕ, List, rules, subst, true, begins_with, cut_mark, IsFile, bytes_after, Laws, ShowsBytes, HasNoChange, cut_database, cut_marked, if_none_at, if_some_at}
 use Rattle.rrd_disk.proofs.loading.find_cut.Goals as goal
 
 pub returns-in-Ok-None-clause-fault : goal.returns-in-Ok-None-clause-fault

@@ -1,9 +1,4 @@
-use Rattle.std.proofs.Common.{◌≡◌, ◌∙◌, ℕ, List, rules, sym, subst}
-use Rattle.rrd_file.specs.Faults.{IsFile}
-use Rattle.rrd_disk.specs.Replayed.{bytes_after}
-use Rattle.rrd_disk.specs.Storing.{Laws}
-use Rattle.rrd_disk.proofs.Loaded.{no_file}
-use Rattle.rrd_disk.proofs.Storing.{stands_for}
+use Rattle.rrd_disk.proofs.Common.{◌≡◌, ◌∙◌, ℕ, List, rules, sym, subst, IsFile, bytes_after, Laws, no_file, stands_for}
 use Rattle.rrd_disk.proofs.loading.find_standing.Goals as goal
 
 pub returns-in-Err-find-clause-fault : goal.returns-in-Err-find-clause-fault

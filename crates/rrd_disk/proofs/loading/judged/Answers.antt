@@ -1,6 +1,4 @@
-use Rattle.std.proofs.Common.{ℕ, List, Some, rules, subst}
-use Rattle.rrd_store.specs.Storages.{Bytes, Decodes}
-use Rattle.rrd_disk.proofs.Loaded.{reads_judged}
+use Rattle.rrd_disk.proofs.Common.{ℕ, List, Some, rules, subst, Bytes, Decodes, reads_judged}
 use Rattle.rrd_disk.proofs.loading.judged.Goals as goal
 
 pub returns-then-is_whole-clause-reads : goal.returns-then-is_whole-clause-reads

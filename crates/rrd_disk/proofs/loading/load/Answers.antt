@@ -1,6 +1,4 @@
-use Rattle.std.proofs.Common.{◌∙◌, refl}
-use Rattle.rrd_disk.specs.Replayed.{bytes_after}
-use Rattle.rrd_disk.proofs.Loaded.{begins_itself, decodes_front}
+use Rattle.rrd_disk.proofs.Common.{◌∙◌, refl, bytes_after, begins_itself, decodes_front}
 use Rattle.rrd_disk.proofs.loading.load.Goals as goal
 
 pub returns-in-Some-clause-reads : goal.returns-in-Some-clause-reads

@@ -1,4 +1,4 @@
-use Rattle.rrd_disk.specs.Calls.{Rests}
+use Rattle.rrd_disk.proofs.Common.{Rests}
 use Rattle.rrd_disk.proofs.loading.load_pipe.Given as goal
 
 abbrev pub invariant-loop : goal.invariant-loop

@@ -1,9 +1,4 @@
-use Rattle.std.proofs.Common.{◌≡◌, ◌∙◌, ◌+◌, ◌<◌, ℕ, List, length, take, ap, rules, sym, true, arith}
-use Rattle.std.specs.Int.{w64, from_be_bytes}
-use Rattle.rrd_change.specs.Bytes.{begins_with}
-use Rattle.rrd_store.specs.Storages.{Held}
-use Rattle.rrd_disk.specs.Replayed.{bytes_after, bytes_of}
-use Rattle.rrd_disk.proofs.Headed.{log_other, log_past, log_word, not_equal, rest_of}
+use Rattle.rrd_disk.proofs.Common.{◌≡◌, ◌∙◌, ◌+◌, ◌<◌, ℕ, List, length, take, ap, rules, sym, true, arith, w64, from_be_bytes, begins_with, Held, bytes_after, bytes_of, log_other, log_past, log_word, not_equal, rest_of}
 use Rattle.rrd_disk.proofs.loading.may_have_log.Goals as goal
 
 pub returns-then-saturating_sub-lt8-clause-no : goal.returns-then-saturating_sub-lt8-clause-no

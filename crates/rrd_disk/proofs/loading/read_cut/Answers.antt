@@ -1,6 +1,4 @@
-use Rattle.std.proofs.Common.{rules}
-use Rattle.rrd_disk.specs.Replayed.{bytes_after}
-use Rattle.rrd_disk.proofs.Forged.{forged_none}
+use Rattle.rrd_disk.proofs.Common.{rules, bytes_after, forged_none}
 use Rattle.rrd_disk.proofs.loading.read_cut.Goals as goal
 
 pub returns-then-branch-clause-none : goal.returns-then-branch-clause-none

@@ -1,4 +1,4 @@
-use Rattle.std.proofs.Common.{◌≡◌}
+use Rattle.rrd_disk.proofs.Common.{◌≡◌}
 use Rattle.rrd_disk.proofs.locks.try_until_locked.Given as goal
 
 abbrev pub invariant-loop : goal.invariant-loop

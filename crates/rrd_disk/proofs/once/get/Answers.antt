@@ -1,7 +1,4 @@
-use Rattle.std.proofs.Common.{◌≡◌, ◌+◌, ◌-◌, ◌≤◌, length, refl, arith, rules}
-use Rattle.std.proofs.lemmas.Slice.{take-put_mid}
-use Rattle.rrd_disk.proofs.Calling.{more_so_far}
-use Rattle.rrd_disk.proofs.Resting.{rests_trans}
+use Rattle.rrd_disk.proofs.Common.{◌≡◌, ◌+◌, ◌-◌, ◌≤◌, length, refl, arith, rules, take-put_mid, more_so_far, rests_trans}
 use Rattle.rrd_disk.proofs.once.get.Goals as goal
 
 pub loop-count-preserved : goal.loop-count-preserved

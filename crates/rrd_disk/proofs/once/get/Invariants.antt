@@ -1,8 +1,4 @@
-use Rattle.std.proofs.Common.{◌-◌, ◌≤◌, length, IsTrue}
-use Rattle.rrd_disk.specs.Calls.{Rests}
-use Rattle.rrd_disk.specs.Replayed.{World, bytes_after, is_honest_after}
-use Rattle.rrd_disk.specs.Locks.{KeepsGuard}
-use Rattle.rrd_disk.proofs.Calling.{IsGotSoFar}
+use Rattle.rrd_disk.proofs.Common.{◌-◌, ◌≤◌, length, IsTrue, Rests, World, bytes_after, is_honest_after, KeepsGuard, IsGotSoFar}
 use Rattle.rrd_disk.proofs.once.get.Given as goal
 
 abbrev pub invariant-loop-count : goal.invariant-loop-count

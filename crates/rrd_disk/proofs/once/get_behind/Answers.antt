@@ -1,7 +1,4 @@
-use Rattle.std.proofs.Common.{◌+◌, ◌-◌, IsTrue, length, refl}
-use Rattle.std.proofs.lemmas.Slice.{take-put_mid}
-use Rattle.rrd_disk.proofs.Knowing.{got_behind}
-use Rattle.rrd_disk.specs.Replayed.{bytes_after, is_honest_after}
+use Rattle.rrd_disk.proofs.Common.{◌+◌, ◌-◌, IsTrue, length, refl, take-put_mid, got_behind, bytes_after, is_honest_after}
 use Rattle.rrd_disk.proofs.once.get_behind.Goals as goal
 
 pub returns-clause-shown : goal.returns-clause-shown

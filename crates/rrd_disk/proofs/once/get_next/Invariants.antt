@@ -1,7 +1,4 @@
-use Rattle.std.proofs.Common.{◌≡◌, ◌≤◌, ◌<◌, ◌-◌, length, IsTrue}
-use Rattle.rrd_disk.specs.Calls.{Rests}
-use Rattle.rrd_disk.specs.Replayed.{World, is_honest_after}
-use Rattle.rrd_disk.specs.Locks.{KeepsGuard}
+use Rattle.rrd_disk.proofs.Common.{◌≡◌, ◌≤◌, ◌<◌, ◌-◌, length, IsTrue, Rests, World, is_honest_after, KeepsGuard}
 use Rattle.rrd_disk.proofs.once.get_next.Given as goal
 
 abbrev pub invariant-loop-count : goal.invariant-loop-count

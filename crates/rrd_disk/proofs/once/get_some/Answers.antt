@@ -1,5 +1,4 @@
-use Rattle.std.proofs.Common.{sym}
-use Rattle.rrd_disk.proofs.Calling.{got_some}
+use Rattle.rrd_disk.proofs.Common.{sym, got_some}
 use Rattle.rrd_disk.proofs.once.get_some.Goals as goal
 
 pub returns-in_default-2-clause-ok : goal.returns-in_default-2-clause-ok

@@ -1,4 +1,4 @@
-use Rattle.std.proofs.Common.{◌≡◌}
+use Rattle.rrd_disk.proofs.Common.{◌≡◌}
 use Rattle.rrd_disk.proofs.once.get_some.Given as goal
 
 abbrev pub invariant-loop : goal.invariant-loop

@@ -1,9 +1,4 @@
-use Rattle.std.proofs.Common.{◌≤◌, length, rules}
-use Rattle.rrd_change.specs.Calls.{ArePut}
-use Rattle.rrd_change.specs.Views.{Moves}
-use Rattle.rrd_disk.specs.Calls.{IsPartPut}
-use Rattle.rrd_disk.specs.Power.{AreTorn}
-use Rattle.rrd_disk.proofs.Doing.{did_failed, put_more, put_short, put_whole}
+use Rattle.rrd_disk.proofs.Common.{◌≤◌, length, rules, ArePut, Moves, IsPartPut, AreTorn, did_failed, put_more, put_short, put_whole}
 use Rattle.rrd_disk.proofs.once.put.Goals as goal
 
 pub returns-in_err-put_some-2-clause-did : goal.returns-in_err-put_some-2-clause-did

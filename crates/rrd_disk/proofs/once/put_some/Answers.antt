@@ -1,5 +1,4 @@
-use Rattle.std.proofs.Common.{rules}
-use Rattle.rrd_disk.proofs.Doing.{put_ended, put_failed_again, put_none, put_short_of}
+use Rattle.rrd_disk.proofs.Common.{rules, put_ended, put_failed_again, put_none, put_short_of}
 use Rattle.rrd_disk.proofs.once.put_some.Goals as goal
 
 pub loop-init : goal.loop-init

@@ -1,7 +1,4 @@
-use Rattle.rrd_change.specs.Views.{Moves}
-use Rattle.rrd_disk.specs.Calls.{Did, IsPartPut}
-use Rattle.rrd_disk.specs.Locks.{KeepsGuard}
-use Rattle.rrd_disk.specs.Power.{AreTorn}
+use Rattle.rrd_disk.proofs.Common.{Moves, Did, IsPartPut, KeepsGuard, AreTorn}
 use Rattle.rrd_disk.proofs.once.put_some.Given as goal
 
 abbrev pub invariant-loop : goal.invariant-loop

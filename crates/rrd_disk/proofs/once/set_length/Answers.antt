@@ -1,5 +1,4 @@
-use Rattle.std.proofs.Common.{rules}
-use Rattle.rrd_disk.proofs.Doing.{size_ended, size_failed_again, size_none}
+use Rattle.rrd_disk.proofs.Common.{rules, size_ended, size_failed_again, size_none}
 use Rattle.rrd_disk.proofs.once.set_length.Goals as goal
 
 pub loop-init : goal.loop-init

@@ -1,7 +1,4 @@
-use Rattle.rrd_change.specs.Calls.{IsSizedOrNot}
-use Rattle.rrd_change.specs.Views.{Moves}
-use Rattle.rrd_disk.specs.Calls.{Did}
-use Rattle.rrd_disk.specs.Locks.{KeepsGuard}
+use Rattle.rrd_disk.proofs.Common.{IsSizedOrNot, Moves, Did, KeepsGuard}
 use Rattle.rrd_disk.proofs.once.set_length.Given as goal
 
 abbrev pub invariant-loop : goal.invariant-loop

@@ -1,4 +1,4 @@
-use Rattle.rrd_disk.proofs.Doing.{sync_did}
+use Rattle.rrd_disk.proofs.Common.{sync_did}
 use Rattle.rrd_disk.proofs.once.sync.Goals as goal
 
 pub returns-clause-did : goal.returns-clause-did

@@ -1,4 +1,4 @@
-use Rattle.rrd_disk.specs.Calls.{RestsFor}
+use Rattle.rrd_disk.proofs.Common.{RestsFor}
 use Rattle.rrd_disk.proofs.opening.open_locked.Given as goal
 
 abbrev pub invariant-loop : goal.invariant-loop

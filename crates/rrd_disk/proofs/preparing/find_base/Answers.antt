@@ -1,6 +1,4 @@
-use Rattle.std.proofs.Common.{◌∙◌, sym}
-use Rattle.rrd_disk.specs.Replayed.{bytes_after}
-use Rattle.rrd_disk.proofs.Loaded.{no_file}
+use Rattle.rrd_disk.proofs.Common.{◌∙◌, sym, bytes_after, no_file}
 use Rattle.rrd_disk.proofs.preparing.find_base.Goals as goal
 
 pub returns-in-Err-clause-none : goal.returns-in-Err-clause-none

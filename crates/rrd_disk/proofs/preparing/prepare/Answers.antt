@@ -1,12 +1,4 @@
-use Rattle.std.proofs.Common.{◌≡◌, Bool, false, rules, subst}
-use Rattle.rrd_disk.specs.Known.{TellsMark}
-use Rattle.rrd_disk.proofs.Stages.{prepared_unmarked}
-use Rattle.rrd_change.specs.Settled.{mark_of}
-use Rattle.rrd_disk.specs.Replayed.{bytes_after}
-use Rattle.rrd_disk.specs.Surviving.{Readies, StaysLeft}
-use Rattle.rrd_disk.specs.declared.disk.Opening.TheVariants.{Read}
-use Rattle.rrd_disk.proofs.Powering.{or_failed, rested_power, rests_left, unmarked_power}
-use Rattle.rrd_disk.proofs.Storing.{told_unmarked}
+use Rattle.rrd_disk.proofs.Common.{◌≡◌, Bool, false, rules, subst, TellsMark, prepared_unmarked, mark_of, bytes_after, Readies, StaysLeft, Read, or_failed, rested_power, rests_left, unmarked_power, told_unmarked, marked_never, rests_unmarked, unmarked_twice}
 use Rattle.rrd_disk.proofs.preparing.prepare.Goals as goal
 
 pub returns-else-branch-clause-prepares : goal.returns-else-branch-clause-prepares
@@ -33,3 +25,19 @@ returns-else-branch-clause-power g c =
     let tells : TellsMark c.in_ok-is_marked.field-0 mid = c.in_ok-is_marked.ensures.tells in
     unmarked_power c.file_laws.ensures (g.D.Disk.events c.args.file.now.disk) mid (g.D.Disk.events c.find_base.new.file.disk) c.is_marked.ensures.rests c.find_base.ensures.rests
     (λ w honest. told_unmarked c.in_ok-is_marked.field-0 (mark_of (bytes_after w mid)) (tells w honest) not) c.find_base.result c.args.syncs c.find_base.ensures.some c.find_base.ensures.none
+
+pub returns-in_err-is_marked-clause-unmarked : goal.returns-in_err-is_marked-clause-unmarked
+returns-in_err-is_marked-clause-unmarked g c = rests_unmarked Read (g.D.Disk.events c.args.file.now.disk) (g.D.Disk.events c.is_marked.new.self.disk) c.is_marked.ensures.rests
+
+pub returns-then-branch-clause-unmarked : goal.returns-then-branch-clause-unmarked
+returns-then-branch-clause-unmarked g c =
+    let old = g.D.Disk.events c.args.file.now.disk in
+    let mid = g.D.Disk.events c.is_marked.new.self.disk in
+    marked_never c.in_ok-is_marked.field-0 old mid (g.D.Disk.events c.prepare_marked.new.file.disk) c.prepare_marked.ensures.falls (rests_unmarked Read old mid c.is_marked.ensures.rests) c.in_ok-is_marked.ensures.tells (search rules)
+
+pub returns-else-branch-clause-unmarked : goal.returns-else-branch-clause-unmarked
+returns-else-branch-clause-unmarked g c =
+    let old = g.D.Disk.events c.args.file.now.disk in
+    let mid = g.D.Disk.events c.is_marked.new.self.disk in
+    let new = g.D.Disk.events c.find_base.new.file.disk in
+    unmarked_twice old mid new c.find_base.ensures.rests.falls (rests_unmarked Read old mid c.is_marked.ensures.rests) (rests_unmarked Read mid new c.find_base.ensures.rests)

@@ -1,12 +1,4 @@
-use Rattle.std.proofs.Common.{◌≤◌, ◌∙◌, ℕ, List, length, take, ap, subst, sym}
-use Rattle.rrd_change.specs.Found.{database_of}
-use Rattle.rrd_change.specs.declared.log.Base.{Base}
-use Rattle.rrd_disk.specs.Storing.{Laws}
-use Rattle.rrd_disk.proofs.Repairing.{no_fault, prepared_broken, prepared_repaired}
-use Rattle.rrd_disk.proofs.Storing.{does_falls}
-use Rattle.rrd_disk.specs.Surviving.{Readies, StaysLeft}
-use Rattle.rrd_disk.specs.declared.disk.Opening.TheVariants.{Read}
-use Rattle.rrd_disk.proofs.Powering.{fault_power, or_failed, repaired_power, rests_left, unrepaired_power}
+use Rattle.rrd_disk.proofs.Common.{◌≤◌, ◌∙◌, ℕ, List, length, take, ap, subst, sym, database_of, Base, Laws, no_fault, prepared_broken, prepared_repaired, does_falls, Readies, StaysLeft, Read, fault_power, or_failed, repaired_power, rests_left, unrepaired_power}
 use Rattle.rrd_disk.proofs.preparing.prepare_marked.Goals as goal
 
 pub base_of-requires : goal.base_of-requires

@@ -1,7 +1,4 @@
-use Rattle.std.proofs.Common.{List, refl, subst, sym}
-use Rattle.rrd_change.specs.declared.span.Span.{Span}
-use Rattle.rrd_disk.specs.Storing.{AreMore}
-use Rattle.rrd_disk.proofs.Spans.{more_pushed}
+use Rattle.rrd_disk.proofs.Common.{List, refl, subst, sym, Span, AreMore, more_pushed}
 use Rattle.rrd_disk.proofs.storage.push_within.Goals as goal
 
 pub returns : goal.returns

@@ -1,8 +1,4 @@
-use Rattle.std.proofs.Common.{◌<◌, ◌≤◌, List, length, subst, arith}
-use Rattle.std.proofs.lemmas.List.{take_all}
-use Rattle.rrd_file.specs.declared.span.Span.{Span as FileSpan}
-use Rattle.rrd_disk.specs.Storing.{AreOf}
-use Rattle.rrd_disk.proofs.Spans.{are_more}
+use Rattle.rrd_disk.proofs.Common.{◌<◌, ◌≤◌, List, length, subst, arith, take_all, FileSpan, AreOf, are_more}
 use Rattle.rrd_disk.proofs.storage.spans_within.Goals as goal
 
 pub loop-number-preserved : goal.loop-number-preserved

@@ -1,5 +1,4 @@
-use Rattle.std.proofs.Common.{take}
-use Rattle.rrd_disk.specs.Storing.{AreOf}
+use Rattle.rrd_disk.proofs.Common.{take, AreOf}
 use Rattle.rrd_disk.proofs.storage.spans_within.Given as goal
 
 abbrev pub invariant-loop-number : goal.invariant-loop-number

@@ -1,6 +1,4 @@
-use Rattle.std.proofs.Common.{◌∙◌}
-use Rattle.rrd_disk.specs.Replayed.{bytes_after}
-use Rattle.rrd_disk.proofs.Marked.{take_same}
+use Rattle.rrd_disk.proofs.Common.{◌∙◌, bytes_after, take_same}
 use Rattle.rrd_disk.proofs.file_bytes.FileBytes.base.Goals as goal
 
 pub returns : goal.returns

@@ -1,7 +1,5 @@
-use Rattle.std.proofs.Common.{◌≡◌, ◌↔◌, ◌≤◌, ℕ, min, List, Option, IsSome, IsTrue, length, ap, subst, arith, rules}
+use Rattle.rrd_disk.proofs.Common.{◌≡◌, ◌↔◌, ◌≤◌, ℕ, min, List, Option, IsSome, IsTrue, length, ap, subst, arith, rules, bytes_after, mark_shown}
 use Rattle.rrd_change.specs.Settled.{Mark}
-use Rattle.rrd_disk.specs.Replayed.{bytes_after}
-use Rattle.rrd_disk.proofs.Marked.{mark_shown}
 use Rattle.rrd_disk.proofs.file_bytes.FileBytes.is_marked.Goals as goal
 
 pub returns-clause-tells : goal.returns-clause-tells

@@ -1,7 +1,4 @@
-use Rattle.std.proofs.Common.{◌≡◌, sym, ◌∙◌, length}
-use Rattle.std.proofs.lemmas.Bool.{eqb-true}
-use Rattle.rrd_disk.proofs.Fronts.{whole}
-use Rattle.rrd_disk.specs.Replayed.{bytes_after}
+use Rattle.rrd_disk.proofs.Common.{◌≡◌, sym, ◌∙◌, length, eqb-true, whole, bytes_after}
 use Rattle.rrd_disk.proofs.file_bytes.FileBytes.is_whole.Goals as goal
 
 pub returns-in-Some : goal.returns-in-Some

@@ -1,13 +1,4 @@
-use Rattle.std.proofs.Common.{◌≡◌, ◌+◌, max, List, length, option_map, sym, ◌∙◌, ap, subst, rules}
-use Rattle.rrd_change.specs.Calls.{ArePut}
-use Rattle.rrd_change.specs.Views.{Moves}
-use Rattle.rrd_disk.specs.Calls.{IsPartPut}
-use Rattle.rrd_disk.specs.Events.{Event}
-use Rattle.rrd_disk.specs.Known.{Measures}
-use Rattle.rrd_disk.specs.Power.{AreTorn}
-use Rattle.rrd_disk.specs.Replayed.{bytes_after}
-use Rattle.rrd_disk.proofs.Doing.{did_failed, did_put, put_not}
-use Rattle.rrd_disk.proofs.Knowing.{guards_kept, measures_longer}
+use Rattle.rrd_disk.proofs.Common.{◌≡◌, ◌+◌, max, List, length, option_map, sym, ◌∙◌, ap, subst, rules, ArePut, Moves, IsPartPut, Event, Measures, AreTorn, bytes_after, did_failed, did_put, put_not, guards_kept, measures_longer}
 use Rattle.rrd_disk.proofs.file_bytes.FileBytes.put_all.Goals as goal
 
 pub returns-in_err-file_to_change : goal.returns-in_err-file_to_change

@@ -1,9 +1,4 @@
-use Rattle.std.proofs.Common.{sym, subst, inr}
-use Rattle.rrd_change.specs.Calls.{IsSized, IsSizedOrNot}
-use Rattle.rrd_change.specs.Views.{Does, Fails, Stores, seen}
-use Rattle.rrd_change.proofs.Stepping.{failed, moves_fail, seen_moves, then_sync}
-use Rattle.rrd_change.specs.declared.calls.Syncs.{Syncs}
-use Rattle.rrd_disk.specs.Asked.{view_of}
+use Rattle.rrd_disk.proofs.Common.{sym, subst, inr, IsSized, IsSizedOrNot, Does, Fails, Stores, seen, failed, moves_fail, seen_moves, then_sync, Syncs, view_of}
 use Rattle.rrd_disk.proofs.file_bytes.FileBytes.truncate.Goals as goal
 
 pub returns-in_err-set_len : goal.returns-in_err-set_len

@@ -1,7 +1,4 @@
-use Rattle.rrd_change.specs.Views.{Counts, Stays}
-use Rattle.rrd_change.proofs.Stepping.{failed}
-use Rattle.rrd_disk.specs.Asked.{view_of}
-use Rattle.rrd_disk.proofs.Doing.{counts_steps, rests_steps}
+use Rattle.rrd_disk.proofs.Common.{Counts, Stays, failed, view_of, counts_steps, rests_steps}
 use Rattle.rrd_disk.proofs.file_bytes.FileBytesBytes.len.Goals as goal
 
 pub returns-in_err-file_length : goal.returns-in_err-file_length

@@ -1,4 +1,4 @@
-use Rattle.rrd_disk.proofs.Doing.{reads_does}
+use Rattle.rrd_disk.proofs.Common.{reads_does}
 use Rattle.rrd_disk.proofs.file_bytes.FileBytesBytes.read.Goals as goal
 
 pub returns : goal.returns

@@ -1,13 +1,5 @@
-use Rattle.std.proofs.Common.{◌≡◌, List, sym, ◌∙◌, ap, subst}
-use Rattle.rrd_change.specs.Calls.{IsSizedOrNot}
-use Rattle.rrd_change.specs.Views.{FailsToSize, Moves, Sizes}
-use Rattle.rrd_disk.specs.Asked.{view_of}
-use Rattle.rrd_disk.specs.Calls.{Did}
-use Rattle.rrd_disk.specs.Events.{Event}
-use Rattle.rrd_disk.specs.Replayed.{bytes_after}
-use Rattle.rrd_change.proofs.Stepping.{failed}
-use Rattle.rrd_disk.proofs.Doing.{did_size, size_fails}
-use Rattle.rrd_disk.proofs.Knowing.{guards_kept, some_is}
+use Rattle.rrd_disk.proofs.Common.{◌≡◌, List, sym, ◌∙◌, ap, subst, IsSizedOrNot, FailsToSize, Moves, view_of, Did, Event, bytes_after, failed, did_size, size_fails, guards_kept, some_is}
+use Rattle.rrd_change.specs.Views.{Sizes}
 use Rattle.rrd_disk.proofs.file_bytes.FileBytesBytes.set_len.Goals as goal
 
 pub returns-in_err-set_length : goal.returns-in_err-set_length

@@ -1,7 +1,4 @@
-use Rattle.std.proofs.Common.{List, ℕ, length, sym, ◌∙◌, ap, subst}
-use Rattle.rrd_disk.specs.Fronts.{Begins}
-use Rattle.rrd_disk.proofs.Doing.{sync_keeps}
-use Rattle.rrd_disk.proofs.Knowing.{guards_kept}
+use Rattle.rrd_disk.proofs.Common.{List, ℕ, length, sym, ◌∙◌, ap, subst, Begins, sync_keeps, guards_kept}
 use Rattle.rrd_disk.proofs.file_bytes.FileBytesBytes.sync.Goals as goal
 
 pub invariant_of-self-2 : goal.invariant_of-self-2

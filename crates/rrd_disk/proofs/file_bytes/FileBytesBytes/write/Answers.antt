@@ -1,7 +1,4 @@
-use Rattle.rrd_change.specs.Views.{FailsToWrite, Writes}
-use Rattle.rrd_change.proofs.Stepping.{failed}
-use Rattle.rrd_disk.specs.Asked.{view_of}
-use Rattle.rrd_disk.proofs.Doing.{part_fails}
+use Rattle.rrd_disk.proofs.Common.{FailsToWrite, Writes, failed, view_of, part_fails}
 use Rattle.rrd_disk.proofs.file_bytes.FileBytesBytes.write.Goals as goal
 
 pub returns-in_err-put_all-clause-does : goal.returns-in_err-put_all-clause-does

@@ -1,16 +1,6 @@
-use Rattle.std.proofs.Common.{◌<◌, ◌≤◌, List, length, sym, ap, subst, rules}
-use Rattle.rrd_change.specs.Calls.{ArePut}
-use Rattle.rrd_change.specs.Views.{FailsToWritePage, Moves, Steps, WritesPage}
-use Rattle.rrd_change.proofs.Stepping.{failed}
-use Rattle.rrd_disk.specs.Asked.{view_of}
-use Rattle.rrd_disk.specs.Calls.{Did, IsPartPut, Rests}
-use Rattle.rrd_disk.specs.Events.{Event}
-use Rattle.rrd_disk.specs.Power.{AreTorn}
-use Rattle.rrd_disk.proofs.Doing.{lost_did, page_fails, page_unmade, page_writes, part_any, put_whole, rests_moves}
-use Rattle.rrd_disk.proofs.Parts.{within_page}
-use Rattle.rrd_disk.proofs.Resting.{rests_trans}
-use Rattle.rrd_disk.proofs.file_bytes.FileBytesBytes.write_page.Goals as goal
+use Rattle.rrd_disk.proofs.Common.{◌<◌, ◌≤◌, List, length, sym, ap, subst, rules, ArePut, FailsToWritePage, Moves, Steps, WritesPage, failed, view_of, Did, IsPartPut, Rests, Event, AreTorn, lost_did, page_fails, page_unmade, page_writes, part_any, put_whole, rests_moves, within_page, rests_trans}
 use Rattle.rrd_disk.proofs.file_bytes.FileBytesBytes.write_page.Goals.{then-count-gt0, else-count-gt0}
+use Rattle.rrd_disk.proofs.file_bytes.FileBytesBytes.write_page.Goals as goal
 
 pub returns-in_err-length : goal.returns-in_err-length
 returns-in_err-length g c =

@@ -1,4 +1,4 @@
-use Rattle.rrd_disk.proofs.Doing.{whole_does}
+use Rattle.rrd_disk.proofs.Common.{whole_does}
 use Rattle.rrd_disk.proofs.file_bytes.FileBytesBytes.write_whole.Goals as goal
 
 pub returns-then-not-is_empty : goal.returns-then-not-is_empty

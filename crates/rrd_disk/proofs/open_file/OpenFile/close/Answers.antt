@@ -1,7 +1,17 @@
-use Rattle.rrd_disk.proofs.Finishing.{reloaded}
+use Rattle.rrd_disk.proofs.Common.{finished_sound, reloaded, Unopened, reopened_safe}
 use Rattle.rrd_disk.proofs.open_file.OpenFile.close.Goals as goal
 
-pub returns : goal.returns
-returns g c = rw (← c.into_storage-storage.ensures, c.into_disk.ensures) (λ kept.
+pub returns-clause-stays : goal.returns-clause-stays
+returns-clause-stays g c = rw (← c.into_storage-storage.ensures, c.into_disk.ensures) (λ kept.
     let storage = c.into_storage-storage.result in
     reloaded storage.found (g.D.Disk.events storage.bytes.disk) (g.D.Disk.events c.finish.new.self.bytes.disk) c.args.self.session.database c.args.self.session.encoded c.finish.ensures.falls c.finish.ensures.same kept)
+
+pub returns-clause-sound : goal.returns-clause-sound
+returns-clause-sound g c = rw (← c.into_storage-storage.ensures, c.into_disk.ensures) (λ kept.
+    let storage = c.into_storage-storage.result in
+    finished_sound storage.found (g.D.Disk.events storage.bytes.disk) (g.D.Disk.events c.finish.new.self.bytes.disk) c.args.self.session.database c.args.self.session.encoded c.finish.ensures.falls c.finish.ensures.same kept)
+
+pub returns-clause-power : goal.returns-clause-power
+returns-clause-power g c = rw (← c.into_storage-storage.ensures, c.into_disk.ensures) (
+    let storage = c.into_storage-storage.result in
+    reopened_safe storage.place.settings.syncs storage.found Unopened (g.D.Disk.events storage.bytes.disk) (g.D.Disk.events c.finish.new.self.bytes.disk) c.finish.ensures.power)

@@ -1,16 +1,12 @@
-use Rattle.std.proofs.Common.{◌≡◌, Bool, true, false, Ok, None}
-use Rattle.rrd_disk.specs.Known.{TellsMark}
-use Rattle.rrd_disk.specs.Replayed.{held_after}
-use Rattle.rrd_disk.proofs.Stages.{closed_loaded, open_from_marked, open_from_unmarked}
-use Rattle.rrd_disk.proofs.Storing.{finds_closed, if_ok_at}
+use Rattle.rrd_disk.proofs.Common.{◌≡◌, Bool, true, false, Ok, None, TellsMark, held_after, closed_loaded, open_from_marked, open_from_unmarked, finds_closed, if_ok_at}
 use Rattle.rrd_disk.proofs.storage.FileStorage.load_shared.Goals as goal
 
 pub returns-in-Ok-true-clause-loads : goal.returns-in-Ok-true-clause-loads
 returns-in-Ok-true-clause-loads g c =
     let mid = g.D.Disk.events c.is_marked.new.self.bytes.disk in
     let was : c.is_marked.result ≡ Ok true = cc in
-    open_from_marked c.load_interrupted.new.self.found c.load_interrupted.result (g.D.Disk.events c.args.self.now.bytes.disk) mid (g.D.Disk.events c.load_interrupted.new.self.bytes.disk)
-    c.is_marked.ensures.rests.held c.load_interrupted.ensures.falls (if_ok_at (λ (b : Bool). TellsMark b mid) c.is_marked.result true was c.is_marked.ensures.ok) c.load_interrupted.ensures.loads
+    open_from_marked c.read_marked.new.self.found c.read_marked.result (g.D.Disk.events c.args.self.now.bytes.disk) mid (g.D.Disk.events c.read_marked.new.self.bytes.disk)
+    c.is_marked.ensures.rests.held c.read_marked.ensures.rests.falls (if_ok_at (λ (b : Bool). TellsMark b mid) c.is_marked.result true was c.is_marked.ensures.ok) c.read_marked.ensures.loads
 
 pub returns-in-Ok-false-clause-loads : goal.returns-in-Ok-false-clause-loads
 returns-in-Ok-false-clause-loads g c =

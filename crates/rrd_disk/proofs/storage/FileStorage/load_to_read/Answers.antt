@@ -1,10 +1,5 @@
-use Rattle.std.proofs.Common.{◌≡◌, ◌∙◌, Ok, subst, sym}
-use Rattle.rrd_disk.specs.Contents.{IsSound}
-use Rattle.rrd_disk.specs.Replayed.{held_after}
-use Rattle.rrd_disk.specs.declared.file_bytes.Entry.TheVariants.{Open, Pipe}
-use Rattle.rrd_disk.specs.declared.storage.Found.TheVariants.{Unwritable}
-use Rattle.rrd_disk.proofs.Stages.{loaded_as, loads_from, open_kept}
-use Rattle.rrd_disk.proofs.Storing.{finds_there, loaded_same, says_at}
+use Rattle.rrd_disk.proofs.Common.{◌≡◌, ◌∙◌, Ok, subst, sym, IsSound, held_after, Pipe, Unwritable, loaded_as, loads_from, open_kept, finds_there, loaded_same, says_at, Unopened, rests_trans, rests_closed, rests_missing}
+use Rattle.rrd_disk.specs.declared.file_bytes.Entry.TheVariants.{Open, Missing}
 use Rattle.rrd_disk.proofs.storage.FileStorage.load_to_read.Goals as goal
 
 pub returns-in-Ok-Open-clause-loads : goal.returns-in-Ok-Open-clause-loads
@@ -14,7 +9,7 @@ returns-in-Ok-Open-clause-loads g c = rw (c.leave.ensures.disk, c.leave.ensures.
     let new = g.D.Disk.events c.load_shared-loaded.new.self.bytes.disk in
     let was : c.open.result ≡ Ok Open = cc in
     loaded_as c.load_shared-loaded.new.self.found (Unwritable c.args.unwritable) c.load_shared-loaded.result (held_after s old) (held_after s new) (λ is. is)
-    (loads_from c.load_shared-loaded.new.self.found c.load_shared-loaded.result old mid new c.open.ensures.rests.held c.load_shared-loaded.ensures.falls (says_at c.open.result Open mid was c.open.ensures.says) c.load_shared-loaded.ensures.loads s honest sound))
+    (loads_from c.load_shared-loaded.new.self.found c.load_shared-loaded.result old mid new c.open.ensures.rests.held c.load_shared-loaded.ensures.rests.falls (says_at c.open.result Open mid was c.open.ensures.says) c.load_shared-loaded.ensures.loads s honest sound))
 
 pub returns-in-Ok-Pipe-clause-loads : goal.returns-in-Ok-Pipe-clause-loads
 returns-in-Ok-Pipe-clause-loads g c = rw (c.leave-in-Ok-Pipe.ensures.disk, c.leave-in-Ok-Pipe.ensures.found) (λ s honest sound.
@@ -27,3 +22,22 @@ returns-in-Ok-Pipe-clause-loads g c = rw (c.leave-in-Ok-Pipe.ensures.disk, c.lea
     let same = c.load_pipe-loaded.ensures.rests.held s ∙ c.open.ensures.rests.held s in
     loaded_same (Unwritable c.args.unwritable) c.load_pipe-loaded.result (held_after s old) (held_after s new) same (subst IsSound (sym same) sound)
     (finds_there c.load_pipe-loaded.result (held_after s old) (open_kept (held_after s mid) (held_after s old) (sym (c.open.ensures.rests.held s)) there) (c.load_pipe-loaded.ensures.finds s honest)))
+
+pub returns-in-Ok-Open-clause-power : goal.returns-in-Ok-Open-clause-power
+returns-in-Ok-Open-clause-power g c = rw (c.leave.ensures.disk, c.leave.ensures.found) (
+    let new = g.D.Disk.events c.load_shared-loaded.new.self.bytes.disk in
+    rests_closed (g.L.Location.syncs c.args.self.now.place) (g.D.Disk.events c.args.self.now.bytes.disk) new (rests_trans (g.D.Disk.events c.args.self.now.bytes.disk) (g.D.Disk.events c.open.new.self.bytes.disk) new c.open.ensures.rests c.load_shared-loaded.ensures.rests) (Unwritable c.args.unwritable) tt)
+
+pub returns-in-Ok-Missing-clause-power : goal.returns-in-Ok-Missing-clause-power
+returns-in-Ok-Missing-clause-power g c = rw c.miss.ensures.disk (
+    let mid = g.D.Disk.events c.open.new.self.bytes.disk in
+    let was : c.open.result ≡ Ok Missing = cc in
+    rests_missing c.file_laws.ensures (g.L.Location.syncs c.args.self.now.place) (g.D.Disk.events c.args.self.now.bytes.disk) mid c.open.ensures.rests c.miss.new.self.found (says_at c.open.result Missing mid was c.open.ensures.says))
+
+pub returns-in-Ok-Pipe-clause-power : goal.returns-in-Ok-Pipe-clause-power
+returns-in-Ok-Pipe-clause-power g c = rw (c.leave-in-Ok-Pipe.ensures.disk, c.leave-in-Ok-Pipe.ensures.found) (
+    let new = g.D.Disk.events c.load_pipe-loaded.new.file.disk in
+    rests_closed (g.L.Location.syncs c.args.self.now.place) (g.D.Disk.events c.args.self.now.bytes.disk) new (rests_trans (g.D.Disk.events c.args.self.now.bytes.disk) (g.D.Disk.events c.open.new.self.bytes.disk) new c.open.ensures.rests c.load_pipe-loaded.ensures.rests) (Unwritable c.args.unwritable) tt)
+
+pub returns-in-Ok-Refused-clause-power : goal.returns-in-Ok-Refused-clause-power
+returns-in-Ok-Refused-clause-power g c = rw c.open.ensures.found (rests_closed (g.L.Location.syncs c.args.self.now.place) (g.D.Disk.events c.args.self.now.bytes.disk) (g.D.Disk.events c.open.new.self.bytes.disk) c.open.ensures.rests Unopened tt)

@@ -1,4 +1,4 @@
-use Rattle.rrd_disk.proofs.Stages.{fault_unmarked, loaded_unmarked}
+use Rattle.rrd_disk.proofs.Common.{fault_unmarked, loaded_unmarked, Unopened, unmarked_opens}
 use Rattle.rrd_disk.proofs.storage.FileStorage.load_unmarked.Goals as goal
 
 pub returns-in-Ok-clause-loads : goal.returns-in-Ok-clause-loads
@@ -9,3 +9,9 @@ returns-in-Ok-clause-loads g c = λ s honest there none.
 pub returns-in-Err-clause-loads : goal.returns-in-Err-clause-loads
 returns-in-Err-clause-loads g c = λ s honest there none.
     fault_unmarked c.in-Err.fault (g.D.Disk.events c.args.self.now.bytes.disk) (g.D.Disk.events c.load.new.file.disk) s (c.load.ensures.rests.held s) there none (c.in-Err.ensures.reads s honest)
+
+pub returns-in-Ok-clause-power : goal.returns-in-Ok-clause-power
+returns-in-Ok-clause-power g c = unmarked_opens c.file_laws.ensures (g.L.Location.syncs c.args.self.now.place) (g.D.Disk.events c.args.self.now.bytes.disk) (g.D.Disk.events c.load.new.file.disk) c.load.ensures.rests c.as_loaded.result c.as_loaded.ensures
+
+pub returns-in-Err-clause-power : goal.returns-in-Err-clause-power
+returns-in-Err-clause-power g c = unmarked_opens c.file_laws.ensures (g.L.Location.syncs c.args.self.now.place) (g.D.Disk.events c.args.self.now.bytes.disk) (g.D.Disk.events c.load.new.file.disk) c.load.ensures.rests Unopened tt

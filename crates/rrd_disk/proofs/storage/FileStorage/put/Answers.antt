@@ -1,13 +1,5 @@
-use Rattle.std.proofs.Common.{◌≡◌, ◌∙◌, List, OnErr, length, sym, refl, subst, inl}
-use Rattle.rrd_change.specs.declared.span.Span.{Span}
-use Rattle.rrd_disk.specs.Replayed.{held_after}
-use Rattle.rrd_disk.specs.Storing.{AreOf}
-use Rattle.rrd_disk.specs.declared.storage.Found.{Found}
-use Rattle.rrd_disk.specs.declared.storage.Found.TheVariants.{Unopened, Missing, Open, Kept}
-use Rattle.rrd_disk.proofs.Storing.{does_falls, sound_at, written_from}
-use Rattle.rrd_disk.proofs.Writing.{unwritten}
-use Rattle.rrd_disk.specs.Surviving.{Becomes, BecomesOrNot}
-use Rattle.rrd_disk.proofs.Powering.{or_failed}
+use Rattle.rrd_disk.proofs.Common.{◌≡◌, ◌∙◌, List, OnErr, length, sym, refl, subst, inl, Span, held_after, AreOf, Found, Unopened, Open, Kept, does_falls, sound_at, written_from, unwritten, Becomes, BecomesOrNot, or_failed, world_after, as_left, became_safely, changed_safely, found_safely, missing_safely, unchanged_safely, Err, IsOpen, found_making, made_safely, open_making, unmade_safely}
+use Rattle.rrd_disk.specs.declared.storage.Found.TheVariants.{Missing}
 use Rattle.rrd_disk.proofs.storage.FileStorage.put.Goals as goal
 
 pub returns-in_err-spans-clause-writes : goal.returns-in_err-spans-clause-writes
@@ -65,3 +57,66 @@ returns-in-Open-clause-power g c = λ unopened. let other = sym unopened ∙ sym
 
 pub returns-clause-power : goal.returns-clause-power
 returns-clause-power g c = λ unopened. let other = sym unopened ∙ sym c.replace.ensures.value ∙ c.in-Kept.is in absurd cc
+
+pub returns-in_err-spans-clause-safe : goal.returns-in_err-spans-clause-safe
+returns-in_err-spans-clause-safe g c = unchanged_safely c.from_residual.result c.args.self.now.found c.args.self.now.found c.args.changed.now c.args.bytes.now (g.L.Location.syncs c.args.self.now.place) (g.D.Disk.events c.args.self.now.bytes.disk) c.from_residual.ensures.0
+
+pub returns-in-Unopened-clause-safe : goal.returns-in-Unopened-clause-safe
+returns-in-Unopened-clause-safe g c =
+    let new = g.D.Disk.events c.put_anew.new.self.bytes.disk in
+    found_safely c.put_anew.result c.args.self.now.found Unopened c.put_anew.new.self.found c.args.changed.now c.args.bytes.now (g.L.Location.syncs c.args.self.now.place) (g.D.Disk.events c.args.self.now.bytes.disk) new (sym c.replace.ensures.value ∙ c.in-Unopened.is)
+    (became_safely c.put_anew.result c.put_anew.new.self.found c.args.changed.now c.args.bytes.now (g.L.Location.syncs c.args.self.now.place) (g.D.Disk.events c.args.self.now.bytes.disk) new c.put_anew.ensures.began c.put_anew.ensures.power)
+
+pub returns-in-Missing-clause-safe : goal.returns-in-Missing-clause-safe
+returns-in-Missing-clause-safe g c =
+    let new = g.D.Disk.events c.put_new.new.self.bytes.disk in
+    found_safely c.put_new.result c.args.self.now.found Missing c.put_new.new.self.found c.args.changed.now c.args.bytes.now (g.L.Location.syncs c.args.self.now.place) (g.D.Disk.events c.args.self.now.bytes.disk) new (sym c.replace.ensures.value ∙ c.in-Missing.is)
+    (missing_safely c.put_new.result c.put_new.new.self.found c.args.changed.now c.args.bytes.now (g.L.Location.syncs c.args.self.now.place) (g.D.Disk.events c.args.self.now.bytes.disk) new)
+
+pub returns-in-Unwritable-clause-safe : goal.returns-in-Unwritable-clause-safe
+returns-in-Unwritable-clause-safe g c = λ ordered d w honest differs end other now any is.
+    inl (as_left c.args.self.now.found end other now (world_after d w (g.D.Disk.events c.args.self.now.bytes.disk)) is)
+
+pub returns-in-Open-clause-safe : goal.returns-in-Open-clause-safe
+returns-in-Open-clause-safe g c =
+    let new = g.D.Disk.events c.put_open.new.self.bytes.disk in
+    let bytes = c.args.bytes.now in
+    let are = subst (λ (xs : List Span). AreOf (length bytes) c.args.changed.now xs) (sym c.deref.ensures.value) c.in_ok-spans.ensures in
+    found_safely c.put_open.result c.args.self.now.found (Open c.in-Open.base) c.put_open.new.self.found c.args.changed.now bytes (g.L.Location.syncs c.args.self.now.place) (g.D.Disk.events c.args.self.now.bytes.disk) new (sym c.replace.ensures.value ∙ c.in-Open.is)
+    (changed_safely c.file_laws.ensures (Open c.in-Open.base) c.put_open.new.self.found c.args.changed.now c.deref.result.now bytes are (g.L.Location.syncs c.args.self.now.place) (g.D.Disk.events c.args.self.now.bytes.disk) new tt c.put_open.result c.put_open.ensures.open c.put_open.ensures.does)
+
+pub returns-clause-safe : goal.returns-clause-safe
+returns-clause-safe g c =
+    let new = g.D.Disk.events c.put_kept.new.self.bytes.disk in
+    let bytes = c.args.bytes.now in
+    let are = subst (λ (xs : List Span). AreOf (length bytes) c.args.changed.now xs) (sym c.deref-in-Kept.ensures.value) c.in_ok-spans.ensures in
+    found_safely c.put_kept.result c.args.self.now.found (Kept c.in-Kept.base c.in-Kept.log) c.put_kept.new.self.found c.args.changed.now bytes (g.L.Location.syncs c.args.self.now.place) (g.D.Disk.events c.args.self.now.bytes.disk) new (sym c.replace.ensures.value ∙ c.in-Kept.is)
+    (changed_safely c.file_laws.ensures (Kept c.in-Kept.base c.in-Kept.log) c.put_kept.new.self.found c.args.changed.now c.deref-in-Kept.result.now bytes are (g.L.Location.syncs c.args.self.now.place) (g.D.Disk.events c.args.self.now.bytes.disk) new tt c.put_kept.result c.put_kept.ensures.open c.put_kept.ensures.does)
+
+pub returns-in_err-spans-clause-makes : goal.returns-in_err-spans-clause-makes
+returns-in_err-spans-clause-makes g c = unmade_safely c.from_residual.result c.args.self.now.found c.args.self.now.found c.args.bytes.now (g.L.Location.syncs c.args.self.now.place) (g.D.Disk.events c.args.self.now.bytes.disk) c.from_residual.ensures.0
+
+pub returns-in-Unopened-clause-makes : goal.returns-in-Unopened-clause-makes
+returns-in-Unopened-clause-makes g c =
+    let new = g.D.Disk.events c.put_anew.new.self.bytes.disk in
+    found_making c.put_anew.result c.args.self.now.found Unopened c.put_anew.new.self.found c.args.bytes.now (g.L.Location.syncs c.args.self.now.place) (g.D.Disk.events c.args.self.now.bytes.disk) new (sym c.replace.ensures.value ∙ c.in-Unopened.is)
+    (made_safely c.put_anew.result Unopened c.put_anew.new.self.found c.args.bytes.now (g.L.Location.syncs c.args.self.now.place) (g.D.Disk.events c.args.self.now.bytes.disk) new c.put_anew.ensures.began c.put_anew.ensures.makes)
+
+pub returns-in-Missing-clause-makes : goal.returns-in-Missing-clause-makes
+returns-in-Missing-clause-makes g c =
+    let new = g.D.Disk.events c.put_new.new.self.bytes.disk in
+    found_making c.put_new.result c.args.self.now.found Missing c.put_new.new.self.found c.args.bytes.now (g.L.Location.syncs c.args.self.now.place) (g.D.Disk.events c.args.self.now.bytes.disk) new (sym c.replace.ensures.value ∙ c.in-Missing.is)
+    (made_safely c.put_new.result Missing c.put_new.new.self.found c.args.bytes.now (g.L.Location.syncs c.args.self.now.place) (g.D.Disk.events c.args.self.now.bytes.disk) new c.put_new.ensures.began c.put_new.ensures.makes)
+
+pub returns-in-Unwritable-clause-makes : goal.returns-in-Unwritable-clause-makes
+returns-in-Unwritable-clause-makes g c = unmade_safely (Err c.in-Unwritable.error) c.args.self.now.found Unopened c.args.bytes.now (g.L.Location.syncs c.args.self.now.place) (g.D.Disk.events c.args.self.now.bytes.disk) refl
+
+pub returns-in-Open-clause-makes : goal.returns-in-Open-clause-makes
+returns-in-Open-clause-makes g c =
+    open_making c.put_open.result c.args.self.now.found c.put_open.new.self.found c.args.bytes.now (g.L.Location.syncs c.args.self.now.place) (g.D.Disk.events c.args.self.now.bytes.disk) (g.D.Disk.events c.put_open.new.self.bytes.disk)
+    (subst IsOpen (sym c.in-Open.is ∙ c.replace.ensures.value) tt)
+
+pub returns-clause-makes : goal.returns-clause-makes
+returns-clause-makes g c =
+    open_making c.put_kept.result c.args.self.now.found c.put_kept.new.self.found c.args.bytes.now (g.L.Location.syncs c.args.self.now.place) (g.D.Disk.events c.args.self.now.bytes.disk) (g.D.Disk.events c.put_kept.new.self.bytes.disk)
+    (subst IsOpen (sym c.in-Kept.is ∙ c.replace.ensures.value) tt)

@@ -1,9 +1,4 @@
-use Rattle.std.proofs.Common.{◌∙◌, ap}
-use Rattle.rrd_change.specs.declared.log.Base.{Base}
-use Rattle.rrd_disk.specs.Replayed.{held_after}
-use Rattle.rrd_disk.proofs.Storing.{any_enough, does_falls}
-use Rattle.rrd_disk.proofs.Writing.{closed_sound, replaced, unreplaced}
-use Rattle.rrd_disk.proofs.Powering.{replaced_power, unreplaced_power}
+use Rattle.rrd_disk.proofs.Common.{◌∙◌, ap, Base, held_after, any_enough, does_falls, closed_sound, replaced, unreplaced, replaced_power, unreplaced_power, began_at}
 use Rattle.rrd_disk.proofs.storage.FileStorage.put_all.Goals as goal
 
 pub base_of-requires : goal.base_of-requires
@@ -32,3 +27,6 @@ returns-in-Ok-clause-power g c = λ ordered.
 pub returns-in-Err-clause-power : goal.returns-in-Err-clause-power
 returns-in-Err-clause-power g c = λ ordered.
     unreplaced_power c.syncs-syncs.result c.args.base.now c.args.bytes.now (g.D.Disk.events c.args.self.now.bytes.disk) (g.D.Disk.events c.replace.new.file.disk) c.in-Err.ensures (c.syncs-syncs.ensures ∙ ordered)
+
+pub returns-in-Ok-clause-began : goal.returns-in-Ok-clause-began
+returns-in-Ok-clause-began g c = began_at c.file_laws.ensures c.base_of.result c.args.bytes.now c.requires.any (ap (λ (b : Base). b.length) c.base_of.ensures) (ap (λ (b : Base). b.first) c.base_of.ensures)

@@ -1,11 +1,4 @@
-use Rattle.std.proofs.Common.{◌∙◌, ◌≡◌, subst, ap, ℕ, List, Option, IsTrue}
-use Rattle.rrd_disk.specs.Replayed.{World, held_after, is_honest_after}
-use Rattle.rrd_disk.proofs.Writing.{closed_sound, made_near, made_sound, unprepared_write, unwritten, written_first, written_over}
-use Rattle.rrd_change.specs.declared.calls.Syncs.TheVariants.{Ordered}
-use Rattle.rrd_change.specs.declared.log.Base.{Base}
-use Rattle.rrd_disk.specs.Power.{world_after}
-use Rattle.rrd_disk.specs.Surviving.{Becomes, BecomesOrNot, Readies}
-use Rattle.rrd_disk.proofs.Powering.{first_power, made_power, or_failed, over_power, unready_power}
+use Rattle.rrd_disk.proofs.Common.{◌∙◌, ◌≡◌, Err, refl, subst, ap, ℕ, List, Option, IsTrue, World, held_after, is_honest_after, closed_sound, made_near, made_sound, unprepared_write, unwritten, written_first, written_over, Ordered, Base, world_after, Becomes, BecomesOrNot, Readies, first_power, made_power, or_failed, over_power, unready_power, Make, bare_stays, first_making, over_making, rests_unmarked, unmade_by, unmarked_twice, Unopened}
 use Rattle.rrd_disk.proofs.storage.FileStorage.put_anew.Goals as goal
 
 pub returns-in_err-make-clause-writes : goal.returns-in_err-make-clause-writes
@@ -64,3 +57,27 @@ returns-in-Err-clause-power g c =
     let place = ap (λ p. g.L.Location.syncs p) c.make.ensures.place in
     unready_power (g.D.Disk.events c.args.self.now.bytes.disk) (g.D.Disk.events c.make.new.self.bytes.disk) (g.D.Disk.events c.prepare.new.file.disk) (g.D.Disk.events c.prepare.new.file.disk) c.make.ensures.rests c.args.bytes.now
     (g.L.Location.syncs c.args.self.now.place) c.syncs-syncs.result (g.L.Location.syncs c.make.new.self.place) (c.syncs-syncs.ensures ∙ place) place c.in-Err.ensures.power
+
+pub returns-in_err-make-clause-makes : goal.returns-in_err-make-clause-makes
+returns-in_err-make-clause-makes g c =
+    let old = g.D.Disk.events c.args.self.now.bytes.disk in
+    let new = g.D.Disk.events c.make.new.self.bytes.disk in
+    unmade_by Unopened c.args.bytes.now c.from_residual.result (g.L.Location.syncs c.args.self.now.place) old new c.from_residual.ensures.0 (λ d w honest bare. bare_stays d w old new (rests_unmarked Make old new c.make.ensures.rests) honest bare)
+
+pub returns-in-Ok-Some-clause-makes : goal.returns-in-Ok-Some-clause-makes
+returns-in-Ok-Some-clause-makes g c =
+    over_making c.file_laws.ensures c.args.bytes.now (g.D.Disk.events c.args.self.now.bytes.disk) (g.D.Disk.events c.make.new.self.bytes.disk) (g.D.Disk.events c.prepare.new.file.disk) (g.D.Disk.events c.put_all.new.self.bytes.disk)
+    c.make.ensures.rests c.prepare.ensures.unmarked c.prepare.ensures.falls c.put_all.ensures.falls c.put_all.result (g.L.Location.syncs c.args.self.now.place) c.prepare.result c.in-Ok-Some.base (cc) c.in_ok-make.ensures.there c.prepare.ensures.prepares
+
+pub returns-in-Ok-None-clause-makes : goal.returns-in-Ok-None-clause-makes
+returns-in-Ok-None-clause-makes g c =
+    first_making c.file_laws.ensures c.args.bytes.now (g.D.Disk.events c.args.self.now.bytes.disk) (g.D.Disk.events c.make.new.self.bytes.disk) (g.D.Disk.events c.prepare.new.file.disk) (g.D.Disk.events c.put_first.new.self.bytes.disk)
+    c.make.ensures.rests c.prepare.ensures.unmarked c.prepare.ensures.falls c.put_first.ensures.falls c.put_first.result (g.L.Location.syncs c.args.self.now.place) (g.L.Location.syncs c.make.new.self.place) (ap (λ p. g.L.Location.syncs p) c.make.ensures.place) c.put_first.ensures.makes
+
+pub returns-in-Err-clause-makes : goal.returns-in-Err-clause-makes
+returns-in-Err-clause-makes g c =
+    let old = g.D.Disk.events c.args.self.now.bytes.disk in
+    let mid = g.D.Disk.events c.make.new.self.bytes.disk in
+    let new = g.D.Disk.events c.prepare.new.file.disk in
+    unmade_by Unopened c.args.bytes.now (Err c.in-Err.error) (g.L.Location.syncs c.args.self.now.place) old new refl
+    (λ d w honest bare. bare_stays d w old new (unmarked_twice old mid new c.prepare.ensures.falls (rests_unmarked Make old mid c.make.ensures.rests) c.prepare.ensures.unmarked) honest bare)

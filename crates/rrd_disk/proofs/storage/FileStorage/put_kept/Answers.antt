@@ -1,7 +1,4 @@
-use Rattle.std.proofs.Common.{ap}
-use Rattle.rrd_change.specs.declared.log.Base.{Base}
-use Rattle.rrd_change.proofs.Stepping.{steps_as}
-use Rattle.rrd_disk.proofs.Storing.{any_enough, began_at}
+use Rattle.rrd_disk.proofs.Common.{ap, Base, steps_as, any_enough, began_at}
 use Rattle.rrd_disk.proofs.storage.FileStorage.put_kept.Goals as goal
 
 pub base_of-requires : goal.base_of-requires

@@ -1,9 +1,4 @@
-use Rattle.std.proofs.Common.{ap, inl}
-use Rattle.rrd_change.specs.Repairs.{Whole}
-use Rattle.rrd_change.specs.declared.log.Base.{Base}
-use Rattle.rrd_change.proofs.Stepping.{does_then, failed, steps_as}
-use Rattle.rrd_change.proofs.Stopping.{plain_left}
-use Rattle.rrd_disk.proofs.Storing.{any_enough, began_at}
+use Rattle.rrd_disk.proofs.Common.{ap, inl, Whole, Base, does_then, failed, steps_as, plain_left, any_enough, began_at}
 use Rattle.rrd_disk.proofs.storage.FileStorage.put_open.Goals as goal
 
 pub base_of-requires : goal.base_of-requires

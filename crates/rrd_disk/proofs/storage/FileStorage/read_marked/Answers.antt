@@ -1,4 +1,4 @@
-use Rattle.rrd_disk.proofs.Repairing.{standing_loaded, fault_loaded}
+use Rattle.rrd_disk.proofs.Common.{standing_loaded, fault_loaded}
 use Rattle.rrd_disk.proofs.storage.FileStorage.read_marked.Goals as goal
 
 pub returns-in-Ok-clause-loads : goal.returns-in-Ok-clause-loads

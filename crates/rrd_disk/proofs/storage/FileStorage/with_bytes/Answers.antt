@@ -1,10 +1,4 @@
-use Rattle.std.proofs.Common.{◌≡◌, ◌∙◌, ℕ, List, Some, ap, subst, sym}
-use Rattle.rrd_file.specs.Faults.{IsFile}
-use Rattle.rrd_store.specs.Storages.{Bytes, Held}
-use Rattle.rrd_disk.specs.Contents.{represented}
-use Rattle.rrd_disk.specs.Replayed.{bytes_of, held_after}
-use Rattle.rrd_disk.specs.Storing.{Laws}
-use Rattle.rrd_disk.proofs.Storing.{database_unmarked, file_database, itself, there_file}
+use Rattle.rrd_disk.proofs.Common.{◌≡◌, ◌∙◌, ℕ, List, Some, ap, subst, sym, IsFile, Bytes, Held, represented, bytes_of, held_after, Laws, database_unmarked, file_database, itself, there_file}
 use Rattle.rrd_disk.proofs.storage.FileStorage.with_bytes.Goals as goal
 
 pub returns-in-Open-clause-bytes : goal.returns-in-Open-clause-bytes

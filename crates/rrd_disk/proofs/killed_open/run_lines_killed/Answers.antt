@@ -1,0 +1,23 @@
+use Rattle.rrd_disk.proofs.Common.{◌++◌, List, Event, alive_kept, alive_run, kept_sound, killed_open, power_in_run}
+use Rattle.rrd_store.specs.Runs as runs
+use Rattle.rrd_disk.proofs.killed_open.run_lines_killed.Goals as goal
+
+pub returns : goal.returns
+returns g c =
+    let was = c.args.file.now.session in
+    let is = c.run_batch.new.self.session in
+    let old = was.storage.bytes.disk in
+    let new = is.storage.bytes.disk in
+    let before : List Event = g.D.Disk.events old.system in
+    let after : List Event = new.missed.events ++ g.D.Disk.events new.system in
+    let kept = alive_kept old.missed.events before c.requires.alive was.storage.found was.database was.encoded c.requires.kept in
+    let run = runs.batch_run c.args.now c.args.numbered (g.R.Read.remaining c.args.reader.now) (g.R.Read.remaining c.run_batch.new.reader)
+    (g.W.Write.contents c.args.out.now) (g.W.Write.contents c.run_batch.new.out) c.run_batch.result in
+    record {
+      kept = c.run_batch.ensures.kept kept;
+      killed = killed_open before new.missed.events (g.D.Disk.events new.system) new.failed
+          (kept_sound is.storage.found after is.database is.encoded (c.run_batch.ensures.kept kept)) run
+          (alive_run old.missed.events before c.requires.alive after run (c.run_batch.ensures.file kept));
+      power = power_in_run c.file_laws.ensures old.missed.events before new.missed.events (g.D.Disk.events new.system) c.requires.alive new.failed was.storage.place.settings.syncs is.storage.place.settings.syncs
+          was.storage.found is.storage.found run (c.run_batch.ensures.power kept);
+    }
