@@ -22,20 +22,28 @@ fn is_in_line(byte: u8) -> bool
     b' ' <= byte && byte != 0x7f
 }
 
-// Checks whether a character is shown as its code: a control character, or one without a width of its own that joins,
-// separates or turns others.
+// Checks whether a character is shown as its code: a control character, or one that Unicode shows as nothing
+// (Default_Ignorable_Code_Point), or that joins, separates or turns others.
 fn is_hidden(character: char) -> bool {
     character.is_control()
         || matches!(
             character as u32,
-            0xad | 0x61c
-                | 0x180e
+            0xad | 0x34f
+                | 0x61c
+                | 0x115f..=0x1160
+                | 0x17b4..=0x17b5
+                | 0x180b..=0x180f
                 | 0x200b..=0x200f
                 | 0x2028..=0x202e
                 | 0x2060..=0x206f
+                | 0x3164
+                | 0xfe00..=0xfe0f
                 | 0xfeff
-                | 0xfff9..=0xfffb
-                | 0xe0000..=0xe007f
+                | 0xffa0
+                | 0xfff0..=0xfffb
+                | 0x1bca0..=0x1bca3
+                | 0x1d173..=0x1d17a
+                | 0xe0000..=0xe0fff
         )
 }
 

@@ -88,6 +88,9 @@ pub(crate) fn no_source(alloc: Global, database: &Database, name: &Name) -> Opti
         return None;
     }
     let name = name.as_str();
+    if name.is_empty() {
+        return format!(in alloc; "a name is empty; the file has {}", Names(database)).ok();
+    }
     let says = match meant(alloc, database, name) {
         Some(meant) => format!(in alloc;
             "there is no data source {}; did you mean {meant}?",

@@ -1,5 +1,5 @@
 //! What to write in place of the times, the lengths and the numbers of RRDtool.
-use crate::numbers::written_out;
+use crate::numbers::{whole_written_out, written_out};
 use rrd_fixed::read_whole;
 use rrd_tool::Part;
 use std::alloc::Global;
@@ -8,7 +8,7 @@ use std::alloc::Global;
 const DAY: u64 = 86_400;
 
 // Returns the seconds of a unit, as RRDtool counts them: a month has 31 days, and a year 366.
-fn seconds_of(unit: &str) -> Option<u64> {
+fn seconds_of_unit(unit: &str) -> Option<u64> {
     match unit {
         "s" | "sec" | "second" | "seconds" => Some(1),
         "m" | "min" | "minute" | "minutes" => Some(60),
@@ -22,29 +22,37 @@ fn seconds_of(unit: &str) -> Option<u64> {
 }
 
 // Returns the seconds of a length such as `5m`.
-fn length_of(text: &str) -> Option<u64> {
+fn seconds_of_length(text: &str) -> Option<u64> {
     let at = text.find(|character: char| !character.is_ascii_digit())?;
     let (count, unit) = text.split_at_checked(at)?;
-    read_whole(count.as_bytes())?.checked_mul(seconds_of(unit)?)
+    read_whole(count.as_bytes())?.checked_mul(seconds_of_unit(unit)?)
 }
 
-// Returns the seconds since 1970 of a time such as `now`, `-1d` or `now-5m`.
+// Returns the seconds of an offset without its sign: a length, or a number of seconds.
+fn offset_of(text: &str) -> Option<u64> {
+    match read_whole(text.as_bytes()) {
+        Some(seconds) => Some(seconds),
+        None => seconds_of_length(text),
+    }
+}
+
+// Returns the seconds since 1970 of a time such as `now`, `-1d`, `-3600` or `now-5m`.
 fn time_of(text: &str, now: u64) -> Option<u64> {
     let offset = text.strip_prefix("now").unwrap_or(text);
     if let Some(length) = offset.strip_prefix('-') {
-        return now.checked_sub(length_of(length)?);
+        return now.checked_sub(offset_of(length)?);
     }
     if let Some(length) = offset.strip_prefix('+') {
-        return now.checked_add(length_of(length)?);
+        return now.checked_add(offset_of(length)?);
     }
     (text == "now").then_some(now)
 }
 
-// Returns what to write in place of a length.
-fn length_for(alloc: Global, text: &str) -> Option<String> {
-    match length_of(text) {
+/// Returns what to write in place of a length.
+pub(crate) fn length_for(alloc: Global, text: &str) -> Option<String> {
+    match seconds_of_length(text) {
         Some(seconds) => format!(in alloc; "{seconds}").ok(),
-        None => written_out(alloc, text),
+        None => whole_written_out(alloc, text),
     }
 }
 
@@ -52,7 +60,7 @@ fn length_for(alloc: Global, text: &str) -> Option<String> {
 pub(crate) fn time_for(alloc: Global, text: &str, now: u64) -> Option<String> {
     match time_of(text, now) {
         Some(seconds) => format!(in alloc; "{seconds}").ok(),
-        None => written_out(alloc, text),
+        None => whole_written_out(alloc, text),
     }
 }
 
@@ -66,35 +74,15 @@ fn setting_for(alloc: Global, part: Part, text: &str) -> Option<String> {
     format!(in alloc; "{name}:{setting}").ok()
 }
 
-// Returns what to write in place of the field with this number of a definition, counted from 0.
-fn field_for(alloc: Global, is_source: bool, number: usize, text: &str) -> Option<String> {
-    match number {
-        3 if is_source => length_for(alloc, text),
-        2..=5 => written_out(alloc, text),
-        _ => None,
-    }
-}
-
-// Returns what to write in place of the first field of a definition that has a length or an exponent.
-fn definition_for(alloc: Global, text: &str) -> Option<String> {
-    let is_source = text.starts_with("DS:");
-    for (number, field) in text.split(':').enumerate() {
-        if let Some(plain) = field_for(alloc, is_source, number, field) {
-            return format!(in alloc; "{plain} for '{field}'").ok();
-        }
-    }
-    None
-}
-
 /// Returns what to write in place of the text of a part that is no time, if the text is as RRDtool takes it.
 pub(crate) fn written_for(alloc: Global, part: Part, text: &str) -> Option<String> {
     match part {
         Part::Step | Part::Resolution => length_for(alloc, text),
-        Part::Journal | Part::Rows | Part::Archive => written_out(alloc, text),
+        Part::Journal | Part::Rows | Part::Archive => whole_written_out(alloc, text),
         Part::Heartbeat | Part::Minimum | Part::Maximum => setting_for(alloc, part, text),
-        Part::Definition => definition_for(alloc, text),
         Part::Start
         | Part::End
+        | Part::Definition
         | Part::Template
         | Part::Sample
         | Part::Kind

@@ -2,7 +2,12 @@
 #![tactic(auto)]
 
 mod arguments;
+mod cause;
+mod command_usage;
+mod counts;
 mod create;
+mod definitions;
+mod explainer;
 mod explanation;
 mod file;
 mod hints;
@@ -19,9 +24,10 @@ mod tools;
 mod tune;
 mod unreadable;
 mod update;
-mod usage;
 
+pub use cause::explain_cause;
+pub use explainer::{Explained, Explainer};
 pub use explanation::Explanation;
 pub use misuse::{Misuse, misuse_of};
 pub use programs::other_program;
-pub use refused::{explain, needs_database};
+pub use refused::{explain, explain_line, explain_words};

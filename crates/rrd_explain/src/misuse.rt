@@ -1,13 +1,16 @@
 //! What is wrong with arguments that are not a command.
 use crate::Explanation;
 use crate::arguments::{Arguments, GivenOption, OptionName};
+use crate::command_usage::{command_names, lines_of, options_in, text_of};
+use crate::counts::wrong_count_of_words;
 use crate::hints::with_time_hint;
 use crate::likeness::nearest;
 use crate::shown::{Quoted, Shown};
 use crate::tools::instead_of;
-use crate::usage::{command_names, lines_of, options_in, text_of};
+use rrd_base::Database;
 use rrd_tool::begins_with_minus;
 use std::alloc::Global;
+use std::fmt::{self, Display, Formatter};
 
 /// Arguments that are not a command.
 #[derive(Drop)]
@@ -41,11 +44,39 @@ fn option_meant(
     nearest(alloc, word, &names)
 }
 
-// Says that an option does not exist.
-fn no_option(alloc: Global, name: OptionName<'_>, options: &[&'static str]) -> Option<String> {
+/// The long names of the options of a command, with commas between them.
+#[derive(Clone, Copy)]
+struct LongNames<'a>(&'a [&'static str]);
+
+impl<'a> Display for LongNames<'a> {
+    fn fmt<W: fmt::Write>(&self, f: &mut Formatter<W>) -> fmt::Result {
+        let mut mark = "";
+        for option in self.0 {
+            if option.starts_with("--") {
+                write!(f, "{mark}{option}")?;
+                mark = ", ";
+            }
+        }
+        if mark.is_empty() {
+            return f.write_str("none");
+        }
+        Ok(())
+    }
+}
+
+// Says that a command has no such option, and which one was meant, or which it has.
+fn no_option(
+    alloc: Global,
+    command: &str,
+    name: OptionName<'_>,
+    options: &[&'static str],
+) -> Option<String> {
     let says = match option_meant(alloc, name, options) {
         Some(meant) => format!(in alloc; "there is no option {name}; did you mean {meant}?"),
-        None => format!(in alloc; "there is no option {name}"),
+        None => format!(in alloc;
+            "there is no option {name}; {command} takes {}",
+            LongNames(options)
+        ),
     };
     says.ok()
 }
@@ -77,35 +108,71 @@ fn is_repeated(
     }
 }
 
-/// Says which option of a command does not exist, has no value, or is given twice. The words are the command's name and
-/// its arguments without FILE; `now` is the present time.
-pub(crate) fn wrong_option(alloc: Global, words: &[&str], now: u64) -> Option<String> {
-    let [command, arguments @ ..] = words else {
-        return None;
-    };
-    let options = options_in(alloc, &lines_of(alloc, command).ok()?).ok()?;
-    let given = Arguments::new(alloc, arguments).ok()?.options;
+/// What is wrong with an option.
+#[derive(Clone, Copy)]
+enum WrongOption<'a> {
+    // The command has none of this name.
+    Unknown(OptionName<'a>),
+    // The word that begins with a dash is in the place of its value, if there is a word.
+    NoValue(&'static str, Option<&'a str>),
+    Repeated(&'static str),
+}
+
+// Returns the first option that a command does not have, that has no value, or that is given twice.
+fn wrong_option<'a>(
+    given: &[GivenOption<'a>],
+    options: &[&'static str],
+) -> Option<WrongOption<'a>> {
     for (index, option) in given.iter().enumerate() {
-        let Some(long) = option.name.long_in(&options) else {
-            return no_option(alloc, option.name, &options);
+        let Some(long) = option.name.long_in(options) else {
+            return Some(WrongOption::Unknown(option.name));
         };
         if option.value.is_none() {
-            return no_value(alloc, long, option.next, now);
+            return Some(WrongOption::NoValue(long, option.next));
         }
-        if is_repeated(&given, index, long, &options) {
-            return format!(in alloc; "{long} is given twice").ok();
+        if is_repeated(given, index, long, options) {
+            return Some(WrongOption::Repeated(long));
         }
     }
     None
 }
 
-// Says what is wrong with the words after the name of a command: FILE and the arguments.
+// Says what is wrong with the arguments of a command without FILE: an option, or the number of the other words. No other
+// arguments are refused before they are read.
+fn wrong_arguments(
+    alloc: Global,
+    command: &str,
+    arguments: &[&str],
+    database: Option<&Database>,
+    now: u64,
+) -> Option<String> {
+    let options = options_in(alloc, &lines_of(alloc, command).ok()?).ok()?;
+    let given = Arguments::new(alloc, arguments).ok()?;
+    match wrong_option(&given.options, &options) {
+        Some(WrongOption::Unknown(name)) => no_option(alloc, command, name, &options),
+        Some(WrongOption::NoValue(long, next)) => no_value(alloc, long, next, now),
+        Some(WrongOption::Repeated(long)) => format!(in alloc; "{long} is given twice").ok(),
+        None => wrong_count_of_words(alloc, command, &given.words, database),
+    }
+}
+
+// Checks whether FILE was forgotten: a word that follows it is in its place.
+fn lacks_file(command: &str, words: &[&str]) -> bool {
+    match (command, words) {
+        ("fetch", [word, ..]) => matches!(*word, "AVERAGE" | "MIN" | "MAX" | "LAST"),
+        ("resize", [_, word, ..]) => matches!(*word, "GROW" | "SHRINK"),
+        _ => false,
+    }
+}
+
+// Says what is wrong with the words after the name of a command: FILE and the arguments. If they ask for help, nothing is:
+// the usage follows.
 fn wrong_words(alloc: Global, command: &str, words: &[&str], now: u64) -> Option<String> {
     if words.iter().any(|word| asks_for_help(word)) {
         return None;
     }
     let [file, arguments @ ..] = words else {
-        return None;
+        return String::from_str(alloc, "FILE is missing").ok();
     };
     if begins_with_minus(file) {
         return format!(in alloc;
@@ -114,10 +181,14 @@ fn wrong_words(alloc: Global, command: &str, words: &[&str], now: u64) -> Option
         )
         .ok();
     }
-    let mut command_words = Vec::new(alloc);
-    command_words.push(command).ok()?;
-    command_words.extend_from_slice(arguments).ok()?;
-    wrong_option(alloc, &command_words, now)
+    if lacks_file(command, words) {
+        return format!(in alloc;
+            "{} is in the place of FILE, which comes first",
+            Shown(file)
+        )
+        .ok();
+    }
+    wrong_arguments(alloc, command, arguments, None, now)
 }
 
 // Returns the command whose name is like this word.
@@ -127,21 +198,70 @@ fn command_meant(alloc: Global, word: &str) -> Option<&'static str> {
     nearest(alloc, name, &names)
 }
 
-// Says that there is no such command, and what was meant.
-fn no_command(alloc: Global, word: &str) -> Misuse {
-    if let Some(instead) = instead_of(alloc, word) {
-        let says = format!(in alloc; "there is no command {word}; {instead}").ok();
-        return Misuse::new(alloc, says, None);
+// Says that there is no such command, what does its task, or which command was meant.
+fn no_command_text(
+    alloc: Global,
+    word: &str,
+    instead: Option<String>,
+    meant: Option<&str>,
+) -> Option<String> {
+    if word.is_empty() {
+        return String::from_str(alloc, "the name of the command is empty").ok();
     }
-    let meant = command_meant(alloc, word);
-    let says = match meant {
-        Some(meant) => format!(in alloc;
+    let says = match (instead, meant) {
+        (Some(instead), _) => format!(in alloc; "there is no command {word}; {instead}"),
+        (None, Some(meant)) => format!(in alloc;
             "there is no command {}; did you mean {meant}?",
             Shown(word)
         ),
-        None => format!(in alloc; "there is no command {}", Shown(word)),
+        (None, None) => format!(in alloc; "there is no command {}", Shown(word)),
     };
-    Misuse::new(alloc, says.ok(), meant)
+    says.ok()
+}
+
+// Says that there is no such command, and what was meant.
+fn no_command(alloc: Global, word: &str) -> Misuse {
+    let instead = instead_of(alloc, word);
+    let meant = match &instead {
+        Some(_) => None,
+        None => command_meant(alloc, word),
+    };
+    let says = no_command_text(alloc, word, instead, meant);
+    Misuse::new(alloc, says, meant)
+}
+
+// Checks whether a command has this name.
+fn is_command(alloc: Global, word: &str) -> bool {
+    match lines_of(alloc, word) {
+        Ok(lines) => !lines.is_empty(),
+        Err(_) => false,
+    }
+}
+
+/// What is wrong with a batch in a batch, or in a call of a library.
+const NO_BATCH: &str = "batch is no command here: the program runs it, as rrdi batch FILE";
+
+/// Says what is wrong with words that are no command: the command's name, an option, or the number of the other words. The
+/// words are the command's name and its arguments without FILE; `now` is the present time, and `database` that of FILE, if it
+/// is at hand.
+pub(crate) fn misused(
+    alloc: Global,
+    words: &[&str],
+    database: Option<&Database>,
+    now: u64,
+) -> Option<String> {
+    let [command, arguments @ ..] = words else {
+        return String::from_str(alloc, "the name of a command is missing, such as info").ok();
+    };
+    if *command == "batch" {
+        return String::from_str(alloc, NO_BATCH).ok();
+    }
+    if is_command(alloc, command) {
+        return wrong_arguments(alloc, command, arguments, database, now);
+    }
+    let instead = instead_of(alloc, command);
+    let meant = command_meant(alloc, command);
+    no_command_text(alloc, command, instead, meant)
 }
 
 impl Misuse {
@@ -172,14 +292,10 @@ pub fn misuse_of(alloc: Global, arguments: &[&str], now: u64) -> Misuse {
             "- is no command; rrdi-rrdtool - reads commands as RRDtool does, and rrdi batch its own";
         return Misuse::new(alloc, String::from_str(alloc, says).ok(), None);
     }
-    if begins_with_minus(command) {
+    if asks_for_help(command) {
         return Misuse::new(alloc, None, None);
     }
-    let is_known = match lines_of(alloc, command) {
-        Ok(lines) => !lines.is_empty(),
-        Err(_) => false,
-    };
-    if !is_known {
+    if !is_command(alloc, command) {
         return no_command(alloc, command);
     }
     Misuse::new(

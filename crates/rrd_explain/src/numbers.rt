@@ -57,10 +57,38 @@ fn scaled(text: &str) -> Option<i128> {
     raised(millionths, exponent_of(digits)?)
 }
 
-/// Writes out a number that has an exponent. Returns `None` for other texts, and for a number that rrdi cannot write.
+// Returns a number without its plus, with a digit before its point, and without a point that nothing follows.
+fn completed(alloc: Global, text: &str) -> Option<String> {
+    let (sign, digits) = match text.strip_prefix('-') {
+        Some(digits) => ("-", digits),
+        None => ("", text.strip_prefix('+').unwrap_or(text)),
+    };
+    let (whole, decimals) = digits.split_once('.').unwrap_or((digits, ""));
+    if decimals.is_empty() {
+        return format!(in alloc; "{sign}{whole}").ok();
+    }
+    let whole = if whole.is_empty() { "0" } else { whole };
+    format!(in alloc; "{sign}{whole}.{decimals}").ok()
+}
+
+/// Writes out a number that has an exponent, or a plus, or no digit before or after its point. Returns `None` for other
+/// texts, and for a number that rrdi cannot write.
 pub(crate) fn written_out(alloc: Global, text: &str) -> Option<String> {
-    let plain = decimal_text(alloc, scaled(text)?, false)?;
+    if read_number(text.as_bytes()).is_some() {
+        return None;
+    }
+    let plain = match scaled(text) {
+        Some(millionths) => decimal_text(alloc, millionths, false)?,
+        None => completed(alloc, text)?,
+    };
     read_number(plain.as_bytes())?;
+    Some(plain)
+}
+
+/// Writes out a whole number, as `written_out` does.
+pub(crate) fn whole_written_out(alloc: Global, text: &str) -> Option<String> {
+    let plain = written_out(alloc, text)?;
+    read_whole(plain.as_bytes())?;
     Some(plain)
 }
 

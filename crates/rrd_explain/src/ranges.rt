@@ -57,15 +57,20 @@ pub(crate) fn wrong_bound(
     out_of_range(alloc, &what, &text, "at most 2^64 - 1 in size")
 }
 
-// Says that the minimum of a data source is above its maximum.
-fn crossed_bounds(alloc: Global, source: &DsDef) -> Option<String> {
-    let (minimum, maximum) = (source.min?, source.max?);
+/// Says that the minimum of a data source is above its maximum.
+pub(crate) fn crossed_bounds(
+    alloc: Global,
+    name: &Name,
+    minimum: Option<i128>,
+    maximum: Option<i128>,
+) -> Option<String> {
+    let (minimum, maximum) = (minimum?, maximum?);
     if minimum <= maximum {
         return None;
     }
     let minimum = decimal_text(alloc, minimum, false)?;
     let maximum = decimal_text(alloc, maximum, false)?;
-    let name = source.name.as_str();
+    let name = name.as_str();
     format!(in alloc; "the minimum of {name} is '{minimum}', above its maximum, '{maximum}'").ok()
 }
 
@@ -84,7 +89,7 @@ pub(crate) fn wrong_source(
         Refusal::BadHeartbeat => wrong_heartbeat(alloc, &source.name, source.heartbeat),
         Refusal::BadBounds => wrong_bound(alloc, "minimum", &source.name, source.min)
             .or(wrong_bound(alloc, "maximum", &source.name, source.max))
-            .or(crossed_bounds(alloc, source)),
+            .or(crossed_bounds(alloc, &source.name, source.min, source.max)),
         _ => None,
     }
 }

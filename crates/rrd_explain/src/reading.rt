@@ -1,4 +1,4 @@
-//! What of a fetch, a first or a resize is not allowed, or not by its file.
+//! What of a fetch, a first, a resize or a revert is not allowed, or not by its file.
 use crate::file::{no_archive, no_function, no_row};
 use crate::numbers::is_within;
 use crate::ranges::{late, whole_out_of_range};
@@ -58,12 +58,40 @@ pub(crate) fn of_first(
     }
 }
 
-// Says why the number of rows of a resize is not in its range.
-fn wrong_rows(alloc: Global, rows: u64) -> Option<String> {
-    if is_within(MAX_ROWS, rows) {
-        return String::from_str(alloc, "the archive would have over 1000000 rows").ok();
+/// Says why nothing is reverted.
+pub(crate) fn of_revert(
+    alloc: Global,
+    database: Option<&Database>,
+    refusal: Refusal,
+) -> Option<String> {
+    match refusal {
+        Refusal::NothingToRevert => {
+            let depth = database?.depth();
+            format!(in alloc;
+                "no change is left in the journal, which keeps the newest {depth}"
+            ).ok()
+        }
+        _ => None,
     }
-    whole_out_of_range(alloc, "the number of rows", rows, "1 to 1000000")
+}
+
+// Says why the number of rows of a resize is not in its range.
+fn wrong_rows(
+    alloc: Global,
+    database: Option<&Database>,
+    archive: u64,
+    rows: u64,
+) -> Option<String> {
+    if !is_within(MAX_ROWS, rows) {
+        return whole_out_of_range(alloc, "the number of rows", rows, "1 to 1000000");
+    }
+    let database = database?;
+    if archive >= database.archives() {
+        return None;
+    }
+    let before = database.archive(archive).rows;
+    let most = MAX_ROWS.saturating_sub(before);
+    format!(in alloc; "archive {archive} has {before} rows; at most {most} can be added").ok()
 }
 
 /// Says what of a resize by `rows` rows is not allowed.
@@ -76,7 +104,7 @@ pub(crate) fn of_resize(
 ) -> Option<String> {
     match refusal {
         Refusal::NoSuchArchive => no_archive(alloc, database?),
-        Refusal::BadRows => wrong_rows(alloc, rows),
+        Refusal::BadRows => wrong_rows(alloc, database, archive, rows),
         Refusal::ShrinkTooFar => no_row(alloc, database?, archive),
         _ => None,
     }

@@ -1,6 +1,6 @@
 //! What of a tune is not allowed, or not by its file.
-use crate::file::{no_archive, no_source};
-use crate::ranges::{wrong_archive, wrong_bound, wrong_heartbeat, wrong_name};
+use crate::file::{no_archive, no_source, source_named};
+use crate::ranges::{crossed_bounds, wrong_archive, wrong_bound, wrong_heartbeat, wrong_name};
 use rrd_base::{ArchiveTune, Database, Refusal, Tuning};
 use rrd_fixed::Name;
 use std::alloc::Global;
@@ -32,8 +32,43 @@ fn no_source_in(alloc: Global, database: &Database, tuning: &Tuning) -> Option<S
     None
 }
 
+// Returns the bound that a data source gets from an option. Returns `before` if the option is for another one.
+fn new_bound(
+    option: &Option<(Name, Option<i128>)>,
+    name: &Name,
+    before: Option<i128>,
+) -> Option<i128> {
+    match option {
+        Some((other, bound)) if other.same(name) => *bound,
+        _ => before,
+    }
+}
+
+// Says which bounds of a data source would cross.
+fn crossed_in(
+    alloc: Global,
+    database: &Database,
+    tuning: &Tuning,
+    option: &Option<(Name, Option<i128>)>,
+) -> Option<String> {
+    let source = source_named(database, name_in(option)?)?;
+    let minimum = new_bound(&tuning.minimum, &source.name, source.min);
+    let maximum = new_bound(&tuning.maximum, &source.name, source.max);
+    crossed_bounds(alloc, &source.name, minimum, maximum)
+}
+
+// Says which bounds would cross.
+fn crossed(alloc: Global, database: &Database, tuning: &Tuning) -> Option<String> {
+    crossed_in(alloc, database, tuning, &tuning.minimum).or(crossed_in(
+        alloc,
+        database,
+        tuning,
+        &tuning.maximum,
+    ))
+}
+
 // Says what is wrong with a new bound. If it is in its range, it crosses the other bound.
-fn wrong_bounds(alloc: Global, tuning: &Tuning) -> Option<String> {
+fn wrong_bounds(alloc: Global, database: Option<&Database>, tuning: &Tuning) -> Option<String> {
     for (what, option) in [("minimum", &tuning.minimum), ("maximum", &tuning.maximum)] {
         if let Some((name, bound)) = option {
             let found = wrong_bound(alloc, what, name, *bound);
@@ -42,11 +77,7 @@ fn wrong_bounds(alloc: Global, tuning: &Tuning) -> Option<String> {
             }
         }
     }
-    String::from_str(
-        alloc,
-        "a minimum would be above its maximum; rrdi info has the present ones",
-    )
-    .ok()
+    crossed(alloc, database?, tuning)
 }
 
 // Says what is wrong with the archive that is added.
@@ -79,7 +110,7 @@ pub(crate) fn of_tune(
             let (name, seconds) = tuning.heartbeat.as_ref()?;
             wrong_heartbeat(alloc, name, *seconds)
         }
-        Refusal::BadBounds => wrong_bounds(alloc, tuning),
+        Refusal::BadBounds => wrong_bounds(alloc, database, tuning),
         Refusal::BadXff | Refusal::BadSteps | Refusal::BadRows => wrong_added(
             alloc, tuning, refusal,
         ),

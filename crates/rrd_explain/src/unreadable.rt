@@ -1,56 +1,56 @@
 //! Why a part of a command cannot be read.
 use crate::arguments::Arguments;
+use crate::command_usage::{lines_of, options_in};
+use crate::definitions::wrong_field;
 use crate::hints::{time_for, with_hint, with_time_hint, written_for};
 use crate::numbers::written_out;
 use crate::samples::{SampleFault, sample_fault};
 use crate::shown::Quoted;
-use crate::usage::{lines_of, options_in};
+use rrd_fixed::Name;
 use rrd_tool::Part;
 use std::alloc::Global;
 
-// Returns the form of a part of a command.
-fn form_of(part: Part, is_tune: bool) -> &'static str {
-    match part {
-        Part::Step | Part::Resolution => "a whole number of seconds",
-        Part::Start | Part::End => "whole seconds since 1970",
-        Part::Journal | Part::Rows => "a whole number",
-        Part::Definition if is_tune => "RRA:AVERAGE|MIN|MAX|LAST:xff:steps:rows or DELRRA:ARCHIVE",
-        Part::Definition =>
-            "DS:name:GAUGE|COUNTER|DERIVE|ABSOLUTE:heartbeat:min:max or RRA:AVERAGE|MIN|MAX|LAST:xff:steps:rows",
-        Part::Template => "names with colons between them",
-        Part::Sample => "TIME:VALUE",
-        Part::Heartbeat => "NAME:SECONDS",
-        Part::Minimum => "NAME:MIN",
-        Part::Maximum => "NAME:MAX",
-        Part::Kind => "NAME:GAUGE|COUNTER|DERIVE|ABSOLUTE",
-        Part::Rename => "NAME:NEW",
-        Part::Archive => "the number of an archive, such as 0",
-        Part::Change => "GROW or SHRINK",
-        Part::Function => "AVERAGE, MIN, MAX or LAST",
-    }
-}
+/// A definition of a tune.
+const OF_TUNE: &str = "RRA:AVERAGE|MIN|MAX|LAST:xff:steps:rows or DELRRA:ARCHIVE";
 
-// Returns the option whose value a part of a command is. Returns `None` if the part is a word.
-fn option_of(part: Part, is_first: bool) -> Option<&'static str> {
+/// A definition of a create.
+const OF_CREATE: &str =
+    "DS:name:GAUGE|COUNTER|DERIVE|ABSOLUTE:heartbeat:min:max or RRA:AVERAGE|MIN|MAX|LAST:xff:steps:rows";
+
+/// Names of a template.
+const NAMES: &str = "names of at most 19 characters with colons between them";
+
+/// A new name.
+const RENAMING: &str = "NAME:NEW, two names of at most 19 characters";
+
+/// An archive.
+const ARCHIVE: &str = "the number of an archive, such as 0";
+
+// Returns the option whose value a part of a command is, if the part is no word, and the form of the part.
+fn option_and_form(part: Part, command: &str) -> (Option<&'static str>, &'static str) {
     match part {
-        Part::Step => Some("--step"),
-        Part::Start => Some("--start"),
-        Part::Journal => Some("--journal"),
-        Part::Template => Some("--template"),
-        Part::Heartbeat => Some("--heartbeat"),
-        Part::Minimum => Some("--minimum"),
-        Part::Maximum => Some("--maximum"),
-        Part::Kind => Some("--data-source-type"),
-        Part::Rename => Some("--data-source-rename"),
-        Part::Resolution => Some("--resolution"),
-        Part::End => Some("--end"),
-        Part::Archive if is_first => Some("--rraindex"),
-        Part::Archive
-        | Part::Definition
-        | Part::Sample
-        | Part::Change
-        | Part::Rows
-        | Part::Function => None,
+        Part::Step => (Some("--step"), "a whole number of seconds"),
+        Part::Resolution => (Some("--resolution"), "a whole number of seconds"),
+        Part::Start => (Some("--start"), "whole seconds since 1970"),
+        Part::End => (Some("--end"), "whole seconds since 1970"),
+        Part::Journal => (Some("--journal"), "a whole number"),
+        Part::Rows => (None, "a whole number"),
+        Part::Definition if command == "tune" => (None, OF_TUNE),
+        Part::Definition => (None, OF_CREATE),
+        Part::Template => (Some("--template"), NAMES),
+        Part::Sample => (None, "TIME:VALUE"),
+        Part::Heartbeat => (Some("--heartbeat"), "NAME:SECONDS"),
+        Part::Minimum => (Some("--minimum"), "NAME:NUMBER or NAME:U"),
+        Part::Maximum => (Some("--maximum"), "NAME:NUMBER or NAME:U"),
+        Part::Kind => (
+            Some("--data-source-type"),
+            "NAME:GAUGE|COUNTER|DERIVE|ABSOLUTE",
+        ),
+        Part::Rename => (Some("--data-source-rename"), RENAMING),
+        Part::Archive if command == "first" => (Some("--rraindex"), ARCHIVE),
+        Part::Archive => (None, ARCHIVE),
+        Part::Change => (None, "GROW or SHRINK"),
+        Part::Function => (None, "AVERAGE, MIN, MAX or LAST"),
     }
 }
 
@@ -63,21 +63,31 @@ fn index_of(part: Part, number: u64) -> usize {
     }
 }
 
-// Returns the text of a part that cannot be read.
+// Returns the text of a part that cannot be read: the value of the option, or the word with this index.
 fn text_of<'a>(
     alloc: Global,
     command: &str,
     arguments: &[&'a str],
-    part: Part,
-    number: u64,
+    option: Option<&'static str>,
+    index: usize,
 ) -> Option<&'a str> {
     let given = Arguments::new(alloc, arguments).ok()?;
-    match option_of(part, command == "first") {
+    match option {
         Some(name) => given.value(
             name,
             &options_in(alloc, &lines_of(alloc, command).ok()?).ok()?,
         ),
-        None => Some(*given.words.get(index_of(part, number))?),
+        None => Some(*given.words.get(index)?),
+    }
+}
+
+// Checks whether a setting begins with a name that no data source can have.
+fn has_bad_name(part: Part, text: &str) -> bool {
+    match (part, text.split_once(':')) {
+        (Part::Heartbeat | Part::Minimum | Part::Maximum | Part::Kind, Some((name, _))) => {
+            Name::fit(name.as_bytes()).is_none()
+        }
+        _ => false,
     }
 }
 
@@ -104,12 +114,20 @@ pub(crate) fn unreadable(
     let [command, arguments @ ..] = words else {
         return None;
     };
-    let text = text_of(alloc, command, arguments, part, number)?;
+    let (option, form) = option_and_form(part, command);
+    let text = text_of(alloc, command, arguments, option, index_of(part, number))?;
     if part == Part::Sample {
         return unreadable_sample(alloc, text, now);
     }
-    let form = form_of(part, *command == "tune");
+    if part == Part::Definition
+        && let Some(field) = wrong_field(text, *command == "tune")
+    {
+        return with_hint(alloc, field.says(alloc)?, field.written(alloc));
+    }
     let says = format!(in alloc; "it is {}, not {form}", Quoted(text)).ok()?;
+    if has_bad_name(part, text) {
+        return format!(in alloc; "{says}; a name has 1 to 19 characters of a-z A-Z 0-9 _").ok();
+    }
     match part {
         Part::Start | Part::End => with_time_hint(alloc, says, text, now),
         _ => with_hint(alloc, says, written_for(alloc, part, text)),

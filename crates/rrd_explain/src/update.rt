@@ -4,6 +4,7 @@ use crate::numbers::decimal_text;
 use crate::ranges::late;
 use rrd_base::{Database, DsDef, Given, Refusal, Sample, Update};
 use rrd_fixed::{Kind, Name, Number, admit};
+use rrd_spec::limits::MAX_TIME;
 use std::alloc::Global;
 use std::fmt::{self, Display, Formatter};
 
@@ -66,15 +67,20 @@ fn late_sample(alloc: Global, update: &Update) -> Option<String> {
     None
 }
 
-// Says which sample is not later than one before it of the time `last`.
+// Says which sample is not later than the one before it, which has the time `last`.
 fn early_sample(alloc: Global, update: &Update, last: u64) -> Option<String> {
     let mut before = None;
     for (index, sample) in update.samples.as_slice().iter().enumerate() {
         let seconds = sample.time;
-        if before == Some(last) && seconds <= last {
+        let number = index.saturating_add(1);
+        if before == Some(last) && seconds == last {
             return format!(in alloc;
-                "sample {} has the time {seconds}",
-                index.saturating_add(1)
+                "samples {index} and {number} have the same time, {last}; leave one of them out"
+            ).ok();
+        }
+        if before == Some(last) && seconds < last {
+            return format!(in alloc;
+                "sample {number} has the time {seconds}, before that of sample {index}, {last}; sort them by time"
             ).ok();
         }
         before = Some(seconds);
@@ -82,19 +88,41 @@ fn early_sample(alloc: Global, update: &Update, last: u64) -> Option<String> {
     None
 }
 
-// Says which sample is not later than the one before, or that the newest sample of the file is later than the clock.
-fn not_later(alloc: Global, update: &Update, last: u64, now: u64) -> Option<String> {
-    let found = early_sample(alloc, update, last);
-    if found.is_some() {
-        return found;
-    }
-    let seconds = last.checked_sub(now)?;
-    if seconds <= CLOCKS {
-        return None;
-    }
+// Returns by how many seconds the last time of the file is later than the clock, if it is. Without a clock `now` is 0, and
+// nothing is later.
+fn ahead(last: u64, now: u64) -> Option<u64> {
+    let seconds = last.saturating_sub(now);
+    (now > 0 && seconds > CLOCKS).then_some(seconds)
+}
+
+// Says that the last time of the file is later than the clock.
+fn ahead_text(alloc: Global, last: u64, seconds: u64) -> Option<String> {
     format!(in alloc;
         "{last} is {seconds} seconds ahead of the clock; if a sample has this wrong time, rrdi revert takes it back"
     ).ok()
+}
+
+// Says which sample is not later than the one before, or than the last time of the file.
+fn not_later(
+    alloc: Global,
+    database: &Database,
+    update: &Update,
+    last: u64,
+    now: u64,
+) -> Option<String> {
+    let seconds = update.samples.as_slice().first()?.time;
+    if seconds > database.last() {
+        return early_sample(alloc, update, last);
+    }
+    if let Some(seconds) = ahead(last, now) {
+        return ahead_text(alloc, last, seconds);
+    }
+    let says = format!(in alloc; "{seconds} is not later than the last update, {last}").ok()?;
+    if last >= MAX_TIME {
+        return Some(says);
+    }
+    let next = last.saturating_add(1);
+    format!(in alloc; "{says}; the next sample may be at {next} or later").ok()
 }
 
 // Says that the sample with this number, counted from 1, has too few or too many values.
@@ -218,7 +246,7 @@ pub(crate) fn of_update(
         Refusal::NoSuchSource => no_source_in(alloc, database?, update),
         Refusal::DoubleName => double_name(alloc, update),
         Refusal::BadTime => late_sample(alloc, update),
-        Refusal::NotLater { last } => not_later(alloc, update, last, now),
+        Refusal::NotLater { last } => not_later(alloc, database?, update, last, now),
         Refusal::WrongCount => wrong_count(alloc, database, update),
         Refusal::BadValue => bad_value(alloc, database?, update),
         _ => None,
