@@ -8,12 +8,13 @@ use rrd_disk::{
     Disk, DiskFile, Facts, Kind, Lock, LockResult, Noted, Opening, Record, directory_of, note_lock,
 };
 use std::alloc::Global;
+use std::cell::Cell;
 use std::fs::{self, File, Metadata};
 use std::io::{self, Error, ErrorKind, Read};
 use std::os::fd::AsRawFd;
 use std::os::unix::fs::{FileExt, FileTypeExt, MetadataExt};
 use std::thread::sleep;
-use std::time::Duration;
+use std::time::{Duration, Instant};
 
 /// The highest number of a standard stream.
 const LAST_STREAM: i32 = 2;
@@ -59,6 +60,9 @@ fn above_streams(file: File) -> io::Result<File> {
 pub(crate) struct Host<'a> {
     rt: &'a HostRuntime,
     path: &'a str,
+    // When the wait for the file's lock began, and how many milliseconds of it were told.
+    waits: Cell<Option<Instant>>,
+    told: Cell<u64>,
     pub(crate) record: Record,
 }
 
@@ -70,6 +74,8 @@ impl<'a> Host<'a> {
         Host {
             rt,
             path,
+            waits: Cell::new(None),
+            told: Cell::new(0),
             record: Record::of_program(rt),
         }
     }
@@ -88,6 +94,14 @@ impl<'a> Host<'a> {
             Ok(_) => false,
             Err(error) => error.kind() == ErrorKind::NotFound,
         }
+    }
+}
+
+// Returns the whole milliseconds since a time. Returns 0 if the clock fails.
+fn milliseconds_since(rt: &HostRuntime, begun: &Instant) -> u64 {
+    match begun.elapsed(rt) {
+        Ok(since) => u64::try_from(since.as_millis()).unwrap_or(u64::MAX),
+        Err(_) => 0,
     }
 }
 
@@ -138,6 +152,9 @@ impl<'a> Disk for Host<'a> {
     }
 
     fn open(&mut self, opening: Opening) -> io::Result<Option<HostFile>> {
+        // A wait for the file's lock begins here.
+        self.waits.set(Instant::now(self.rt).ok());
+        self.told.set(0);
         let Some(file) = open(self.rt, self.path, opening)? else {
             self.record.note(&Noted::Missing);
             return Ok(None);
@@ -242,7 +259,13 @@ impl<'a> Disk for Host<'a> {
         ended
     }
 
-    fn pause(&self, milliseconds: u64) {
+    fn pause(&self, milliseconds: u64) -> u64 {
         sleep(self.rt, Duration::from_millis(milliseconds));
+        // What passed between two pauses counts too, such as the time in which other programs had the processor.
+        let Some(begun) = self.waits.get() else {
+            return milliseconds;
+        };
+        let all = milliseconds_since(self.rt, &begun);
+        all.saturating_sub(self.told.replace(all))
     }
 }

@@ -1,15 +1,11 @@
-//! Explains the fault of a run. Only a run that failed looks at its words and its file again.
-use rrd_base::Database;
-use rrd_explain::{Explanation, explain, needs_database, other_program};
+//! Explains the end of a run, on standard error behind the fault. Only a run that failed does this.
+use rrd_disk::{Cause, Settings};
+use rrd_explain::{Explained, Explanation, explain_cause, other_program};
 use rrd_file::FileFault;
-use rrd_store::{Task, TaskFault, decoded, parse_task};
-use rrd_tool::{Fault, read_command};
-use std::alloc::Global;
-use std::fs::{self, File};
-use std::io::Read;
-
-/// How many bytes at the start of a file show whose it is.
-const MARK: usize = 4;
+use rrd_fixed::write_bytes;
+use rrd_store::TaskFault;
+use std::alloc::{AllocError, Global};
+use std::io::Error;
 
 /// Returns words as texts.
 pub(crate) fn texts_of(alloc: Global, words: &[String]) -> Option<Vec<&str>> {
@@ -20,66 +16,60 @@ pub(crate) fn texts_of(alloc: Global, words: &[String]) -> Option<Vec<&str>> {
     Some(texts)
 }
 
-// Opens a file again, if it is a regular one: only of such a file the bytes are still there.
-fn reopened(rt: &HostRuntime, path: &str) -> Option<File> {
-    if !fs::metadata(rt, path).ok()?.is_file() {
-        return None;
-    }
-    File::open(rt, path).ok()
-}
-
-// Reads the database in a file. Another program may have changed the file since the run, and may change it now: bytes that
-// are a database are one that the file has had.
-fn stored_database(rt: &HostRuntime, path: &str) -> Option<Database> {
-    let mut bytes = Vec::new(rt.alloc());
-    reopened(rt, path)?.read_to_end(&mut bytes).ok()?;
-    decoded(rt.alloc(), &bytes).ok()
-}
-
-// Says of which other program a file is.
-fn explain_file(rt: &HostRuntime, path: &str) -> Option<Explanation> {
-    let mut mark = [0; MARK];
-    let count = reopened(rt, path)?.read(&mut mark).ok()?;
-    other_program(rt.alloc(), path, mark.get(..count)?)
-}
-
-// Explains the fault of a command, which the arguments of the program have.
-fn explain_command(
-    rt: &HostRuntime,
-    arguments: &[String],
-    fault: Fault,
-    now: u64,
-) -> Option<Explanation> {
-    let alloc = rt.alloc();
-    let Task::Single { file, words } = parse_task(alloc, arguments).ok()? else {
-        return None;
-    };
-    let parsed = read_command(alloc, &words, now).ok();
-    let stored = if needs_database(fault) {
-        stored_database(rt, file)
-    } else {
-        None
-    };
-    let mut texts = texts_of(alloc, arguments.get(1..)?)?;
-    if texts.len() > 1 {
-        let _file = texts.remove(1);
-    }
-    explain(alloc, &texts, parsed.as_ref(), stored.as_ref(), fault, now)
-}
-
-/// Explains the fault of a run at the time `now` on the file at `path`. `arguments` are all arguments of the program.
-///
-/// Returns `None` if nothing is to be added to the fault's own text, or memory runs out.
-pub(crate) fn explanation_of(
+/// Reports why a run on the file at `path` failed: why the last call on the file failed or, if none did, of which other
+/// program the file is.
+pub(crate) fn report_fault(
     rt: &HostRuntime,
     path: &str,
-    arguments: &[String],
     fault: TaskFault,
-    now: u64,
-) -> Option<Explanation> {
-    match fault {
-        TaskFault::File(FileFault::NotOurs) => explain_file(rt, path),
-        TaskFault::Command(fault) => explain_command(rt, arguments, fault, now),
+    error: Option<Error>,
+    cause: &Cause,
+    settings: Settings,
+) {
+    let explanation = match (error, fault) {
+        (Some(error), _) => explain_cause(rt.alloc(), path, error, settings.wait),
+        (None, TaskFault::File(FileFault::NotOurs)) => other_program(
+            rt.alloc(),
+            path,
+            &cause.mark(),
+        ),
         _ => None,
+    };
+    if let Some(explanation) = &explanation {
+        report(rt, explanation);
     }
+}
+
+/// Reports an explanation on standard error, in the line `rrdi: EXPLANATION`.
+///
+/// If memory runs out for the line, or the write fails, nothing more is reported.
+pub(crate) fn report(rt: &HostRuntime, explanation: &Explanation) {
+    report_line(rt, 0, explanation);
+}
+
+/// Reports what was explained of a run: of a batch each line that was refused, in a line `rrdi: line NUMBER: EXPLANATION`.
+pub(crate) fn report_explained(rt: &HostRuntime, explained: &[Explained]) {
+    for one in explained {
+        report_line(rt, one.line, &one.explanation);
+    }
+}
+
+// Reports an explanation of the line of a batch with this number, or of the only command if the number is 0.
+fn report_line(rt: &HostRuntime, number: u64, explanation: &Explanation) {
+    let Ok(line) = line_of(rt.alloc(), number, explanation) else {
+        return;
+    };
+    let _written = write_bytes(&mut rt.stderr(), &line);
+}
+
+// Returns the line of an explanation.
+fn line_of(alloc: Global, number: u64, explanation: &Explanation) -> Result<Vec<u8>, AllocError> {
+    let mut line = Vec::new(alloc);
+    line.extend_from_slice(b"rrdi: ")?;
+    if number > 0 {
+        line.extend_from_slice(format!(in alloc; "line {number}: ")?.as_bytes())?;
+    }
+    line.extend_from_slice(explanation.as_bytes())?;
+    line.push(b'\n')?;
+    Ok(line)
 }

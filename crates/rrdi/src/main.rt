@@ -1,14 +1,13 @@
 //! `rrdi`: runs a command, or a batch of commands, on a round-robin database in a file.
 #![tactic(auto)]
 
-mod causes;
 mod clock;
 mod disk;
 mod explaining;
 mod settings;
 mod tasks;
 
-use crate::tasks::{batch, fail, file_batch, misuse, single};
+use crate::tasks::{batch, fail, file_batch, misuse, not_text, single};
 use rrd_store::{Task, TaskFault, parse_task};
 use rrd_tool::{Fault, LineFault};
 use std::env;
@@ -26,7 +25,7 @@ fn run(rt: &HostRuntime) -> u8 {
     let words: Vec<String> = match env::args(rt).and_then(|words| Ok(words.collect(rt.alloc())?)) {
         Ok(words) => words,
         Err(error) if error.kind() == ErrorKind::OutOfMemory => return fail(rt, NO_MEMORY),
-        Err(_) => return fail(rt, USAGE_ERROR),
+        Err(_) => return not_text(rt),
     };
     let Ok(task) = parse_task(rt.alloc(), &words) else {
         return fail(rt, NO_MEMORY);
@@ -34,7 +33,7 @@ fn run(rt: &HostRuntime) -> u8 {
     match task {
         Task::Usage => misuse(rt, &words),
         Task::Batch => batch(rt),
-        Task::FileBatch { file } => file_batch(rt, file, &words),
+        Task::FileBatch { file } => file_batch(rt, file),
         Task::Single {
             file,
             words: command,

@@ -1,16 +1,15 @@
 //! The tasks on the program's streams and files. Each returns the status of the program.
 ghost use Rattle.std.specs.Prelude.{◌≡◌};
 
-use crate::causes::{explain_cause, report};
 use crate::clock::seconds_now;
 use crate::disk::Host;
-use crate::explaining::{explanation_of, texts_of};
+use crate::explaining::{report, report_explained, report_fault, texts_of};
 use crate::settings::settings;
 use crate::{NO_MEMORY, USAGE_ERROR};
 use rrd_disk::{Cause, Place, run_batch_at, run_command_at};
-use rrd_explain::{Misuse, misuse_of};
+use rrd_explain::{Explained, Explainer, Explanation, Misuse, misuse_of};
 use rrd_fixed::write_bytes;
-use rrd_store::{Always, TaskFault, USAGE, report_batch, report_command, report_file_batch};
+use rrd_store::{TaskFault, USAGE, report_batch, report_command, report_file_batch};
 use rrd_tool::{Words, run_batch, write_error};
 use std::io::{BufWriter, Error, ErrorKind, Stdout};
 
@@ -24,6 +23,9 @@ type OutputWriter = BufWriter<Stdout>;
 pub(crate) fn fail(rt: &HostRuntime, fault: TaskFault) -> u8 {
     report_command(&mut rt.stderr(), Err(fault))
 }
+
+/// What is wrong with arguments that are no text.
+const NOT_TEXT: &str = "an argument is not in UTF-8";
 
 /// The status of the program after arguments that are not a command.
 const MISUSED: u8 = 2;
@@ -55,20 +57,37 @@ pub(crate) fn misuse(rt: &HostRuntime, arguments: &[String]) -> u8
     MISUSED
 }
 
+/// Reports arguments that are no text, and returns the status for them. The usage of the whole program follows.
+pub(crate) fn not_text(rt: &HostRuntime) -> u8
+    ensures { result ≡ 2 }
+{
+    let _reported = write_error(&mut rt.stderr(), "usage");
+    if let Ok(explanation) = Explanation::new(rt.alloc(), NOT_TEXT) {
+        report(rt, &explanation);
+    }
+    let _written = write_bytes(&mut rt.stderr(), USAGE.as_bytes());
+    MISUSED
+}
+
 /// Runs the commands on standard input, in memory.
 pub(crate) fn batch(rt: &HostRuntime) -> u8 {
     let Ok(mut out) = BufWriter::with_capacity(rt.alloc(), OUTPUT, rt.stdout()) else {
         return fail(rt, NO_MEMORY);
     };
+    let now = seconds_now(rt);
+    let explainer = Explainer::of_lines(rt.alloc(), now);
     let end = run_batch(
         rt.alloc(),
         None,
-        seconds_now(rt),
+        now,
         0,
         &mut rt.stdin(),
         &mut out,
+        &explainer,
     );
-    report_batch(&mut rt.stderr(), end.refused, end.stream, None)
+    let status = report_batch(&mut rt.stderr(), end.refused, end.stream, None);
+    report_explained(rt, &explainer.into_explained());
+    status
 }
 
 // Returns why the file could not be opened, read or written, if `fault` is such a fault. After a fault of the bytes that
@@ -84,37 +103,20 @@ fn reason_of(cause: &Cause, fault: TaskFault) -> Option<Error> {
 }
 
 /// The end of a run on a file.
-#[derive(Clone, Copy)]
+#[derive(Drop)]
 struct Ended {
     status: u8,
     // The fault that was reported.
     fault: Option<TaskFault>,
-}
-
-// Explains the end of a run, if it had a fault: why a call on the file failed or, if none did, what the arguments or the
-// file show.
-fn explain_end(
-    rt: &HostRuntime,
-    path: &str,
-    arguments: &[String],
-    fault: TaskFault,
-    error: Option<Error>,
-    now: u64,
-) {
-    let explanation = match error {
-        Some(error) => explain_cause(rt.alloc(), path, error, settings(rt)),
-        None => explanation_of(rt, path, arguments, fault, now),
-    };
-    if let Some(explanation) = &explanation {
-        report(rt, explanation);
-    }
+    // What was explained of the commands that were refused.
+    explained: Option<Vec<Explained>>,
 }
 
 // Runs a task on the database in the file at `path`, explains its fault, if it has one, and returns the status of the
 // program.
 //
 // `run` gets the settings and the cause of a failed call for the file, the present time, and the writer of the output.
-fn on_file<R>(rt: &HostRuntime, path: &str, arguments: &[String], run: R) -> u8
+fn on_file<R>(rt: &HostRuntime, path: &str, run: R) -> u8
 where
     R: FnOnce(Place<'_>, u64, &mut OutputWriter) -> Ended,
     requires { R.IsAlwaysCallable run }
@@ -131,14 +133,18 @@ where
     let ended = run(place, now, &mut out);
     if let Some(fault) = ended.fault {
         let error = reason_of(&cause, fault);
-        explain_end(rt, path, arguments, fault, error, now);
+        report_fault(rt, path, fault, error, &cause, settings(rt));
+    }
+    if let Some(explained) = &ended.explained {
+        report_explained(rt, explained);
     }
     ended.status
 }
 
 /// Runs the commands on standard input on the database in a file.
-pub(crate) fn file_batch(rt: &HostRuntime, path: &str, arguments: &[String]) -> u8 {
-    on_file(rt, path, arguments, |place, now, out| {
+pub(crate) fn file_batch(rt: &HostRuntime, path: &str) -> u8 {
+    on_file(rt, path, |place, now, out| {
+        let explainer = Explainer::of_lines(rt.alloc(), now);
         let ran = run_batch_at(
             rt.alloc(),
             Host::new(rt, path),
@@ -147,7 +153,7 @@ pub(crate) fn file_batch(rt: &HostRuntime, path: &str, arguments: &[String]) -> 
             0,
             &mut rt.stdin(),
             out,
-            &Always,
+            &explainer,
         );
         let fault = match &ran.end {
             Ok(end) => end.unstored,
@@ -156,6 +162,7 @@ pub(crate) fn file_batch(rt: &HostRuntime, path: &str, arguments: &[String]) -> 
         Ended {
             status: report_file_batch(&mut rt.stderr(), ran.end),
             fault,
+            explained: Some(explainer.into_explained()),
         }
     })
 }
@@ -168,9 +175,17 @@ fn report_end(rt: &HostRuntime, arguments: &[String], end: Result<(), TaskFault>
     report_command(&mut rt.stderr(), end)
 }
 
-// Returns the fault that is to be explained. What was wrong with arguments that are not a command is reported with them.
-fn unexplained(end: Result<(), TaskFault>) -> Option<TaskFault> {
-    end.err().filter(|fault| *fault != USAGE_ERROR)
+// Returns what was explained of a command that ended with this fault. What was wrong with arguments that are not a command is
+// reported with them.
+fn explained(explainer: Explainer<'_>, fault: Option<TaskFault>) -> Option<Vec<Explained>> {
+    match fault? {
+        USAGE_ERROR => None,
+        TaskFault::Command(fault) => {
+            explainer.end(fault);
+            Some(explainer.into_explained())
+        }
+        _ => None,
+    }
 }
 
 /// Runs one command on the database in a file. `arguments` are all arguments of the program.
@@ -180,11 +195,22 @@ pub(crate) fn single(
     command: &Words<'_>,
     arguments: &[String],
 ) -> u8 {
-    on_file(rt, path, arguments, |place, now, out| {
-        let ran = run_command_at(rt.alloc(), Host::new(rt, path), place, command, now, out);
+    on_file(rt, path, |place, now, out| {
+        let explainer = Explainer::of_command(rt.alloc(), command.as_slice(), now);
+        let ran = run_command_at(
+            rt.alloc(),
+            Host::new(rt, path),
+            place,
+            command,
+            now,
+            out,
+            &explainer,
+        );
+        let fault = ran.end.err();
         Ended {
             status: report_end(rt, arguments, ran.end),
-            fault: unexplained(ran.end),
+            fault,
+            explained: explained(explainer, fault),
         }
     })
 }

@@ -5,8 +5,8 @@ use rrd_tool::{Command, Words, read_command};
 use std::alloc::{AllocError, Global};
 use std::test::Fail;
 
+pub mod difference;
 pub mod each_call;
-pub mod files;
 pub mod plans;
 pub mod streams;
 pub mod worked_files;

@@ -1,12 +1,8 @@
 //! The bytes of files, worked out by hand, and the databases that they are of.
 use crate::joined;
-use crate::plans::{
-    Deed, FOUR_LAST, GAUGE_A, GAUGE_B, NEW, PLAIN_GAUGE, Plan, Source, Tuned, UNTUNED,
-};
-use rrd_base::{Database, RraDef};
+use crate::plans::NEW;
+use rrd_base::Database;
 use rrd_file::{FileFault, encode};
-use rrd_fixed::Kind;
-use rrd_fold::Function;
 use std::alloc::{AllocError, Global};
 use std::test::Fail;
 
@@ -85,13 +81,8 @@ const FOUR_UNKNOWN: &[&[u8]] = &[&ABSENT, &ABSENT, &ABSENT, &ABSENT];
 // The file of a new database with the gauge `g` and an archive of four rows.
 pub const NEW_FILE: &[&[&[u8]]] = &[
     BEGIN,
-    &[
-        &[0x00, 0, 0, 0, 0, 0, 0, 0x00], // last time
-        &[0x00, 0x00, 0x00, 0x10], // depth
-        &[0x00, 0x01], // sources
-        &[0x00, 0x01], // archives
-        &[0x00, 0x00, 0x00, 0x00], // entries
-    ],
+    &[&[0x00, 0, 0, 0, 0, 0, 0, 0x00], &[0x00, 0x00, 0x00, 0x10]], // last time and depth
+    &[&[0x00, 0x01], &[0x00, 0x01], &[0x00, 0x00, 0x00, 0x00]], // sources, archives and entries
     GAUGE,
     &[&ABSENT], // last raw value
     BETWEEN_STEPS,
@@ -106,13 +97,8 @@ pub fn new_file(alloc: Global) -> Result<Vec<u8>, AllocError> {
 // The same after a sample of 1 at 10.
 pub const SAMPLED_FILE: &[&[&[u8]]] = &[
     BEGIN,
-    &[
-        &[0x00, 0, 0, 0, 0, 0, 0, 0x0a], // last time
-        &[0x00, 0x00, 0x00, 0x10], // depth
-        &[0x00, 0x01], // sources
-        &[0x00, 0x01], // archives
-        &[0x00, 0x00, 0x00, 0x01], // entries
-    ],
+    &[&[0x00, 0, 0, 0, 0, 0, 0, 0x0a], &[0x00, 0x00, 0x00, 0x10]], // last time and depth
+    &[&[0x00, 0x01], &[0x00, 0x01], &[0x00, 0x00, 0x00, 0x01]], // sources, archives and entries
     GAUGE,
     &[&MILLION], // last raw value
     BETWEEN_STEPS,
@@ -143,165 +129,83 @@ pub fn joined_parts(alloc: Global, parts: &[&[&[u8]]]) -> Result<Vec<u8>, AllocE
 }
 
 // Rows before 1970 in their slots.
-pub const ROWS_BEFORE_1970: &[&[u8]] = &[
-    b"RRDI",
-    &[0x00, 0x02],
-    &[0x00, 0x00, 0x00, 0x0a],
-    &[0x00, 0, 0, 0, 0, 0, 0, 0x23],
-    &[0x00, 0x00, 0x00, 0x02],
-    &[0x00, 0x02],
-    &[0x00, 0x02],
-    &[0x00, 0x00, 0x00, 0x01],
+pub const ROWS_BEFORE_1970: &[&[&[u8]]] = &[
+    BEGIN,
+    &[&[0x00, 0, 0, 0, 0, 0, 0, 0x23], &[0x00, 0x00, 0x00, 0x02]], // last time and depth
+    &[&[0x00, 0x02], &[0x00, 0x02], &[0x00, 0x00, 0x00, 0x01]], // sources, archives and entries
     // the source a: five seconds of 2 are known
-    &[0x01, 0x61],
-    &PADDING,
-    &[0x00],
-    &[0x00, 0, 0, 0, 0, 0, 0, 0x64],
-    &ABSENT,
-    &ABSENT,
-    &TWO_MILLION,
-    &[0x00, 0x00, 0x00, 0x05],
-    &TEN_MILLION,
+    &[&[0x01, 0x61], &PADDING, &[0x00]],
+    &[&[0x00, 0, 0, 0, 0, 0, 0, 0x64], &ABSENT, &ABSENT],
+    &[&TWO_MILLION, &[0x00, 0x00, 0x00, 0x05], &TEN_MILLION],
     // the source b: five seconds of -2 are known
-    &[0x01, 0x62],
-    &PADDING,
-    &[0x02],
-    &[0x00, 0, 0, 0, 0, 0, 0, 0x64],
-    &MINUS_TEN_MILLION,
-    &FOUR_AND_A_HALF_MILLION,
-    &FIFTY,
-    &[0x00, 0x00, 0x00, 0x05],
-    &MINUS_TEN_MILLION,
+    &[&[0x01, 0x62], &PADDING, &[0x02]],
+    &[&[0x00, 0, 0, 0, 0, 0, 0, 0x64], &MINUS_TEN_MILLION],
+    &[&FOUR_AND_A_HALF_MILLION, &FIFTY],
+    &[&[0x00, 0x00, 0x00, 0x05], &MINUS_TEN_MILLION],
     // the head of the first archive, between rows
-    &[0x03],
-    &[0x00, 0x00, 0x00, 0x01],
-    &[0x00, 0x07, 0xa1, 0x20],
-    &[0x00, 0x00, 0x00, 0x06],
-    &NOTHING,
-    &NOTHING,
+    &[&[0x03], &[0x00, 0x00, 0x00, 0x01]],
+    &[&[0x00, 0x07, 0xa1, 0x20], &[0x00, 0x00, 0x00, 0x06]],
+    &[&NOTHING, &NOTHING],
     // of the second, with one step of the next row
-    &[0x02],
-    &[0x00, 0x00, 0x00, 0x02],
-    &[0x00, 0x07, 0xa1, 0x20],
-    &[0x00, 0x00, 0x00, 0x03],
-    &[0x00, 0x00, 0x00, 0x01],
-    &TWO_MILLION,
-    &[0x00, 0x00, 0x00, 0x01],
-    &MINUS_TWO_MILLION,
+    &[&[0x02], &[0x00, 0x00, 0x00, 0x02]],
+    &[&[0x00, 0x07, 0xa1, 0x20], &[0x00, 0x00, 0x00, 0x03]],
+    &[&[0x00, 0x00, 0x00, 0x01], &TWO_MILLION],
+    &[&[0x00, 0x00, 0x00, 0x01], &MINUS_TWO_MILLION],
     // slots 0 to 5: the rows at 0, 10, 20, 30, -20 and -10
-    &ABSENT,
-    &ABSENT,
-    &MILLION,
-    &ABSENT,
-    &TWO_MILLION,
-    &MINUS_TWO_MILLION,
-    &TWO_MILLION,
-    &MINUS_TWO_MILLION,
-    &ABSENT,
-    &ABSENT,
-    &ABSENT,
-    &ABSENT,
+    &[&ABSENT, &ABSENT],
+    &[&MILLION, &ABSENT],
+    &[&TWO_MILLION, &MINUS_TWO_MILLION],
+    &[&TWO_MILLION, &MINUS_TWO_MILLION],
+    FOUR_UNKNOWN,
     // slots 0 to 2: the rows at 0, 20 and -20
-    &ABSENT,
-    &ABSENT,
-    &TWO_MILLION,
-    &MINUS_TWO_MILLION,
-    &ABSENT,
-    &ABSENT,
+    &[&ABSENT, &ABSENT],
+    &[&TWO_MILLION, &MINUS_TWO_MILLION],
+    &[&ABSENT, &ABSENT],
     // the entry: before the update nothing was known; three rows and one row fell out
-    &[0x01],
-    &[0x00, 0, 0, 0, 0, 0, 0, 0x00],
-    &ABSENT,
-    &NOTHING,
-    &ABSENT,
-    &NOTHING,
-    &NOTHING,
-    &NOTHING,
-    &[0x00, 0x00, 0x00, 0x03],
-    &ABSENT,
-    &ABSENT,
-    &ABSENT,
-    &ABSENT,
-    &ABSENT,
-    &ABSENT,
-    &NOTHING,
-    &NOTHING,
-    &[0x00, 0x00, 0x00, 0x01],
-    &ABSENT,
-    &ABSENT,
+    &[&[0x01], &[0x00, 0, 0, 0, 0, 0, 0, 0x00]],
+    &[&ABSENT, &NOTHING, &ABSENT, &NOTHING],
+    &[&NOTHING, &NOTHING, &[0x00, 0x00, 0x00, 0x03]],
+    &[&ABSENT, &ABSENT],
+    FOUR_UNKNOWN,
+    &[&NOTHING, &NOTHING, &[0x00, 0x00, 0x00, 0x01]],
+    &[&ABSENT, &ABSENT],
 ];
 
 // Three entries, the newest first.
-pub const THREE_ENTRIES: &[&[u8]] = &[
-    b"RRDI",
-    &[0x00, 0x02],
-    &[0x00, 0x00, 0x00, 0x0a],
-    &[0x00, 0, 0, 0, 0, 0, 0, 0x0a],
-    &[0x00, 0x00, 0x00, 0x10],
-    &[0x00, 0x01],
-    &[0x00, 0x01],
-    &[0x00, 0x00, 0x00, 0x03],
+pub const THREE_ENTRIES: &[&[&[u8]]] = &[
+    BEGIN,
+    &[&[0x00, 0, 0, 0, 0, 0, 0, 0x0a], &[0x00, 0x00, 0x00, 0x10]], // last time and depth
+    &[&[0x00, 0x01], &[0x00, 0x01], &[0x00, 0x00, 0x00, 0x03]], // sources, archives and entries
     // the source, as it was tuned
-    &[0x01, 0x67],
-    &PADDING,
-    &[0x00],
-    &[0x00, 0, 0, 0, 0, 0, 0, 0xc8],
-    &MINUS_TWO_MILLION,
-    &ABSENT,
-    &MILLION,
-    &NOTHING,
+    &[&[0x01, 0x67], &PADDING, &[0x00]],
+    &[&[0x00, 0, 0, 0, 0, 0, 0, 0xc8], &MINUS_TWO_MILLION],
+    &[&ABSENT, &MILLION, &NOTHING],
     // the archive, with six rows
-    &[0x03],
-    &[0x00, 0x00, 0x00, 0x01],
-    &[0x00, 0x07, 0xa1, 0x20],
-    &[0x00, 0x00, 0x00, 0x06],
-    &NOTHING,
+    &[&[0x03], &[0x00, 0x00, 0x00, 0x01]],
+    &[&[0x00, 0x07, 0xa1, 0x20], &[0x00, 0x00, 0x00, 0x06]],
+    &[&NOTHING],
     // slots 0 to 5: the rows at 0, 10, -40, -30, -20 and -10
-    &ABSENT,
-    &MILLION,
-    &ABSENT,
-    &ABSENT,
-    &ABSENT,
-    &ABSENT,
+    &[&ABSENT, &MILLION],
+    FOUR_UNKNOWN,
     // the resize: archive 0 had four rows, those from -20 to 10
-    &[0x03],
-    &[0x00, 0x00],
-    &[0x00, 0x00, 0x00, 0x04],
-    &ABSENT,
-    &ABSENT,
-    &ABSENT,
-    &MILLION,
+    &[&[0x03], &[0x00, 0x00], &[0x00, 0x00, 0x00, 0x04]],
+    &[&ABSENT, &ABSENT, &ABSENT, &MILLION],
     // the tune: one source, number 0, with its name, type, heartbeat, bounds and raw value
-    &[0x02],
-    &[0x00, 0x01],
-    &[0x00, 0x00],
-    &[0x01, 0x67],
-    &PADDING,
-    &[0x00],
-    &[0x00, 0, 0, 0, 0, 0, 0, 0x64],
-    &ABSENT,
-    &ABSENT,
-    &MILLION,
+    &[&[0x02], &[0x00, 0x01], &[0x00, 0x00]],
+    &[&[0x01, 0x67], &PADDING, &[0x00]],
+    &[&[0x00, 0, 0, 0, 0, 0, 0, 0x64], &ABSENT, &ABSENT],
+    &[&MILLION],
     // the update
-    &[0x01],
-    &[0x00, 0, 0, 0, 0, 0, 0, 0x00],
-    &ABSENT,
-    &NOTHING,
-    &NOTHING,
-    &[0x00, 0x00, 0x00, 0x01],
-    &ABSENT,
+    &[&[0x01], &[0x00, 0, 0, 0, 0, 0, 0, 0x00]],
+    &[&ABSENT, &NOTHING, &NOTHING],
+    &[&[0x00, 0x00, 0x00, 0x01], &ABSENT],
 ];
 
 // A second archive like the first.
 pub const ONE_ADDED: &[&[&[u8]]] = &[
     BEGIN,
-    &[
-        &[0x00, 0, 0, 0, 0, 0, 0, 0x00], // last time
-        &[0x00, 0x00, 0x00, 0x10], // depth
-        &[0x00, 0x01], // sources
-        &[0x00, 0x02], // archives
-        &[0x00, 0x00, 0x00, 0x01], // entries
-    ],
+    &[&[0x00, 0, 0, 0, 0, 0, 0, 0x00], &[0x00, 0x00, 0x00, 0x10]], // last time and depth
+    &[&[0x00, 0x01], &[0x00, 0x02], &[0x00, 0x00, 0x00, 0x01]], // sources, archives and entries
     GAUGE,
     &[&ABSENT], // last raw value
     BETWEEN_STEPS,
@@ -313,15 +217,10 @@ pub const ONE_ADDED: &[&[&[u8]]] = &[
 ];
 
 // The first one is gone: the journal keeps it as it was.
-pub const ONE_REMOVED: &[&[&[u8]]] = &[
+pub const ONE_ARCHIVE_REMOVED: &[&[&[u8]]] = &[
     BEGIN,
-    &[
-        &[0x00, 0, 0, 0, 0, 0, 0, 0x00], // last time
-        &[0x00, 0x00, 0x00, 0x10], // depth
-        &[0x00, 0x01], // sources
-        &[0x00, 0x01], // archives
-        &[0x00, 0x00, 0x00, 0x02], // entries
-    ],
+    &[&[0x00, 0, 0, 0, 0, 0, 0, 0x00], &[0x00, 0x00, 0x00, 0x10]], // last time and depth
+    &[&[0x00, 0x01], &[0x00, 0x01], &[0x00, 0x00, 0x00, 0x02]], // sources, archives and entries
     GAUGE,
     &[&ABSENT], // last raw value
     BETWEEN_STEPS,
@@ -346,14 +245,9 @@ const UNBOUNDED: &[&[u8]] = &[
 // Of two sources the first one has a new name.
 pub const ONE_RENAMED: &[&[&[u8]]] = &[
     BEGIN,
-    &[
-        &[0x00, 0, 0, 0, 0, 0, 0, 0x00], // last time
-        &[0x00, 0x00, 0x00, 0x10], // depth
-        &[0x00, 0x02], // sources
-        &[0x00, 0x01], // archives
-        &[0x00, 0x00, 0x00, 0x01], // entries
-        &[0x01, 0x63], // the name c
-    ],
+    &[&[0x00, 0, 0, 0, 0, 0, 0, 0x00], &[0x00, 0x00, 0x00, 0x10]], // last time and depth
+    &[&[0x00, 0x02], &[0x00, 0x01], &[0x00, 0x00, 0x00, 0x01]], // sources, archives and entries
+    &[&[0x01, 0x63]], // the name c
     UNBOUNDED,
     BETWEEN_STEPS,
     &[&[0x01, 0x62]], // the name b
@@ -378,195 +272,67 @@ pub fn renamed_file(alloc: Global) -> Result<Vec<u8>, AllocError> {
 
 // ---- databases
 
-const SAMPLE: Deed = Deed::Update(&[(10, &[1])]);
+pub const SAMPLED: &str = "create --step 10 --start 0 DS:g:GAUGE:100:U:U RRA:LAST:0.5:1:4
+update 10:1";
 
-pub const SAMPLED: Plan = Plan {
-    name: "sampled",
-    deeds: &[SAMPLE],
-    ..NEW
-};
-
-pub const TAKEN_BACK: Plan = Plan {
-    name: "taken back",
-    deeds: &[SAMPLE, Deed::Revert],
-    ..NEW
-};
+pub const TAKEN_BACK: &str = "create --step 10 --start 0 DS:g:GAUGE:100:U:U RRA:LAST:0.5:1:4
+update 10:1
+revert";
 
 // A sample of 1 at 10, a tune to a heartbeat of 200 and a least rate of -2, and two rows more.
-pub const THREE_CHANGES: Plan = Plan {
-    name: "three changes",
-    deeds: &[
-        SAMPLE,
-        Deed::Tune(Tuned {
-            heartbeat: Some(("g", 200)),
-            minimum: Some(("g", -2_000_000)),
-            ..UNTUNED
-        }),
-        Deed::Grow(0, 2),
-    ],
-    ..NEW
-};
+pub const THREE_CHANGES: &str = "create --step 10 --start 0 DS:g:GAUGE:100:U:U RRA:LAST:0.5:1:4
+update 10:1
+tune --heartbeat g:200 --minimum g:-2
+resize 0 GROW 2";
 
 // Two archives and two sources: a gauge, and one that counts up and down and has bounds.
-pub const TWO_SOURCES: Plan = Plan {
-    name: "two sources",
-    depth: 2,
-    sources: &[
-        GAUGE_A,
-        Source {
-            name: "b",
-            kind: Kind::Derive,
-            heartbeat: 100,
-            min: Some(-10_000_000),
-            max: Some(4_500_000),
-        },
-    ],
-    archives: &[
-        RraDef {
-            rows: 6,
-            ..FOUR_LAST
-        },
-        RraDef {
-            function: Function::Max,
-            steps: 2,
-            rows: 3,
-            ..FOUR_LAST
-        },
-    ],
-    ..NEW
-};
+pub const TWO_SOURCES: &str = "create --step 10 --start 0 --journal 2 DS:a:GAUGE:100:U:U \
+DS:b:DERIVE:100:-10:4.5 RRA:LAST:0.5:1:6 RRA:MAX:0.5:2:3";
 
 // Samples at 10 (a 1, b 100) and at 35 (a 2, b 50). So b falls by 2 a second from 10 on. The rows at
 // -20 and -10 of the first archive stand in the slots 4 and 5, the row at -20 of the second in slot 2.
-pub const TWO_SOURCES_SAMPLED: Plan = Plan {
-    name: "two sources, sampled",
-    deeds: &[Deed::Update(&[(10, &[1, 100]), (35, &[2, 50])])],
-    ..TWO_SOURCES
-};
+pub const TWO_SOURCES_SAMPLED: &str = "create --step 10 --start 0 --journal 2 DS:a:GAUGE:100:U:U \
+DS:b:DERIVE:100:-10:4.5 RRA:LAST:0.5:1:6 RRA:MAX:0.5:2:3
+update 10:1:100 35:2:50";
 
 // A long update, a renaming, a short update, and two rows less.
-pub const FOUR_CHANGES: Plan = Plan {
-    name: "four changes",
-    depth: 3,
-    sources: &[
-        Source {
-            name: "s00",
-            heartbeat: 1_000,
-            ..PLAIN_GAUGE
-        },
-        Source {
-            name: "s01",
-            heartbeat: 1_000,
-            ..PLAIN_GAUGE
-        },
-    ],
-    archives: &[
-        RraDef {
-            function: Function::Average,
-            rows: 6,
-            ..FOUR_LAST
-        },
-        RraDef {
-            function: Function::Min,
-            steps: 2,
-            rows: 3,
-            ..FOUR_LAST
-        },
-    ],
-    deeds: &[
-        Deed::Update(&[(10, &[1, 100]), (35, &[2, 50]), (121, &[7, 3])]),
-        Deed::Tune(Tuned {
-            heartbeat: Some(("s01", 300)),
-            rename: Some(("s00", "first")),
-            ..UNTUNED
-        }),
-        Deed::Update(&[(144, &[9, 4])]),
-        Deed::Shrink(0, 2),
-    ],
-    ..NEW
-};
+pub const FOUR_CHANGES: &str = "create --step 10 --start 0 --journal 3 DS:s00:GAUGE:1000:U:U \
+DS:s01:GAUGE:1000:U:U RRA:AVERAGE:0.5:1:6 RRA:MIN:0.5:2:3
+update 10:1:100 35:2:50 121:7:3
+tune --heartbeat s01:300 --data-source-rename s00:first
+update 144:9:4
+resize 0 SHRINK 2";
 
 // A row of four steps, two of which have come.
-pub const HALF_A_ROW: Plan = Plan {
-    name: "half a row",
-    archives: &[RraDef {
-        function: Function::Average,
-        steps: 4,
-        rows: 3,
-        ..FOUR_LAST
-    }],
-    deeds: &[Deed::Update(&[(20, &[1])])],
-    ..NEW
-};
+pub const HALF_A_ROW: &str = "create --step 10 --start 0 DS:g:GAUGE:100:U:U RRA:AVERAGE:0.5:4:3
+update 20:1";
 
-pub const DATABASES: &[Plan] = &[NEW, SAMPLED, TWO_SOURCES, THREE_CHANGES, HALF_A_ROW];
-
-const ADDITION: Deed = Deed::Add(FOUR_LAST);
+pub const DATABASES: &[&str] = &[NEW, SAMPLED, TWO_SOURCES, THREE_CHANGES, HALF_A_ROW];
 
 // A second archive is added, and then the first one is removed.
-pub const ADDED: Plan = Plan {
-    name: "an archive added",
-    deeds: &[ADDITION],
-    ..NEW
-};
+pub const ADDED: &str = "create --step 10 --start 0 DS:g:GAUGE:100:U:U RRA:LAST:0.5:1:4
+tune RRA:LAST:0.5:1:4";
 
-pub const REMOVED: Plan = Plan {
-    name: "an archive removed",
-    deeds: &[ADDITION, Deed::Remove(0)],
-    ..NEW
-};
+pub const REMOVED: &str = "create --step 10 --start 0 DS:g:GAUGE:100:U:U RRA:LAST:0.5:1:4
+tune RRA:LAST:0.5:1:4
+tune DELRRA:0";
 
-const RENAMING: Deed = Deed::Tune(Tuned {
-    rename: Some(("a", "c")),
-    ..UNTUNED
-});
-
-pub const RENAMED: Plan = Plan {
-    name: "a source renamed",
-    sources: &[GAUGE_A, GAUGE_B],
-    deeds: &[RENAMING],
-    ..NEW
-};
+pub const RENAMED: &str = "create --step 10 --start 0 DS:a:GAUGE:100:U:U DS:b:GAUGE:100:U:U \
+RRA:LAST:0.5:1:4
+tune --data-source-rename a:c";
 
 // Archives come and go among other changes, in the middle of steps and of rows.
-pub const ARCHIVES_CHANGED: Plan = Plan {
-    name: "archives changed",
-    sources: &[
-        GAUGE_A,
-        Source {
-            name: "b",
-            kind: Kind::Counter,
-            ..PLAIN_GAUGE
-        },
-    ],
-    archives: &[RraDef {
-        steps: 3,
-        rows: 4,
-        ..FOUR_LAST
-    }],
-    deeds: &[
-        Deed::Update(&[(13, &[1, 5]), (27, &[2, 9])]),
-        Deed::Add(RraDef {
-            function: Function::Average,
-            steps: 2,
-            rows: 3,
-            ..FOUR_LAST
-        }),
-        Deed::Update(&[(44, &[3, 12])]),
-        Deed::Grow(0, 2),
-        Deed::Remove(0),
-        Deed::Update(&[(71, &[4, 20])]),
-        RENAMING,
-        Deed::Add(RraDef {
-            function: Function::Max,
-            xff: 0,
-            steps: 1,
-            rows: 2,
-        }),
-        Deed::Remove(0),
-    ],
-    ..NEW
-};
+pub const ARCHIVES_CHANGED: &str = "create --step 10 --start 0 DS:a:GAUGE:100:U:U \
+DS:b:COUNTER:100:U:U RRA:LAST:0.5:3:4
+update 13:1:5 27:2:9
+tune RRA:AVERAGE:0.5:2:3
+update 44:3:12
+resize 0 GROW 2
+tune DELRRA:0
+update 71:4:20
+tune --data-source-rename a:c
+tune RRA:MAX:0:1:2
+tune DELRRA:0";
 
 // ---- files that are changed
 

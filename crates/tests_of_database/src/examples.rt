@@ -4,7 +4,8 @@ use rrd_base::{CreateSpec, Database, DsDef, Given, List, RraDef, Sample, Update}
 use rrd_file::{decode, encode};
 use rrd_fixed::{Cell, Kind, Name, Number};
 use rrd_fold::Function;
-use rrd_tool::{Outcome, execute, read_command, run_batch};
+use rrd_spec::FetchRequest;
+use rrd_tool::{Outcome, Unobserved, execute, read_command, run_batch};
 use std::alloc::Global;
 use std::process::Abort;
 use std::test::Fail;
@@ -57,7 +58,12 @@ fn sample_of(alloc: Global, time: u64, value: i128) -> Result<Update, Fail> {
 // The newest row that a fetch of the last 10 seconds reads.
 fn newest_cell(rt: &impl Abort, database: &Database) -> Result<Cell, Fail> {
     let last = database.last();
-    let chosen = database.choose(Function::Last, 10, last.saturating_sub(1), last)?;
+    let chosen = database.choose_for(FetchRequest {
+        function: Function::Last,
+        asked: 10,
+        start: last.saturating_sub(1),
+        end: last,
+    })?;
     assert!(rt; chosen.archive < database.archives());
     let time = i64::try_from(last).ok().ok_or("late")?;
     let row = database.row(chosen.archive, time).ok_or("no row")?;
@@ -115,6 +121,7 @@ fn a_command_is_read_and_run(rt: HostRuntime) -> Result<(), Fail> {
         0,
         &mut lines.as_bytes(),
         &mut out,
+        &Unobserved,
     );
     assert_eq!(&rt; (end.refused, end.stream), (1, None));
     let text = "10\ntime: g\n10: 1.000000\nERROR: not later than 10\n";

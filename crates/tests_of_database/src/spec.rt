@@ -1,4 +1,4 @@
-//! What a database means: lists, and the slow program beside the database.
+//! What a database means: lists, and worked examples.
 
 mod list;
-mod slow;
+mod worked_examples;

@@ -123,96 +123,37 @@ fn pushed_to_ten(rt: &impl Abort, alloc: Global) -> Result<Archive, AllocError>
     Ok(archive)
 }
 
-#[test]
-fn all_rows_come_back(rt: HostRuntime) -> Result<(), Fail> {
-    let alloc = rt.alloc();
-    let mut archive = pushed_to_ten(&rt, alloc)?;
-    let dropped = dropped_rows(alloc, &[FIVE, SIX, SEVEN])?;
-    assert_dropped(&rt, &dropped, &[FIVE, SIX, SEVEN]);
-    archive.put_back(dropped);
-    assert_rows(&rt, &archive, &[FIVE, SIX, SEVEN]);
-    Ok(())
-}
-
-// Copies that begin before the end of the vector and go on from its front.
-#[test]
-fn copies_go_round_the_end(rt: HostRuntime) -> Result<(), Fail> {
-    let alloc = rt.alloc();
-    let archive = pushed_to_ten(&rt, alloc)?;
-    assert_dropped(&rt, &archive.oldest(alloc, 3)?, &[EIGHT, NINE, TEN]);
-    assert_rows(&rt, &archive.resized(alloc, 1)?, &[TEN]);
-    assert_rows(&rt, &archive.resized(alloc, 2)?, &[NINE, TEN]);
-    assert_rows(&rt, &archive.resized(alloc, 3)?, &[EIGHT, NINE, TEN]);
-    assert_rows(
-        &rt,
-        &archive.resized(alloc, 4)?,
-        &[UNKNOWN, EIGHT, NINE, TEN],
-    );
-    Ok(())
-}
-
-// Two rows come back, of which one lies at the end of the vector and one at its front.
-#[test]
-fn rows_come_back_round_the_end(rt: HostRuntime) -> Result<(), Fail> {
-    let alloc = rt.alloc();
-    let mut archive = pushed_to_ten(&rt, alloc)?;
-    assert_rows(&rt, &archive, &[EIGHT, NINE, TEN]);
-    let dropped = archive.oldest(alloc, 2)?;
-    assert_dropped(&rt, &dropped, &[EIGHT, NINE]);
-    push(&rt, &mut archive, ONE);
-    push(&rt, &mut archive, TWO);
-    assert_rows(&rt, &archive, &[TEN, ONE, TWO]);
-    archive.put_back(dropped);
-    assert_rows(&rt, &archive, &[EIGHT, NINE, TEN]);
-    archive.row_mut(2).copy_from_slice(&[THREE]);
-    assert_rows(&rt, &archive, &[EIGHT, NINE, THREE]);
-    Ok(())
-}
-
-// A row of three, the cells that are put from it on, and the three rows then.
-const PUT: &[(u64, &[Cell], &[Cell])] = &[
-    (0, &[], &[EIGHT, NINE, TEN]),
-    (0, &[ONE], &[ONE, NINE, TEN]),
-    (1, &[ONE, TWO], &[EIGHT, ONE, TWO]),
-    (2, &[ONE, TWO], &[TWO, NINE, ONE]),
-    (2, &[ONE, TWO, THREE], &[TWO, THREE, ONE]),
+// A row of three, how many are changed from it on, the cells that are put there (none: they become unknown), and the three
+// rows then.
+const CHANGED: &[(u64, u64, Option<&[Cell]>, &[Cell])] = &[
+    (0, 0, Some(&[]), &[EIGHT, NINE, TEN]),
+    (0, 1, Some(&[ONE]), &[ONE, NINE, TEN]),
+    (1, 2, Some(&[ONE, TWO]), &[EIGHT, ONE, TWO]),
+    (2, 2, Some(&[ONE, TWO]), &[TWO, NINE, ONE]),
+    (2, 3, Some(&[ONE, TWO, THREE]), &[TWO, THREE, ONE]),
+    (0, 0, None, &[EIGHT, NINE, TEN]),
+    (0, 1, None, &[UNKNOWN, NINE, TEN]),
+    (1, 2, None, &[EIGHT, UNKNOWN, UNKNOWN]),
+    (2, 2, None, &[UNKNOWN, NINE, UNKNOWN]),
+    (1, 3, None, &[UNKNOWN, UNKNOWN, UNKNOWN]),
 ];
 
 #[test]
-fn rows_are_put_round_the_end(rt: HostRuntime) -> Result<(), Fail> {
+fn rows_are_changed_round_the_end(rt: HostRuntime) -> Result<(), Fail> {
     let alloc = rt.alloc();
-    for (first, cells, rows) in PUT {
-        let mut archive = pushed_to_ten(&rt, alloc)?;
-        let count = cells.len() as u64;
-        assert!(&rt;
-            *first < archive.rows() && count <= archive.rows(),
-            "{count} from {first}"
-        );
-        archive.write_rows_wrapping(*first, count, cells);
-        assert_rows(&rt, &archive, rows);
-    }
-    Ok(())
-}
-
-// The same of rows that become unknown, so many.
-const FORGOTTEN: &[(u64, u64, &[Cell])] = &[
-    (0, 0, &[EIGHT, NINE, TEN]),
-    (0, 1, &[UNKNOWN, NINE, TEN]),
-    (1, 2, &[EIGHT, UNKNOWN, UNKNOWN]),
-    (2, 2, &[UNKNOWN, NINE, UNKNOWN]),
-    (1, 3, &[UNKNOWN, UNKNOWN, UNKNOWN]),
-];
-
-#[test]
-fn rows_become_unknown_round_the_end(rt: HostRuntime) -> Result<(), Fail> {
-    let alloc = rt.alloc();
-    for (first, count, rows) in FORGOTTEN {
+    for (first, count, cells, rows) in CHANGED {
         let mut archive = pushed_to_ten(&rt, alloc)?;
         assert!(&rt;
             *first < archive.rows() && *count <= archive.rows(),
             "{count} from {first}"
         );
-        archive.clear_rows_wrapping(*first, *count);
+        match cells {
+            Some(cells) => {
+                assert_eq!(&rt; cells.len() as u64, *count, "{count} from {first}");
+                archive.write_rows_wrapping(*first, *count, cells);
+            }
+            None => archive.clear_rows_wrapping(*first, *count),
+        }
         assert_rows(&rt, &archive, rows);
     }
     Ok(())
@@ -261,27 +202,13 @@ fn rows_are_lent_together(rt: HostRuntime) -> Result<(), Fail> {
     Ok(())
 }
 
-// The cells of a dropped row are those of one row after another.
-#[test]
-fn dropped_rows_are_wide(rt: HostRuntime) -> Result<(), Fail> {
-    let alloc = rt.alloc();
-    let cells = [ONE, TWO, THREE, FOUR, FIVE, SIX];
-    let dropped = Dropped::from_cells(DroppedCells::from_slice(alloc, &cells)?, 3, 2);
-    assert_eq!(&rt; dropped.len(), 3);
-    assert_eq!(&rt; dropped.row(0), [ONE, TWO].as_slice());
-    assert_eq!(&rt; dropped.row(2), [FIVE, SIX].as_slice());
-    let (count, lent) = dropped.contiguous_rows(1, 2);
-    assert_eq!(&rt; count, 2);
-    assert_eq!(&rt; lent, [THREE, FOUR, FIVE, SIX].as_slice());
-    Ok(())
-}
-
-// Two cells in a row: no more rows are lent than are asked for.
+// Two cells in a row: as many rows are lent as are asked for.
 #[test]
 fn wider_rows_are_lent_as_asked(rt: HostRuntime) -> Result<(), Fail> {
     let alloc = rt.alloc();
     let mut archive = Archive::new(alloc, 3, 2)?;
     archive.write_rows_wrapping(0, 3, &[ONE, TWO, THREE, FOUR, FIVE, SIX]);
+    let dropped = archive.oldest(alloc, 3)?;
     for (first, most, cells) in [
         (0, 1, [ONE, TWO].as_slice()),
         (0, 3, &[ONE, TWO, THREE, FOUR, FIVE, SIX]),
@@ -289,6 +216,10 @@ fn wider_rows_are_lent_as_asked(rt: HostRuntime) -> Result<(), Fail> {
         (2, 1, &[FIVE, SIX]),
     ] {
         let (count, lent) = archive.contiguous_rows(first, most);
+        assert_eq!(&rt; count, most, "{most} from {first}");
+        assert_eq!(&rt; lent, cells, "{most} from {first}");
+        assert!(&rt; first + most <= dropped.len(), "{most} from {first}");
+        let (count, lent) = dropped.contiguous_rows(first, most);
         assert_eq!(&rt; count, most, "{most} from {first}");
         assert_eq!(&rt; lent, cells, "{most} from {first}");
     }

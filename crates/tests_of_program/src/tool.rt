@@ -1,7 +1,6 @@
 //! Commands and batches: the words that they are read from, what they print, and their faults.
 
 mod batches;
-mod each_call;
 mod each_growth;
 mod failing_streams;
 mod faults;

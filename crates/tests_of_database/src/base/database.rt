@@ -1,33 +1,20 @@
 //! Small databases, each call of rrd_base on its happy path: the readers, and updates of fewer, as many and
 //! more rows than an archive has and back.
-use crate::shared::databases::assert_rows;
-use rrd_base::{Database, Refusal, RraDef};
+use crate::shared::assert_rows;
+use rrd_base::{Database, Refusal};
 use rrd_fixed::{Kind, Raw};
 use rrd_fold::Function;
 use std::process::Abort;
 use std::test::Fail;
+use test_data::plans::{done, made};
 
 // ---- each call
 
 // A gauge in rows of one and of three steps: 10 seconds at 2, 10 at 5, and 4 at 6 of a step in
 // progress.
-const TWO_ARCHIVES: Plan = Plan {
-    name: "two archives",
-    depth: 7,
-    archives: &[
-        FOUR_LAST,
-        RraDef {
-            function: Function::Average,
-            steps: 3,
-            rows: 5,
-            ..FOUR_LAST
-        },
-    ],
-    deeds: &[Deed::Update(&[(10, &[2]), (20, &[5]), (24, &[6])])],
-    ..NEW
-};
-
-use test_data::plans::{Deed, FOUR_LAST, NEW, Plan, Samples, done, made};
+const TWO_ARCHIVES: &str =
+    "create --step 10 --start 0 --journal 7 DS:g:GAUGE:100:U:U RRA:LAST:0.5:1:4 RRA:AVERAGE:0.5:3:5
+update 10:2 20:5 24:6";
 
 fn assert_settings(rt: &impl Abort, database: &Database) {
     assert_eq!(rt; (database.step(), database.depth()), (10, 7));
@@ -57,7 +44,7 @@ fn assert_unfinished(rt: &impl Abort, database: &Database) {
 
 #[test]
 fn settings_and_what_is_unfinished(rt: HostRuntime) -> Result<(), Fail> {
-    let database = made(rt.alloc(), &TWO_ARCHIVES)?;
+    let database = made(rt.alloc(), TWO_ARCHIVES)?;
     assert_settings(&rt, &database);
     assert_unfinished(&rt, &database);
     Ok(())
@@ -66,16 +53,12 @@ fn settings_and_what_is_unfinished(rt: HostRuntime) -> Result<(), Fail> {
 // ---- updates and what takes them back
 
 // Four rows of 10 seconds, and half a step more.
-const BEFORE: Plan = Plan {
-    name: "four rows and half a step",
-    deeds: &[Deed::Update(&[(10, &[1]), (20, &[2]), (30, &[3]), (40, &[4]), (45, &[7])])],
-    ..NEW
-};
+const BEFORE: &str = "create --step 10 --start 0 DS:g:GAUGE:100:U:U RRA:LAST:0.5:1:4
+update 10:1 20:2 30:3 40:4 45:7";
 
 fn assert_before(rt: &impl Abort, database: &Database) {
     assert_eq!(rt; (database.last(), database.undoable()), (45, 1));
-    let rows = [1_000_000, 2_000_000, 3_000_000, 4_000_000];
-    assert_rows(rt, database, 10, 10, &rows);
+    assert_rows(rt, database, 10, 10, &[1, 2, 3, 4]);
     assert!(rt; database.sources() == 1);
     assert_eq!(rt; database.last_raw(0), Raw::Known(7_000_000));
     let step = database.step_prep(0);
@@ -85,36 +68,20 @@ fn assert_before(rt: &impl Abort, database: &Database) {
 // Updates, where their last four rows begin, and those rows. Of several samples that together finish
 // fewer rows than the archive has, as many, and more; and of one. The other half of the first step is
 // at 5, so its row is 6.
-const UPDATES: &[(Samples, i64, [i128; 4])] = &[
-    (
-        &[(50, &[5]), (60, &[6])],
-        30,
-        [3_000_000, 4_000_000, 6_000_000, 6_000_000],
-    ),
-    (
-        &[(50, &[5]), (60, &[6]), (80, &[8])],
-        50,
-        [6_000_000, 6_000_000, 8_000_000, 8_000_000],
-    ),
-    (
-        &[(50, &[5]), (60, &[6]), (80, &[8]), (90, &[9]), (100, &[10])],
-        70,
-        [8_000_000, 8_000_000, 9_000_000, 10_000_000],
-    ),
-    (
-        &[(145, &[9])],
-        110,
-        [9_000_000, 9_000_000, 9_000_000, 9_000_000],
-    ),
+const UPDATES: &[(&str, i64, [i128; 4])] = &[
+    ("update 50:5 60:6", 30, [3, 4, 6, 6]),
+    ("update 50:5 60:6 80:8", 50, [6, 6, 8, 8]),
+    ("update 50:5 60:6 80:8 90:9 100:10", 70, [8, 8, 9, 10]),
+    ("update 145:9", 110, [9, 9, 9, 9]),
 ];
 
 #[test]
 fn updates_are_taken_back(rt: HostRuntime) -> Result<(), Fail> {
     let alloc = rt.alloc();
-    let mut database = made(alloc, &BEFORE)?;
+    let mut database = made(alloc, BEFORE)?;
     assert_before(&rt, &database);
-    for (samples, first, rows) in UPDATES {
-        done(alloc, &mut database, &Deed::Update(*samples))?;
+    for (line, first, rows) in UPDATES {
+        database = done(alloc, Some(database), line)?;
         assert_rows(&rt, &database, *first, 10, rows);
         database.revert()?;
         assert_before(&rt, &database);

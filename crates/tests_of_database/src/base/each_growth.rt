@@ -1,29 +1,33 @@
 //! The pieces of a file, each given again where it found no memory: it is taken then, since nothing had changed.
 //! `tests/program/test_growths_in_tests.py` has each growth refused in turn; otherwise each piece is taken at once.
 use super::rebuild::{archive, finished, gauge, taken};
-use crate::shared::assert_bytes;
-use crate::shared::databases::NONE;
-use rrd_base::{PieceFault, Rebuild, Version};
+use crate::shared::{NONE, assert_bytes};
+use rrd_base::{Header, PieceFault, Rebuild, Version};
 use rrd_fixed::Raw;
 use std::alloc::Global;
 use std::process::Abort;
 use std::test::Fail;
-
-const TWO_GAUGES: Plan = Plan {
-    name: "two gauges",
-    sources: &[GAUGE_A, GAUGE_B],
-    ..NEW
-};
-
-use test_data::plans::{GAUGE_A, GAUGE_B, NEW, Plan, made};
+use test_data::plans::made;
 use test_data::worked_files::file_of;
+
+const TWO_GAUGES: &str =
+    "create --step 10 --start 0 DS:a:GAUGE:100:U:U DS:b:GAUGE:100:U:U RRA:LAST:0.5:1:4";
 
 const TAKEN: Result<(), PieceFault> = Ok(());
 
 const NO_MEMORY: Result<(), PieceFault> = Err(PieceFault::OutOfMemory);
 
 fn begin(alloc: Global) -> Result<Rebuild, PieceFault> {
-    Rebuild::begin(alloc, Version::Two, 10, 0, 16, 2, 1, 0)
+    let header = Header {
+        version: Version::Two,
+        step: 10,
+        last: 0,
+        depth: 16,
+        sources: 2,
+        archives: 1,
+        entries: 0,
+    };
+    Rebuild::with_header(alloc, header)
 }
 
 fn begun(rt: &impl Abort, alloc: Global) -> Rebuild {
@@ -76,7 +80,7 @@ fn pieces_are_taken(rt: HostRuntime) -> Result<(), Fail> {
         taken(pieces.cell(NONE))?;
     }
     let file = file_of(alloc, &finished(&rt, pieces))?;
-    let wanted = file_of(alloc, &made(alloc, &TWO_GAUGES)?)?;
-    assert_bytes(&rt, &file, &wanted, TWO_GAUGES.name);
+    let wanted = file_of(alloc, &made(alloc, TWO_GAUGES)?)?;
+    assert_bytes(&rt, &file, &wanted, TWO_GAUGES);
     Ok(())
 }

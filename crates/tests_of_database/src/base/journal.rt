@@ -1,13 +1,11 @@
 //! Tunes and resizes, what the journal holds of a change, and what taking it back leaves.
-use crate::shared::databases::{NONE, assert_rows};
-use rrd_base::{Change, Database, Entry, RraDef, SavedArchive};
+use crate::shared::{NONE, assert_rows};
+use rrd_base::{Change, Database, Entry, SavedArchive};
 use rrd_fixed::{Cell, Kind, Raw};
 use rrd_fold::Function;
 use std::process::Abort;
 use std::test::Fail;
-use test_data::plans::{
-    Deed, FOUR_LAST, NEW, PLAIN_GAUGE, Plan, Samples, Source, Tuned, UNTUNED, done, made, update_of,
-};
+use test_data::plans::{done, made, update_of};
 
 // The newest entry.
 fn newest<'a>(rt: &impl Abort, database: &'a Database) -> &'a Entry {
@@ -17,100 +15,42 @@ fn newest<'a>(rt: &impl Abort, database: &'a Database) -> &'a Entry {
 
 // ---- updates
 
-// Three archives, with rows of four steps.
-const THREE_ARCHIVES: Plan = Plan {
-    name: "three archives",
-    sources: &[Source {
-        heartbeat: 1_000,
-        ..PLAIN_GAUGE
-    }],
-    archives: &[
-        RraDef {
-            function: Function::Average,
-            steps: 4,
-            rows: 2,
-            ..FOUR_LAST
-        },
-        RraDef {
-            function: Function::Min,
-            steps: 4,
-            rows: 10,
-            ..FOUR_LAST
-        },
-        RraDef {
-            function: Function::Max,
-            steps: 4,
-            rows: 5,
-            ..FOUR_LAST
-        },
-    ],
-    ..NEW
-};
+// Three archives, with rows of four steps, and half a step.
+const HALF_A_STEP: &str =
+    "create --step 10 --start 0 DS:g:GAUGE:1000:U:U RRA:AVERAGE:0.5:4:2 RRA:MIN:0.5:4:10 RRA:MAX:0.5:4:5
+update 15:2";
 
-// The same with half a step.
-const HALF_A_STEP: Plan = Plan {
-    name: "three archives and half a step",
-    deeds: &[Deed::Update(&[(15, &[2])])],
-    ..THREE_ARCHIVES
-};
+const THREE_ARCHIVES: &str =
+    "create --step 10 --start 0 DS:g:GAUGE:1000:U:U RRA:AVERAGE:0.5:4:2 RRA:MIN:0.5:4:10 RRA:MAX:0.5:4:5";
 
 // Steps of a second.
-const SECONDS: Plan = Plan {
-    name: "steps of a second",
-    step: 1,
-    start: 1_000_000_000,
-    sources: &[Source {
-        heartbeat: 9_999_999_999,
-        ..PLAIN_GAUGE
-    }],
-    archives: &[
-        RraDef {
-            function: Function::Average,
-            rows: 24,
-            ..FOUR_LAST
-        },
-        RraDef {
-            function: Function::Max,
-            steps: 3_600,
-            rows: 24,
-            ..FOUR_LAST
-        },
-    ],
-    ..NEW
-};
+const SECONDS: &str =
+    "create --step 1 --start 1000000000 DS:g:GAUGE:9999999999:U:U RRA:AVERAGE:0.5:1:24 RRA:MAX:0.5:3600:24";
 
-const TWO_ROWS: Plan = Plan {
-    name: "two rows",
-    archives: &[RraDef {
-        rows: 2,
-        ..FOUR_LAST
-    }],
-    ..NEW
-};
+const TWO_ROWS: &str = "create --step 10 --start 0 DS:g:GAUGE:100:U:U RRA:LAST:0.5:1:2";
 
 // A database, an update, how many cells its entry holds, and the least and most turns that it takes.
-const TURNS: &[(Plan, Samples, u64, u64, u64)] = &[
+const TURNS: &[(&str, &str, u64, u64, u64)] = &[
     // Half a step at 2, then 20 steps at 5, which finish five rows of each archive: two are all that
     // the first archive has, the second keeps five of ten, and the third loses all its five.
-    (THREE_ARCHIVES, &[(15, &[2])], 0, 0, 27),
-    (HALF_A_STEP, &[(215, &[5])], 12, 12, 39),
+    (THREE_ARCHIVES, "update 15:2", 0, 0, 27),
+    (HALF_A_STEP, "update 215:5", 12, 12, 39),
     // A gap of ten years.
-    (SECONDS, &[(1_315_360_000, &[3])], 48, 48, 67),
+    (SECONDS, "update 1315360000:3", 48, 48, 67),
     // Of a thousand rows in an archive of two, two cells are written: the turns are these and at most
     // eleven more, three for the source and eight for it in the archive.
-    (TWO_ROWS, &[(10_000, &[3])], 2, 2, 13),
+    (TWO_ROWS, "update 10000:3", 2, 2, 13),
 ];
 
 #[test]
 fn turns_of_updates(rt: HostRuntime) -> Result<(), Fail> {
     let alloc = rt.alloc();
-    for (plan, samples, cells, least, most) in TURNS {
+    for (plan, line, cells, least, most) in TURNS {
         let mut database = made(alloc, plan)?;
-        let receipt = database.update(alloc, &update_of(alloc, *samples)?)?;
-        assert_eq!(&rt; receipt.cells, *cells, "{}", plan.name);
+        let receipt = database.update(alloc, &update_of(alloc, line)?)?;
+        assert_eq!(&rt; receipt.cells, *cells, "{line}");
         let turns = receipt.turns;
-        let few = *least <= turns && turns <= *most;
-        assert!(&rt; few, "{}: {turns}", plan.name);
+        assert!(&rt; *least <= turns && turns <= *most, "{line}: {turns}");
     }
     Ok(())
 }
@@ -159,8 +99,7 @@ fn assert_first_update_kept(rt: &impl Abort, database: &Database) {
 #[test]
 fn an_update_keeps_what_it_replaces(rt: HostRuntime) -> Result<(), Fail> {
     let alloc = rt.alloc();
-    let mut database = made(alloc, &HALF_A_STEP)?;
-    done(alloc, &mut database, &Deed::Update(&[(215, &[5])]))?;
+    let database = done(alloc, Some(made(alloc, HALF_A_STEP)?), "update 215:5")?;
     assert_second_update_kept(&rt, &database);
     assert_first_update_kept(&rt, &database);
     Ok(())
@@ -168,27 +107,8 @@ fn an_update_keeps_what_it_replaces(rt: HostRuntime) -> Result<(), Fail> {
 
 // ---- tunes
 
-const COUNTER: Plan = Plan {
-    name: "a counter",
-    sources: &[Source {
-        name: "c",
-        kind: Kind::Counter,
-        ..PLAIN_GAUGE
-    }],
-    deeds: &[Deed::Update(&[(10, &[7])])],
-    ..NEW
-};
-
-const GAUGE_OF_ANOTHER_NAME: Tuned = Tuned {
-    kind: Some(("c", Kind::Gauge)),
-    rename: Some(("c", "g")),
-    ..UNTUNED
-};
-
-const THE_SAME_TYPE: Tuned = Tuned {
-    kind: Some(("c", Kind::Counter)),
-    ..UNTUNED
-};
+const COUNTER: &str = "create --step 10 --start 0 DS:c:COUNTER:100:U:U RRA:LAST:0.5:1:4
+update 10:7";
 
 // The only source has this name, type and last raw value.
 fn assert_source(rt: &impl Abort, database: &Database, name: &str, kind: Kind, raw: Raw) {
@@ -206,23 +126,21 @@ fn assert_counter_kept(rt: &impl Abort, database: &Database) {
     assert_eq!(rt; sources.len(), 1);
     let before = &sources[0];
     assert_eq!(rt; (before.number, before.source.name.as_str()), (0, "c"));
-    assert_eq!(rt;
-        (before.source.kind, before.raw),
-        (Kind::Counter, Raw::Known(7))
-    );
+    assert_eq!(rt; before.source.kind, Kind::Counter);
+    assert_eq!(rt; before.raw, Raw::Known(7));
 }
 
 // Another type and name forget the raw value, until they are taken back; the same type keeps it.
 #[test]
 fn another_type_and_the_same(rt: HostRuntime) -> Result<(), Fail> {
     let alloc = rt.alloc();
-    let mut database = made(alloc, &COUNTER)?;
+    let mut database = made(alloc, COUNTER)?;
     assert_source(&rt, &database, "c", Kind::Counter, Raw::Known(7));
-    for (tuned, name, kind, raw) in [
-        (GAUGE_OF_ANOTHER_NAME, "g", Kind::Gauge, Raw::Unknown),
-        (THE_SAME_TYPE, "c", Kind::Counter, Raw::Known(7)),
+    for (line, name, kind, raw) in [
+        ("tune -d c:GAUGE -r c:g", "g", Kind::Gauge, Raw::Unknown),
+        ("tune -d c:COUNTER", "c", Kind::Counter, Raw::Known(7)),
     ] {
-        done(alloc, &mut database, &Deed::Tune(tuned))?;
+        database = done(alloc, Some(database), line)?;
         assert_source(&rt, &database, name, kind, raw);
         assert_eq!(&rt; (database.last(), database.undoable()), (10, 2), "{name}");
         assert_counter_kept(&rt, &database);
@@ -246,22 +164,18 @@ fn assert_four_rows_kept(rt: &impl Abort, database: &Database) {
 }
 
 // Two rows at 1, and two at 2.
-const FOUR_ROWS: Plan = Plan {
-    name: "four rows",
-    deeds: &[Deed::Update(&[(20, &[1]), (40, &[2])])],
-    ..NEW
-};
+const FOUR_ROWS: &str = "create --step 10 --start 0 DS:g:GAUGE:100:U:U RRA:LAST:0.5:1:4
+update 20:1 40:2";
 
 #[test]
 fn a_resize_keeps_the_old_rows(rt: HostRuntime) -> Result<(), Fail> {
     let alloc = rt.alloc();
-    let mut database = made(alloc, &FOUR_ROWS)?;
+    let mut database = made(alloc, FOUR_ROWS)?;
     database.resize(alloc, 0, Change::Shrink, 3)?;
     assert_four_rows_kept(&rt, &database);
-    assert_rows(&rt, &database, 40, 10, &[2_000_000]);
+    assert_rows(&rt, &database, 40, 10, &[2]);
     database.revert()?;
-    let rows = [1_000_000, 1_000_000, 2_000_000, 2_000_000];
-    assert_rows(&rt, &database, 10, 10, &rows);
+    assert_rows(&rt, &database, 10, 10, &[1, 1, 2, 2]);
     Ok(())
 }
 
@@ -281,34 +195,22 @@ fn assert_first_kept(rt: &impl Abort, database: &Database) {
 }
 
 // Another archive is added, and the first one is removed in the middle of a row.
-const FIRST_REMOVED: Plan = Plan {
-    name: "the first archive removed",
-    archives: &[RraDef {
-        steps: 2,
-        rows: 3,
-        ..FOUR_LAST
-    }],
-    deeds: &[
-        Deed::Add(FOUR_LAST),
-        Deed::Update(&[(20, &[1]), (30, &[2])]),
-        Deed::Remove(0),
-    ],
-    ..NEW
-};
+const FIRST_REMOVED: &str = "create --step 10 --start 0 DS:g:GAUGE:100:U:U RRA:LAST:0.5:2:3
+tune RRA:LAST:0.5:1:4
+update 20:1 30:2
+tune DELRRA:0";
 
 #[test]
 fn a_removal_keeps_the_archive(rt: HostRuntime) -> Result<(), Fail> {
     let alloc = rt.alloc();
-    let mut database = made(alloc, &FIRST_REMOVED)?;
+    let mut database = made(alloc, FIRST_REMOVED)?;
     assert!(&rt; database.archives() == 1);
     assert_eq!(&rt; database.archive(0).rows, 4);
     assert_first_kept(&rt, &database);
     database.revert()?;
     assert!(&rt; database.archives() == 2);
-    assert_eq!(&rt;
-        (database.archive(0).rows, database.archive(1).rows),
-        (3, 4)
-    );
+    assert_eq!(&rt; database.archive(0).rows, 3);
+    assert_eq!(&rt; database.archive(1).rows, 4);
     assert_eq!(&rt; database.row_prep(0, 0).known(), 1);
     database.revert()?;
     let Entry::Added = newest(&rt, &database) else {

@@ -1,9 +1,8 @@
 //! Databases from the pieces of their files, and pieces that are bad.
-use crate::shared::assert_bytes;
-use crate::shared::databases::NONE;
+use crate::shared::{NONE, assert_bytes};
 use arrayvec::ArrayVec;
 use rrd_base::{
-    BeforeUpdate, Database, DsDef, Due, EachSource, Entry, PieceFault, Rebuild, RraDef,
+    BeforeUpdate, Database, DsDef, Due, EachSource, Entry, Header, PieceFault, Rebuild, RraDef,
     SavedArchive, SavedSource, Version,
 };
 use rrd_fixed::{Cell, Kind, Name, Raw};
@@ -43,10 +42,22 @@ pub(super) fn taken(taking: Result<(), PieceFault>) -> Result<(), Fail> {
     taking.map_err(|_| Fail::from("not taken"))
 }
 
+// A header of one archive.
+fn header(step: u64, depth: u64, sources: u64, entries: u64) -> Header {
+    Header {
+        version: Version::Two,
+        step,
+        last: 10,
+        depth,
+        sources,
+        archives: 1,
+        entries,
+    }
+}
+
 fn begun(alloc: Global, sources: u64, entries: u64) -> Result<Rebuild, Fail> {
-    Rebuild::begin(alloc, Version::Two, 10, 10, 16, sources, 1, entries).map_err(|_| Fail::from(
-        "not begun",
-    ))
+    let header = header(10, 16, sources, entries);
+    Rebuild::with_header(alloc, header).map_err(|_| Fail::from("not begun"))
 }
 
 // The gauge `g` and an archive of four last values, after a sample of 1 at 10: what a file says of it
@@ -108,7 +119,7 @@ fn a_file_made_again_by_its_pieces(rt: HostRuntime) -> Result<(), Fail> {
 fn bad_headers(rt: HostRuntime) -> Result<(), Fail> {
     let alloc = rt.alloc();
     for (step, depth, sources, entries) in [(0, 16, 1, 1), (10, 16, 65, 1), (10, 16, 1, 17)] {
-        let made = Rebuild::begin(alloc, Version::Two, step, 10, depth, sources, 1, entries);
+        let made = Rebuild::with_header(alloc, header(step, depth, sources, entries));
         let Err(fault) = made else {
             return Err(Fail::from("begun"));
         };

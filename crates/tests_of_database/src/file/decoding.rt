@@ -1,151 +1,68 @@
-//! Files that are read back: whole ones, cut ones, ones with a wrong byte, and readers that fail; and the
-//! texts of faults.
+//! Files that are read back: whole ones, cut ones, and ones with a wrong byte; and the texts of faults.
 use crate::shared::assert_bytes;
-use rrd_base::{Database, RraDef};
 use rrd_file::{FileFault, decode};
-use rrd_fixed::Kind;
-use rrd_fold::Function;
 use std::alloc::Global;
-use std::mem;
 use std::process::Abort;
 use std::test::Fail;
-use std::time::CpuClock;
 use test_data::joined;
-use test_data::plans::{FOUR_LAST, GAUGE_A, GAUGE_B, GAUGE_C, NEW, Plan, made};
-use test_data::streams::{Giver, Manner, PLAIN};
+use test_data::plans::made;
 use test_data::worked_files::{
-    ARCHIVES_CHANGED, DATABASES, FILE_FAULTS, FOUR_CHANGES, REMOVED, SAMPLED, THREE_CHANGES,
-    changed, file_of, in_first_version, new_file, renamed_file, sampled_file,
+    ARCHIVES_CHANGED, DATABASES, FILE_FAULTS, FOUR_CHANGES, REMOVED, changed, file_of,
+    in_first_version, new_file, renamed_file, sampled_file,
 };
 
 // ---- what is read
 
 fn fault_of(alloc: Global, bytes: &[u8]) -> Option<FileFault> {
-    match decode(alloc, bytes) {
-        Ok(_) => None,
-        Err(fault) => Some(fault),
-    }
-}
-
-fn read_from(alloc: Global, bytes: &[u8]) -> Result<Database, Fail> {
-    match decode(alloc, bytes) {
-        Ok(database) => Ok(database),
-        Err(_) => Err(Fail::from("no database")),
-    }
+    decode(alloc, bytes).err()
 }
 
 // The file of what is read.
 fn again(alloc: Global, bytes: &[u8]) -> Result<Vec<u8>, Fail> {
-    file_of(alloc, &read_from(alloc, bytes)?)
+    let Ok(database) = decode(alloc, bytes) else {
+        return Err(Fail::from("no database"));
+    };
+    file_of(alloc, &database)
 }
 
-fn assert_same_file(
-    rt: &impl Abort,
-    alloc: Global,
-    one: &Database,
-    other: &Database,
-    case: &str,
-) -> Result<(), Fail> {
-    let (one, other) = (file_of(alloc, one)?, file_of(alloc, other)?);
-    assert_bytes(rt, &one, &other, case);
-    Ok(())
-}
-
-// Two databases have the same file, and after each revert again.
-fn assert_revert_alike(
-    rt: &impl Abort,
-    alloc: Global,
-    one: &mut Database,
-    other: &mut Database,
-    case: &str,
-) -> Result<(), Fail> {
-    assert_same_file(rt, alloc, one, other, case)?;
-    for _ in 0..other.undoable() {
-        assert!(rt; other.revert().is_ok(), "{case}");
-        assert!(rt; one.revert().is_ok(), "{case}");
-        assert_same_file(rt, alloc, one, other, case)?;
-    }
-    assert!(rt; one.revert().is_err(), "{case}");
-    Ok(())
-}
-
-#[test]
-fn what_is_read_reverts_as_what_was_written(rt: HostRuntime) -> Result<(), Fail> {
-    let alloc = rt.alloc();
-    for plan in &[THREE_CHANGES, FOUR_CHANGES, REMOVED, ARCHIVES_CHANGED] {
-        let mut written = made(alloc, plan)?;
-        let mut read = read_from(alloc, &file_of(alloc, &written)?)?;
-        assert_revert_alike(&rt, alloc, &mut read, &mut written, plan.name)?;
-    }
+// The file, cut to so many bytes, is truncated there.
+fn assert_is_cut(rt: &impl Abort, alloc: Global, bytes: &[u8], length: usize) -> Result<(), Fail> {
+    let front = bytes.get(..length).ok_or("short")?;
+    let at = length as u64;
+    let fault = Some(FileFault::Truncated { at });
+    assert_eq!(rt; fault_of(alloc, front), fault, "{length}");
     Ok(())
 }
 
 // What was written is read. Cut anywhere it is truncated, and bytes behind it are too many.
-fn assert_whole_alone(rt: &impl Abort, alloc: Global, plan: &Plan) -> Result<(), Fail> {
-    let case = plan.name;
+fn assert_whole_alone(rt: &impl Abort, alloc: Global, plan: &str) -> Result<(), Fail> {
     let written = file_of(alloc, &made(alloc, plan)?)?;
     let bytes = written.as_slice();
-    assert_bytes(rt, &again(alloc, bytes)?, bytes, case);
+    assert_bytes(rt, &again(alloc, bytes)?, bytes, plan);
     for length in 0..bytes.len() {
-        let front = bytes.get(..length).ok_or("short")?;
-        let at = length as u64;
-        let fault = Some(FileFault::Truncated { at });
-        assert_eq!(rt; fault_of(alloc, front), fault, "{case}");
+        assert_is_cut(rt, alloc, bytes, length)?;
     }
     let at = bytes.len() as u64;
     for behind in ["\0", "RRDI"] {
         let longer = joined(alloc, &[bytes, behind.as_bytes()])?;
         let fault = Some(FileFault::Trailing { at });
-        assert_eq!(rt; fault_of(alloc, &longer), fault, "{case}");
+        assert_eq!(rt; fault_of(alloc, &longer), fault, "{plan}");
     }
     Ok(())
 }
 
 #[test]
 fn files_are_read_whole_alone(rt: HostRuntime) -> Result<(), Fail> {
-    let alloc = rt.alloc();
     for plan in DATABASES {
-        assert_whole_alone(&rt, alloc, plan)?;
+        assert_whole_alone(&rt, rt.alloc(), plan)?;
     }
     Ok(())
 }
 
 #[test]
-fn a_file_with_four_entries_is_read_whole_alone(rt: HostRuntime) -> Result<(), Fail> {
-    assert_whole_alone(&rt, rt.alloc(), &FOUR_CHANGES)
-}
-
-#[test]
-fn files_of_changed_archives_are_read_whole_alone(rt: HostRuntime) -> Result<(), Fail> {
-    let alloc = rt.alloc();
-    for plan in &[REMOVED, ARCHIVES_CHANGED] {
-        assert_whole_alone(&rt, alloc, plan)?;
-    }
-    Ok(())
-}
-
-// A byte of the file whose first archive was removed, what it is changed to, and the entry that is bad
-// then. The removal begins at 224, its archive's settings at 227, the preparation at 240, the cells at 260, and
-// the addition at 324.
-const WRONG_REMOVALS: &[(usize, u8, u64)] = &[
-    (224, 6, 1), // no tag
-    (226, 2, 1), // behind the archive that would come after the last
-    (227, 4, 1), // no function
-    (239, 0, 1), // no row
-    (243, 1, 1), // a known step where each makes a row
-    (260, 127, 1), // past the greatest rate
-    (308, 127, 1), // the last cell
-    (324, 0, 2), // no tag
-];
-
-#[test]
-fn a_wrong_byte_of_a_removal_has_its_entry(rt: HostRuntime) -> Result<(), Fail> {
-    let alloc = rt.alloc();
-    let bytes = file_of(alloc, &made(alloc, &REMOVED)?)?;
-    for (at, byte, number) in WRONG_REMOVALS {
-        let wrong = changed(alloc, &bytes, *at, *byte)?;
-        let fault = FileFault::BadEntry { number: *number };
-        assert_eq!(&rt; fault_of(alloc, &wrong), Some(fault), "{at}");
+fn files_with_entries_are_read_whole_alone(rt: HostRuntime) -> Result<(), Fail> {
+    for plan in [FOUR_CHANGES, REMOVED, ARCHIVES_CHANGED] {
+        assert_whole_alone(&rt, rt.alloc(), plan)?;
     }
     Ok(())
 }
@@ -154,7 +71,7 @@ fn a_wrong_byte_of_a_removal_has_its_entry(rt: HostRuntime) -> Result<(), Fail> 
 #[test]
 fn no_archive_comes_or_goes_in_the_first_version(rt: HostRuntime) -> Result<(), Fail> {
     let alloc = rt.alloc();
-    let bytes = file_of(alloc, &made(alloc, &REMOVED)?)?;
+    let bytes = file_of(alloc, &made(alloc, REMOVED)?)?;
     let first = in_first_version(alloc, &bytes)?;
     let fault = Some(FileFault::BadEntry { number: 1 });
     assert_eq!(&rt; fault_of(alloc, &first), fault);
@@ -243,38 +160,41 @@ const WRONG_FIRST_BYTES: &[(usize, u8, FileFault)] = &[
     (289, 127, FileFault::BadEntry { number: 1 }), // past the greatest rate
 ];
 
-#[test]
-fn a_wrong_byte_has_its_place(rt: HostRuntime) -> Result<(), Fail> {
-    let alloc = rt.alloc();
-    let bytes = sampled_file(alloc)?;
-    assert_faults(&rt, alloc, &bytes, WRONG_IN_BOTH)?;
-    assert_faults(&rt, alloc, &bytes, WRONG_BYTES)
-}
+// A byte of the file whose first archive was removed. The removal begins at 224, its archive's settings at 227, the
+// preparation at 240, the cells at 260, and the addition at 324.
+const WRONG_REMOVALS: &[(usize, u8, FileFault)] = &[
+    (224, 6, FileFault::BadEntry { number: 1 }), // no tag
+    (226, 2, FileFault::BadEntry { number: 1 }), // behind the archive that would come after the last
+    (227, 4, FileFault::BadEntry { number: 1 }), // no function
+    (239, 0, FileFault::BadEntry { number: 1 }), // no row
+    (243, 1, FileFault::BadEntry { number: 1 }), // a known step where each makes a row
+    (260, 127, FileFault::BadEntry { number: 1 }), // past the greatest rate
+    (308, 127, FileFault::BadEntry { number: 1 }), // the last cell
+    (324, 0, FileFault::BadEntry { number: 2 }), // no tag
+];
 
-// Each changed byte has its fault.
-fn assert_faults(
-    rt: &impl Abort,
-    alloc: Global,
-    bytes: &[u8],
-    wrong_bytes: &[(usize, u8, FileFault)],
-) -> Result<(), Fail> {
-    for (at, byte, fault) in wrong_bytes {
-        let wrong = changed(alloc, bytes, *at, *byte)?;
-        assert_eq!(rt; fault_of(alloc, &wrong), Some(*fault), "{at}");
+#[test]
+fn wrong_bytes_have_their_places(rt: HostRuntime) -> Result<(), Fail> {
+    let alloc = rt.alloc();
+    let sampled = sampled_file(alloc)?;
+    let first = in_first_version(alloc, &sampled)?;
+    let removed = file_of(alloc, &made(alloc, REMOVED)?)?;
+    for (bytes, wrong_bytes) in [
+        (&sampled, WRONG_IN_BOTH),
+        (&sampled, WRONG_BYTES),
+        (&first, WRONG_IN_BOTH),
+        (&first, WRONG_FIRST_BYTES),
+        (&removed, WRONG_REMOVALS),
+    ] {
+        for (at, byte, fault) in wrong_bytes {
+            let wrong = changed(alloc, bytes, *at, *byte)?;
+            assert_eq!(&rt; fault_of(alloc, &wrong), Some(*fault), "{at}");
+        }
     }
     Ok(())
 }
 
-#[test]
-fn a_wrong_byte_of_the_first_version_has_its_place(rt: HostRuntime) -> Result<(), Fail> {
-    let alloc = rt.alloc();
-    let bytes = in_first_version(alloc, &sampled_file(alloc)?)?;
-    assert_eq!(&rt; bytes.len(), 305);
-    assert_faults(&rt, alloc, &bytes, WRONG_IN_BOTH)?;
-    assert_faults(&rt, alloc, &bytes, WRONG_FIRST_BYTES)
-}
-
-// A byte of that file, what it is changed to, how many bytes are left, and the fault then: a piece of the entry that is
+// A byte of the file of the first version, what it is changed to, how many bytes are left, and the fault then: a piece of the entry that is
 // whole is told, though the input ends in a later one.
 const WRONG_AND_CUT: &[(usize, u8, usize, FileFault)] = &[
     (220, 4, 265, FileFault::BadEntry { number: 1 }),
@@ -295,15 +215,14 @@ fn a_wrong_entry_is_told_before_its_end(rt: HostRuntime) -> Result<(), Fail> {
     Ok(())
 }
 
-// It is read to the database that it stood for, and reverted, and is written in the second version.
+// It is read to the database that it stood for, and is written in the second version.
 #[test]
 fn the_first_version_is_written_in_the_second(rt: HostRuntime) -> Result<(), Fail> {
     let alloc = rt.alloc();
     for plan in DATABASES {
-        let mut database = made(alloc, plan)?;
-        let first = in_first_version(alloc, &file_of(alloc, &database)?)?;
-        let mut read = read_from(alloc, &first)?;
-        assert_revert_alike(&rt, alloc, &mut read, &mut database, plan.name)?;
+        let second = file_of(alloc, &made(alloc, plan)?)?;
+        let first = in_first_version(alloc, &second)?;
+        assert_bytes(&rt, &again(alloc, &first)?, &second, plan);
     }
     Ok(())
 }
@@ -328,160 +247,46 @@ fn names_differ_once_a_rename_is_undone(rt: HostRuntime) -> Result<(), Fail> {
 #[test]
 fn names_differ_once_a_tune_is_undone(rt: HostRuntime) -> Result<(), Fail> {
     let alloc = rt.alloc();
-    let bytes = file_of(alloc, &made(alloc, &FOUR_CHANGES)?)?;
-    let mut places = Vec::new(alloc);
+    let bytes = file_of(alloc, &made(alloc, FOUR_CHANGES)?)?;
+    let mut is_found = false;
     for (at, three) in bytes.as_slice().windows(3).enumerate() {
         if three == b"s00".as_slice() {
-            places.push(at)?;
+            let wrong = changed(alloc, &bytes, at.saturating_add(2), b'1')?;
+            let fault = FileFault::BadEntry { number: 3 };
+            assert!(&rt; !is_found);
+            assert_eq!(&rt; fault_of(alloc, &wrong), Some(fault));
+            is_found = true;
         }
     }
-    assert_eq!(&rt; places.len(), 1);
-    let last = places.first().ok_or("no name")?.saturating_add(2);
-    let wrong = changed(alloc, &bytes, last, b'1')?;
-    assert_eq!(&rt;
-        fault_of(alloc, &wrong),
-        Some(FileFault::BadEntry { number: 3 })
-    );
+    assert!(&rt; is_found);
     Ok(())
 }
 
-// Where a byte is another one, what is read has just these bytes, or there is a fault.
-fn assert_other_or_none(
-    rt: &impl Abort,
-    alloc: Global,
-    bytes: &mut [u8],
-    at: usize,
-    byte: u8,
-) -> Result<(), Fail> {
-    let place = bytes.get_mut(at).ok_or("short")?;
-    let right = mem::replace(place, byte);
-    if let Ok(database) = decode(alloc, &*bytes) {
-        let written = file_of(alloc, &database)?;
-        assert_bytes(rt, &written, bytes, "a changed file");
-    }
-    *bytes.get_mut(at).ok_or("short")? = right;
-    Ok(())
-}
-
-fn assert_others_or_none(rt: &impl Abort, alloc: Global, plan: &Plan) -> Result<(), Fail> {
-    let mut bytes = file_of(alloc, &made(alloc, plan)?)?;
-    for at in 0..bytes.len() {
-        for byte in [0, 1, 128] {
-            assert_other_or_none(rt, alloc, &mut bytes, at, byte)?;
-        }
-    }
-    Ok(())
-}
-
-#[test]
-fn a_changed_file_is_another_or_none(rt: HostRuntime) -> Result<(), Fail> {
-    let alloc = rt.alloc();
-    assert_others_or_none(&rt, alloc, &SAMPLED)?;
-    assert_others_or_none(&rt, alloc, &THREE_CHANGES)
-}
-
-#[test]
-fn a_changed_file_of_a_removal_is_another_or_none(rt: HostRuntime) -> Result<(), Fail> {
-    assert_others_or_none(&rt, rt.alloc(), &REMOVED)
-}
-
-// Each byte changed to each other value. A built test takes a few seconds; an unproved run, which takes
-// a hundred times as long, ends where it is after ten.
-#[test]
-fn each_other_byte_makes_another_file_or_none(rt: HostRuntime) -> Result<(), Fail> {
-    let alloc = rt.alloc();
-    let mut files = [new_file(alloc)?, sampled_file(alloc)?, renamed_file(alloc)?];
-    for change in 1..=255u8 {
-        for bytes in &mut files {
-            for at in 0..bytes.len() {
-                let byte = change ^ *bytes.get(at).ok_or("short")?;
-                assert_other_or_none(&rt, alloc, bytes, at, byte)?;
-            }
-        }
-        if rt.process_cpu_time()?.as_secs() >= 10 {
-            break;
-        }
-    }
-    Ok(())
-}
-
-// ---- readers
-
-// How often each read is interrupted, and after how many bytes one fails.
-const READERS: &[(u64, usize, Option<FileFault>)] = &[
-    (0, usize::MAX, None),
-    (1_000, usize::MAX, None),
-    (1_001, usize::MAX, Some(FileFault::Read)),
-    (0, 0, Some(FileFault::Read)),
-    (0, 100, Some(FileFault::Read)),
-    (0, 309, Some(FileFault::Read)),
-];
-
-#[test]
-fn short_reads_interrupts_and_failures(rt: HostRuntime) -> Result<(), Fail> {
-    let alloc = rt.alloc();
-    let bytes = sampled_file(alloc)?;
-    for (interrupts, room, fault) in READERS {
-        let manner = Manner {
-            at_once: 7,
-            interrupts: *interrupts,
-            room: *room,
-            ..PLAIN
-        };
-        let end = decode(alloc, Giver::new(&bytes, manner));
-        assert_eq!(&rt; end.err(), *fault, "{interrupts} {room}");
-    }
-    let longer = joined(alloc, &[&bytes, &[0]])?;
-    let manner = Manner {
-        at_once: 7,
-        interrupts: 1,
-        ..PLAIN
-    };
-    let end = decode(alloc, Giver::new(&longer, manner));
-    assert_eq!(&rt; end.err(), Some(FileFault::Trailing { at: 309 }));
-    Ok(())
-}
+// ---- long files
 
 // A file of more bytes than come at once.
-const LONG: Plan = Plan {
-    name: "10,000 rows",
-    archives: &[RraDef {
-        rows: 10_000,
-        ..FOUR_LAST
-    }],
-    ..NEW
-};
+const LONG: &str = "create --step 10 --start 0 DS:g:GAUGE:100:U:U RRA:LAST:0.5:1:10000";
 
 #[test]
 fn a_long_file(rt: HostRuntime) -> Result<(), Fail> {
     let alloc = rt.alloc();
-    let bytes = file_of(alloc, &made(alloc, &LONG)?)?;
+    let bytes = file_of(alloc, &made(alloc, LONG)?)?;
     assert_eq!(&rt; bytes.len(), 160_160);
     assert_bytes(&rt, &again(alloc, &bytes)?, &bytes, "10,000 rows");
     for length in [2_047, 2_048, 2_049, 65_536, 160_159] {
-        let front = bytes.get(..length).ok_or("short")?;
-        let at = length as u64;
-        let fault = Some(FileFault::Truncated { at });
-        assert_eq!(&rt; fault_of(alloc, front), fault, "{length}");
+        assert_is_cut(&rt, alloc, &bytes, length)?;
     }
     Ok(())
 }
 
 // Three sources and rows across the end of what comes at once: the cells begin at 394, so the cell 103 lies
 // across it, in the row of 102 to 104.
-const ACROSS: Plan = Plan {
-    name: "rows across the end of what comes at once",
-    sources: &[GAUGE_A, GAUGE_B, GAUGE_C],
-    archives: &[RraDef {
-        rows: 2_000,
-        ..FOUR_LAST
-    }],
-    ..NEW
-};
+const ACROSS: &str =
+    "create --step 10 --start 0 DS:a:GAUGE:100:U:U DS:b:GAUGE:100:U:U DS:c:GAUGE:100:U:U RRA:LAST:0.5:1:2000";
 
 // The file with all cells unknown, or known and zero.
 fn file_across(alloc: Global, known: bool) -> Result<Vec<u8>, Fail> {
-    let mut bytes = file_of(alloc, &made(alloc, &ACROSS)?)?;
+    let mut bytes = file_of(alloc, &made(alloc, ACROSS)?)?;
     if known {
         for cell in 0..6_000 {
             *bytes.get_mut(394 + 16 * cell).ok_or("short")? = 0;
@@ -496,7 +301,7 @@ fn rows_across_the_end_of_a_block(rt: HostRuntime) -> Result<(), Fail> {
     for known in [false, true] {
         let bytes = file_across(alloc, known)?;
         assert_eq!(&rt; bytes.len(), 394 + 16 * 6_000, "{known}");
-        assert_bytes(&rt, &again(alloc, &bytes)?, &bytes, ACROSS.name);
+        assert_bytes(&rt, &again(alloc, &bytes)?, &bytes, ACROSS);
         // A cell past the greatest rate, at each place of the row across the end and of those beside it.
         for cell in 99..108 {
             let at = 394 + 16 * cell;
@@ -505,7 +310,7 @@ fn rows_across_the_end_of_a_block(rt: HostRuntime) -> Result<(), Fail> {
             assert_eq!(&rt; fault_of(alloc, &wrong), Some(fault), "{cell}");
             // Other cells have the other kind.
             let other = changed(alloc, &bytes, at, if known { 128 } else { 0 })?;
-            assert_bytes(&rt, &again(alloc, &other)?, &other, ACROSS.name);
+            assert_bytes(&rt, &again(alloc, &other)?, &other, ACROSS);
         }
     }
     Ok(())
@@ -517,10 +322,7 @@ fn a_cut_row_across_the_end_of_a_block(rt: HostRuntime) -> Result<(), Fail> {
     let alloc = rt.alloc();
     let bytes = file_across(alloc, true)?;
     for length in 2_020..2_080usize {
-        let front = bytes.get(..length).ok_or("short")?;
-        let at = length as u64;
-        let fault = Some(FileFault::Truncated { at });
-        assert_eq!(&rt; fault_of(alloc, front), fault, "{length}");
+        assert_is_cut(&rt, alloc, &bytes, length)?;
     }
     let wrong = changed(alloc, &bytes, 2_042, 127)?;
     for (length, fault) in [

@@ -1,16 +1,15 @@
 //! Files over readers and writers of which each call fails in turn, or is interrupted.
 use crate::file::decoding::{WRONG_BYTES, WRONG_IN_BOTH};
 use crate::shared::assert_front;
-use rrd_base::{Database, RraDef};
+use rrd_base::Database;
 use rrd_file::{FileFault, decode, encode};
-use rrd_fixed::Kind;
-use rrd_fold::Function;
 use std::alloc::Global;
 use std::io::ErrorKind;
 use std::process::Abort;
 use std::test::Fail;
 use test_data::each_call::{FAULTS, INTERRUPTS, failing_after, interrupted};
-use test_data::plans::{FOUR_LAST, GAUGE_A, GAUGE_B, GAUGE_C, NEW, Plan, made};
+use test_data::joined;
+use test_data::plans::made;
 use test_data::streams::{Giver, PLAIN, Taker};
 use test_data::worked_files::{
     ARCHIVES_CHANGED, FOUR_CHANGES, SAMPLED, changed, file_of, in_first_version, sampled_file,
@@ -51,60 +50,40 @@ fn each_read_of_a_file_fails(rt: HostRuntime) -> Result<(), Fail> {
     Ok(())
 }
 
-const THREE_SOURCES: Plan = Plan {
-    name: "three sources",
-    sources: &[GAUGE_A, GAUGE_B, GAUGE_C],
-    archives: &[RraDef {
-        rows: 2,
-        ..FOUR_LAST
-    }],
-    ..NEW
-};
-
 // These have, taken together, an entry of each kind in their journals.
-const JOURNALS: [Plan; 2] = [FOUR_CHANGES, ARCHIVES_CHANGED];
+const JOURNALS: [&str; 2] = [FOUR_CHANGES, ARCHIVES_CHANGED];
 
 #[test]
 fn each_read_of_entries_fails(rt: HostRuntime) -> Result<(), Fail> {
     let alloc = rt.alloc();
-    for plan in &JOURNALS {
+    for plan in JOURNALS {
         let bytes = file_of(alloc, &made(alloc, plan)?)?;
         assert_each_read_counts(&rt, alloc, &bytes, ErrorKind::Other);
     }
     Ok(())
 }
 
-// What is wrong with a piece that begins at a byte is told once it is whole, though a later read fails.
-fn assert_told_once_whole(rt: &impl Abort, alloc: Global, bytes: &[u8], at: u64, whole: usize) {
-    for calls in 0..bytes.len() {
-        let wanted = if calls < whole {
-            FileFault::Read
-        } else {
-            FileFault::BadBlock { at }
-        };
-        let fault = fault_after(alloc, bytes, calls, ErrorKind::Other);
-        assert_eq!(rt; fault, Some(wanted), "{calls}");
+const THREE_SOURCES: &str =
+    "create --step 10 --start 0 DS:a:GAUGE:100:U:U DS:b:GAUGE:100:U:U DS:c:GAUGE:100:U:U RRA:LAST:0.5:1:2";
+
+// What is wrong with a piece is told once it is whole, though a later read fails. The source has the bytes from 30 up to
+// 127. Of a row of three cells, which has those from 394 up to 442, the second one is past the greatest rate.
+#[test]
+fn an_earlier_piece_is_told_first(rt: HostRuntime) -> Result<(), Fail> {
+    let alloc = rt.alloc();
+    let three = file_of(alloc, &made(alloc, THREE_SOURCES)?)?;
+    assert_eq!(&rt; three.len(), 490);
+    for (bytes, at, whole) in [
+        (changed(alloc, &sampled_file(alloc)?, 50, 4)?, 30, 127),
+        (changed(alloc, &three, 410, 127)?, 410, 426),
+    ] {
+        for calls in 0..bytes.len() {
+            let told = fault_after(alloc, &bytes, calls, ErrorKind::Other);
+            let is_shown = told == Some(FileFault::BadBlock { at });
+            assert!(&rt; is_shown || told == Some(FileFault::Read), "{calls}");
+            assert_eq!(&rt; is_shown, calls >= whole, "{calls}");
+        }
     }
-}
-
-// The source has the bytes from 30 up to 127.
-#[test]
-fn an_earlier_source_is_told_first(rt: HostRuntime) -> Result<(), Fail> {
-    let alloc = rt.alloc();
-    let mut bytes = sampled_file(alloc)?;
-    *bytes.get_mut(50).ok_or("short")? = 4;
-    assert_told_once_whole(&rt, alloc, &bytes, 30, 127);
-    Ok(())
-}
-
-// A row has three cells, and the first row the bytes from 394 up to 442. Its second cell is past the greatest rate.
-#[test]
-fn an_earlier_cell_of_a_row_is_told_first(rt: HostRuntime) -> Result<(), Fail> {
-    let alloc = rt.alloc();
-    let mut bytes = file_of(alloc, &made(alloc, &THREE_SOURCES)?)?;
-    assert_eq!(&rt; bytes.len(), 490);
-    *bytes.get_mut(410).ok_or("short")? = 127;
-    assert_told_once_whole(&rt, alloc, &bytes, 410, 426);
     Ok(())
 }
 
@@ -140,14 +119,23 @@ fn each_read_of_a_wrong_file_fails(rt: HostRuntime) -> Result<(), Fail> {
     Ok(())
 }
 
+// And a byte behind the last one is found where each read gives few bytes.
 #[test]
 fn interrupted_reads_of_a_file(rt: HostRuntime) -> Result<(), Fail> {
     let alloc = rt.alloc();
     let bytes = sampled_file(alloc)?;
     for (interrupts, is_read) in INTERRUPTS {
         let end = decode(alloc, Giver::new(&bytes, interrupted(*interrupts)));
-        assert_eq!(&rt; end.is_ok(), *is_read, "{interrupts}");
+        let fault = if *is_read {
+            None
+        } else {
+            Some(FileFault::Read)
+        };
+        assert_eq!(&rt; end.err(), fault, "{interrupts}");
     }
+    let longer = joined(alloc, &[&bytes, &[0]])?;
+    let end = decode(alloc, Giver::new(&longer, interrupted(1)));
+    assert_eq!(&rt; end.err(), Some(FileFault::Trailing { at: 309 }));
     Ok(())
 }
 
@@ -158,53 +146,41 @@ fn assert_each_write_counts(
     rt: &impl Abort,
     alloc: Global,
     database: &Database,
-    bytes: &[u8],
-    fault: Option<ErrorKind>,
-) {
-    for calls in 0..bytes.len().saturating_add(1) {
-        let mut out = Taker::new(alloc, failing_after(calls, fault), PLAIN);
-        let end = encode(database, &mut out);
-        assert_eq!(rt; end.is_ok(), calls == bytes.len(), "{calls}");
-        assert_front(rt, &out.taken, bytes, calls);
+    faults: &[Option<ErrorKind>],
+) -> Result<(), Fail> {
+    let bytes = file_of(alloc, database)?;
+    for fault in faults {
+        for calls in 0..bytes.len().saturating_add(1) {
+            let mut out = Taker::new(alloc, failing_after(calls, *fault), PLAIN);
+            let end = encode(database, &mut out);
+            assert_eq!(rt; end.is_ok(), calls == bytes.len(), "{calls}");
+            assert_front(rt, &out.taken, &bytes, calls);
+        }
     }
+    Ok(())
 }
 
 #[test]
 fn each_write_of_a_file_fails(rt: HostRuntime) -> Result<(), Fail> {
     let alloc = rt.alloc();
-    let database = made(alloc, &SAMPLED)?;
+    let database = made(alloc, SAMPLED)?;
+    assert_each_write_counts(&rt, alloc, &database, FAULTS)?;
     let bytes = sampled_file(alloc)?;
-    for fault in FAULTS {
-        assert_each_write_counts(&rt, alloc, &database, &bytes, *fault);
+    for (interrupts, is_written) in INTERRUPTS {
+        let mut out = Taker::new(alloc, interrupted(*interrupts), PLAIN);
+        let end = encode(&database, &mut out);
+        assert_eq!(&rt; end.is_ok(), *is_written, "{interrupts}");
+        let room = if *is_written { bytes.len() } else { 0 };
+        assert_front(&rt, &out.taken, &bytes, room);
     }
     Ok(())
 }
 
 #[test]
 fn each_write_of_entries_fails(rt: HostRuntime) -> Result<(), Fail> {
-    let alloc = rt.alloc();
-    for plan in &JOURNALS {
-        let database = made(alloc, plan)?;
-        let bytes = file_of(alloc, &database)?;
-        assert_each_write_counts(&rt, alloc, &database, &bytes, None);
-    }
-    Ok(())
-}
-
-#[test]
-fn interrupted_writes_of_a_file(rt: HostRuntime) -> Result<(), Fail> {
-    let alloc = rt.alloc();
-    let database = made(alloc, &SAMPLED)?;
-    let bytes = sampled_file(alloc)?;
-    for (interrupts, is_written) in INTERRUPTS {
-        let mut out = Taker::new(alloc, interrupted(*interrupts), PLAIN);
-        assert_eq!(&rt;
-            encode(&database, &mut out).is_ok(),
-            *is_written,
-            "{interrupts}"
-        );
-        let room = if *is_written { bytes.len() } else { 0 };
-        assert_front(&rt, &out.taken, &bytes, room);
+    for plan in JOURNALS {
+        let database = made(rt.alloc(), plan)?;
+        assert_each_write_counts(&rt, rt.alloc(), &database, &[None])?;
     }
     Ok(())
 }

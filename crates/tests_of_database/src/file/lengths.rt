@@ -1,10 +1,7 @@
 //! How many bytes files have, summed by hand from the tables of docs/file-format.md.
-use rrd_base::RraDef;
 use rrd_file::{decode, encoded_length};
-use rrd_fold::Function;
-use std::process::Abort;
 use std::test::Fail;
-use test_data::plans::{FOUR_LAST, NEW, Plan, made};
+use test_data::plans::{NEW, made};
 use test_data::worked_files::{
     ADDED, ARCHIVES_CHANGED, FOUR_CHANGES, HALF_A_ROW, REMOVED, SAMPLED, TAKEN_BACK, THREE_CHANGES,
     TWO_SOURCES, TWO_SOURCES_SAMPLED, file_of, in_first_version, sampled_file,
@@ -12,7 +9,7 @@ use test_data::worked_files::{
 
 // With one source a body has 30 + 97 bytes, 13 + 20 for each archive and 16 for each row; with two 30 + 194,
 // 13 + 40 and 32.
-const LENGTHS: &[(Plan, u64)] = &[
+const LENGTHS: &[(&str, u64)] = &[
     (NEW, 224), // 30 + 97 + 33 + 64
     (SAMPLED, 309), // and an update of one row: 9 + 36 + 24 + 16
     (TAKEN_BACK, 224),
@@ -36,9 +33,9 @@ fn lengths_of_files(rt: HostRuntime) -> Result<(), Fail> {
     let alloc = rt.alloc();
     for (plan, length) in LENGTHS {
         let database = made(alloc, plan)?;
-        assert_eq!(&rt; encoded_length(&database), *length, "{}", plan.name);
+        assert_eq!(&rt; encoded_length(&database), *length, "{plan}");
         let bytes = file_of(alloc, &database)?;
-        assert_eq!(&rt; bytes.len() as u64, *length, "{}", plan.name);
+        assert_eq!(&rt; bytes.len() as u64, *length, "{plan}");
     }
     Ok(())
 }
@@ -47,7 +44,7 @@ fn lengths_of_files(rt: HostRuntime) -> Result<(), Fail> {
 #[test]
 fn lengths_fall_with_reverts(rt: HostRuntime) -> Result<(), Fail> {
     let alloc = rt.alloc();
-    let mut database = made(alloc, &THREE_CHANGES)?;
+    let mut database = made(alloc, THREE_CHANGES)?;
     for length in [494, 391, 309, 224] {
         assert_eq!(&rt; encoded_length(&database), length, "{length}");
         let _reverted = database.revert();
@@ -69,18 +66,10 @@ fn the_length_is_that_of_the_second_version(rt: HostRuntime) -> Result<(), Fail>
 }
 
 // A cell has 16 bytes, however many there are, and none of them is looked at.
-const MILLION_ROWS: Plan = Plan {
-    name: "a million rows",
-    archives: &[RraDef {
-        rows: 1_000_000,
-        ..FOUR_LAST
-    }],
-    ..NEW
-};
-
 #[test]
 fn a_long_length(rt: HostRuntime) -> Result<(), Fail> {
-    let alloc = rt.alloc();
-    assert_eq!(&rt; encoded_length(&made(alloc, &MILLION_ROWS)?), 16_000_160);
+    let million_rows = "create --step 10 --start 0 DS:g:GAUGE:100:U:U RRA:LAST:0.5:1:1000000";
+    let database = made(rt.alloc(), million_rows)?;
+    assert_eq!(&rt; encoded_length(&database), 16_000_160);
     Ok(())
 }

@@ -16,13 +16,15 @@ pub(super) enum Fate {
     Once,
 }
 
-// Which call fails, and how; and the most bytes of a write and of the file.
+// Which call fails, and how; the most bytes of a write, and of the file; and the limit on the size of files: a write behind
+// it fails, one up to it is cut short there.
 #[derive(Clone, Copy, PartialEq, Eq, Debug, Drop)]
 pub(super) struct Faults {
     pub(super) call: u64,
     pub(super) fate: Fate,
     pub(super) piece: usize,
     pub(super) full: usize,
+    pub(super) limit: usize,
 }
 
 pub(super) const NO_FAULTS: Faults = Faults {
@@ -30,6 +32,7 @@ pub(super) const NO_FAULTS: Faults = Faults {
     fate: Fate::Whole,
     piece: usize::MAX,
     full: usize::MAX,
+    limit: usize::MAX,
 };
 
 // A call that the disk does not have yet: a write, one within a sector, or a change of the length.
@@ -212,7 +215,8 @@ impl Bytes for Disk {
 
     fn write(&mut self, at: usize, bytes: &[u8]) -> io::Result<usize> {
         let fate = self.fate();
-        let room = self.faults.full.max(self.held.len()).saturating_sub(at);
+        let most = self.faults.full.max(self.held.len());
+        let room = most.min(self.faults.limit).saturating_sub(at);
         let count = bytes.len().min(self.faults.piece).min(room);
         let first = bytes.get(..count).unwrap_or(&[]);
         if fate == Fate::Before || first.is_empty() {
@@ -229,6 +233,12 @@ impl Bytes for Disk {
 
     fn write_whole(&mut self, at: usize, bytes: &[u8]) -> io::Result<()> {
         let fate = self.fate();
+        let room = self.faults.limit.saturating_sub(at);
+        if room < bytes.len() {
+            let first = Vec::from_slice(self.alloc, bytes.get(..room).unwrap_or(&[]))?;
+            self.keep(room, Waiting::Whole(at, first))?;
+            return ended(Fate::Before, ());
+        }
         if fate != Fate::Before && fate != Fate::Part {
             let copy = Vec::from_slice(self.alloc, bytes)?;
             self.keep(bytes.len(), Waiting::Whole(at, copy))?;
@@ -238,6 +248,9 @@ impl Bytes for Disk {
 
     fn write_page(&mut self, bytes: &[u8]) -> io::Result<()> {
         let fate = self.fate();
+        if self.faults.limit < bytes.len() {
+            return ended(Fate::Before, ());
+        }
         if fate != Fate::Before && fate != Fate::Part {
             let copy = Vec::from_slice(self.alloc, bytes)?;
             self.keep(bytes.len(), Waiting::Write(0, copy))?;
@@ -247,6 +260,9 @@ impl Bytes for Disk {
 
     fn set_len(&mut self, count: usize) -> io::Result<()> {
         let fate = self.fate();
+        if self.faults.limit.max(self.held.len()) < count {
+            return ended(Fate::Before, ());
+        }
         if fate != Fate::Before && fate != Fate::Part {
             self.keep(0, Waiting::Length(count))?;
         }

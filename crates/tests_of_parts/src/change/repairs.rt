@@ -103,9 +103,22 @@ impl Run<'_> {
         Err(Fail::from("repairs without an end"))
     }
 
+    // Repairs a file after a kill, under limits on the size of files. The file stands for the same database afterwards.
+    fn repair_limited(&self, rt: &impl Abort, disk: &Disk, now: &[u8]) -> Result<(), Fail> {
+        for limit in 0..24 {
+            let mut next = disk.after_kill(Faults { limit, ..NO_FAULTS })?;
+            let is_repaired = repair(self.alloc, &mut next, self.syncs).is_ok();
+            let held = stands_for(self.alloc, next.held())?.ok_or("no database")?;
+            assert!(rt; held.as_slice() == now, "{limit}");
+            assert!(rt; !is_repaired || next.held() == now, "{limit}");
+        }
+        Ok(())
+    }
+
     // Repairs a file after a kill, and stops at each call. What is left is repaired again.
     fn repair_each(&self, rt: &impl Abort, disk: &Disk) -> Result<(), Fail> {
         let now = stands_for(self.alloc, disk.held())?.ok_or("no database")?;
+        self.repair_limited(rt, disk, &now)?;
         for fate in STOPS {
             for call in 1..1_000 {
                 let mut next = disk.after_kill(stop_at(call, fate))?;

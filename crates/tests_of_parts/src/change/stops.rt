@@ -178,3 +178,25 @@ fn short_writes_and_full_disks(rt: HostRuntime) -> Result<(), Fail> {
     }
     Ok(())
 }
+
+// A limit on the size of files cuts no mark short that counts: each mark of sixteen bytes follows a write behind them.
+#[test]
+fn limits_on_the_size_of_files(rt: HostRuntime) -> Result<(), Fail> {
+    let alloc = rt.alloc();
+    for syncs in [Syncs::Never, Syncs::Ordered] {
+        for (way, lengths) in RUNS {
+            let states = states(alloc, lengths)?;
+            let run = Run {
+                alloc,
+                way: *way,
+                states: &states,
+                syncs,
+            };
+            for limit in 0..100 {
+                let faults = Faults { limit, ..NO_FAULTS };
+                run.is_stopped(&rt, faults)?;
+            }
+        }
+    }
+    Ok(())
+}

@@ -1,4 +1,5 @@
 //! Characters that command a terminal, or that nobody sees.
+use super::said;
 use rrd_explain::{Explanation, other_program};
 use std::alloc::AllocError;
 
@@ -19,6 +20,14 @@ const SHOWN: &[(&str, &str)] = &[
         "\\u{2066}\\u{2069}\\u{61c}\\u{feff}",
     ),
     ("\u{e0041}\u{10ffff}", "\\u{e0041}\u{10ffff}"),
+    (
+        "\u{34f}\u{115e}\u{115f}\u{1161}\u{17b5}\u{180b}\u{3164}",
+        "\\u{34f}\u{115e}\\u{115f}\u{1161}\\u{17b5}\\u{180b}\\u{3164}",
+    ),
+    (
+        "\u{fe0f}\u{fe10}\u{ffa0}\u{fff0}\u{fffc}\u{1d173}\u{e0fff}\u{e1000}",
+        "\\u{fe0f}\u{fe10}\\u{ffa0}\\u{fff0}\u{fffc}\\u{1d173}\\u{e0fff}\u{e1000}",
+    ),
     ("größer \u{1f600}", "größer \u{1f600}"),
 ];
 
@@ -59,10 +68,6 @@ const FILES: &[(&[u8], &str, &str)] = &[
 fn files_of_other_programs(rt: HostRuntime) {
     for (first, name, wanted) in FILES {
         let explanation = other_program(rt.alloc(), name, first);
-        let said = match &explanation {
-            Some(explanation) => explanation.as_bytes(),
-            None => b"",
-        };
-        assert_eq!(&rt; said, wanted.as_bytes(), "{name}");
+        assert_eq!(&rt; said(&explanation), *wanted, "{name}");
     }
 }

@@ -14,23 +14,19 @@ const NO_SAMPLE_READ: TaskFault = TaskFault::Command(Fault::Line(LineFault::BadW
     number: 1,
 }));
 
+const NO_MEMORY: TaskFault = TaskFault::Stream(StreamFault::OutOfMemory);
+
+const BAD_STEP: TaskFault = TaskFault::Command(Fault::Refused(Refusal::BadStep));
+
 // Other faults, their text, and what is told behind their line.
 const OTHER_FAULTS: &[(TaskFault, &str, &str)] = &[
     (TaskFault::Stream(StreamFault::Write), "write failed", ""),
     (TaskFault::Stream(StreamFault::Read), "read failed", ""),
-    (
-        TaskFault::Stream(StreamFault::OutOfMemory),
-        "out of memory",
-        "",
-    ),
+    (NO_MEMORY, "out of memory", ""),
     (TaskFault::CannotOpen, "cannot open", ""),
     (TaskFault::CannotWrite, "cannot write", ""),
     (NO_SAMPLE_READ, "unreadable sample 1", ""),
-    (
-        TaskFault::Command(Fault::Refused(Refusal::BadStep)),
-        "bad step",
-        "",
-    ),
+    (BAD_STEP, "bad step", ""),
     (USAGE_ERROR, "usage", USAGE),
 ];
 
@@ -64,25 +60,17 @@ fn faults_of_tasks(rt: HostRuntime) -> Result<(), Fail> {
     Ok(())
 }
 
+const UNWRITTEN: Option<TaskFault> = Some(TaskFault::CannotWrite);
+
+const BOTH: &str = "ERROR: read failed\nERROR: cannot write\n";
+
 // How a batch ended: how many lines were refused, what of its streams failed, and why its database
 // isn't in its file; the status then, and what is told.
 const ENDS: &[(u64, Option<StreamFault>, Option<TaskFault>, u8, &str)] = &[
     (0, None, None, 0, ""),
     (1, None, None, 1, ""),
-    (
-        0,
-        None,
-        Some(TaskFault::CannotWrite),
-        1,
-        "ERROR: cannot write\n",
-    ),
-    (
-        0,
-        Some(StreamFault::Read),
-        Some(TaskFault::CannotWrite),
-        1,
-        "ERROR: read failed\nERROR: cannot write\n",
-    ),
+    (0, None, UNWRITTEN, 1, "ERROR: cannot write\n"),
+    (0, Some(StreamFault::Read), UNWRITTEN, 1, BOTH),
 ];
 
 #[test]
@@ -90,31 +78,14 @@ fn ends_of_batches(rt: HostRuntime) -> Result<(), Fail> {
     let alloc = rt.alloc();
     for (refused, stream, unstored, status, text) in ENDS {
         let mut err = Vec::new(alloc);
-        assert_eq!(&rt;
-            report_batch(&mut err, *refused, *stream, *unstored),
-            *status,
-            "{text}"
-        );
+        let end = report_batch(&mut err, *refused, *stream, *unstored);
+        assert_eq!(&rt; end, *status, "{text}");
         assert_eq!(&rt; err.as_slice(), text.as_bytes(), "{text}");
     }
     let mut err = Vec::new(alloc);
+    assert_eq!(&rt; report_command(&mut err, Ok(())), 0);
+    assert!(&rt; err.is_empty());
     assert_eq!(&rt; report_file_batch(&mut err, Err(TaskFault::CannotOpen)), 1);
     assert_eq!(&rt; err.as_slice(), b"ERROR: cannot open\n".as_slice());
-    Ok(())
-}
-
-#[test]
-fn ends_of_commands(rt: HostRuntime) -> Result<(), Fail> {
-    let alloc = rt.alloc();
-    let misused = format!(in alloc; "ERROR: usage\n{USAGE}")?;
-    for (end, status, text) in [
-        (Ok(()), 0, ""),
-        (Err(USAGE_ERROR), 2, misused.as_str()),
-        (Err(NO_SAMPLE_READ), 1, "ERROR: unreadable sample 1\n"),
-    ] {
-        let mut err = Vec::new(alloc);
-        assert_eq!(&rt; report_command(&mut err, end), status, "{text}");
-        assert_eq!(&rt; err.as_slice(), text.as_bytes(), "{text}");
-    }
     Ok(())
 }

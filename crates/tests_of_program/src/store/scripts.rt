@@ -2,7 +2,9 @@
 //! batches and single commands, they tell the same and leave the same bytes. In a session, which keeps the bytes in
 //! memory and changes a few of them, each line leaves the bytes that it leaves alone.
 use super::storage::InMemory;
-use rrd_store::{Always, report_command, run_file_batch, run_file_command};
+use super::{run, run_lines};
+use rrd_store::{TaskFault, run_file_command};
+use rrd_tool::Unobserved;
 use std::alloc::{AllocError, Global};
 use std::process::Abort;
 use std::test::Fail;
@@ -174,19 +176,12 @@ impl Session {
 
     // Runs lines as a batch.
     fn batch(&mut self, lines: &str) -> Result<(), Fail> {
-        let mut input = lines.as_bytes();
-        let end = run_file_batch(
-            self.alloc,
-            0,
-            0,
-            &mut self.storage,
-            &mut input,
-            &mut self.told,
-            &Always,
-        )?;
+        let (end, out) = run_lines(self.alloc, &mut self.storage, lines);
+        let end = end?;
         if end.stream.is_some() || end.unstored.is_some() {
             return Err(Fail::from("a batch ended early"));
         }
+        self.told.extend_from_slice(&out)?;
         self.refused = self.refused.saturating_add(end.refused);
         Ok(())
     }
@@ -194,20 +189,17 @@ impl Session {
     // Runs a line as a command of its own. The line of its fault comes on another stream than what it
     // prints, and where a batch has no database, there is no file to be opened.
     fn single(&mut self, line: &str) -> Result<(), Fail> {
-        let words = words_of(self.alloc, line)?;
-        let end = run_file_command(self.alloc, &words, 0, &mut self.storage, &mut self.told);
-        let mut err = Vec::new(self.alloc);
-        if report_command(&mut err, end) == 0 {
+        let (end, out) = run(self.alloc, &mut self.storage, line, 0)?;
+        self.told.extend_from_slice(&out)?;
+        let Some(fault) = end else {
             return Ok(());
-        }
-        self.refused = self.refused.saturating_add(1);
-        let fault = str::from_utf8(&err)?.split('\n').next().ok_or("no fault")?;
-        let told = match fault {
-            "ERROR: cannot open" => "ERROR: no database",
-            other => other,
         };
-        self.told.extend_from_slice(told.as_bytes())?;
-        self.told.push(b'\n')?;
+        self.refused = self.refused.saturating_add(1);
+        let line = match fault {
+            TaskFault::CannotOpen => format!(in self.alloc; "ERROR: no database\n")?,
+            other => format!(in self.alloc; "ERROR: {other}\n")?,
+        };
+        self.told.extend_from_slice(line.as_bytes())?;
         Ok(())
     }
 }
@@ -307,7 +299,7 @@ fn assert_session_leaves_the_same(
         );
         assert!(rt; together.storage().agrees, "{line}: {script:?}");
         let mut told = Vec::new(alloc);
-        let _end = run_file_command(alloc, &words, 0, &mut giving, &mut told);
+        let _end = run_file_command(alloc, &words, 0, &mut giving, &mut told, &Unobserved);
         assert_eq!(rt;
             giving.bytes.as_slice(),
             apart.storage.bytes.as_slice(),

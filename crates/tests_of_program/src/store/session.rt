@@ -1,10 +1,12 @@
 //! Sessions on a storage in memory that may fail.
-use super::single::{OVER_NOTHING, Step};
+use super::single::OVER_NOTHING;
 use super::storage::{Ending, InMemory};
-use rrd_base::{Given, List, Sample, Update};
+use super::{Step, assert_ended};
+use crate::shared::assert_bytes;
+use rrd_base::{Database, Given, List, Sample, Update};
 use rrd_fixed::Number;
 use rrd_store::{Gate, Session, TaskFault};
-use rrd_tool::Command;
+use rrd_tool::{Command, Fault, Observer};
 use std::alloc::{AllocError, Global};
 use std::process::Abort;
 use std::test::Fail;
@@ -13,6 +15,18 @@ use test_data::worked_files::sampled_file;
 
 // Allows no write.
 struct Never;
+
+impl Observer for Never {
+    fn command_refused(&self, _database: Option<&Database>, _fault: Fault) {}
+
+    fn line_refused(
+        &self,
+        _number: u64,
+        _text: Option<&[u8]>,
+        _database: Option<&Database>,
+        _fault: Fault,
+    ) {}
+}
 
 impl Gate for Never {
     fn allows(&self) -> bool {
@@ -27,18 +41,12 @@ fn assert_step(
     session: &mut Session<InMemory>,
     step: &Step<'_>,
 ) -> Result<(), Fail> {
-    let (line, fault, text, length) = step;
+    let (line, fault, text, _) = step;
     let mut out = Vec::new(alloc);
     let end = session.run(alloc, &words_of(alloc, line)?, 1_000, &mut out);
-    let told = match end {
-        Ok(()) => String::new(alloc),
-        Err(told) => format!(in alloc; "{told}")?,
-    };
-    assert_eq!(rt; told.as_str(), *fault, "{line}");
-    assert_eq!(rt; out.as_slice(), text.as_bytes(), "{line}");
-    assert_eq!(rt; session.storage().bytes.len(), *length, "{line}");
-    let is_printed = !text.is_empty();
-    let is_written = fault.is_empty() && !is_printed;
+    let bytes = session.storage().bytes.as_slice();
+    assert_ended(rt, alloc, end.err(), &out, bytes, step)?;
+    let is_written = fault.is_empty() && text.is_empty();
     assert_eq!(rt; session.is_written(), is_written, "{line}");
     Ok(())
 }
@@ -80,10 +88,7 @@ fn gate_stops_a_batch(rt: HostRuntime) -> Result<(), Fail> {
     let mut session = Session::new(storage);
     let mut lines = &b"update 20:1\nlast\n"[..];
     let mut out = Vec::new(alloc);
-    let Ok(end) = session.run_batch(alloc, 0, 1, &mut lines, &mut out, &Never) else {
-        assert!(&rt; false, "the batch runs");
-        return Ok(());
-    };
+    let end = session.run_batch(alloc, 0, 1, &mut lines, &mut out, &Never)?;
     assert_eq!(&rt; out.as_slice(), b"20\n".as_slice());
     assert_eq!(&rt; end.unstored, Some(TaskFault::CannotWrite));
     assert_step(&rt, alloc, &mut session, &("last", "", "10\n", 309))
@@ -121,6 +126,8 @@ fn run_sample(
     }
 }
 
+const TOO_SMALL: i128 = -1_000_000_000_000_000_000_000_000;
+
 // A command that was not read from words leaves the same bytes as its words do, and is refused as they are.
 #[test]
 fn commands_without_words_run_as_their_words_do(rt: HostRuntime) -> Result<(), Fail> {
@@ -134,7 +141,7 @@ fn commands_without_words_run_as_their_words_do(rt: HostRuntime) -> Result<(), F
         (
             "update 40:-1000000000000000000.0",
             40,
-            Some(-1_000_000_000_000_000_000_000_000),
+            Some(TOO_SMALL),
             "bad value",
         ),
         ("update 50:-0.000001", 50, Some(-1), ""),
@@ -145,10 +152,11 @@ fn commands_without_words_run_as_their_words_do(rt: HostRuntime) -> Result<(), F
         let told = run_sample(alloc, &mut by_command, time, value)?;
         assert_eq!(&rt; told.as_str(), fault, "{line}");
         assert_eq!(&rt; by_command.is_written(), fault.is_empty(), "{line}");
-        assert_eq!(&rt;
-            by_command.storage().bytes.as_slice(),
-            by_words.storage().bytes.as_slice(),
-            "{line}"
+        assert_bytes(
+            &rt,
+            &by_command.storage().bytes,
+            &by_words.storage().bytes,
+            line,
         );
     }
     Ok(())
@@ -162,15 +170,11 @@ fn commands_without_words_read_again(rt: HostRuntime) -> Result<(), Fail> {
     storage.ending = Ending::OldStays;
     let mut session = Session::new(storage);
     assert!(&rt; session.database().is_none());
-    assert_eq!(&rt;
-        run_sample(alloc, &mut session, 20, None)?.as_str(),
-        "cannot write"
-    );
+    let told = run_sample(alloc, &mut session, 20, None)?;
+    assert_eq!(&rt; told.as_str(), "cannot write");
     assert!(&rt; session.database().is_none());
     assert_step(&rt, alloc, &mut session, &("last", "", "10\n", 309))?;
-    assert_eq!(&rt;
-        session.database().map(|database| database.last()),
-        Some(10)
-    );
+    let last = session.database().map(|database| database.last());
+    assert_eq!(&rt; last, Some(10));
     Ok(())
 }

@@ -1,9 +1,9 @@
 //! Single commands over a storage in memory that may fail.
 use super::storage::{Ending, InMemory};
+use super::{Step, assert_ended, run};
 use crate::shared::assert_bytes;
-use rrd_file::FileFault;
 use rrd_store::{Access, TaskFault, run_file_command};
-use rrd_tool::Fault;
+use rrd_tool::{Fault, Unobserved};
 use std::alloc::Global;
 use std::process::Abort;
 use std::test::Fail;
@@ -13,9 +13,6 @@ use test_data::worked_files::{new_file, sampled_file};
 
 pub(super) const CREATE: &str = "create --step 10 --start 0 DS:g:GAUGE:100:U:U RRA:LAST:0.5:1:4";
 
-// A command, the text of its fault, what it prints, and how many bytes are there then.
-pub(super) type Step<'a> = (&'a str, &'a str, &'a str, usize);
-
 // Runs the words of the line at time 1,000. A fault leaves the bytes as they were.
 pub(super) fn assert_step(
     rt: &impl Abort,
@@ -23,17 +20,10 @@ pub(super) fn assert_step(
     storage: &mut InMemory,
     step: &Step<'_>,
 ) -> Result<(), Fail> {
-    let (line, fault, text, length) = step;
+    let (line, fault, _, length) = step;
     let before = storage.bytes.clone()?;
-    let mut out = Vec::new(alloc);
-    let end = run_file_command(alloc, &words_of(alloc, line)?, 1_000, storage, &mut out);
-    let told = match end {
-        Ok(()) => String::new(alloc),
-        Err(told) => format!(in alloc; "{told}")?,
-    };
-    assert_eq!(rt; told.as_str(), *fault, "{line}");
-    assert_eq!(rt; out.as_slice(), text.as_bytes(), "{line}");
-    assert_eq!(rt; storage.bytes.len(), *length, "{line}");
+    let (end, out) = run(alloc, storage, line, 1_000)?;
+    assert_ended(rt, alloc, end, &out, &storage.bytes, step)?;
     let expected = storage.expected.take().unwrap_or(*length);
     assert!(rt; !fault.is_empty() || expected == *length, "{line}");
     let kept = fault.is_empty() || storage.bytes.as_slice() == before.as_slice();
@@ -122,14 +112,17 @@ fn a_place_that_is_not_written(rt: HostRuntime) -> Result<(), Fail> {
     let alloc = rt.alloc();
     let refused = ("update 10:1", "cannot write", "", 224);
     let mut storage = InMemory::with(alloc, &new_file(alloc)?)?;
-    storage.begins = false;
-    assert_step(&rt, alloc, &mut storage, &refused)?;
-    storage.begins = true;
-    storage.ending = Ending::OldStays;
-    assert_step(&rt, alloc, &mut storage, &refused)?;
-    storage.ending = Ending::Whole;
-    storage.room = 308;
-    assert_step(&rt, alloc, &mut storage, &refused)
+    for (begins, ending, room) in [
+        (false, Ending::Whole, usize::MAX),
+        (true, Ending::OldStays, usize::MAX),
+        (true, Ending::Whole, 308),
+    ] {
+        storage.begins = begins;
+        storage.ending = ending;
+        storage.room = room;
+        assert_step(&rt, alloc, &mut storage, &refused)?;
+    }
+    Ok(())
 }
 
 // The last call of a change fails and the new bytes are there: the next command runs over them.
@@ -138,10 +131,8 @@ fn a_place_that_is_written_by_a_call_that_fails(rt: HostRuntime) -> Result<(), F
     let alloc = rt.alloc();
     let mut storage = InMemory::with(alloc, &new_file(alloc)?)?;
     storage.ending = Ending::NewStays;
-    let mut out = Vec::new(alloc);
-    let words = words_of(alloc, "update 10:1")?;
-    let end = run_file_command(alloc, &words, 0, &mut storage, &mut out);
-    assert_eq!(&rt; end.err(), Some(TaskFault::CannotWrite));
+    let (end, _) = run(alloc, &mut storage, "update 10:1", 0)?;
+    assert_eq!(&rt; end, Some(TaskFault::CannotWrite));
     assert_bytes(&rt, &storage.bytes, &sampled_file(alloc)?, "a sampled file");
     assert_step(&rt, alloc, &mut storage, &("last", "", "10\n", 309))
 }
@@ -165,15 +156,14 @@ fn what_a_place_is_opened_for(rt: HostRuntime) -> Result<(), Fail> {
     let alloc = rt.alloc();
     let mut storage = InMemory::missing(alloc);
     for (line, access) in OPENED {
-        let mut out = Vec::new(alloc);
-        let end = run_file_command(alloc, &words_of(alloc, line)?, 0, &mut storage, &mut out);
-        assert!(&rt; end.is_ok(), "{line}");
+        let (end, _) = run(alloc, &mut storage, line, 0)?;
+        assert_eq!(&rt; end, None, "{line}");
         assert_eq!(&rt; storage.access.take(), *access, "{line}");
     }
     Ok(())
 }
 
-// A command whose write breaks off.
+// The write of a command breaks off after so many bytes.
 fn assert_breaks_off(
     rt: &impl Abort,
     alloc: Global,
@@ -182,26 +172,9 @@ fn assert_breaks_off(
     room: usize,
 ) -> Result<(), Fail> {
     storage.room = room;
-    let mut out = Vec::new(alloc);
-    let end = run_file_command(alloc, &words_of(alloc, line)?, 0, storage, &mut out);
-    assert_eq!(rt; end.err(), Some(TaskFault::CannotWrite), "{line} {room}");
+    let (end, _) = run(alloc, storage, line, 0)?;
+    assert_eq!(rt; end, Some(TaskFault::CannotWrite), "{line} {room}");
     assert!(rt; storage.expected.take() > Some(room), "{line} {room}");
-    Ok(())
-}
-
-// The front of a file is refused.
-fn assert_is_cut(
-    rt: &impl Abort,
-    alloc: Global,
-    storage: &mut InMemory,
-    front: &[u8],
-) -> Result<(), Fail> {
-    let at = front.len() as u64;
-    assert_bytes(rt, &storage.bytes, front, "a front");
-    let mut out = Vec::new(alloc);
-    let end = run_file_command(alloc, &words_of(alloc, "last")?, 0, storage, &mut out);
-    let cut = TaskFault::File(FileFault::Truncated { at });
-    assert_eq!(rt; end.err(), Some(cut), "{at}");
     Ok(())
 }
 
@@ -212,30 +185,24 @@ fn a_write_over_no_database_that_breaks_off(rt: HostRuntime) -> Result<(), Fail>
     let new = new_file(alloc)?;
     for room in 0..new.len() {
         let front = new.get(..room).ok_or("short")?;
-        let mut storage = InMemory::missing(alloc);
-        assert_breaks_off(&rt, alloc, &mut storage, CREATE, room)?;
-        assert_is_cut(&rt, alloc, &mut storage, front)?;
-        let mut storage = InMemory::with(alloc, b"")?;
-        assert_breaks_off(&rt, alloc, &mut storage, CREATE, room)?;
-        assert_is_cut(&rt, alloc, &mut storage, front)?;
+        for mut storage in [InMemory::missing(alloc), InMemory::with(alloc, b"")?] {
+            assert_breaks_off(&rt, alloc, &mut storage, CREATE, room)?;
+            assert_bytes(&rt, &storage.bytes, front, "a front");
+        }
     }
     Ok(())
 }
 
-// Wherever a write over a database breaks off, the database stays; a front of the new file would be refused.
+// Wherever a write over a database breaks off, the database stays.
 #[test]
 fn a_write_over_a_database_that_breaks_off(rt: HostRuntime) -> Result<(), Fail> {
     let alloc = rt.alloc();
     let new = new_file(alloc)?;
-    let sampled = sampled_file(alloc)?;
-    for room in 0..sampled.len() {
+    for room in 0..sampled_file(alloc)?.len() {
         let mut storage = InMemory::with(alloc, &new)?;
         assert_breaks_off(&rt, alloc, &mut storage, "update 10:1", room)?;
         assert_bytes(&rt, &storage.bytes, &new, "a new file");
         assert_step(&rt, alloc, &mut storage, &("last", "", "0\n", 224))?;
-        let front = sampled.get(..room).ok_or("short")?;
-        let mut cut = InMemory::with(alloc, front)?;
-        assert_is_cut(&rt, alloc, &mut cut, front)?;
     }
     Ok(())
 }
@@ -244,14 +211,24 @@ fn a_write_over_a_database_that_breaks_off(rt: HostRuntime) -> Result<(), Fail> 
 fn output_that_fails(rt: HostRuntime) -> Result<(), Fail> {
     let alloc = rt.alloc();
     let mut storage = InMemory::with(alloc, &new_file(alloc)?)?;
-    let failed = Some(TaskFault::Command(Fault::Output));
     let words = words_of(alloc, "last")?;
-    let mut full = Taker::new(alloc, Manner { room: 1, ..PLAIN }, PLAIN);
-    let end = run_file_command(alloc, &words, 0, &mut storage, &mut full);
-    assert_eq!(&rt; end.err(), failed);
-    let mut stuck = Taker::new(alloc, PLAIN, Manner { room: 0, ..PLAIN });
-    let end = run_file_command(alloc, &words, 0, &mut storage, &mut stuck);
-    assert_eq!(&rt; end.err(), failed);
+    for (written, flushed) in [(1, usize::MAX), (usize::MAX, 0)] {
+        let writing = Manner {
+            room: written,
+            ..PLAIN
+        };
+        let flushing = Manner {
+            room: flushed,
+            ..PLAIN
+        };
+        let mut out = Taker::new(alloc, writing, flushing);
+        let end = run_file_command(alloc, &words, 0, &mut storage, &mut out, &Unobserved);
+        assert_eq!(&rt;
+            end.err(),
+            Some(TaskFault::Command(Fault::Output)),
+            "{written}"
+        );
+    }
     assert_bytes(&rt, &storage.bytes, &new_file(alloc)?, "a new file");
     Ok(())
 }

@@ -1,8 +1,9 @@
 //! The spans of a file that a run says it changes: an update changes what is before the cells, the slots of the rows that
 //! ended, and the journal.
+use super::run;
 use super::storage::{Ending, InMemory};
 use crate::shared::assert_bytes;
-use rrd_store::{Session, run_file_command};
+use rrd_store::Session;
 use std::alloc::Global;
 use std::process::Abort;
 use std::test::Fail;
@@ -36,8 +37,8 @@ const UPDATES: &[(&str, &[(usize, usize)])] = &[
     ("update 310:9", &[(241, 257)]),
 ];
 
-// Runs a line, and tells whether it was written.
-fn run(alloc: Global, session: &mut Session<InMemory>, line: &str) -> Result<bool, Fail> {
+// Runs a line in a session, and tells whether it was written.
+fn run_in(alloc: Global, session: &mut Session<InMemory>, line: &str) -> Result<bool, Fail> {
     let mut out = Vec::new(alloc);
     let end = session.run(alloc, &words_of(alloc, line)?, 0, &mut out);
     Ok(end.is_ok() && session.is_written())
@@ -50,49 +51,63 @@ fn spans_of(session: &Session<InMemory>) -> Option<&[(usize, usize)]> {
 
 // Runs a line alone, and tells whether it was written.
 fn run_alone(alloc: Global, storage: &mut InMemory, line: &str) -> Result<bool, Fail> {
-    let mut out = Vec::new(alloc);
-    Ok(run_file_command(alloc, &words_of(alloc, line)?, 0, storage, &mut out).is_ok())
+    let (end, _) = run(alloc, storage, line, 0)?;
+    Ok(end.is_none())
 }
 
 // Checks the spans of an update: these cells, what is before the cells, and the journal.
 fn assert_spans(rt: &impl Abort, storage: &InMemory, line: &str, cells: &[(usize, usize)]) {
+    let spans = storage.spans.as_deref().unwrap_or(&[]);
+    let others = [(0, CELLS.0), (CELLS.1, storage.bytes.len())];
     assert!(rt; storage.agrees, "{line}");
-    let Some(spans) = storage.spans.as_deref() else {
-        assert!(rt; false, "{line}: no spans");
-        return;
-    };
     assert_eq!(rt;
         spans.len(),
         cells.len().saturating_add(2),
         "{line}: {spans:?}"
     );
     assert!(rt; spans.starts_with(cells), "{line}: {spans:?}");
-    assert!(rt; spans.contains(&(0, CELLS.0)), "{line}: {spans:?}");
-    assert!(rt;
-        spans.contains(&(CELLS.1, storage.bytes.len())),
-        "{line}: {spans:?}"
-    );
+    for span in others {
+        assert!(rt; spans.contains(&span), "{line}: {spans:?}");
+    }
+}
+
+// Changes of other kinds.
+const OTHERS: [&str; 4] = [
+    "tune --heartbeat a:90",
+    "resize 0 GROW 2",
+    "revert",
+    "revert",
+];
+
+// Checks the spans of a change of another kind: the blocks of 256 bytes that differ.
+fn assert_blocks(rt: &impl Abort, storage: &InMemory, line: &str) {
+    let end = storage.bytes.len();
+    assert!(rt; storage.agrees && storage.spans.is_some(), "{line}");
+    for &(start, stop) in storage.spans.as_deref().unwrap_or(&[]) {
+        let is_block = start % 256 == 0 && (stop % 256 == 0 || stop == end);
+        assert!(rt; is_block, "{line}: {start} to {stop}");
+    }
 }
 
 #[test]
 fn updates_name_the_slots_that_they_change(rt: HostRuntime) -> Result<(), Fail> {
     let alloc = rt.alloc();
     let mut session = Session::new(InMemory::missing(alloc));
-    assert!(&rt; run(alloc, &mut session, CREATE)?, "{CREATE}");
+    assert!(&rt; run_in(alloc, &mut session, CREATE)?, "{CREATE}");
     // Of the first change nobody knows what was there.
     assert!(&rt; spans_of(&session).is_none());
-    assert!(&rt; run(alloc, &mut session, "update 10:1")?);
+    assert!(&rt; run_in(alloc, &mut session, "update 10:1")?);
     assert_spans(&rt, session.storage(), "update 10:1", &[(209, 225)]);
     for (line, cells) in UPDATES {
-        assert!(&rt; run(alloc, &mut session, line)?, "{line}");
+        assert!(&rt; run_in(alloc, &mut session, line)?, "{line}");
         assert_spans(&rt, session.storage(), line, cells);
     }
     Ok(())
 }
 
-// An update that is the only one of its run changes the bytes that were read for it.
+// A change that is the only one of its run knows the bytes that were read for it.
 #[test]
-fn a_single_update_names_the_slots_that_it_changes(rt: HostRuntime) -> Result<(), Fail> {
+fn a_single_change_names_what_it_changes(rt: HostRuntime) -> Result<(), Fail> {
     let alloc = rt.alloc();
     let mut storage = InMemory::missing(alloc);
     storage.gives_bytes = true;
@@ -102,14 +117,14 @@ fn a_single_update_names_the_slots_that_it_changes(rt: HostRuntime) -> Result<()
         assert!(&rt; run_alone(alloc, &mut storage, line)?, "{line}");
         assert_spans(&rt, &storage, line, cells);
     }
-    for line in ["tune --heartbeat a:90", "resize 0 GROW 2", "revert"] {
+    for line in OTHERS {
         assert!(&rt; run_alone(alloc, &mut storage, line)?, "{line}");
-        assert!(&rt; storage.spans.is_none(), "{line}");
+        assert_blocks(&rt, &storage, line);
     }
     Ok(())
 }
 
-// Updates a file, all of whose bytes are then written.
+// An update writes the whole file.
 fn assert_written_whole(
     rt: &impl Abort,
     alloc: Global,
@@ -120,7 +135,7 @@ fn assert_written_whole(
     Ok(())
 }
 
-// A file of the first version is written anew: its header is shorter.
+// A file of the first version is written anew: its header is shorter. (So is one whose bytes are not at hand.)
 #[test]
 fn an_update_of_the_first_version_writes_all(rt: HostRuntime) -> Result<(), Fail> {
     let alloc = rt.alloc();
@@ -133,23 +148,17 @@ fn an_update_of_the_first_version_writes_all(rt: HostRuntime) -> Result<(), Fail
     Ok(())
 }
 
-// A change of another kind may change every byte.
+// A change of another kind names the blocks of 256 bytes that differ.
 #[test]
-fn other_changes_name_all_bytes(rt: HostRuntime) -> Result<(), Fail> {
+fn other_changes_name_the_blocks_that_differ(rt: HostRuntime) -> Result<(), Fail> {
     let alloc = rt.alloc();
     let mut session = Session::new(InMemory::missing(alloc));
     for line in [CREATE, "update 10:1"] {
-        assert!(&rt; run(alloc, &mut session, line)?, "{line}");
+        assert!(&rt; run_in(alloc, &mut session, line)?, "{line}");
     }
-    for line in [
-        "tune --heartbeat a:90",
-        "resize 0 GROW 2",
-        "revert",
-        "revert",
-    ] {
-        assert!(&rt; run(alloc, &mut session, line)?, "{line}");
-        let all = [(0, session.storage().bytes.len())];
-        assert_eq!(&rt; spans_of(&session), Some(&all[..]), "{line}");
+    for line in OTHERS {
+        assert!(&rt; run_in(alloc, &mut session, line)?, "{line}");
+        assert_blocks(&rt, session.storage(), line);
     }
     Ok(())
 }
@@ -171,7 +180,7 @@ fn a_failed_write_forgets_the_bytes(rt: HostRuntime) -> Result<(), Fail> {
             ("update 40:1", true, false),
             ("update 50:1", true, true),
         ] {
-            assert_eq!(&rt; run(alloc, &mut session, line)?, is_written, "{line}");
+            assert_eq!(&rt; run_in(alloc, &mut session, line)?, is_written, "{line}");
             assert_eq!(&rt; spans_of(&session).is_some(), has_spans, "{line}");
             assert!(&rt; session.storage().agrees, "{line}");
         }

@@ -154,6 +154,8 @@ impl Storage for InMemory {
 
     ghost is_sound = { λ s it. ⊤ };
 
+    ghost is_safe = { λ s d q it. ⊤ };
+
     fn load(&mut self, alloc: Global, access: Access) -> Result<Option<Database>, TaskFault> {
         self.access = Some(access);
         if !self.opens {

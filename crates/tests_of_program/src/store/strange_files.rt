@@ -1,7 +1,7 @@
 //! Batches over the file of a database that no run makes, and files that a revert gives back.
+use super::run_lines;
 use super::storage::InMemory;
 use crate::shared::assert_bytes;
-use rrd_store::{Always, run_file_batch};
 use std::alloc::Global;
 use std::process::Abort;
 use std::test::Fail;
@@ -14,16 +14,8 @@ fn printed(
     storage: &mut InMemory,
     lines: &str,
 ) -> Result<Vec<u8>, Fail> {
-    let mut out = Vec::new(alloc);
-    let end = run_file_batch(
-        alloc,
-        0,
-        0,
-        storage,
-        &mut lines.as_bytes(),
-        &mut out,
-        &Always,
-    )?;
+    let (end, out) = run_lines(alloc, storage, lines);
+    let end = end?;
     assert_eq!(rt;
         (end.refused, end.stream, end.unstored),
         (0, None, None),

@@ -1,7 +1,6 @@
 //! Calls that take memory, each made again where it found none: what it left is as it was before, and the second one
 //! does all. `tests/program/test_growths_in_tests.py` has each growth refused in turn; otherwise the first one does all.
-use crate::shared::assert_bytes;
-use crate::shared::batches::parts_of;
+use crate::shared::{assert_bytes, parts_of};
 use rrd_base::{Database, Refusal};
 use rrd_file::{FileFault, decode};
 use rrd_spec::List;
@@ -9,7 +8,7 @@ use rrd_tool::{Fault, LineFault, Words, execute, read_command};
 use std::alloc::Global;
 use std::process::Abort;
 use std::test::Fail;
-use test_data::plans::{Plan, made};
+use test_data::plans::made;
 use test_data::worked_files::{ARCHIVES_CHANGED, FOUR_CHANGES, SAMPLED, file_of};
 use test_data::{command_of, words_of};
 
@@ -42,7 +41,7 @@ fn words_grow(rt: HostRuntime) -> Result<(), Fail> {
 
 // ---- files
 
-fn assert_is_read(rt: &impl Abort, alloc: Global, plan: &Plan) -> Result<(), Fail> {
+fn assert_is_read(rt: &impl Abort, alloc: Global, plan: &str) -> Result<(), Fail> {
     let bytes = file_of(alloc, &made(alloc, plan)?)?;
     let end = match decode(alloc, bytes.as_slice()) {
         Err(FileFault::OutOfMemory) => decode(alloc, bytes.as_slice()),
@@ -52,19 +51,19 @@ fn assert_is_read(rt: &impl Abort, alloc: Global, plan: &Plan) -> Result<(), Fai
         Ok(database) => database,
         Err(fault) => panic!(rt; "{fault}"),
     };
-    assert_bytes(rt, &file_of(alloc, &database)?, &bytes, plan.name);
+    assert_bytes(rt, &file_of(alloc, &database)?, &bytes, plan);
     Ok(())
 }
 
 #[test]
 fn a_file_is_read(rt: HostRuntime) -> Result<(), Fail> {
-    assert_is_read(&rt, rt.alloc(), &SAMPLED)
+    assert_is_read(&rt, rt.alloc(), SAMPLED)
 }
 
 #[test]
 fn a_file_with_entries_is_read(rt: HostRuntime) -> Result<(), Fail> {
-    assert_is_read(&rt, rt.alloc(), &FOUR_CHANGES)?;
-    assert_is_read(&rt, rt.alloc(), &ARCHIVES_CHANGED)
+    assert_is_read(&rt, rt.alloc(), FOUR_CHANGES)?;
+    assert_is_read(&rt, rt.alloc(), ARCHIVES_CHANGED)
 }
 
 // ---- commands
@@ -124,7 +123,7 @@ fn assert_done(rt: &impl Abort, alloc: Global, database: Database, line: &str) -
 
 // A command is done, or leaves the database as it was where there was no memory, and is done then.
 fn assert_changes(rt: &impl Abort, alloc: Global, line: &str) -> Result<(), Fail> {
-    let database = made(alloc, &FOUR_CHANGES)?;
+    let database = made(alloc, FOUR_CHANGES)?;
     let before = file_of(alloc, &database)?;
     let mut out = Vec::new(alloc);
     let end = parts_of(execute(alloc, Some(database), command_of(alloc, line)?, &mut out));

@@ -52,6 +52,7 @@ const REFUSALS: &[(Refusal, &str)] = &[
     (Refusal::BadSpan, "bad span"),
     (Refusal::OutOfMemory, "out of memory"),
     (Refusal::BadTime, "bad time"),
+    (Refusal::MixedTune, "mixed tune"),
 ];
 
 #[test]

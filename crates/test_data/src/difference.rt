@@ -23,21 +23,23 @@ fn piece_at(file: &[u8], at: usize) -> (&'static str, usize) {
     if at < header {
         return ("mark, version or header", 0);
     }
-    let heads = header.saturating_add(sources.saturating_mul(97));
-    if at < heads {
+    let archive_heads = header.saturating_add(sources.saturating_mul(97));
+    if at < archive_heads {
         return ("source", at.saturating_sub(header) / 97);
     }
     let head = 13usize.saturating_add(sources.saturating_mul(20));
-    let cells = heads.saturating_add(archives.saturating_mul(head));
+    let cells = archive_heads.saturating_add(archives.saturating_mul(head));
     if at < cells {
         return (
             "archive",
-            at.saturating_sub(heads).checked_div(head).unwrap_or(0),
+            at.saturating_sub(archive_heads)
+                .checked_div(head)
+                .unwrap_or(0),
         );
     }
     let mut rows = 0usize;
     for archive in 0..archives {
-        let begin = heads.saturating_add(archive.saturating_mul(head));
+        let begin = archive_heads.saturating_add(archive.saturating_mul(head));
         rows = rows.saturating_add(number_at(file, begin.saturating_add(9), 4));
     }
     let entries = cells.saturating_add(rows.saturating_mul(sources).saturating_mul(16));
