@@ -1,11 +1,13 @@
 /* SPDX-License-Identifier: MIT OR Apache-2.0 */
-/* Keeps temperatures in a round-robin database, by librrdi:
+/* Keeps temperatures in a round-robin database, by commands in words and by lines of a batch. Most programs need less: see
+ * daemon.c.
  *
  *     cc -o embed embed.c $(pkg-config --cflags --libs rrdi)
  */
 #include <rrdi.h>
 #include <stdio.h>
 #include <string.h>
+#include <time.h>
 
 #define FILE_NAME "temp.rrdi"
 
@@ -13,19 +15,21 @@ static uint8_t output[65536];
 static uint64_t refused_lines[16];
 static struct rrdi_answer answer;
 
-/* Prints the output or the fault. */
+/* Prints the output, or the fault, and what was wrong. Of a batch the explanation is lines. */
 static void show(void) {
     if (answer.fault)
         printf("fault %u: ", answer.fault);
-    if (!answer.is_cut)
-        fwrite(output, 1, answer.output_length, stdout);
+    fwrite(output, 1, answer.output_length, stdout);
     if (answer.fault)
+        putchar('\n');
+    printf("%.*s", (int)answer.explanation_length, (const char *)answer.explanation);
+    if (answer.fault && answer.explanation_length)
         putchar('\n');
 }
 
 /* Runs one command. A zero byte separates its words. */
 static void run(const char *words, size_t length) {
-    rrdi_run_file((const uint8_t *)FILE_NAME, strlen(FILE_NAME), (const uint8_t *)words, length, 0, 5000, false, output,
+    rrdi_run_file(FILE_NAME, strlen(FILE_NAME), (const uint8_t *)words, length, (uint64_t)time(NULL), 5000, false, output,
                   sizeof output, &answer);
     show();
 }
@@ -33,8 +37,8 @@ static void run(const char *words, size_t length) {
 
 /* Runs lines, and prints the numbers of the refused lines. */
 static void batch(const char *lines) {
-    rrdi_batch_file((const uint8_t *)FILE_NAME, strlen(FILE_NAME), (const uint8_t *)lines, strlen(lines), 0, 5000, false, output,
-                    sizeof output, refused_lines, 16, &answer);
+    rrdi_batch_file(FILE_NAME, strlen(FILE_NAME), (const uint8_t *)lines, strlen(lines), (uint64_t)time(NULL), 5000, false,
+                    output, sizeof output, refused_lines, 16, &answer);
     show();
     for (uint64_t at = 0; at < answer.refused && at < 16; at++)
         printf("line %llu was refused\n", (unsigned long long)refused_lines[at]);

@@ -7,11 +7,13 @@
 _rrdi_tool() {
     local current=${COMP_WORDS[COMP_CWORD]} tool=${COMP_WORDS[0]##*/} options='--help --version' ends='' end
     COMPREPLY=()
+    # Bash has the whole word, and wants what fits to the part before the cursor.
+    while [[ ${COMP_LINE:0:COMP_POINT} != *"$current" ]]; do current=${current%?}; done
     case $tool in
         rrdi-import)
-            options+=' --journal --into --in-place'
+            options+=' --journal --into --in-place --jobs'
             case ${COMP_WORDS[COMP_CWORD - 1]} in
-                --journal) return 0 ;;
+                --journal | --jobs) return 0 ;;
                 --into)
                     compopt -o filenames 2>/dev/null
                     mapfile -t COMPREPLY < <(compgen -d -- "$current")
@@ -85,10 +87,10 @@ _rrdi_tool() {
             esac
             ;;
         rrdi-feed)
-            options='--seconds --jobs --held --patience --backfill --graphite --rules'
+            options='--seconds --jobs --held --patience --open-files --open-seconds --open-memory --backfill --graphite --rules'
             ((COMP_CWORD > 1)) || options="--help --version $options"
             case ${COMP_WORDS[COMP_CWORD - 1]} in
-                --seconds | --jobs | --held | --patience) return 0 ;;
+                --seconds | --jobs | --held | --patience | --open-*) return 0 ;;
                 --graphite) ;;
                 --rules)
                     compopt -o filenames 2>/dev/null

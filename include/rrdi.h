@@ -1,10 +1,11 @@
 /* SPDX-License-Identifier: MIT OR Apache-2.0 */
-/* Runs rrdi's commands in the process, on the file at a path or on the bytes of a file in memory. docs/embedding.md and
- * rrdi(3) explain the functions.
+/* Keeps time series in round-robin databases, in the process. The first part has what most programs need: seven functions whose
+ * names begin with rrdi_db_. The other parts run rrdi's commands on the file at a path, on an open file, and on the bytes of a file
+ * in memory. docs/embedding.md and rrdi(3) explain the functions.
  *
  * Memory. No function keeps anything between calls, except that rrdi_open keeps the open file until rrdi_close. Otherwise a
  * function frees all memory that it allocates before it returns; it allocates by malloc, realloc and free, which must belong to
- * one allocator, and align blocks to 16 bytes. A call needs less than 64 KiB of stack.
+ * one allocator, and align blocks to 16 bytes. A call needs less than 64 KiB of stack, and 10 more to create a database.
  * Files. A function locks the file by flock, as the program does, and closes all files that it opens; only an open file stays
  * open and locked until rrdi_close. The lock is released even if the process was forked in the meantime; if the process is
  * killed before that, the child keeps the lock until it ends or calls exec. If the process has locks of its own on the file,
@@ -16,12 +17,15 @@
  * (disable it by pthread_setcancelstate), and do not leave a call by longjmp: the file would stay open and locked.
  * Signals. No function installs a handler, or raises a signal. If a limit on the size of files (RLIMIT_FSIZE) is set, ignore
  * SIGXFSZ: then the call reports RRDI_CANNOT_WRITE.
- * No function prints, exits, starts a thread, or reads the clock or the environment.
+ * No function prints, exits, starts a thread, or reads the environment; only rrdi_db_open reads the time of day.
  *
- * Buffers. Pass no null pointer, even for a length of 0: any valid address will do then. No two buffers may overlap. Nothing
- * may change the bytes that a call reads while it runs: no other thread, and no other process through a shared mapping. So do
- * not pass a mapping (MAP_SHARED) of a database's file. No length, and no room, is greater than PTRDIFF_MAX. A bool is 0 or 1,
- * also if the caller is written in another language. */
+ * Buffers. A null pointer stands for no bytes, or for no room, whatever its length. Only the answer, and a struct rrdi_file, must
+ * be there. No two buffers may overlap. Nothing may change the bytes that a call reads while it runs: no other thread, and no other
+ * process through a shared mapping. So do not pass a mapping (MAP_SHARED) of a database's file. No length, and no room, is greater
+ * than PTRDIFF_MAX. A bool is 0 or 1, also if the caller is written in another language.
+ * Room. What does not fit its room is not written at all, and is a fault: RRDI_NO_ROOM, unless there is another one. No length in an
+ * answer but file_length, output_needed and refused is greater than the room that it is of. A call with RRDI_NO_ROOM has changed
+ * nothing: commands that change a file print nothing, and a batch changes the file only if there is room for all that it prints. */
 #ifndef RRDI_H
 #define RRDI_H
 
@@ -30,10 +34,11 @@
 #include <stdint.h>
 #include <string.h>
 
+/* The number of a parameter that is no null pointer. */
 #ifdef __GNUC__
-#define RRDI_NONNULL __attribute__((nonnull))
+#define RRDI_NONNULL(parameter) __attribute__((nonnull(parameter)))
 #else
-#define RRDI_NONNULL
+#define RRDI_NONNULL(parameter)
 #endif
 
 #ifdef __cplusplus
@@ -45,15 +50,13 @@ extern "C" {
 
 enum rrdi_fault {
     RRDI_OK = 0,
-    RRDI_NO_ROOM = 1,        /* In memory: new_file is too small for the answer's file_length bytes. A batch on a file: output is
-                               too small for the answer's output_length bytes, and the file is unchanged. rrdi_fetch_open: values
-                               is too small. Call again with more room. */
+    RRDI_NO_ROOM = 1,        /* There is too little room: in output for the answer's output_needed bytes, in new_file for its
+                               file_length bytes, or in values for the values of a fetch. Nothing has changed: call again with more
+                               room. */
     RRDI_NO_MEMORY = 2,      /* An allocation failed. The output's text is `out of memory`, or `write failed` if there was no memory
                                for the printed text. */
-    RRDI_READ_LINES = 3,     /* The lines could not be read. Does not happen with lines in memory. */
     RRDI_USAGE = 10,         /* The words are not a command. */
     RRDI_BAD_WORD = 11,      /* A word, or a value, cannot be read. The output names the word. */
-    RRDI_NO_DATABASE = 12,   /* Does not happen: a line of a batch that needs a database is refused, and a command reports 14. */
     RRDI_REFUSED = 13,       /* The database refuses the command. The output gives the reason. */
     RRDI_CANNOT_OPEN = 14,   /* The file does not exist, is no regular file, or cannot be opened or locked; or another process holds
                                its lock. In memory: the command needs a file, and there is none. */
@@ -68,105 +71,39 @@ enum rrdi_fault {
     RRDI_READ = 26           /* The file could not be read to its end. */
 };
 
-/* Begin with `struct rrdi_answer answer = {0};`. An answer may be used again. */
+/* The room for an explanation in an answer, in bytes. */
+#define RRDI_EXPLANATION 8192
+
+/* A call fills all fields but the reserved ones: nothing has to be cleared first, and an answer may be used again.
+ *
+ * The explanation is what the program prints in its second line: which word was wrong and what to write instead, what the
+ * database has, or the file and why it could not be opened, read or written, or whose it is. Of a batch, each refused line has a
+ * line `line NUMBER: EXPLANATION` that ends in a line feed, for as many of the first refused lines as there is room for. A call
+ * that is not refused makes no explanation. The texts are for people, and may change: programs use `fault` and `system_error`. */
 struct rrdi_answer {
     uint32_t fault;         /* enum rrdi_fault. A batch whose lines were refused has no fault. */
     uint32_t system_error;  /* With RRDI_CANNOT_OPEN, RRDI_CANNOT_WRITE and RRDI_READ: the errno of the call that failed, or the
                                one that comes closest; EAGAIN if another process holds the lock. Otherwise 0. */
-    bool is_changed;        /* In memory: new_file begins with the new file. On a file: the file has the new database. */
-    bool is_cut;            /* The output is longer than its room; the call left the room unchanged. */
-    uint64_t refused;       /* A batch: the number of refused lines. */
+    bool is_changed;        /* In memory: new_file begins with the new file. On a file: the file has the new database. false with a
+                               fault. */
+    bool is_cut;            /* The output is longer than its room, and was not written: not even the text of a fault. */
+    uint64_t refused;       /* A batch: the number of refused lines, also if there is no room for all their numbers. */
     uint64_t file_length;   /* In memory: the number of bytes of the new file, even if there is no room for it. */
-    uint64_t output_length; /* The number of bytes of the output, even if there is no room for it. */
+    uint64_t output_length; /* The number of bytes that were written to the output, never more than its room: all, or 0. */
+    uint64_t output_needed; /* The number of bytes of the output, even if there is no room for it. */
     uint64_t at;            /* The position of a file's fault in the file, or the number of the journal entry. */
-    uint64_t reserved[32];  /* Room for the library. */
+    /* The number of bytes of the explanation, 0 if there is none; and the explanation, in UTF-8, without a control character. */
+    uint64_t explanation_length;
+    uint8_t explanation[RRDI_EXPLANATION];
+    uint64_t reserved[31]; /* Nothing yet. */
 };
-
-/* Runs one command on a file in memory, as `rrdi COMMAND FILE WORD..` does on a file.
- *
- * has_file         whether there is a file. If not, file_length is 0.
- * file             the bytes of the file, which stay unchanged.
- * words            the command's name and its words, without FILE, in UTF-8, with one zero byte between two words:
- *                  "update\0" "920805300:12363". No zero byte follows the last word. rrdi_words makes them of strings.
- * now              the present time, in seconds since 1970.
- * new_file         room for the new file, if the command makes one.
- * output           room for the text that the command prints, or for the text of the fault, without "ERROR: ". */
-void rrdi_run(bool has_file, const uint8_t *file, size_t file_length, const uint8_t *words, size_t words_length,
-              uint64_t now, uint8_t *new_file, size_t new_file_room, uint8_t *output, size_t output_room,
-              struct rrdi_answer *answer) RRDI_NONNULL;
-
-/* Runs lines on a file in memory, as `rrdi batch FILE` does on a file. A fault other than RRDI_NO_ROOM makes no new file.
- *
- * output           room for the text that the lines print, with a line "ERROR: .." for each refused line. If a fault happens
- *                  after the lines were run (RRDI_CANNOT_WRITE, RRDI_NO_MEMORY), the output has the text that the lines
- *                  printed, not the text of the fault.
- * lines            commands, one per line, as `rrdi batch` reads them from standard input.
- * refused_lines    room for the numbers of the refused lines. The first line is 1. A call fills the room with the first
- *                  numbers: as many as answer->refused, or as there is room for. refused_room counts numbers, not bytes. */
-void rrdi_batch(bool has_file, const uint8_t *file, size_t file_length, const uint8_t *lines, size_t lines_length,
-                uint64_t now, uint8_t *new_file, size_t new_file_room, uint8_t *output, size_t output_room,
-                uint64_t *refused_lines, size_t refused_room, struct rrdi_answer *answer) RRDI_NONNULL;
-
-/* Runs one command on the file at a path, as `rrdi COMMAND FILE WORD..` does: locks the file, and writes it so that a kill
- * in the middle of a change leaves the old database or the new one (where there was no database, perhaps a damaged file).
- * With a fault the file has the same database as before; docs/files.md says what RRDI_CANNOT_WRITE may leave if the disk
- * fails. Its bytes may be others: if an earlier change was interrupted, a call repairs the file first, even if it then ends
- * with a fault.
- *
- * `create` replaces the file that is at the path. To keep a file that is there, call rrdi_create_new (rrdi_create.h).
- *
- * path             UTF-8, without a zero byte, at most 4,095 bytes.
- * wait             the milliseconds for which the call waits for a lock that another process holds: 0 for one try, at most
- *                  3,600,000. The program waits for 5,000.
- * syncs            whether the call waits until the disk has stored the change, as the program does with RRDI_SYNC=1. */
-void rrdi_run_file(const uint8_t *path, size_t path_length, const uint8_t *words, size_t words_length, uint64_t now,
-                   uint64_t wait, bool syncs, uint8_t *output, size_t output_room, struct rrdi_answer *answer) RRDI_NONNULL;
-
-/* Runs lines on the file at a path, as `rrdi batch FILE` does: reads the file once and writes the file once. With a fault,
- * and if there is no room for the output, the file has the same database as before. */
-void rrdi_batch_file(const uint8_t *path, size_t path_length, const uint8_t *lines, size_t lines_length, uint64_t now,
-                     uint64_t wait, bool syncs, uint8_t *output, size_t output_room, uint64_t *refused_lines,
-                     size_t refused_room, struct rrdi_answer *answer) RRDI_NONNULL;
-
-/* A file that stays open and locked between calls, with its database in memory. Begin with `struct rrdi_file file = {0};`, and
- * change no field. Use no copy of the struct. It may move to another thread between two calls; one call at a time may use it.
- * A forked child must not use it: the child may only forget it, or replace itself by exec. */
-struct rrdi_file {
-    bool is_open;   /* Whether the file is open. */
-    void *reserved; /* What the library keeps. */
-};
-
-/* Opens the file at a path for changes, locks it, and reads its database. If an earlier change was interrupted, the call repairs
- * the file. A file that the struct had open before is closed first. With a fault the struct has no open file.
- *
- * Until rrdi_close no other process can read or change the file by rrdi: it waits for the lock. If a change fails
- * (RRDI_CANNOT_WRITE), the library lets go of the file and of the lock, and the next call on the struct opens the file again;
- * only if there was no memory for the new bytes (ENOMEM) it may keep both.
- * After RRDI_NO_ROOM the next call reads the file again, under the same lock; if that fails, the library lets go too.
- *
- * path, wait, syncs    as for rrdi_run_file. There must be a database: create it by rrdi_create_new or rrdi_run_file. The
- *                      fault is RRDI_CANNOT_OPEN with EINVAL if the file system has no locks, and with the error of the
- *                      call that failed if an interrupted change could not be repaired.
- * output               room for the text of the fault. */
-void rrdi_open(const uint8_t *path, size_t path_length, uint64_t wait, bool syncs, struct rrdi_file *file, uint8_t *output,
-               size_t output_room, struct rrdi_answer *answer) RRDI_NONNULL;
-
-/* Runs one command on an open file, as rrdi_run_file does on the file at a path: with the same output, the same fault and the same
- * new file. The change is in the file when the call returns. If the struct has no open file, the fault is RRDI_CANNOT_OPEN with
- * EBADF. */
-void rrdi_run_open(struct rrdi_file *file, const uint8_t *words, size_t words_length, uint64_t now, uint8_t *output,
-                   size_t output_room, struct rrdi_answer *answer) RRDI_NONNULL;
-
-/* Runs lines on an open file, as rrdi_batch_file does on the file at a path. */
-void rrdi_batch_open(struct rrdi_file *file, const uint8_t *lines, size_t lines_length, uint64_t now, uint8_t *output,
-                     size_t output_room, uint64_t *refused_lines, size_t refused_room, struct rrdi_answer *answer) RRDI_NONNULL;
 
 /* What a value is: no value, a number without a decimal point, or a number with one. A COUNTER and a DERIVE refuse a number with a
  * decimal point, as they do in words. */
 enum rrdi_kind {
     RRDI_UNKNOWN,
     RRDI_WHOLE,
-    RRDI_DECIMAL,
+    RRDI_DECIMAL
 };
 
 /* A number to the millionth, for calls that take numbers in place of words. rrdi_double and its like, at the end of this header,
@@ -178,21 +115,12 @@ struct rrdi_value {
     bool is_negative;    /* Whether the number is below 0. */
 };
 
-/* Adds one sample to an open file, as rrdi_run_open does with `update TIME:VALUE..`: with the same new file and the same fault. The
- * fault is RRDI_BAD_WORD if a value is of no kind, or has a fraction that its kind does not have.
- *
- * time             in seconds since 1970.
- * values, count    one value for each data source, in the order of their definitions. No value at all is RRDI_REFUSED.
- * output           room for the text of the fault. */
-void rrdi_update_open(struct rrdi_file *file, uint64_t time, const struct rrdi_value *values, size_t count, uint8_t *output,
-                      size_t output_room, struct rrdi_answer *answer) RRDI_NONNULL;
-
 /* The functions of a fetch. */
 enum rrdi_function {
     RRDI_AVERAGE,
     RRDI_MIN,
     RRDI_MAX,
-    RRDI_LAST,
+    RRDI_LAST
 };
 
 /* The rows of a fetch. The time of row number `row`, from 0 on, is start + (row + 1) * step: the time at which the row ends. */
@@ -203,13 +131,179 @@ struct rrdi_rows {
     uint64_t sources; /* The number of values in each row: one for each data source, at most 64. */
 };
 
+/* A file that stays open and locked between calls, with its database in memory. Begin with zeros, as
+ * `static struct rrdi_file file;` has them, and change no field. Use no copy of the struct. It may move to another thread between two
+ * calls; one call at a time may use it.
+ *
+ * In a forked child the file stays the parent's: a call reports RRDI_CANNOT_OPEN with ECHILD, and rrdi_close and rrdi_open only forget
+ * the file, whose memory stays with the child. */
+struct rrdi_file {
+    bool is_open;     /* Whether the file is open. */
+    uint32_t process; /* The number of the process that opened the file. */
+    void *reserved;   /* What the library keeps. */
+};
+
+/* ---- a database, for most programs */
+
+/* The room for the text of a fault in a struct rrdi_db, without the explanation. */
+#define RRDI_TEXT 256
+
+/* A database that is open. Nothing has to be cleared first: rrdi_db_open fills the struct, which must stay where it is then. Zeros, a
+ * copy of the struct and one that was closed are refused with RRDI_CANNOT_OPEN and EBADF, and a struct that the parent of a forked
+ * child has opened with RRDI_CANNOT_OPEN and ECHILD. Threads may share a struct under a lock of theirs.
+ *
+ * Each function returns its fault, an enum rrdi_fault: 0 if there is none. */
+struct rrdi_db {
+    const struct rrdi_db *self;
+    int64_t process;           /* The number of the process that opened the database. */
+    struct rrdi_file file;     /* For the functions on an open file. */
+    struct rrdi_answer answer; /* The answer of the last call, for programs that look at more than the fault. */
+    char text[RRDI_TEXT + RRDI_EXPLANATION + 3];
+};
+
+/* An option of rrdi_db_open: each change waits until the disk has stored it, so that a power failure cannot take it back. */
+#define RRDI_SYNCS 1
+
+/* Opens the database at a path for changes. Until rrdi_db_close nobody else can change the file, not even this process by its path;
+ * others can read it. The call waits 5 seconds for a lock that another process holds.
+ *
+ * Close a struct before you open it again: the call cannot know that there is something to close.
+ *
+ * definition       what a database is to be created from where there is no file, with a space between two words:
+ *                  "--step 60 DS:temp:GAUGE:120:U:U RRA:AVERAGE:0.5:1:1440". A file that is there stays as it is. With NULL there
+ *                  must be a database.
+ * options          0 or RRDI_SYNCS. */
+uint32_t rrdi_db_open(struct rrdi_db *db, const char *path, const char *definition, uint32_t options);
+
+/* Adds a sample. The change is in the file when the call returns.
+ *
+ * time             in seconds since 1970, later than that of the sample before.
+ * values, count    one value for each data source, in the order of their definitions: rrdi_double(21.5), rrdi_count(octets),
+ *                  rrdi_whole(-7), or zeros for no value. */
+uint32_t rrdi_db_update(struct rrdi_db *db, uint64_t time, const struct rrdi_value *values, size_t count);
+
+/* Adds samples, one after the other: each is a change of its own. Ends with the first one that is refused.
+ *
+ * times, count     the time of each sample.
+ * values, sources  `sources` values for each sample, sample after sample.
+ * stored           gets the number of samples that were stored; the first that was refused is that of this number, from 0 on.
+ *                  May be NULL. */
+uint32_t rrdi_db_update_many(struct rrdi_db *db, const uint64_t *times, const struct rrdi_value *values, size_t count,
+                             size_t sources, size_t *stored);
+
+/* Gives the rows whose time is from start to end, as `rrdi fetch` does. If there is no room for rows->count * rows->sources values,
+ * the fault is RRDI_NO_ROOM: rows says how many there are.
+ *
+ * function         enum rrdi_function.
+ * resolution       the requested seconds from row to row: 1 for the finest rows.
+ * rows             gets the times and the number of the rows.
+ * values, room     room for so many values, row after row: that of data source `source` in row `row` becomes
+ *                  values[row * rows->sources + source]. rrdi_to_double makes a number of it. */
+uint32_t rrdi_db_fetch(struct rrdi_db *db, uint32_t function, uint64_t resolution, uint64_t start, uint64_t end,
+                       struct rrdi_rows *rows, struct rrdi_value *values, size_t room);
+
+/* Gives the time of the last sample; that of the start if there is none. */
+uint32_t rrdi_db_last(struct rrdi_db *db, uint64_t *time);
+
+/* Returns what was wrong in the last call, such as "cannot open: temp.rrdi: no such file or directory", or "no fault". The text is
+ * for people, and lasts until the next call. It does not name the file where the database refuses something. */
+const char *rrdi_db_error(struct rrdi_db *db);
+
+/* Closes a database, and releases its lock and its memory. Does nothing if it is closed, and in a forked child, where the file
+ * stays the parent's. */
+void rrdi_db_close(struct rrdi_db *db);
+
+/* ---- commands on the file at a path */
+
+/* Runs one command on the file at a path, as `rrdi COMMAND FILE WORD..` does: locks the file, and writes it so that a kill
+ * in the middle of a change leaves the old database or the new one (where there was no database, perhaps a damaged file).
+ * With a fault the file has the same database as before; docs/files.md says what RRDI_CANNOT_WRITE may leave if the disk
+ * fails. Its bytes may be others: if an earlier change was interrupted, a call repairs the file first, even if it then ends
+ * with a fault.
+ *
+ * `create` replaces the file that is at the path. To keep a file that is there, call rrdi_create_new.
+ *
+ * path             UTF-8, without a zero byte, at most 4,095 bytes.
+ * wait             the milliseconds for which the call waits for a lock that another process holds: 0 for one try, at most
+ *                  3,600,000. The program waits for 5,000.
+ * syncs            whether the call waits until the disk has stored the change, as the program does with RRDI_SYNC=1. */
+void rrdi_run_file(const char *path, size_t path_length, const uint8_t *words, size_t words_length, uint64_t now,
+                   uint64_t wait, bool syncs, uint8_t *output, size_t output_room, struct rrdi_answer *answer) RRDI_NONNULL(10);
+
+/* Runs lines on the file at a path, as `rrdi batch FILE` does: reads the file once and writes the file once. With a fault, such as
+ * RRDI_NO_ROOM, the file has the same database as before. */
+void rrdi_batch_file(const char *path, size_t path_length, const uint8_t *lines, size_t lines_length, uint64_t now,
+                     uint64_t wait, bool syncs, uint8_t *output, size_t output_room, uint64_t *refused_lines,
+                     size_t refused_room, struct rrdi_answer *answer) RRDI_NONNULL(12);
+
+/* Creates a database at a path, as rrdi_run_file does where there is no file. If there is a file, the file stays as it is, and
+ * the fault is RRDI_CANNOT_WRITE with EEXIST as its system_error; also if the file appears during the call, and if it is a
+ * directory or a symbolic link, even one that leads nowhere. With a fault the call leaves no new file.
+ *
+ * Nobody sees half a database at the path. On a file system without links there is an empty file for a moment, which stays if the
+ * system refuses a rename. A kill may leave a file whose name is that of the database and `.new-` with two numbers. You may remove
+ * it.
+ *
+ * The parameters are those of rrdi_run_file. The command is `create`; the fault of another command is RRDI_USAGE. A call needs
+ * 10 KiB of stack more than the other functions, and the name of the file at most 220 bytes. */
+void rrdi_create_new(const char *path, size_t path_length, const uint8_t *words, size_t words_length, uint64_t now,
+                     uint64_t wait, bool syncs, uint8_t *output, size_t output_room, struct rrdi_answer *answer) RRDI_NONNULL(10);
+
+/* ---- an open file */
+
+/* Opens the file at a path for changes, locks it, and reads its database. If an earlier change was interrupted, the call repairs
+ * the file. A file that the struct had open before is closed first. With a fault the struct has no open file.
+ *
+ * Until rrdi_close others can read the file by rrdi, and nobody else can change it, not even this process by the path. A change
+ * that meets a reader opens, locks and reads the file again. If a change fails
+ * (RRDI_CANNOT_WRITE), the library lets go of the file and of the lock, and the next call on the struct opens the file again;
+ * only if there was no memory for the new bytes (ENOMEM) it may keep both.
+ * After a batch with RRDI_NO_ROOM the next call reads the file again, under the same lock; if that fails, the library lets go too.
+ *
+ * path, wait, syncs    as for rrdi_run_file. There must be a database: create it by rrdi_create_new or rrdi_run_file. The
+ *                      fault is RRDI_CANNOT_OPEN with EINVAL if the file system has no locks, and with the error of the
+ *                      call that failed if an interrupted change could not be repaired.
+ * output               room for the text of the fault. */
+void rrdi_open(const char *path, size_t path_length, uint64_t wait, bool syncs, struct rrdi_file *file, uint8_t *output,
+               size_t output_room, struct rrdi_answer *answer) RRDI_NONNULL(5) RRDI_NONNULL(8);
+
+/* Runs one command on an open file, as rrdi_run_file does on the file at a path: with the same output, the same fault and the same
+ * new file. The change is in the file when the call returns. If the struct has no open file, the fault is RRDI_CANNOT_OPEN with
+ * EBADF. */
+void rrdi_run_open(struct rrdi_file *file, const uint8_t *words, size_t words_length, uint64_t now, uint8_t *output,
+                   size_t output_room, struct rrdi_answer *answer) RRDI_NONNULL(1) RRDI_NONNULL(7);
+
+/* Runs lines on an open file, as rrdi_batch_file does on the file at a path. */
+void rrdi_batch_open(struct rrdi_file *file, const uint8_t *lines, size_t lines_length, uint64_t now, uint8_t *output,
+                     size_t output_room, uint64_t *refused_lines, size_t refused_room, struct rrdi_answer *answer) RRDI_NONNULL(1)
+    RRDI_NONNULL(9);
+
+/* Adds one sample to an open file, as rrdi_run_open does with `update TIME:VALUE..`: with the same new file and the same fault. The
+ * fault is RRDI_BAD_WORD if a value is of no kind, or has a fraction that its kind does not have.
+ *
+ * time             in seconds since 1970.
+ * values, count    one value for each data source, in the order of their definitions. No value at all is RRDI_REFUSED.
+ * output           room for the text of the fault. */
+void rrdi_update_open(struct rrdi_file *file, uint64_t time, const struct rrdi_value *values, size_t count, uint8_t *output,
+                      size_t output_room, struct rrdi_answer *answer) RRDI_NONNULL(1) RRDI_NONNULL(7);
+
+/* Adds samples to an open file by rrdi_update_open, one after the other, up to the first with a fault. The answer is that of the last
+ * sample that was tried, and tells no fault if there is no sample.
+ *
+ * times, count     the time of each sample.
+ * values, sources  `sources` values for each sample, sample after sample.
+ * stored           gets the number of samples that were stored. May be NULL. */
+void rrdi_update_many(struct rrdi_file *file, const uint64_t *times, const struct rrdi_value *values, size_t count, size_t sources,
+                      size_t *stored, uint8_t *output, size_t output_room, struct rrdi_answer *answer) RRDI_NONNULL(1)
+    RRDI_NONNULL(9);
+
 /* Gives the rows of an open file that rrdi_run_open prints with `fetch FUNCTION --resolution .. --start .. --end ..`, or the same
  * fault. The fault is RRDI_BAD_WORD if there is no such function.
  *
  * function         enum rrdi_function.
  * resolution       the requested seconds from row to row: 1 for the finest rows, as in the command without this option.
  * start, end       in seconds since 1970.
- * rows             gets the times and the number of the rows, without a fault and with RRDI_NO_ROOM.
+ * rows             gets the times and the number of the rows, without a fault and with RRDI_NO_ROOM; otherwise zeros.
  * values           room for the values, row after row: that of data source `source` in row `row` becomes
  *                  values[row * rows->sources + source]. An unknown one is RRDI_UNKNOWN, any other is RRDI_DECIMAL. If there is no
  *                  room for rows->count * rows->sources values, the fault is RRDI_NO_ROOM, and the room stays as it was.
@@ -217,41 +311,55 @@ struct rrdi_rows {
  * output           room for the text of the fault. */
 void rrdi_fetch_open(struct rrdi_file *file, uint32_t function, uint64_t resolution, uint64_t start, uint64_t end,
                      struct rrdi_rows *rows, struct rrdi_value *values, size_t values_room, uint8_t *output, size_t output_room,
-                     struct rrdi_answer *answer) RRDI_NONNULL;
+                     struct rrdi_answer *answer) RRDI_NONNULL(1) RRDI_NONNULL(11);
 
 /* Closes a file, and releases its lock and its memory. The changes that wait in the file's log are brought into place first; if
- * a call fails, the next program that opens the file does that. Does nothing if the struct has no open file. */
-void rrdi_close(struct rrdi_file *file) RRDI_NONNULL;
+ * a call fails, or somebody reads the file then, the next program that changes the file does that. Does nothing if the struct has no
+ * open file; in a forked child it leaves the file to the parent. */
+void rrdi_close(struct rrdi_file *file) RRDI_NONNULL(1);
+
+/* ---- a file in memory */
+
+/* Runs one command on a file in memory, as `rrdi COMMAND FILE WORD..` does on a file.
+ *
+ * has_file         whether there is a file.
+ * file             the bytes of the file, which stay unchanged.
+ * words            the command's name and its words, without FILE, in UTF-8, with one zero byte between two words:
+ *                  "update\0" "920805300:12363". No zero byte follows the last word. rrdi_words makes them of strings.
+ * now              the present time, in seconds since 1970.
+ * new_file         room for the new file, if the command makes one.
+ * output           room for the text that the command prints, or for the text of the fault, without "ERROR: ". */
+void rrdi_run(bool has_file, const uint8_t *file, size_t file_length, const uint8_t *words, size_t words_length,
+              uint64_t now, uint8_t *new_file, size_t new_file_room, uint8_t *output, size_t output_room,
+              struct rrdi_answer *answer) RRDI_NONNULL(11);
+
+/* Runs lines on a file in memory, as `rrdi batch FILE` does on a file. A fault makes no new file.
+ *
+ * output           room for the text that the lines print, with a line "ERROR: .." for each refused line. If a fault happens
+ *                  after the lines were run (RRDI_CANNOT_WRITE, RRDI_NO_MEMORY), the output has the text that the lines
+ *                  printed, not the text of the fault.
+ * lines            commands, one per line, as `rrdi batch` reads them from standard input.
+ * refused_lines    room for the numbers of the refused lines. The first line is 1. A call fills the room with the first
+ *                  numbers: as many as answer->refused, or as there is room for. refused_room counts numbers, not bytes. */
+void rrdi_batch(bool has_file, const uint8_t *file, size_t file_length, const uint8_t *lines, size_t lines_length,
+                uint64_t now, uint8_t *new_file, size_t new_file_room, uint8_t *output, size_t output_room,
+                uint64_t *refused_lines, size_t refused_room, struct rrdi_answer *answer) RRDI_NONNULL(13);
+
+/* ---- texts */
 
 /* Returns the version of the header with which the program was compiled, such as "0.2.0". */
 static inline const char *rrdi_version(void) {
     return RRDI_VERSION;
 }
 
+/* Returns the version of the library. */
+const char *rrdi_libversion(void);
+
 /* Returns a short text for a fault, as it begins in docs/errors.md, or "unknown fault". An answer's output says more: which
  * word, which line, which byte. The text is never null, and lasts as long as the program. */
-static inline const char *rrdi_strerror(uint32_t fault) {
-    switch (fault) {
-    case RRDI_OK: return "no fault";
-    case RRDI_NO_ROOM: return "too little room";
-    case RRDI_NO_MEMORY: return "out of memory";
-    case RRDI_READ_LINES: return "read failed";
-    case RRDI_USAGE: return "usage";
-    case RRDI_BAD_WORD: return "unreadable";
-    case RRDI_NO_DATABASE: return "no database";
-    case RRDI_REFUSED: return "refused";
-    case RRDI_CANNOT_OPEN: return "cannot open";
-    case RRDI_CANNOT_WRITE: return "cannot write";
-    case RRDI_NOT_OURS: return "file: not ours";
-    case RRDI_OTHER_VERSION: return "file: version";
-    case RRDI_TRUNCATED: return "file: truncated";
-    case RRDI_BAD_BLOCK: return "file: bad block";
-    case RRDI_BAD_ENTRY: return "file: bad entry";
-    case RRDI_TRAILING: return "file: trailing";
-    case RRDI_READ: return "file: read failed";
-    default: return "unknown fault";
-    }
-}
+const char *rrdi_strerror(uint32_t fault);
+
+/* ---- words */
 
 /* Puts words together as the functions above take them, with one zero byte between two words. Returns the number of bytes of all
  * words: pass it as words_length. If it is greater than `size`, there was too little room, and what is in the room is of no use;

@@ -264,7 +264,7 @@ EXPORTED int rrd_create_r(const char *path, unsigned long step, time_t start, in
         free(words.bytes);
         return fail("out of memory");
     }
-    rrdi_run_file((const uint8_t *)path, strlen(path), (const uint8_t *)words.bytes, words.length,
+    rrdi_run_file(path, strlen(path), (const uint8_t *)words.bytes, words.length,
                   (uint64_t)time(NULL), WAIT, false, (uint8_t *)output, sizeof output - 1, &answer);
     free(words.bytes);
     return report(path, &answer, output);
@@ -306,7 +306,7 @@ EXPORTED int rrd_update_r(const char *path, const char *names, int count, const 
         free(output.bytes);
         return fail("out of memory");
     }
-    rrdi_batch_file((const uint8_t *)path, strlen(path), (const uint8_t *)lines.bytes, lines.length,
+    rrdi_batch_file(path, strlen(path), (const uint8_t *)lines.bytes, lines.length,
                     (uint64_t)time(NULL), WAIT, false, (uint8_t *)output.bytes, output.length - 1, refused, 1, &answer);
     output.bytes[answer.output_length < output.length ? answer.output_length : 0] = '\0';
     /* If the lines were run, the output is the output of the lines, and not the text of the fault. */

@@ -36,7 +36,7 @@ class Left(NamedTuple):
 
     @property
     def has_other(self) -> bool:
-        """Checks whether there is at most one other file, of the name that rrdi_create.h announces."""
+        """Checks whether there is at most one other file, of the name that rrdi.h announces."""
         return len(self.others) <= 1 and all(map(OTHER.fullmatch, self.others))
 
 

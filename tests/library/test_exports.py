@@ -16,32 +16,35 @@ from support.check import Check
 from support.library import EXPORTS, Library, as_built, names
 from support.program import TOP
 
-LEAST = {"comparisons": 84}
-# The C functions that a library may call: memory, bytes, files, and errno.
+LEAST = {"comparisons": 94}
+# The C functions that a library may call: memory, bytes, files, the process, errno, and its texts.
 MAY_CALL = frozenset({
     "malloc", "realloc", "free", "memcpy", "memmove", "memset", "memcmp", "bcmp", "strlen", "__errno_location", "open",
     "open64", "close", "read", "pread", "pread64", "pwrite", "pwrite64", "lseek", "lseek64", "ftruncate", "ftruncate64",
-    "fdatasync", "flock", "fcntl", "fcntl64", "statx", "realpath", "nanosleep"})
+    "fdatasync", "flock", "fcntl", "fcntl64", "statx", "realpath", "nanosleep", "clock_gettime", "__xpg_strerror_r",
+    # And what the part in plain C calls: the name of a new file, the time of its creation, and numbers.
+    "getpid", "access", "link", "unlink", "rename", "fstat", "fstat64", "memchr", "snprintf", "__snprintf_chk", "strerrordesc_np",
+    "time", "strtoull", "__isoc23_strtoull"})
 # The functions of the compiler's own library (division of 128 bits), of the linker and of the start files.
-OF_LINKER = frozenset({"__udivti3", "__cxa_finalize", "__gmon_start__", "_ITM_deregisterTMCloneTable",
+OF_LINKER = frozenset({"__divti3", "__udivti3", "__cxa_finalize", "__gmon_start__", "_ITM_deregisterTMCloneTable",
                        "_ITM_registerTMCloneTable"})
 FUNCTION = re.compile(r"^(?!static )\w[\w ]*[ *](rrdi_\w+)\(", re.MULTILINE)
 # A function of the headers alone. A name that ends in an underscore is not for programs.
 INLINE = re.compile(r"^static inline [\w ]*[ *](rrdi_\w*[a-z])\(", re.MULTILINE)
-# Two faults do not happen, and the manual page leaves them out; lines in memory can always be read.
-NEVER, NOT_IN_PYTHON = ("RRDI_READ_LINES", "RRDI_NO_DATABASE"), "RRDI_READ_LINES"
+# The number of Python's fault that is only the reason of a refused line of a batch.
+OF_A_LINE = 12
 # The structs of C that Python reads, by Python's names for them; and the types of their fields.
 STRUCTS = {"answer": "_Answer", "file": "_File"}
-TYPES = {"uint32_t": "c_uint32", "uint64_t": "c_uint64", "bool": "c_bool", "void *": "c_void_p"}
+TYPES = {"uint8_t": "c_uint8", "uint32_t": "c_uint32", "uint64_t": "c_uint64", "bool": "c_bool", "void *": "c_void_p"}
 # The texts that no message of docs/errors.md begins with.
 OTHER_TEXTS = {"RRDI_OK": "no fault", "RRDI_NO_ROOM": "too little room", "RRDI_REFUSED": "refused"}
+TEXTS = "library/c/texts.c"
 SHOW_TEXTS = """#include <rrdi.h>
-#include <rrdi_create.h>
 #include <stdio.h>
 int main(void) {
     for (uint32_t fault = 0; fault < 30; fault++)
         printf("%u %s\\n", fault, rrdi_strerror(fault));
-    printf("%s\\n", rrdi_version());
+    printf("%s\\n", strcmp(rrdi_version(), rrdi_libversion()) ? "two versions" : rrdi_version());
     return 0;
 }
 """
@@ -85,6 +88,11 @@ class Source:
         rows = self.found(r'"([a-z: ]+)": ([A-Z_]+)\b', texts)
         return {numbers[name]: re.sub(r"at $", "", text).strip() for text, name in rows}
 
+    def proved_numbers(self) -> set[int]:
+        """Returns the numbers of faults of the definition that the proofs are about, 0, and 1 for no room."""
+        found = self.found(r"^(\w+_number|number_of) .*= (\d+)$", self.text("library/rrdi_c/specs/Numbers.antt.in"))
+        return {0, 1} | {int(number) for _, number in found}
+
     def messages(self) -> list[str]:
         cells = re.findall(r"^\|([^|]+)\|", self.text("docs/errors.md"), re.MULTILINE)
         return [message for cell in cells for message in re.findall("`([^`]+)`", cell)]
@@ -108,29 +116,38 @@ def compare_pages(source: Source, check: Check) -> None:
 def compare_faults(source: Source, check: Check) -> None:
     """The numbers of faults and the fields of structs are in the pages and in Python as in the header."""
     faults = source.faults
-    page = source.found(r"^\| (\d+) \| `(RRDI_\w+)` ", source.text("docs/embedding.md"))
-    compare(check, "the faults of embedding.md", {name: int(number) for number, name in page}, faults)
     manual = {name: int(number) for name, number in source.found(r"\bDv (RRDI_\w+) No (\d+)", source.manual)}
-    compare(check, "the faults of rrdi.3", manual, {name: faults[name] for name in faults if name not in NEVER})
-    right = sorted(number for name, number in faults.items() if name != NOT_IN_PYTHON)
-    compare(check, "the faults of Python", sorted(source.python_faults().values()), right)
-    python = source.text("python/rrdi/library.py")
+    compare(check, "the faults of rrdi.3", manual, faults)
+    compare(check, "the faults of Python", sorted(source.python_faults().values()), sorted([*faults.values(), OF_A_LINE]))
+    compare(check, "the numbers that library/rrdi_c gives", source.proved_numbers(), set(faults.values()))
+    python = source.text("python/rrdi/by_ctypes.py")
     for name, type_name in STRUCTS.items():
         struct = re.search(rf"^struct rrdi_{name} \{{\n(.*?)^\}};", source.header, re.MULTILINE | re.DOTALL)
-        fields = source.found(r"^    (\w+(?: \*)?) ?(\w+)(?:\[\d+\])?;", struct[1] if struct else "")
+        fields = source.found(r"^    (\w+(?: \*)?) ?(\w+)(?:\[\w+\])?;", struct[1] if struct else "")
         read = re.search(rf"^class {type_name}\(.*?_fields_ = \[(.*?)\]\n", python, re.MULTILINE | re.DOTALL)
         found = source.found(r'\("(\w+)", ctypes\.(\w+)', read[1] if read else "")
         compare(check, f"the fields of rrdi_{name}", found, [(field, TYPES.get(kind)) for kind, field in fields])
+        lengths = source.found(r"(\w+)\[(\w+)\];", struct[1] if struct else "")
+        read_lengths = source.found(r'\("(\w+)", ctypes\.\w+ \* (\w+)', read[1] if read else "")
+        compare(check, f"the lengths of rrdi_{name}", with_numbers(read_lengths, r"^{} = ([\d_]+)", python),
+                with_numbers(lengths, r"^#define {} (\d+)", source.header))
+
+
+def with_numbers(fields: list[tuple[str, str]], form: str, text: str) -> list[tuple[str, int]]:
+    """Returns fields with their lengths. A length that is a name has its number in the text."""
+    found = [(field, length, re.search(form.format(length), text, re.MULTILINE)) for field, length in fields]
+    return [(field, int(named[1] if named else length)) for field, length, named in found]
 
 
 def compare_texts(source: Source, compiler: list[str], folder: Path, check: Check) -> None:
     """Each fault has the text with which its message begins in errors.md, and all other numbers the same one."""
     (folder / "texts.c").write_text(SHOW_TEXTS)
-    subprocess.run([*compiler, "-Wall", "-Wextra", "-Werror", f"-I{source.top}/include", "-o", "texts", "texts.c"],
-                   cwd=folder, check=True)
+    subprocess.run([*compiler, "-Wall", "-Wextra", "-Werror", f"-I{source.top}/include", "-o", "texts", "texts.c",
+                    str(source.top / TEXTS)], cwd=folder, check=True)
     *lines, version = printed(folder / "texts").splitlines()
     texts = {int(number): text for number, _, text in (line.partition(" ") for line in lines)}
     known = source.python_texts()
+    known.pop(OF_A_LINE, None)
     compare(check, "the texts of Python", known, {number: texts.get(number) for number in known})
     named = {number: name for name, number in source.faults.items()}
     for number, text in texts.items():
@@ -163,6 +180,10 @@ def compare_linking(library: Path, check: Check) -> None:
 
 
 COMPILERS = {"C": ["cc", "-std=c99", "-pedantic"], "C++": ["c++", "-x", "c++", "-std=c++11"]}
+# The standards by which a program may be compiled that includes the header.
+STANDARDS = {"cc": ("c99", "c11", "c17", "c2x", "gnu11"),
+             "c++": ("c++98", "c++03", "c++11", "c++14", "c++17", "c++20")}
+LANGUAGES = {"cc": "c", "c++": "c++"}
 
 
 def test_pages(check: Check) -> None:
@@ -188,16 +209,19 @@ def test_the_library_for_programs_that_record(built: Library, folder: Path, need
     compare_linking(folder / "librrdi-record.so", check)
 
 
-@pytest.mark.parametrize("header", [path.name for path in (TOP / "include").glob("*.h")])
-def test_headers_by_cpp(header: str, needs: Callable[..., None], check: Check) -> None:
-    needs("c++")
-    compile_header(TOP / "include" / header, check)
+@pytest.mark.parametrize("compiler", STANDARDS)
+def test_standards(compiler: str, needs: Callable[..., None], check: Check) -> None:
+    needs(compiler)
+    for standard in STANDARDS[compiler]:
+        compile_header(TOP / "include/rrdi.h", compiler, standard, check)
 
 
-def compile_header(header: Path, check: Check) -> None:
-    ran = subprocess.run(["c++", "-Wall", "-Wextra", "-Werror", "-fsyntax-only", "-x", "c++", header],
-                         capture_output=True, text=True)
-    compare(check, f"what the C++ compiler says of {header.name}", (ran.returncode, ran.stderr), (0, ""))
+def compile_header(header: Path, compiler: str, standard: str, check: Check) -> None:
+    """A compiler says nothing of a program with the header that uses what is inline."""
+    program = f'#include "{header}"\nint main(void) {{ return sizeof(RRDI_VERSION) == 1; }}\n'
+    ran = subprocess.run([compiler, f"-std={standard}", "-Wall", "-Wextra", "-pedantic", "-Werror", "-fsyntax-only", "-x",
+                          LANGUAGES[compiler], "-"], input=program, capture_output=True, text=True)
+    compare(check, f"what {compiler} says of {header.name} by {standard}", (ran.returncode, ran.stderr), (0, ""))
 
 
 # ---- wrong texts, and wrong libraries
@@ -205,17 +229,17 @@ def compile_header(header: Path, check: Check) -> None:
 FAULTS = (
     ("include/rrdi.h", "RRDI_TRUNCATED = 22", "RRDI_TRUNCATED = 23"),
     ("include/rrdi.h", "bool is_cut; ", "int is_cut; "),
+    ("include/rrdi.h", "RRDI_EXPLANATION 8192", "RRDI_EXPLANATION 4096"),
     ("include/rrdi.h", "bool is_open; ", "int is_open; "), ("docs/rrdi.3", ".Fo rrdi_batch_file", ".Fo rrdi_batch"),
     ("docs/rrdi.3", ".Nm rrdi_words", ".Nm rrdi_word"), ("docs/rrdi.3", "Dv RRDI_READ No", "Dv RRDI_READ"),
     ("include/librrdi.map", "rrdi_batch_file;", ""), ("Makefile", "rrdi_fetch_open rrdi_close", "rrdi_fetch_open"),
-    ("python/rrdi/library.py", "librrdi.so.0", "librrdi.so"),
-    ("docs/embedding.md", "| 22 | `RRDI_TRUNCATED`", "| 21 | `RRDI_TRUNCATED`"),
+    ("library/rrdi_c/specs/Numbers.antt.in", "= 26", "= 3"), ("python/rrdi/library.py", "librrdi.so.0", "librrdi.so"),
     ("python/rrdi/errors.py", "NOT_OURS, VERSION, TRUNCATED", "NOT_OURS, TRUNCATED"))
-WRONG_TEXTS = (('RRDI_VERSION "', 'RRDI_VERSION "1'), ('"file: bad block"', '"bad block"'),
-               ('"file: truncated"', '"file: trailing"'))
+WRONG_TEXTS = (("include/rrdi.h", 'RRDI_VERSION "', 'RRDI_VERSION "1'), (TEXTS, '"file: bad block"', '"bad block"'),
+               (TEXTS, '"file: truncated"', '"file: trailing"'))
 OTHER = "#include <stdlib.h>\nvoid rrdi_run(void) { abort(); }\nvoid rrdi_batch(void) {}\nvoid other(void) {}\n"
-COPIED = ("Makefile", "VERSION", "include/rrdi.h", "include/rrdi_create.h", "include/librrdi.map", "docs/rrdi.3",
-          "docs/embedding.md", "docs/errors.md", "python/rrdi/library.py", "python/rrdi/errors.py")
+COPIED = ("Makefile", "VERSION", "include/rrdi.h", "include/librrdi.map", "docs/rrdi.3",
+          "docs/errors.md", "library/rrdi_c/specs/Numbers.antt.in", TEXTS, "python/rrdi/library.py", "python/rrdi/by_ctypes.py", "python/rrdi/errors.py")
 
 
 def with_fault(top: Path, file: str, old: str, new: str) -> Source:
@@ -238,10 +262,10 @@ def test_wrong_pages(folder: Path, planted: Check) -> None:
 
 def test_wrong_texts(needs: Callable[..., None], folder: Path, planted: Check) -> None:
     needs("cc")
-    for old, new in WRONG_TEXTS:
-        source, before = with_fault(folder, "include/rrdi.h", old, new), len(planted.faults)
+    for file, old, new in WRONG_TEXTS:
+        source, before = with_fault(folder, file, old, new), len(planted.faults)
         compare_texts(source, COMPILERS["C"], folder, planted)
-        assert len(planted.faults) > before, (old, new)
+        assert len(planted.faults) > before, (file, old, new)
 
 
 def test_wrong_libraries(needs: Callable[..., None], folder: Path, planted: Check) -> None:
@@ -253,5 +277,5 @@ def test_wrong_libraries(needs: Callable[..., None], folder: Path, planted: Chec
     compare_exports(folder / "other.so", folder / "other.a", planted)
     compare_linking(folder / "other.so", planted)
     (folder / "one.h").write_text("static inline int new(void) { return 1; }\n")
-    compile_header(folder / "one.h", planted)
+    compile_header(folder / "one.h", "c++", "c++98", planted)
     assert len(planted.faults) == 8

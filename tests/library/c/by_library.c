@@ -3,7 +3,7 @@
    library. Its own reads of standard input and writes of output bypass the C library, so that the library between.c
    sees only the calls of librrdi. The program allocates nothing.
 
-   RRDI_WAIT and RRDI_SYNC=1 have the same meaning as for rrdi. With IN_MEMORY=1 the program reads FILE itself, lets the
+   RRDI_WAIT and RRDI_SYNC=1 have the same meaning as for rrdi. With NOW=N the present time is N. With IN_MEMORY=1 the program reads FILE itself, lets the
    library run the command on the bytes, and writes the new file. With OPEN=1 it opens FILE by rrdi_open, runs the
    command on the open file, and closes it; with NUMBERS=1 too, an update by one sample goes by rrdi_update_open. With
    ROOM=N the first call has room for N bytes of output, and the second call for all bytes. With STACK=N the calls run
@@ -145,7 +145,7 @@ static void run_opened(struct rrdi_file *opened, size_t length, uint64_t now) {
 
 /* One call on a file that stays open for the call. Returns false if there is no such file, if it is to be made, or if
    its file system has no locks. */
-static bool call_open(const uint8_t *name, size_t name_length, bool is_batch, size_t length, uint64_t now,
+static bool call_open(const char *name, size_t name_length, bool is_batch, size_t length, uint64_t now,
                       uint64_t wait, bool syncs) {
     struct rrdi_file opened = {0};
     if (!is_batch && is_create(length))
@@ -164,9 +164,9 @@ static bool call_open(const uint8_t *name, size_t name_length, bool is_batch, si
 
 /* One call: of lines, or of words; on the file at a path, or on its bytes. */
 static void call(const char *path, bool is_batch, size_t length, bool has_file, size_t file_length, bool in_memory) {
-    uint64_t now = time(NULL), wait = 1000 * number("RRDI_WAIT", 5);
+    uint64_t now = number("NOW", time(NULL)), wait = 1000 * number("RRDI_WAIT", 5);
     bool syncs = number("RRDI_SYNC", 0) == 1;
-    const uint8_t *name = (const uint8_t *)path;
+    const char *name = path;
     size_t name_length = path ? strlen(path) : 0, refused_room = sizeof refused_lines / sizeof *refused_lines;
     if (!in_memory && number("OPEN", 0) == 1 && call_open(name, name_length, is_batch, length, now, wait, syncs))
         return;
@@ -250,6 +250,11 @@ static const char *wrong(bool is_batch, bool in_memory) {
     for (size_t at = 0; at < count; at++)
         if (refused_lines[at] <= (at ? refused_lines[at - 1] : 0))
             return "numbers of refused lines that are not in order";
+    if (!answer.fault && !answer.refused && answer.explanation_length)
+        return "an explanation of what is not refused";
+    for (size_t at = 0; at < answer.explanation_length; at++)
+        if (at >= sizeof answer.explanation || (answer.explanation[at] < ' ' && !(is_batch && answer.explanation[at] == '\n')))
+            return "a control character in an explanation, or too long a one";
     if (!is_batch)
         return answer.refused ? "a refused line of a command" : NULL;
     for (size_t at = 0; at < answer.output_length; at++) {
@@ -262,14 +267,17 @@ static const char *wrong(bool is_batch, bool in_memory) {
     return NULL;
 }
 
-/* Prints the line after `cannot open`, `cannot write` and `file: read failed`, with the system's reason. */
-static void report_reason(const char *path) {
-    const char *reason = strerrordesc_np(answer.system_error);
-    put(2, "rrdi: ", 6);
-    put(2, path, strlen(path));
-    put(2, ": ", 2);
-    put(2, reason, strlen(reason));
-    put(2, "\n", 1);
+/* Prints the explanation, as rrdi does: that of a command, or those of refused lines, has no line feed at its end, or one. */
+static void explain(void) {
+    const uint8_t *from = answer.explanation, *end = from + answer.explanation_length;
+    while (from < end) {
+        const uint8_t *feed = memchr(from, '\n', end - from);
+        size_t length = (feed ? feed : end) - from;
+        put(2, "rrdi: ", 6);
+        put(2, from, length);
+        put(2, "\n", 1);
+        from += length + 1;
+    }
 }
 
 static int end(const char *path, bool is_batch, bool in_memory) {
@@ -284,22 +292,20 @@ static int end(const char *path, bool is_batch, bool in_memory) {
         answer.fault && !(is_batch && (answer.fault == RRDI_CANNOT_WRITE || answer.fault == RRDI_NO_MEMORY));
     if (has_text) {
         fail(output, answer.output_length, answer.fault == RRDI_USAGE ? 2 : 1);
+        explain();
         if (answer.fault == RRDI_USAGE)
             put(2, USAGE, strlen(USAGE));
-        if (path && !in_memory &&
-            (answer.fault == RRDI_CANNOT_OPEN || answer.fault == RRDI_CANNOT_WRITE || answer.fault == RRDI_READ))
-            report_reason(path);
         return answer.fault == RRDI_USAGE ? 2 : 1;
     }
     put(1, output, answer.output_length);
     if (answer.fault == RRDI_CANNOT_WRITE) {
         fail("cannot write", 12, 1);
-        if (path && !in_memory)
-            report_reason(path);
+        explain();
         return 1;
     }
     if (answer.fault == RRDI_NO_MEMORY)
         return fail("out of memory", 13, 1);
+    explain();
     return answer.refused ? 1 : 0;
 }
 
@@ -333,9 +339,9 @@ int main(int count, char **arguments) {
     output_room = number("ROOM", sizeof output);
     call_on_stack(&task);
     bool is_short = answer.fault == RRDI_NO_ROOM || answer.is_cut;
-    if (is_short && answer.output_length <= output_room)
+    if (is_short && (answer.output_needed <= output_room || answer.output_length))
         return fail("no room where there is room", 27, 3);
-    if (is_short && answer.is_changed && !in_memory)
+    if (is_short && answer.is_changed)
         return fail("a file is changed in spite of too little room", 45, 3);
     output_room = sizeof output;
     if (is_short)

@@ -1,5 +1,5 @@
 /* SPDX-License-Identifier: MIT OR Apache-2.0 */
-/* What the tests of rrdi.h and of rrdi_create.h have in common: an answer and its output, an open file, the count of
+/* What the tests of rrdi.h have in common: an answer and its output, an open file, the count of
    the checks, and files. */
 #ifndef CHECKS_H
 #define CHECKS_H
@@ -14,6 +14,8 @@
 #include "rrdi.h"
 
 #define WORDS(text) (const uint8_t *)(text), sizeof(text) - 1
+/* A path of a call, with its length. */
+#define NAME(text) (text), sizeof(text) - 1
 /* The words of a call, with their length. */
 struct words {
     const uint8_t *bytes;
@@ -31,17 +33,32 @@ static inline bool want(bool is_right, const char *what) {
     count++;
     if (!is_right) {
         wrong++;
-        printf("%s: fault %u, error %u, %s%srefused %llu, file %llu, output %llu, at %llu\n", what, answer.fault,
+        printf("%s: fault %u, error %u, %s%srefused %llu, file %llu, output %llu of %llu, at %llu\n", what, answer.fault,
                answer.system_error, answer.is_changed ? "changed, " : "", answer.is_cut ? "cut, " : "",
                (unsigned long long)answer.refused, (unsigned long long)answer.file_length,
-               (unsigned long long)answer.output_length, (unsigned long long)answer.at);
+               (unsigned long long)answer.output_length, (unsigned long long)answer.output_needed,
+               (unsigned long long)answer.at);
     }
     return is_right;
 }
 
+/* Whether there was no room for an output of so many bytes, by this fault: nothing was written, and nothing changed. */
+static inline bool lacks_room(uint32_t fault, size_t needed) {
+    return answer.fault == fault && answer.is_cut && !answer.output_length && answer.output_needed == needed &&
+           !answer.is_changed;
+}
+
 static inline bool gave(uint32_t fault, bool is_changed, const char *text) {
     return answer.fault == fault && answer.is_changed == is_changed && !answer.is_cut &&
-           answer.output_length == strlen(text) && !memcmp(output, text, strlen(text));
+           answer.output_length == strlen(text) && answer.output_needed == strlen(text) &&
+           !memcmp(output, text, strlen(text));
+}
+
+/* Whether the explanation in the answer begins with a text; with an empty text, whether there is none. */
+static inline bool explains(const char *text) {
+    size_t length = strlen(text);
+    return *text ? answer.explanation_length >= length && !memcmp(answer.explanation, text, length)
+                 : !answer.explanation_length;
 }
 
 /* Whether the call could not open or read its file, by this error of the system. */
@@ -54,12 +71,11 @@ static inline bool cannot_write(int error) {
 }
 
 static inline void run_file(const char *path, const uint8_t *words, size_t words_length, uint64_t wait) {
-    rrdi_run_file((const uint8_t *)path, strlen(path), words, words_length, 0, wait, false, output, sizeof output,
-                  &answer);
+    rrdi_run_file(path, strlen(path), words, words_length, 0, wait, false, output, sizeof output, &answer);
 }
 
 static inline void open_file(const char *path) {
-    rrdi_open((const uint8_t *)path, strlen(path), 0, false, &opened, output, sizeof output, &answer);
+    rrdi_open(path, strlen(path), 0, false, &opened, output, sizeof output, &answer);
 }
 
 static inline void run_open(const uint8_t *words, size_t words_length) {
@@ -105,13 +121,14 @@ static inline size_t bytes_of(const char *path, uint8_t *bytes) {
     return got;
 }
 
-/* The bytes for which an open file stands, while changes wait in its log: a command brings those of a copy into place. */
+/* The bytes for which an open file stands, while changes wait in its log: a batch brings those of a copy into place. */
 static inline size_t stands_for(const char *path, uint8_t *bytes) {
     static uint8_t kept_output[sizeof output];
+    uint64_t refused[1];
     struct rrdi_answer kept = answer;
     memcpy(kept_output, output, sizeof output);
     put("copy", bytes, bytes_of(path, bytes));
-    run_file("copy", WORDS("last"), 0);
+    rrdi_batch_file(NAME("copy"), WORDS("last\n"), 0, 0, false, output, sizeof output, refused, 1, &answer);
     memcpy(output, kept_output, sizeof output);
     answer = kept;
     return bytes_of("copy", bytes);

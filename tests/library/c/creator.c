@@ -4,13 +4,12 @@
 #include <stdio.h>
 
 #include "checks.h"
-#include "rrdi_create.h"
 
 int main(int count, char **arguments) {
     const char *path = count > 1 ? arguments[1] : "";
     while (getchar() != EOF)
         ;
-    rrdi_create_new((const uint8_t *)path, strlen(path), WORDS(CREATE), 0, 0, true, output, sizeof output, &answer);
+    rrdi_create_new(path, strlen(path), WORDS(CREATE), 0, 0, true, output, sizeof output, &answer);
     printf("%u %u\n", answer.fault, answer.system_error);
     return 0;
 }

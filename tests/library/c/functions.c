@@ -23,15 +23,16 @@
 #define MOST_SECONDS 60
 /* The most milliseconds for which a call waits, and the longest pause. */
 #define MOST_WAIT 3600000
-#define LONGEST_PAUSE 50
+#define LONGEST_PAUSE 5
 
 static uint8_t file[1 << 16], new_file[1 << 16];
 static size_t length;
 static bool has_file;
 
 /* The pauses of calls that wait for a lock: how many there were, their milliseconds, and the longest and the first one.
-   They take no time if `has_no_pauses`. */
-static volatile uint64_t pauses, paused, longest, first;
+   They take no time if `has_no_pauses`; but on a busy machine each is so many times as long, and each try for a lock takes so many
+   milliseconds. */
+static volatile uint64_t pauses, paused, longest, first, tried, times = 1, try_length;
 static bool has_no_pauses;
 
 int nanosleep(const struct timespec *time, struct timespec *left) {
@@ -41,6 +42,21 @@ int nanosleep(const struct timespec *time, struct timespec *left) {
     paused += milliseconds;
     pauses++;
     return has_no_pauses ? 0 : syscall(SYS_nanosleep, time, left);
+}
+
+/* The clock goes on by the pauses alone if they take no time. */
+int clock_gettime(clockid_t clock, struct timespec *time) {
+    if (!has_no_pauses)
+        return syscall(SYS_clock_gettime, clock, time);
+    uint64_t now = paused * times + tried;
+    time->tv_sec = now / 1000;
+    time->tv_nsec = now % 1000 * 1000000;
+    return 0;
+}
+
+int flock(int locked, int how) {
+    tried += try_length;
+    return syscall(SYS_flock, locked, how);
 }
 
 /* The error of one read of a file, 0 if all work; and how many work before, each of which moves at most a page. */
@@ -118,8 +134,9 @@ static void test_steps(size_t first, size_t (*run)(const uint8_t *words, size_t 
         want(step->fault == RRDI_CANNOT_OPEN || !answer.system_error, "the error of a call that worked");
         if (step->fault || !size)
             continue;
+        memset(output, 7, 3);
         run(step->words.bytes, step->words.length, 2);
-        want(!answer.fault && answer.is_cut && answer.output_length == size, "an output with room for two bytes");
+        want(lacks_room(RRDI_NO_ROOM, size) && output[0] == 7 && output[2] == 7, "an output with room for two bytes");
     }
 }
 
@@ -188,7 +205,9 @@ static void test_batch(void) {
     want(answer.fault == RRDI_NO_ROOM && !answer.is_changed && answer.file_length == 224,
          "a batch with too little room");
     rrdi_batch(true, file, length, WORDS("last\nlast\n"), 0, new_file, sizeof new_file, output, 3, refused, 3, &answer);
-    want(answer.is_cut && answer.output_length == 4 && answer.fault == 0, "a batch whose output has no room");
+    want(lacks_room(RRDI_NO_ROOM, 4) && answer.file_length == length, "a batch whose output has no room");
+    rrdi_batch(true, file, length, WORDS("last\nlast\n"), 0, new_file, 1, output, 3, refused, 3, &answer);
+    want(lacks_room(RRDI_NO_ROOM, 4) && answer.file_length == length, "a batch without room for output and file");
     rrdi_batch(true, file, length, WORDS(""), 0, new_file, sizeof new_file, output, 0, refused, 0, &answer);
     want(gave(RRDI_OK, true, "") && answer.file_length == length && !memcmp(file, new_file, length),
          "a batch without a line");
@@ -197,11 +216,11 @@ static void test_batch(void) {
 /* ---- on files */
 
 static void batch_file(const uint8_t *lines, size_t lines_length, size_t room, uint64_t *refused, size_t refused_room) {
-    rrdi_batch_file(WORDS(PATH), lines, lines_length, 0, 0, true, output, room, refused, refused_room, &answer);
+    rrdi_batch_file(NAME(PATH), lines, lines_length, 0, 0, true, output, room, refused, refused_room, &answer);
 }
 
 static size_t run_at_path(const uint8_t *words, size_t words_length, size_t room) {
-    rrdi_run_file(WORDS(PATH), words, words_length, 0, 0, false, output, room, &answer);
+    rrdi_run_file(NAME(PATH), words, words_length, 0, 0, false, output, room, &answer);
     return held(PATH);
 }
 
@@ -227,25 +246,26 @@ static void test_run_file(void) {
 static void test_batch_file(void) {
     uint64_t refused[2] = {0, 0};
     batch_file(WORDS("update 10:1\nupdate 5:1\nlast\n"), 20, refused, 2);
-    want(answer.fault == RRDI_NO_ROOM && answer.is_cut && answer.output_length == 28 && !answer.is_changed &&
-             held(PATH) == 224,
+    want(lacks_room(RRDI_NO_ROOM, 28) && held(PATH) == 224,
          "a batch on a file without room for its output");
-    batch_file(WORDS("update 10:1\nupdate 5:1\nlast\n"), answer.output_length, refused, 1);
+    batch_file(WORDS("update 10:1\nupdate 5:1\nlast\n"), answer.output_needed, refused, 1);
     want(gave(RRDI_OK, true, "ERROR: not later than 10\n10\n") && held(PATH) == 309, "a batch on a file");
     want(answer.refused == 1 && refused[0] == 2 && refused[1] == 0, "the number of the refused line");
-    rrdi_batch_file(WORDS("bad"), WORDS("last\n"), 0, 0, false, output, sizeof output, refused, 2, &answer);
+    rrdi_batch_file(NAME("bad"), WORDS("last\n"), 0, 0, false, output, sizeof output, refused, 2, &answer);
     want(gave(RRDI_TRUNCATED, false, "file: truncated at 4") && answer.at == 4 && !answer.refused,
          "a batch on a bad file");
-    rrdi_batch_file(WORDS("nowhere/file"), WORDS(CREATE_LINE "last\n"), 0, 0, false, output, sizeof output, refused, 2,
+    rrdi_batch_file(NAME("nowhere/file"), WORDS(CREATE_LINE "last\n"), 0, 0, false, output, sizeof output, refused, 2,
                     &answer);
     want(cannot_open(ENOENT), "a batch in no folder");
     want(!symlink("nowhere/file", "leads-nowhere"), "a link");
-    rrdi_batch_file(WORDS("leads-nowhere"), WORDS(CREATE_LINE "last\n"), 0, 0, false, output, sizeof output, refused, 2,
+    rrdi_batch_file(NAME("leads-nowhere"), WORDS(CREATE_LINE "last\n"), 0, 0, false, output, sizeof output, refused, 2,
                     &answer);
     want(gave(RRDI_CANNOT_WRITE, false, "0\n") && answer.system_error == ENOENT, "a batch that cannot be written");
-    rrdi_batch_file(WORDS("another"), WORDS("last\n"), 0, 0, false, output, sizeof output, refused, 2, &answer);
+    rrdi_batch_file(NAME("another"), WORDS("last\n"), 0, 0, false, output, 18, refused, 2, &answer);
+    want(lacks_room(RRDI_NO_ROOM, 19) && access("another", F_OK), "a batch that makes no file, without room");
+    rrdi_batch_file(NAME("another"), WORDS("last\n"), 0, 0, false, output, sizeof output, refused, 2, &answer);
     want(gave(RRDI_OK, false, "ERROR: no database\n") && access("another", F_OK), "a batch that makes no file");
-    rrdi_batch_file(WORDS("\xff"), WORDS("last\n"), 0, 0, false, output, sizeof output, refused, 2, &answer);
+    rrdi_batch_file(NAME("\xff"), WORDS("last\n"), 0, 0, false, output, sizeof output, refused, 2, &answer);
     want(gave(RRDI_CANNOT_OPEN, false, "cannot open"), "a batch at a path that is no text");
 }
 
@@ -290,7 +310,7 @@ static void fetch(void) {
 
 static void batch(void) {
     uint64_t refused[2];
-    rrdi_batch_file(WORDS("closed"), WORDS("last\nupdate 20:2\nupdate 5:1\n"), 0, 0, true, output, sizeof output,
+    rrdi_batch_file(NAME("closed"), WORDS("last\nupdate 20:2\nupdate 5:1\n"), 0, 0, true, output, sizeof output,
                     refused, 2, &answer);
 }
 
@@ -298,7 +318,7 @@ static void batch(void) {
 static void test_streams(void) {
     static uint8_t old[1 << 16], new[1 << 16];
     uint64_t refused[2];
-    rrdi_batch_file(WORDS("closed"), WORDS(OLD_LINE), 0, 0, false, output, sizeof output, refused, 2, &answer);
+    rrdi_batch_file(NAME("closed"), WORDS(OLD_LINE), 0, 0, false, output, sizeof output, refused, 2, &answer);
     size_t old_size = bytes_of("closed", old);
     update();
     size_t new_size = bytes_of("closed", new);
@@ -484,12 +504,13 @@ static void test_batch_open(void) {
     run_file("lines", WORDS(CREATE), 0);
     open_file("lines");
     rrdi_batch_open(&opened, WORDS("update 10:1\nupdate 5:1\nlast\n"), 0, output, 20, refused, 2, &answer);
-    want(answer.fault == RRDI_NO_ROOM && answer.is_cut && answer.output_length == 28 && !answer.is_changed &&
-             held("lines") == 224,
+    want(lacks_room(RRDI_NO_ROOM, 28) && held("lines") == 224,
          "a batch on an open file without room for its output");
-    uint64_t room = answer.output_length;
-    run_file("lines", WORDS("last"), 0);
+    uint64_t room = answer.output_needed;
+    run_file("lines", WORDS("update\00010:1"), 0);
     want(cannot_open(EAGAIN), "a file stays locked after a batch without room");
+    run_file("lines", WORDS("last"), 0);
+    want(gave(RRDI_OK, false, "0\n"), "a reader after a batch without room");
     rrdi_batch_open(&opened, WORDS("update 10:1\nupdate 5:1\nlast\n"), 0, output, room, refused, 1, &answer);
     want(gave(RRDI_OK, true, "ERROR: not later than 10\n10\n") && length_of("lines") == 309,
          "a batch on an open file");
@@ -507,7 +528,7 @@ static void *close_later(void *of) {
     return (void *)is_right;
 }
 
-/* An open file is locked; it may move to another thread; a forked child does not keep the lock. */
+/* An open file is locked, for others than readers; it may move to another thread; a forked child does not keep the lock. */
 static void test_open_locks(void) {
     struct rrdi_file second = {0};
     pthread_t thread;
@@ -515,8 +536,10 @@ static void test_open_locks(void) {
     run_file("kept", WORDS(CREATE), 0);
     open_file("kept");
     run_file("kept", WORDS("last"), 0);
-    want(cannot_open(EAGAIN), "a reader of an open file");
-    rrdi_open(WORDS("kept"), 0, false, &second, output, sizeof output, &answer);
+    want(gave(RRDI_OK, false, "0\n"), "a reader of an open file");
+    run_file("kept", WORDS("update\00020:1"), 0);
+    want(cannot_open(EAGAIN), "a writer of an open file");
+    rrdi_open(NAME("kept"), 0, false, &second, output, sizeof output, &answer);
     want(cannot_open(EAGAIN) && !second.is_open, "a file is opened twice");
     fflush(stdout);
     pid_t child = fork();
@@ -554,8 +577,8 @@ static void test_open_faults(void) {
     with_limit(size, update_opened);
     bool is_right = gave(RRDI_CANNOT_WRITE, false, "cannot write") && answer.system_error;
     want(is_right, "an update of an open file under a limit");
-    run_file("limited", WORDS("last"), 0);
-    want(gave(RRDI_OK, false, "0\n") && has_bytes("limited", old, size), "a file whose change failed is not locked");
+    run_file("limited", WORDS("update\0000:1"), 0);
+    want(answer.fault == RRDI_REFUSED && has_bytes("limited", old, size), "a file whose change failed is not locked");
     run_open(WORDS("update\00010:1"));
     want(gave(RRDI_OK, true, "") && length_of("limited") == 309 && !answer.system_error,
          "an update after a change that failed");
@@ -564,7 +587,7 @@ static void test_open_faults(void) {
     want(without_streams(7, open_and_update) && gave(RRDI_OK, true, ""), "an open file without the standard streams");
 }
 
-/* A file that still has its mark after it was closed has all changes: the next call removes the mark. */
+/* A file that still has its mark after it was closed has all changes: the next call that may change it removes the mark. */
 static void test_last_write(void) {
     static uint8_t right[1 << 16];
     const char *paths[] = {"marked", "unmarked"};
@@ -580,7 +603,9 @@ static void test_last_write(void) {
     }
     want(!has_bytes("marked", right, bytes_of("unmarked", right)), "a last write that failed");
     run_file("marked", WORDS("last"), 0);
-    want(gave(RRDI_OK, false, "15020\n") && has_bytes("marked", right, bytes_of("unmarked", right)),
+    want(gave(RRDI_OK, false, "15020\n"), "last after a last write that failed");
+    run_file("marked", WORDS("update\00015020:4"), 0);
+    want(answer.fault == RRDI_REFUSED && has_bytes("marked", right, bytes_of("unmarked", right)),
          "the file after a last write that failed");
 }
 
@@ -631,13 +656,13 @@ static void test_reads(void) {
 
 /* ---- locks and threads */
 
-/* Checks that calls on a locked file wait for so many milliseconds, in pauses of 1 to 50. */
+/* Checks that calls on a locked file wait for so many milliseconds, in pauses of 1 to 5. */
 static void test_wait(uint64_t wait, uint64_t wanted) {
     uint64_t refused[1];
     for (int turn = 0; turn < 3; turn++) {
         pauses = paused = longest = 0;
         if (turn == 2)
-            rrdi_batch_file(WORDS(PATH), WORDS("last\n"), 0, wait, false, output, sizeof output, refused, 1, &answer);
+            rrdi_batch_file(NAME(PATH), WORDS("last\n"), 0, wait, false, output, sizeof output, refused, 1, &answer);
         else
             run_file(PATH, turn ? (const uint8_t *)"last" : (const uint8_t *)"revert", turn ? 4 : 6, wait);
         want(cannot_open(EAGAIN), "a call on a locked file");
@@ -645,6 +670,15 @@ static void test_wait(uint64_t wait, uint64_t wanted) {
                  (wanted < 1000 || longest == LONGEST_PAUSE),
              "the milliseconds for which a call waits");
     }
+}
+
+/* Checks that a wait ends by the clock, whatever else has the processor: at most two tries and one pause too late. */
+static void test_busy(uint64_t wait) {
+    pauses = paused = tried = 0;
+    run_file(PATH, WORDS("last"), wait);
+    uint64_t taken = paused * times + tried;
+    want(cannot_open(EAGAIN) && taken >= wait && taken <= wait + 2 * try_length + LONGEST_PAUSE * times,
+         "the milliseconds for which a call waits on a busy machine");
 }
 
 static void test_waits(void) {
@@ -658,6 +692,11 @@ static void test_waits(void) {
     test_wait(MOST_WAIT, MOST_WAIT);
     test_wait(MOST_WAIT + 1, MOST_WAIT);
     test_wait(UINT64_MAX, MOST_WAIT);
+    for (times = 1; times < 100; times *= 7)
+        for (try_length = 0; try_length < 100; try_length = 3 * try_length + 1)
+            test_busy(3000);
+    times = 1;
+    try_length = 0;
     has_no_pauses = false;
     close(other);
 }
@@ -684,7 +723,7 @@ static void *update_all(void *of) {
     size_t number = (size_t)of, done = 0;
     for (size_t at = 0; at < UPDATES; at++) {
         int size = snprintf((char *)line, sizeof line, "tune%c--heartbeat%cg:%zu", 0, 0, 100 + number * UPDATES + at);
-        rrdi_run_file(WORDS("shared"), line, size, 0, 60000, false, text, sizeof text, &own);
+        rrdi_run_file(NAME("shared"), line, size, 0, 60000, false, text, sizeof text, &own);
         done += own.fault == RRDI_OK && own.is_changed;
     }
     return (void *)done;

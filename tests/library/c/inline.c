@@ -1,14 +1,16 @@
 /* SPDX-License-Identifier: MIT OR Apache-2.0 */
-/* Tests the functions that are in the headers alone and do more than to name something: rrdi_words, and rrdi_create_new
+/* Tests what is plain C and does more than to name something: rrdi_words, and rrdi_create_new
    on a file system with links and on one without, with each fault, in threads. The system calls link and rename go by
    this program. Run the program in an empty folder; it prints each wrong result and the number of tests. */
 #define _GNU_SOURCE
 #include <dirent.h>
+#include <errno.h>
+#include <fcntl.h>
 #include <pthread.h>
 #include <sys/syscall.h>
+#include <unistd.h>
 
 #include "checks.h"
-#include "rrdi_create.h"
 
 #define PATH "new.rrdi"
 #define OTHER "held by another program"
@@ -93,31 +95,40 @@ static void test_words_in_calls(void) {
 
 /* ---- create */
 
-static void create(const uint8_t *path, size_t path_length) {
+static void create(const char *path, size_t path_length) {
     rrdi_create_new(path, path_length, WORDS(CREATE), 0, 0, false, output, sizeof output, &answer);
 }
 
 /* Checks that a create ends with a fault of this error, leaves so many files in the folder, and does not print
    anything. */
-static void test_error(const uint8_t *path, size_t path_length, int error, size_t left, const char *what) {
+static void test_error(const char *path, size_t path_length, int error, size_t left, const char *what) {
     answer.refused = answer.at = answer.file_length = 7;
     create(path, path_length);
     want(cannot_write(error), what);
     want(!answer.refused && !answer.at && !answer.file_length && files() == left, what);
 }
 
-/* Makes a database where there is none: the same file as rrdi_run_file. */
+/* The number of the next file that this process opens. */
+static int next_number(void) {
+    int number = dup(1);
+    close(number);
+    return number;
+}
+
+/* Makes a database where there is none: the same file as rrdi_run_file, and no descriptor stays. */
 static void test_made(const char *what) {
     static uint8_t bytes[1 << 16];
     struct stat one, other;
+    int number = next_number();
     run_file("by-path", WORDS(CREATE), 0);
     size_t size = bytes_of("by-path", bytes);
-    create(WORDS(PATH));
+    create(NAME(PATH));
+    want(next_number() == number, "a descriptor that stays");
     want(gave(RRDI_OK, true, "") && !answer.system_error && has_bytes(PATH, bytes, size) && files() == 2, what);
     want(!stat("by-path", &one) && !stat(PATH, &other) && one.st_mode == other.st_mode && other.st_nlink == 1, what);
     run_file(PATH, WORDS("update\00010:1"), 0);
     want(gave(RRDI_OK, true, "") && held(PATH) == 309, "an update of a file that was made");
-    test_error(WORDS(PATH), EEXIST, 2, what);
+    test_error(NAME(PATH), EEXIST, 2, what);
     want(held(PATH) == 309, "a file that is there stays as it is");
     unlink("by-path");
     unlink(PATH);
@@ -126,40 +137,39 @@ static void test_made(const char *what) {
 /* What is at the path stays, whatever it is. */
 static void test_taken(void) {
     put("text", OTHER, strlen(OTHER));
-    test_error(WORDS("text"), EEXIST, 1, "a file of another program");
+    test_error(NAME("text"), EEXIST, 1, "a file of another program");
     want(has_bytes("text", (const uint8_t *)OTHER, strlen(OTHER)), "the file of another program");
-    rrdi_create_new(WORDS("text"), WORDS(CREATE), 0, 0, false, output, 11, &answer);
-    want(answer.fault == RRDI_CANNOT_WRITE && answer.is_cut && answer.output_length == 12,
-         "a fault without room for its text");
+    rrdi_create_new(NAME("text"), WORDS(CREATE), 0, 0, false, output, 11, &answer);
+    want(lacks_room(RRDI_CANNOT_WRITE, 12), "a fault without room for its text");
     unlink("text");
     want(!symlink("nowhere", "leads-nowhere"), "a link");
-    test_error(WORDS("leads-nowhere"), EEXIST, 1, "a link that leads nowhere");
+    test_error(NAME("leads-nowhere"), EEXIST, 1, "a link that leads nowhere");
     unlink("leads-nowhere");
-    test_error(WORDS("."), EEXIST, 0, "the path of a folder");
+    test_error(NAME("."), EEXIST, 0, "the path of a folder");
 }
 
 /* A file that another program makes during the call stays as it is. */
 static void test_overtaken(const char *what) {
     is_overtaken = true;
-    test_error(WORDS(PATH), EEXIST, 1, what);
+    test_error(NAME(PATH), EEXIST, 1, what);
     is_overtaken = false;
     want(has_bytes(PATH, (const uint8_t *)OTHER, strlen(OTHER)), what);
     unlink(PATH);
 }
 
 static void test_paths(void) {
-    static uint8_t path[5000];
+    static char path[5000];
     memset(path, 'x', sizeof path);
-    test_error(WORDS("nowhere/file"), ENOENT, 0, "a path in no folder");
-    test_error(WORDS("a\0b"), EINVAL, 0, "a path with a zero byte");
+    test_error(NAME("nowhere/file"), ENOENT, 0, "a path in no folder");
+    test_error(NAME("a\0b"), EINVAL, 0, "a path with a zero byte");
     test_error(path, sizeof path, ENAMETOOLONG, 0, "a path that is too long");
     test_error(path, 4095, ENAMETOOLONG, 0, "a name that is too long");
     test_error(path, 255, ENAMETOOLONG, 0, "a name without room for another one");
     create(path, 220);
     want(gave(RRDI_OK, true, "") && files() == 1, "a long name");
     path[220] = 0;
-    unlink((char *)path);
-    create(WORDS("\xff"));
+    unlink(path);
+    create(NAME("\xff"));
     want(answer.fault && files() == 0, "a path that is no text");
 }
 
@@ -167,12 +177,15 @@ static void test_refused(void) {
     static const char *const others[] = {"update\00010:1", "creates", "creat", "last", ""};
     for (size_t at = 0; at < sizeof others / sizeof *others; at++) {
         size_t size = at ? strlen(others[at]) : 11;
-        rrdi_create_new(WORDS(PATH), (const uint8_t *)others[at], size, 0, 0, false, output, sizeof output, &answer);
+        rrdi_create_new(NAME(PATH), (const uint8_t *)others[at], size, 0, 0, false, output, sizeof output, &answer);
         want(gave(RRDI_USAGE, false, "usage") && !answer.system_error && files() == 0, "another command");
     }
-    rrdi_create_new(WORDS(PATH), WORDS("create"), 0, 0, false, output, sizeof output, &answer);
+    rrdi_create_new(NAME(PATH), WORDS("create"), 0, 0, false, output, sizeof output, &answer);
     want(answer.fault && files() == 0, "a create without a source");
-    rrdi_create_new(WORDS(PATH), WORDS(CREATE "\0RRA:LAST:0.5:1:x"), 0, 0, false, output, sizeof output, &answer);
+    struct rrdi_answer without = answer;
+    rrdi_create_new(NAME(PATH), (const uint8_t *)"creates", 6, 0, 0, false, output, sizeof output, &answer);
+    want(answer.fault == without.fault && answer.output_length == without.output_length, "a byte after the words");
+    rrdi_create_new(NAME(PATH), WORDS(CREATE "\0RRA:LAST:0.5:1:x"), 0, 0, false, output, sizeof output, &answer);
     want(answer.fault == RRDI_BAD_WORD && answer.output_length > 10 && files() == 0, "a create of an unreadable word");
 }
 
@@ -181,7 +194,7 @@ static void test_left(void) {
     char left[64];
     snprintf(left, sizeof left, PATH ".new-%ld-0", (long)getpid());
     put(left, OTHER, strlen(OTHER));
-    create(WORDS(PATH));
+    create(NAME(PATH));
     want(gave(RRDI_OK, true, "") && files() == 2 && has_bytes(left, (const uint8_t *)OTHER, strlen(OTHER)),
          "a name that is left");
     unlink(left);
@@ -189,7 +202,7 @@ static void test_left(void) {
 }
 
 static void create_one(void) {
-    create(WORDS(PATH));
+    create(NAME(PATH));
 }
 
 static void test_limit(void) {
@@ -207,12 +220,16 @@ static void test_links(void) {
     }
     link_error = EPERM;
     rename_error = EIO;
-    test_error(WORDS(PATH), EIO, 1, "a rename that fails");
+    test_error(NAME(PATH), EIO, 1, "a rename that fails");
     want(held(PATH) == 0, "the name that a rename does not replace");
     unlink(PATH);
     rename_error = 0;
     link_error = EIO;
-    test_error(WORDS(PATH), EIO, 0, "a link that fails");
+    test_error(NAME(PATH), EIO, 0, "a link that fails");
+    want(explains(PATH ": input/output error"), "why a link fails");
+    link_error = EBADF;
+    test_error(NAME(PATH), EBADF, 0, "a link that fails");
+    want(explains(PATH ": bad file descriptor"), "why a link fails");
     link_error = 0;
 }
 
@@ -220,7 +237,7 @@ static void *create_alone(void *of) {
     struct rrdi_answer own = {0};
     uint8_t text[64];
     (void)of;
-    rrdi_create_new(WORDS(PATH), WORDS(CREATE), 0, 0, false, text, sizeof text, &own);
+    rrdi_create_new(NAME(PATH), WORDS(CREATE), 0, 0, false, text, sizeof text, &own);
     bool is_late = own.fault == RRDI_CANNOT_WRITE && own.system_error == EEXIST;
     return (void *)(size_t)(own.fault == RRDI_OK ? 1 : (is_late ? 0 : THREADS + 1));
 }

@@ -246,12 +246,14 @@ static void test_unreadable_values(void) {
             update_open(100, SOURCES);
             want(gave(RRDI_BAD_WORD, false, "unreadable sample 1") && has_bytes("one", old, size),
                  "a value that cannot be read");
+            char why[64];
+            snprintf(why, sizeof why, "value %zu, for ", at + 1);
+            want(explains(why), "which value cannot be read");
         }
     }
     all_whole(5);
     rrdi_update_open(&opened, 5, values, SOURCES, output, 16, &answer);
-    want(answer.fault == RRDI_REFUSED && answer.is_cut && answer.output_length == 17,
-         "a refusal with room for 16 bytes");
+    want(lacks_room(RRDI_REFUSED, 17), "a refusal with room for 16 bytes");
     update_open(100, SOURCES);
     want(gave(RRDI_OK, true, ""), "an update after values that cannot be read");
     rrdi_close(&opened);
@@ -331,7 +333,8 @@ static void test_fetches(void) {
     static const uint32_t none[] = {4, 256, UINT32_MAX};
     for (size_t at = 0; at < sizeof none / sizeof *none; at++) {
         fetch_open(none[at], 1, 0, 10, ROOM);
-        want(gave(RRDI_BAD_WORD, false, "unreadable function"), "a function that there is not");
+        want(gave(RRDI_BAD_WORD, false, "unreadable function") && explains("a function is a number from 0 to 3"),
+             "a function that there is not");
     }
     want(has_bytes("one", old, size), "a fetch changes nothing");
     rrdi_close(&opened);

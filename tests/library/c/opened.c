@@ -68,7 +68,7 @@ int main(int count, char **arguments) {
     if (count != 2 || size < 0)
         return 2;
     const char *path = arguments[1];
-    rrdi_open((const uint8_t *)path, strlen(path), 0, false, &opened, output, sizeof output, &answer);
+    rrdi_open(path, strlen(path), 0, false, &opened, output, sizeof output, &answer);
     tell_fault(path);
     for (uint8_t *line = lines, *end; (end = memchr(line, '\n', lines + size - line)); line = end + 1) {
         run(&opened, line, end - line);

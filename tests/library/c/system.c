@@ -1,12 +1,13 @@
 /* SPDX-License-Identifier: MIT OR Apache-2.0 */
 /* Tests how the library asks the system: how files are opened, with which permissions and descriptors, what another
-   program may do to a file while a call waits for its lock, pauses that signals interrupt, and flushes. The library's
+   program may do to a file while a call waits for its lock, pauses that signals interrupt, flushes, and pages of memory. The library's
    pauses and flushes go by this program, and take no time. Run the program in an empty folder; it prints each wrong
    result and the number of tests. */
 #define _GNU_SOURCE
 #include <errno.h>
 #include <fcntl.h>
 #include <sys/file.h>
+#include <sys/resource.h>
 #include <sys/syscall.h>
 #include <time.h>
 #include <unistd.h>
@@ -45,6 +46,13 @@ int nanosleep(const struct timespec *length, struct timespec *left) {
     left->tv_nsec = (asked - half) % 1000000000;
     errno = EINTR;
     return -1;
+}
+
+/* The clock goes on by the pauses alone. */
+int clock_gettime(clockid_t clock, struct timespec *time) {
+    time->tv_sec = slept / 1000000000;
+    time->tv_nsec = slept % 1000000000;
+    return clock == CLOCK_MONOTONIC ? 0 : -1;
 }
 
 /* A lock for which a call would wait without an end fails. */
@@ -147,7 +155,7 @@ static void test_changed(void (*act)(void), const char *what) {
     put(PATH, old, old_size);
     hold();
     during = act;
-    rrdi_open(WORDS(PATH), LONG_WAIT, false, &opened, output, sizeof output, &answer);
+    rrdi_open(NAME(PATH), LONG_WAIT, false, &opened, output, sizeof output, &answer);
     want(gave(RRDI_OK, false, ""), what);
     run_open(WORDS("last"));
     want(gave(RRDI_OK, false, "20\n"), what);
@@ -280,7 +288,7 @@ static void test_no_file(void) {
     }
     open_file("none");
     want(cannot_open(ENOENT) && access("none", F_OK), "no file is opened");
-    rrdi_batch_file(WORDS("none"), WORDS("last\n"), 0, 0, false, output, sizeof output, refused, 1, &answer);
+    rrdi_batch_file(NAME("none"), WORDS("last\n"), 0, 0, false, output, sizeof output, refused, 1, &answer);
     want(gave(RRDI_OK, false, "ERROR: no database\n") && access("none", F_OK), "a batch that makes no file");
 }
 
@@ -328,7 +336,7 @@ static void test_denied(void) {
     want(cannot_open(EACCES), "last in a folder that is closed");
     run_file("closed/file", WORDS(CREATE), 0);
     want(cannot_write(EACCES), "create in a folder that is closed");
-    rrdi_batch_file(WORDS("closed/file"), WORDS("last\n"), 0, 0, false, output, sizeof output, refused, 1, &answer);
+    rrdi_batch_file(NAME("closed/file"), WORDS("last\n"), 0, 0, false, output, sizeof output, refused, 1, &answer);
     want(cannot_open(EACCES), "a batch in a folder that is closed");
     as_nobody(false);
     if (chmod("closed", 0700) || chmod(PATH, 0644))
@@ -355,7 +363,7 @@ static void test_links(void) {
 static void flush_by(const uint8_t *words, size_t words_length, bool syncs) {
     put(PATH, old, old_size);
     flushes = 0;
-    rrdi_run_file(WORDS(PATH), words, words_length, 0, 0, syncs, output, sizeof output, &answer);
+    rrdi_run_file(NAME(PATH), words, words_length, 0, 0, syncs, output, sizeof output, &answer);
 }
 
 static void test_flushes(void) {
@@ -369,6 +377,33 @@ static void test_flushes(void) {
     flush_by(WORDS(UPDATE), true);
     want(cannot_write(EIO), "a flush that fails");
     flush_error = 0;
+}
+
+/* ---- memory */
+
+/* The pages that the system has given to the process, again and again. */
+static long pages(void) {
+    struct rusage found;
+    return getrusage(RUSAGE_SELF, &found) ? -1 : found.ru_minflt;
+}
+
+/* Updates a file of 64 KB a hundred times. */
+static void update_often(long from) {
+    char line[40];
+    for (long time = from; time < from + 100; time++) {
+        size_t length = (size_t)sprintf(line, "update%c%ld:3", 0, time);
+        run_file(PATH, (const uint8_t *)line, length, 0);
+    }
+}
+
+static void test_pages(void) {
+    unlink(PATH);
+    run_file(PATH, WORDS("create\0--step\00010\0--start\0000\0DS:g:GAUGE:100:U:U\0RRA:LAST:0.5:1:4000"), 0);
+    want(gave(RRDI_OK, true, "") && held(PATH) > 60000, "a file of 64 KB");
+    update_often(1);
+    long before = pages();
+    update_often(101);
+    want(gave(RRDI_OK, true, "") && pages() - before < 200, "calls keep the pages of their memory");
 }
 
 /* ---- all */
@@ -392,6 +427,7 @@ int main(void) {
     test_links();
     test_flushes();
     test_denied();
+    test_pages();
     want(open_files() == before, "the descriptors that are open at the end");
     return end();
 }

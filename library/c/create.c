@@ -1,0 +1,128 @@
+/* SPDX-License-Identifier: MIT OR Apache-2.0 */
+/* Creates a database, and never in place of a file that is there.
+ *
+ * The database is made under another name in the same directory, and a link gives it its own name when it is whole. A link fails
+ * if there is a file of this name. */
+#define _GNU_SOURCE
+#include <errno.h>
+#include <fcntl.h>
+#include <stdio.h>
+#include <sys/file.h>
+#include <sys/stat.h>
+#include <unistd.h>
+
+#include "internal.h"
+
+/* Room for the longest path and its end, and for what the other name has besides. */
+#define PATH_ROOM 4096
+#define OTHER_ROOM (PATH_ROOM + 48)
+
+static bool is_create(const uint8_t *words, size_t words_length) {
+    return words_length >= 6 && !memcmp(words, "create", 6) && (words_length == 6 || !words[6]);
+}
+
+static bool is_printable(const char *path, size_t path_length) {
+    for (size_t at = 0; at < path_length; at++) {
+        if (path[at] < ' ' || path[at] > '~')
+            return false;
+    }
+    return path_length && path_length < PATH_ROOM;
+}
+
+/* Explains an errno, as the functions of rrdi_c do: the path, and why. A path with other characters than the printable ones of
+ * ASCII is left out. */
+static void explain(const char *path, size_t path_length, int error, struct rrdi_answer *answer) {
+    char *text = (char *)answer->explanation;
+    const char *why = strerrordesc_np(error);
+    size_t at = 0;
+    if (!why)
+        return;
+    if (is_printable(path, path_length))
+        at = (size_t)snprintf(text, RRDI_EXPLANATION, "%.*s: ", (int)path_length, path);
+    answer->explanation_length = at + (size_t)snprintf(text + at, RRDI_EXPLANATION - at, "%s", why);
+    if (text[at + 1] >= 'a' && text[at] >= 'A' && text[at] <= 'Z')
+        text[at] = (char)(text[at] - 'A' + 'a');
+}
+
+/* Makes a string of the path of a file that is not there yet. Returns 0 or an errno. */
+static int read_path(const char *path, size_t path_length, char *name) {
+    if (path_length >= PATH_ROOM)
+        return ENAMETOOLONG;
+    if (path_length && memchr(path, 0, path_length))
+        return EINVAL;
+    if (path_length)
+        memcpy(name, path, path_length);
+    name[path_length] = 0;
+    return access(name, F_OK) ? 0 : EEXIST;
+}
+
+/* Takes a name by an empty file. Returns 0 or an errno: EEXIST if the name is taken. */
+static int take_name(const char *name) {
+    int descriptor = open(name, O_WRONLY | O_CREAT | O_EXCL | O_CLOEXEC, 0666);
+    if (descriptor < 0)
+        return errno;
+    close(descriptor);
+    return 0;
+}
+
+/* Takes another name beside the name. mkstemp would do the same, but nobody else could read its file. Returns 0 or an errno. */
+static int take_other(const char *name, char *other) {
+    unsigned number = 0;
+    int error;
+    do {
+        snprintf(other, OTHER_ROOM, "%s.new-%ld-%u", name, (long)getpid(), number++);
+        error = take_name(other);
+    } while (error == EEXIST);
+    return error;
+}
+
+/* Puts the file that has the other name in place of an empty file, which takes the name first. Whoever creates a database at the
+ * name in between waits for the lock of the empty file, and finds then that the file has been replaced; or had the lock before, and
+ * keeps its file. Returns 0 or an errno: EEXIST if the name is taken. */
+static int replace_empty(const char *other, const char *name) {
+    struct stat found;
+    int error = 0, descriptor = open(name, O_RDWR | O_CREAT | O_EXCL | O_CLOEXEC, 0666);
+    if (descriptor < 0)
+        return errno;
+    if ((flock(descriptor, LOCK_EX | LOCK_NB) && errno == EWOULDBLOCK) || (!fstat(descriptor, &found) && found.st_size))
+        error = EEXIST;
+    else if (rename(other, name))
+        error = errno;
+    close(descriptor);
+    return error;
+}
+
+/* Gives the file that has the other name its name, and takes the other one away. Returns 0 or an errno: EEXIST if the name is
+ * taken. */
+static int give_name(const char *other, const char *name) {
+    int error = link(other, name) ? errno : 0;
+    if (error == EPERM || error == EOPNOTSUPP || error == ENOSYS || error == EMLINK)
+        error = replace_empty(other, name);
+    unlink(other);
+    return error;
+}
+
+void rrdi_create_new(const char *path, size_t path_length, const uint8_t *words, size_t words_length, uint64_t now,
+                     uint64_t wait, bool syncs, uint8_t *output, size_t output_room, struct rrdi_answer *answer) {
+    char name[PATH_ROOM], other[OTHER_ROOM];
+    path_length = path ? path_length : 0;
+    if (!words || !is_create(words, words_length)) {
+        rrdi_refuse(RRDI_USAGE, 0, "", output, output_room, answer);
+        return;
+    }
+    int error = read_path(path, path_length, name);
+    if (!error)
+        error = take_other(name, other);
+    if (!error) {
+        rrdi_run_file(other, strlen(other), words, words_length, now, wait, syncs, output, output_room, answer);
+        if (answer->fault) {
+            unlink(other);
+            return;
+        }
+        error = give_name(other, name);
+    }
+    if (error) {
+        rrdi_refuse(RRDI_CANNOT_WRITE, error, "", output, output_room, answer);
+        explain(path, path_length, error, answer);
+    }
+}
