@@ -5,6 +5,9 @@ If librrdi was built (`make library` leaves out/librrdi.so.0 in the repository),
 wheel and archive have it beside the modules, and the wheel's tag names the systems on which the library runs. Without
 the library the wheel runs anywhere, has only the modules, and its summary says so.
 
+The extension that calls the library, out/_rrdi.abi3.so, is beside the library if it was built and is for the same
+processor. The tag names no version of Python even then: where the extension does not run, ctypes takes its place.
+
 Setuptools would need the network in pip's own environment, leave folders in the tree, and take a library for a module of
 one version of Python.
 """
@@ -27,7 +30,7 @@ from typing import Any, Dict, Optional
 HERE = Path(__file__).resolve().parent
 # The repository, or the source archive: what is above a folder to which that was unpacked, such as /tmp, is anybody's.
 TOP = HERE if (HERE / "PKG-INFO").is_file() else HERE.parent
-LIBRARY = "rrdi/librrdi.so.0"
+LIBRARY, EXTENSION = "rrdi/librrdi.so.0", "rrdi/_rrdi.abi3.so"
 SUMMARY = "Round-robin time-series databases with RRDtool's commands and exact undo"
 LICENSE = "MIT OR Apache-2.0"
 WITHOUT = " (without the C library librrdi)"
@@ -40,21 +43,19 @@ Settings = Optional[Dict[str, Any]]
 
 def build_wheel(wheel_directory: str, config_settings: Settings = None, metadata_directory: Optional[str] = None) -> str:
     """Builds a wheel, and returns its name."""
-    return write_wheel(Path(wheel_directory), modules(), find_library("wheel"))
+    return write_wheel(Path(wheel_directory), modules(), find_compiled("wheel"))
 
 
 def build_editable(wheel_directory: str, config_settings: Settings = None, metadata_directory: Optional[str] = None) -> str:
     """Builds a wheel that makes Python import the modules from this tree, and returns its name."""
-    return write_wheel(Path(wheel_directory), {"rrdi.pth": f"{HERE}\n".encode()}, None)
+    return write_wheel(Path(wheel_directory), {"rrdi.pth": f"{HERE}\n".encode()}, {})
 
 
 def build_sdist(sdist_directory: str, config_settings: Settings = None) -> str:
     """Builds a source archive, and returns its name. Wheels of the archive are those of the tree."""
-    project, library = read_project(), find_library("source archive")
+    project, compiled = read_project(), find_compiled("source archive")
     files = {**modules(), **licenses(), **{name: (HERE / name).read_bytes() for name in ("pyproject.toml", "build_backend.py")}}
-    files["PKG-INFO"] = metadata_of(project, library is not None)
-    if library:
-        files[LIBRARY] = library
+    files.update({"PKG-INFO": metadata_of(project, LIBRARY in compiled), **compiled})
     stem = f"{project['name']}-{project['version']}"
     packed = io.BytesIO()
     with tarfile.open(fileobj=packed, mode="w", format=tarfile.PAX_FORMAT) as archive:
@@ -84,20 +85,31 @@ def modules() -> Dict[str, bytes]:
     return {path.relative_to(HERE).as_posix(): path.read_bytes() for path in paths}
 
 
-def find_library(what: str) -> Optional[bytes]:
+def find_compiled(what: str) -> Dict[str, bytes]:
     """Returns the library that RRDI_LIBRARY names, or else the one in the source archive, or that was built in the
-    repository. If there is none, says that `what` is built without it.
+    repository; with it, the extension of the archive or the repository. If there is no library, says that `what` is
+    built without it.
 
     # Errors
     `OSError` if RRDI_LIBRARY names no file.
     """
     named = os.environ.get("RRDI_LIBRARY")
-    for path in (Path(named),) if named else (HERE / LIBRARY, TOP / "out/librrdi.so.0"):
-        if named or path.is_file():
-            return path.read_bytes()
-    print(f"rrdi: no librrdi.so.0, so the {what} has no C library; `make library` builds it, RRDI_LIBRARY names it",
-          file=sys.stderr)
-    return None
+    library = Path(named).read_bytes() if named else found_at(HERE / LIBRARY, TOP / "out/librrdi.so.0")
+    if library is None:
+        print(f"rrdi: no librrdi.so.0, so the {what} has no C library; `make library` builds it, RRDI_LIBRARY names it",
+              file=sys.stderr)
+        return {}
+    extension = found_at(HERE / EXTENSION, TOP / "out/_rrdi.abi3.so")
+    if extension is None or processor_of(extension) != processor_of(library):
+        print(f"rrdi: no extension for Python, so the {what} has the slower ctypes; `make extension` builds it with Python.h",
+              file=sys.stderr)
+        return {LIBRARY: library}
+    return {LIBRARY: library, EXTENSION: extension}
+
+
+def found_at(*paths: Path) -> Optional[bytes]:
+    """Returns what the first file has that is there."""
+    return next((path.read_bytes() for path in paths if path.is_file()), None)
 
 
 def licenses() -> Dict[str, bytes]:
@@ -113,31 +125,36 @@ def metadata_of(project: Dict[str, Any], has_library: bool) -> bytes:
     return "".join(f"{line}\n" for line in lines).encode()
 
 
-def tag_of(library: Optional[bytes]) -> str:
+def processor_of(data: bytes) -> int:
+    """Returns the number of the processor of a library; 0 if it is none of the system's."""
+    return int.from_bytes(data[18:20], "little") if data[:4] == b"\x7fELF" else 0
+
+
+def tag_of(compiled: Dict[str, bytes]) -> str:
     """Returns the tag of the systems on which a wheel runs: with a library they are of its processor, and have the version
-    of glibc that the library needs.
+    of glibc that is needed.
 
     # Errors
     `ValueError` if the library is of another processor than those of `PROCESSORS`.
     """
-    if library is None:
+    if not compiled:
         return "py3-none-any"
-    processor = int.from_bytes(library[18:20], "little")
-    if library[:4] != b"\x7fELF" or processor not in PROCESSORS:
+    processor = processor_of(compiled[LIBRARY])
+    if processor not in PROCESSORS:
         raise ValueError(f"librrdi.so.0 is for an unknown processor ({processor})")
-    needed = max([OLDEST_GLIBC, *(int(minor) for minor in re.findall(rb"GLIBC_2\.(\d+)", library))])
-    return f"py3-none-manylinux_2_{needed}_{PROCESSORS[processor]}"
+    versions = (minor for data in compiled.values() for minor in re.findall(rb"GLIBC_2\.(\d+)", data))
+    return f"py3-none-manylinux_2_{max([OLDEST_GLIBC, *map(int, versions)])}_{PROCESSORS[processor]}"
 
 
-def write_wheel(folder: Path, files: Dict[str, bytes], library: Optional[bytes]) -> str:
-    project, tag = read_project(), tag_of(library)
+def write_wheel(folder: Path, files: Dict[str, bytes], compiled: Dict[str, bytes]) -> str:
+    project, tag = read_project(), tag_of(compiled)
     stem = f"{project['name']}-{project['version']}"
     info = f"{stem}.dist-info"
     scripts = "".join(f"{name} = {function}\n" for name, function in project["scripts"].items())
-    files = {**files, **({LIBRARY: library} if library else {}),
+    files = {**files, **compiled,
              **{f"{info}/licenses/{name}": data for name, data in licenses().items()},
-             f"{info}/METADATA": metadata_of(project, library is not None or "rrdi.pth" in files),
-             f"{info}/WHEEL": (f"Wheel-Version: 1.0\nGenerator: rrdi\nRoot-Is-Purelib: {str(library is None).lower()}\n"
+             f"{info}/METADATA": metadata_of(project, bool(compiled) or "rrdi.pth" in files),
+             f"{info}/WHEEL": (f"Wheel-Version: 1.0\nGenerator: rrdi\nRoot-Is-Purelib: {str(not compiled).lower()}\n"
                                f"Tag: {tag}\n").encode(),
              f"{info}/entry_points.txt": f"[console_scripts]\n{scripts}".encode()}
     files[f"{info}/RECORD"] = record_of(files, f"{info}/RECORD")

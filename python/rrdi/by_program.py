@@ -2,13 +2,18 @@
 """The program rrdi in the place of the C library: each call is a process."""
 from __future__ import annotations
 
+import errno
 import os
+import re
 from typing import Iterator, List, Tuple
 
-from .errors import ERROR, OK, fault_of
+from .errors import CANNOT_OPEN, CANNOT_WRITE, ERROR, OK, READ_FAILED, details_in, fault_of
 from .protocol import DONE, Answer
 from .words import as_bytes, as_text
 
+EXPLAINED = "rrdi: "  # begins the line of an explanation
+IN_USE = "in use by another program"  # begins the reason if another program holds the lock
+OF_THE_SYSTEM = frozenset({CANNOT_OPEN, CANNOT_WRITE, READ_FAILED})  # the faults for which the system has a reason
 ONE_NUMBER = frozenset({b"first", b"last"})  # the commands that print a line with nothing but a number
 
 
@@ -43,7 +48,7 @@ class ByProgram:
         if answer.fault != OK:
             return answer
         output, refused = of_lines(given, answer.output)
-        return answer._replace(output=output, refused=refused)
+        return answer._replace(output=output, refused=refused, explanation=of_every_second(answer.explanation))
 
     def _ran(self, words: List[bytes], given: bytes, wait: int, syncs: bool, ends: List[int]) -> Answer:
         """Runs the program, which ends without a message with one of the statuses `ends`."""
@@ -55,14 +60,34 @@ class ByProgram:
                                  start_new_session=True)
         except OSError as error:
             raise NoAnswer(self.program, error.strerror or str(error)) from None
-        # The lines after the first one say why FILE cannot be opened or written, or how rrdi is used.
-        reason = as_text(ran.stderr).strip().split("\n")[0].replace(ERROR, "", 1)
+        # The first line is that of the fault, if there is one; after an explanation may follow how rrdi is used.
+        lines = as_text(ran.stderr).strip().split("\n")
+        reason = "" if lines[0].startswith(EXPLAINED) else lines.pop(0).replace(ERROR, "", 1)
+        explained = [line[len(EXPLAINED):] for line in lines if line.startswith(EXPLAINED)]
         if not reason:
             if ran.returncode not in ends:
                 raise NoAnswer(self.program, "", ran.returncode)
-            return Answer(OK, 0, 0, ran.stdout)
+            return Answer(OK, 0, 0, ran.stdout, explanation=as_bytes("\n".join(explained)))
         fault, at = fault_of(reason)
-        return Answer(fault, 0, at, as_bytes(reason))
+        number = number_of(explained[0]) if fault in OF_THE_SYSTEM and explained else 0
+        return Answer(fault, number, at, as_bytes(reason), explanation=as_bytes(explained[0] if explained else ""))
+
+
+def number_of(explanation: str) -> int:
+    """Returns the number of the system's error that the program explains as `FILE: REASON`; 0 if it is not known."""
+    reason = explanation.rpartition(": ")[2]
+    if reason.startswith(IN_USE):
+        return errno.EAGAIN
+    numbered = re.search(r"\(os error (\d+)\)$", reason, re.ASCII)
+    if numbered is not None:
+        return int(numbered[1])
+    return next((number for number in errno.errorcode if os.strerror(number).lower() == reason.lower()), 0)
+
+
+def of_every_second(explanation: bytes) -> bytes:
+    """Returns what was wrong with the lines of a batch that has a line of `last` after each of them."""
+    return b"".join(b"line %d: %s\n" % ((number + 1) // 2, as_bytes(why))
+                    for number, why in details_in(explanation).items() if number % 2)
 
 
 def as_argument(path: bytes) -> bytes:

@@ -12,7 +12,7 @@ import atexit
 import os
 import time
 from threading import get_ident
-from typing import Callable, List, Optional, Protocol
+from typing import Callable, List, NamedTuple, Optional, Protocol, Tuple
 from weakref import WeakValueDictionary
 
 from .locks import give_up
@@ -33,6 +33,31 @@ class StaysOpen(Protocol):
     def close(self) -> None: ...
 
     def forget(self) -> None: ...
+
+
+class Elsewhere(Protocol):
+    """What has calls and open files of its own: the extension."""
+
+    def stop(self, are_stopped: bool) -> None:
+        """Says whether a call has to wait by `Calls.wait` before it begins."""
+
+    def running(self) -> List[Tuple[bytes, Optional[StaysOpen], int]]:
+        """Returns the path, the open file, and the thread of each call that runs."""
+
+    def files(self) -> List[StaysOpen]:
+        """Returns the files that may be open."""
+
+    def forget_calls(self) -> None:
+        """Forgets the calls that run: they are of threads that a child does not have."""
+
+
+class Running(NamedTuple):
+    """A call that runs: the path of its file, its open file, if it has one, and its thread."""
+
+    path: bytes
+    opened: Optional[StaysOpen]
+    thread: int
+    call: Optional[Call] = None  # of ctypes
 
 
 class Call:
@@ -63,29 +88,50 @@ class Calls:
     def __init__(self) -> None:
         self.known: WeakValueDictionary[int, Call] = WeakValueDictionary()
         self.open: WeakValueDictionary[int, StaysOpen] = WeakValueDictionary()
+        self.elsewhere: List[Elsewhere] = []
         self.stopped_until, self.stopped_by = 0.0, 0
 
-    def are_stopped(self, begun: Call) -> bool:
+    def are_stopped(self, begun: Optional[Call] = None) -> bool:
         """Checks whether a call that is about to begin has to wait for a thread that forks. It does not if this thread
         is in another call, for which that thread waits."""
-        if self.stopped_by == get_ident() or time.monotonic() >= self.stopped_until:
+        thread = get_ident()
+        if self.stopped_by == thread or time.monotonic() >= self.stopped_until:
             return False
-        return all(call is begun or call.thread != begun.thread for call in self._running())
+        return all(running.thread != thread or running.call is begun is not None for running in self._running())
 
-    def running_elsewhere(self) -> List[Call]:
+    def wait(self) -> bool:
+        """Waits for a moment if a call has to wait for a thread that forks. Returns whether it has to ask again."""
+        if self.are_stopped():
+            time.sleep(PAUSE)
+            return True
+        if time.monotonic() >= self.stopped_until:
+            for one in self.elsewhere:
+                one.stop(False)
+        return False
+
+    def running_elsewhere(self) -> List[Running]:
         """Returns the calls of other threads: a thread that asks is not in a call itself."""
         return [call for call in self._running() if call.thread != get_ident()]
 
-    def _running(self) -> List[Call]:
-        found = [reference() for reference in self.known.valuerefs()]
-        return [call for call in found if call is not None and call.path is not None]
+    def _running(self) -> List[Running]:
+        found = [Running(path, call.opened, call.thread, call)
+                 for call, path in ((call, call.path) for call in self._calls()) if path is not None]
+        return [*found, *(Running(*call) for one in self.elsewhere for call in one.running())]
+
+    def _calls(self) -> List[Call]:
+        return [call for call in (reference() for reference in self.known.valuerefs()) if call is not None]
 
     def stop(self) -> None:
         """Lets no call begin, and waits until those that run have ended, if they end soon."""
         start = time.monotonic()
-        self.stopped_by, self.stopped_until = get_ident(), start + LONGEST_STOP
+        self._set_stopped(start + LONGEST_STOP, get_ident())
         while self.running_elsewhere() and time.monotonic() < start + LONGEST_WAIT:
             time.sleep(PAUSE)
+
+    def _set_stopped(self, until: float, thread: int) -> None:
+        self.stopped_by, self.stopped_until = thread, until
+        for one in self.elsewhere:
+            one.stop(until > 0)
 
     def before_fork(self) -> None:
         self.stop()
@@ -95,19 +141,23 @@ class Calls:
                 file.close()
 
     def after_fork(self) -> None:
-        self.stopped_until = 0.0
+        self._set_stopped(0.0, 0)
 
     def after_fork_in_child(self) -> None:
-        self.stopped_until = 0.0
+        self._set_stopped(0.0, 0)
         running, files = self.running_elsewhere(), [file for file in self._open_files() if file.is_open]
-        give_up([call.path for call in running if call.path is not None] + [file.path for file in files])
+        give_up([call.path for call in running] + [file.path for file in files])
         for file in files:
             file.forget()
-        for call in running:
-            call.path = call.opened = None
+        for begun in running:
+            if begun.call is not None:
+                begun.call.path = begun.call.opened = None
+        for one in self.elsewhere:
+            one.forget_calls()
 
     def _open_files(self) -> List[StaysOpen]:
-        return [file for file in (reference() for reference in self.open.valuerefs()) if file is not None]
+        found = [file for file in (reference() for reference in self.open.valuerefs()) if file is not None]
+        return found + [file for one in self.elsewhere for file in one.files()]
 
 
 calls = Calls()

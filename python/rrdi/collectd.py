@@ -11,8 +11,9 @@
     </Plugin>
 
 Options: those of the plugin rrdtool with the same names (DataDir, StepSize, HeartBeat, RRARows, RRATimespan, which may
-come several times, XFF and CacheTimeout), Journal (16), which sets how many changes a file can revert, and Library, the
-C library, if the package would not find it.
+come several times, XFF and CacheTimeout), Journal (16), which sets how many changes a file can revert, OpenFiles, OpenSeconds
+and OpenMemory, how many files stay open between their writes (256; 0 for none), for how many seconds (2), and with how
+many MB of memory (64), and Library, the C library, if the package would not find it.
 
 Samples of a file are held for CacheTimeout seconds (60) after the first one, and then taken in at once. A flush and the
 end of collectd take in all that is held.
@@ -30,10 +31,12 @@ from typing import Any, Callable, Dict, List, NamedTuple, Optional, Protocol, Se
 from .amounts import gauge_text
 from .commands import RefusedLine, batch
 from .errors import NO_FILE, Damaged, Usage
+from .escaping import escaped
 from .library import load_library
 from .making import is_there, make
+from .open_files import OpenBounds, OpenFiles
 from .waiting import MOST_OF_A_FILE, newest, why
-from .words import as_bytes, in_one_line, line_of
+from .words import as_bytes, line_of
 
 FUNCTIONS = ("AVERAGE", "MIN", "MAX")
 SUFFIX, LONGEST_NAME = ".rrdi", 255
@@ -86,6 +89,7 @@ class Configuration:
         self.xff = 0.1
         self.cachetimeout = 60.0
         self.journal = 16
+        self.openfiles, self.openseconds, self.openmemory = OpenBounds()
         self.library = ""
 
     SPANS = (3_600, 86_400, 7 * 86_400, 31 * 86_400, 366 * 86_400)
@@ -196,6 +200,7 @@ class Plugin:
         self._held: Dict[str, Held] = {}
         self._guard = threading.Lock()  # of what is held, and of the counts
         self._turn = threading.Lock()  # of writing files: one thread at a time
+        self._files = OpenFiles()
 
     def register(self) -> None:
         self.collectd.register_config(self.configure)
@@ -219,6 +224,8 @@ class Plugin:
             load_library(self.options.library or None)
         except OSError as error:
             self.collectd.error(f"rrdi: {error}")
+        options = self.options
+        self._files = OpenFiles(OpenBounds(options.openfiles, options.openseconds, options.openmemory), clock=self._clock)
 
     def write(self, values: Values) -> None:
         try:
@@ -256,6 +263,7 @@ class Plugin:
 
     def end(self) -> None:
         self.take_in(0)
+        self._files.close_all()
         with self._guard:
             waiting = sum(len(held.lines) for held in self._held.values())
             self._held.clear()
@@ -287,7 +295,7 @@ class Plugin:
         try:
             refused = None if is_there(path) else self.begin(path, held)
             if refused is None:
-                refused = batch(path, held.lines).refused
+                refused = self._files.batch(path, held.lines).refused
         except Exception as fault:  # the samples must survive any exception
             reason = why(path, fault)
             self.keep(path, held, f"{path}: {reason}" if isinstance(fault, Damaged) else reason)
@@ -322,7 +330,7 @@ class Plugin:
         self.warn(f"rrdi: {path}: {count} samples lost: {reason}")
 
     def warn(self, text: str) -> None:
-        self.collectd.warning(in_one_line(text))
+        self.collectd.warning(escaped(text))
 
 
 # The python plugin of collectd puts its module there before it imports this one.

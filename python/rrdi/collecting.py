@@ -3,20 +3,14 @@
 from __future__ import annotations
 
 import os
-from typing import List, NamedTuple, Optional, Sequence, Tuple
+from typing import List, NamedTuple, Optional, Tuple
 
-from .commands import Batch, Lines, RefusedLine, batch, check_same, make_at, run_explained
-from .errors import REFUSED, Error, Exists, Refused, error_of_line, reasons_in
+from .commands import Batch, Lines, RefusedLine, batch, check_same, make_at, run_on
+from .errors import REFUSED, Exists, Refused, error_of_line, reasons_in
+from .fetching import Asked
+from .results import Table
 from .times import moment
 from .words import line_of
-
-
-def _explained(reason: str, words: Sequence[str], path: Optional[str] = None) -> Error:
-    """Returns the exception for the reason of a refused line, with what its words show."""
-    from .explaining import explain  # here, since most lines succeed
-    error = error_of_line(reason, path)
-    explain(error, words)
-    return error
 
 
 class RefusedLines(Refused):
@@ -24,7 +18,7 @@ class RefusedLines(Refused):
 
     def __init__(self, path: str, lines: Tuple[RefusedLine, ...]):
         one = lines[0]
-        first = _explained(one.reason, one.line.split())
+        first = error_of_line(one.reason, None, one.detail)
         more = f" (and {len(lines) - 1} more)" if len(lines) > 1 else ""
         super().__init__(f"line {one.number}, {one.line}: {first}{more}", path, REFUSED)
         self.lines = lines
@@ -72,17 +66,27 @@ class Collected:
         """Returns whether a `create` waits."""
         return any(line.startswith("create ") for line in self._waiting)
 
+    def add(self, samples: Tuple[object, ...]) -> bool:
+        return False
+
+    def add_many(self, samples: Tuple[object, ...], first: int) -> int:
+        return 0
+
+    def rows(self, asked: Asked) -> Optional[Table[float]]:
+        return None
+
     def change(self, words: List[str]) -> None:
         self._waiting.append(line_of(words))
 
     def ask(self, words: List[str]) -> str:
         """Runs the waiting changes and then a query; returns the output of the query."""
         if not self._waiting:
-            return run_explained(self.path, words, self.now, self.busy_timeout, None)
+            return run_on(self.path, words, self.now, self.busy_timeout, None)
         before = len(self.refused)
         output = self._run([line_of(words)])
         if len(self.refused) > before and self.refused[-1].number == self._count + 1:
-            raise _explained(self.refused.pop().reason, words, self.path)
+            question = self.refused.pop()
+            raise error_of_line(question.reason, self.path, question.detail)
         return "\n".join(output.splitlines()[len(reasons_in(output)):])
 
     def batch(self, lines: Lines) -> Batch:

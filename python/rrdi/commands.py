@@ -24,10 +24,12 @@ import os
 from typing import TYPE_CHECKING, Callable, Iterable, List, NamedTuple, Optional, Tuple, Type, TypeVar, Union, overload
 
 from .environment import is_synced, milliseconds
-from .errors import (CANNOT_WRITE, NOT_OURS, OK, USAGE, Busy, Different, Error, Exists, Refused, Unreadable, Usage, error_of,
-                     reason_of, reasons_in)
+from .errors import (CANNOT_OPEN, CANNOT_WRITE, EXPLAINED, NOT_OURS, OK, USAGE, Busy, Different, Error, Exists, Usage,
+                     details_in, error_of, reason_of, reasons_in)
+from .escaping import escaped
 from .fetching import fetched
-from .library import Answer, the_library
+from .library import DONE, Answer, the_library
+from .locks import is_open_here
 from .results import LastUpdate, Table, Value, info_of, last_update
 from .samples import Sample, sample_words
 from .times import Span, Time, moment, span_word, time_word
@@ -38,14 +40,18 @@ if TYPE_CHECKING:
 
 Filled = TypeVar("Filled")
 Lines = Union[str, Iterable[str]]
+# The commands that only read the file.
+READING = frozenset({"fetch", "first", "last", "lastupdate", "info"})
 
 
 class RefusedLine(NamedTuple):
-    """A refused line of a batch: its number (the first line is 1), the line, and the reason."""
+    """A refused line of a batch: its number (the first line is 1), the line, the reason, and what was wrong, if that is
+    known."""
 
     number: int
     line: str
     reason: str
+    detail: str = ""
 
 
 class Batch(NamedTuple):
@@ -60,39 +66,38 @@ def failed(answer: Answer, path: FilePath) -> Error:
     reason = reason_of(answer.fault, answer.output)
     error = error_of(answer.fault, reason, os.fsdecode(path), answer.at, answer.system_error)
     if isinstance(error, Busy):
-        from .kept import is_open_here  # here, since most commands succeed
         error.detail = "this program has it open by rrdi.Database" if is_open_here(encoded_path(path)) else ""
-    elif answer.fault == NOT_OURS:
-        from .kinds import owner_of  # here, as above
-        owner = owner_of(os.fsdecode(path))
-        error.detail = f"a file of {owner}; convert it with rrdi-import" if owner else ""
+    elif answer.fault in EXPLAINED or answer.fault == NOT_OURS:
+        error.detail = answer.explanation.decode(errors="replace")
+    elif answer.fault in (CANNOT_OPEN, CANNOT_WRITE):
+        error.detail = more_than_the_system(answer, path)
     return error
+
+
+def more_than_the_system(answer: Answer, path: FilePath) -> str:
+    """Returns the reason why a file cannot be opened or written, such as that it is no regular file, if it says more than the
+    text of the system's number."""
+    name, told = f"{escaped(os.fsdecode(path))}: ", answer.explanation.decode(errors="replace")
+    reason = told[len(name):] if told.startswith(name) else ""
+    return "" if reason.lower().startswith(os.strerror(answer.system_error).lower()) else reason
 
 
 def run_on(path: FilePath, words: List[str], now: Optional[Time] = None, busy_timeout: Optional[float] = None,
            sync: Optional[bool] = None) -> str:
     """Runs one command on the file at `path`, and returns its output."""
-    answer = the_library().run_file(encoded_path(path), encoded(words), moment(now), milliseconds(busy_timeout),
-                                    is_synced(sync))
+    name, wait = encoded_path(path), milliseconds(busy_timeout)
+    if words[0] not in READING:
+        wait = wait_to_change(name, wait)
+    answer = the_library().run_file(name, encoded(words), moment(now), wait, is_synced(sync))
     if answer.fault != OK:
         raise failed(answer, path)
     return answer.output.decode()
 
 
-def add_detail(error: Error, words: List[str], ask: Callable[[List[str]], str]) -> None:
-    """Adds to the error of a command which sample, value or time was wrong. `ask` runs a question on the same file."""
-    from .explaining import explain  # here, since most commands succeed
-    explain(error, words, ask)
-
-
-def run_explained(path: FilePath, words: List[str], now: Optional[Time] = None, busy_timeout: Optional[float] = None,
-                  sync: Optional[bool] = None) -> str:
-    """Does the same as `run_on`, but an error also says which sample, value or time was wrong."""
-    try:
-        return run_on(path, words, now, busy_timeout, sync)
-    except (Refused, Unreadable) as error:
-        add_detail(error, words, lambda question: run_on(path, question, now, 0, None))
-        raise
+def wait_to_change(path: bytes, wait: int) -> int:
+    """Returns for how many milliseconds a change of a file waits for its lock: not at all if this program has the file open
+    by `Database`, since it would wait for itself."""
+    return 0 if is_open_here(path) else wait
 
 
 # ---- Changes
@@ -117,8 +122,8 @@ def made(path: FilePath, words: List[str], overwrite: bool, exist_ok: bool, now:
          busy_timeout: Optional[float], sync: Optional[bool]) -> None:
     """Runs the words of a creation: makes the file, replaces it, or keeps it."""
     if overwrite:
-        run_explained(path, words, now, busy_timeout, sync)
-    elif make_at(path, lambda new: run_explained(new, words, now, busy_timeout, sync)) is None:
+        run_on(path, words, now, busy_timeout, sync)
+    elif make_at(path, lambda new: run_on(new, words, now, busy_timeout, sync)) is None:
         if not exist_ok:
             raise Exists(os.fsdecode(path))
         check_same(path, words, now, busy_timeout)
@@ -134,9 +139,7 @@ def check_same(path: FilePath, words: List[str], now: Optional[Time], busy_timeo
     found = run_on(path, ["info"], now, busy_timeout, None)
     made_now = the_library().run(None, encoded(words), moment(now))
     if made_now.fault != OK:
-        error = failed(made_now, path)
-        add_detail(error, words, lambda _: "")
-        raise error
+        raise failed(made_now, path)
     wanted = the_library().run(made_now.data, b"info", moment(now)).output.decode()
     why = difference(found, wanted, any(word.startswith("--journal") for word in words))
     if why:
@@ -191,8 +194,16 @@ def update(path: FilePath, *samples: Sample, template: Optional[str] = None, now
     # Errors
     `BadSample`, a `ValueError`, if no database can take a time or a value of a tuple. Then nothing is sent.
     """
+    fast = the_library().update_file
+    if fast is not None and template is None:
+        name = encoded_path(path)
+        answer = fast(name, samples, moment(now), wait_to_change(name, milliseconds(busy_timeout)), is_synced(sync))
+        if answer is DONE:
+            return
+        if answer is not None:
+            raise failed(answer, path)
     words = ["update", *sample_words(samples, path, template=template)]
-    run_explained(path, words, now, busy_timeout, sync)
+    run_on(path, words, now, busy_timeout, sync)
 
 
 def tune(path: FilePath, *words: Words, now: Optional[Time] = None, busy_timeout: Optional[float] = None,
@@ -287,7 +298,7 @@ def fetch(path: FilePath, function: Words, *words: Words, values: type = float, 
     """
     time = moment(now)
     asked = fetch_words(function, words, resolution, start, end)
-    return fetched(lambda line: run_explained(path, line, time, busy_timeout, None), asked, time, values)
+    return fetched(lambda line: run_on(path, line, time, busy_timeout, None), asked, time, values)
 
 
 def fetch_words(function: Words, words: Iterable[Words], resolution: Optional[Span], start: Optional[Time],
@@ -309,7 +320,7 @@ def lines_of(lines: Lines) -> List[str]:
         return lines.split("\n")
     found = [line[:-1] if line.endswith("\n") else line for line in lines]
     if any("\n" in line for line in found):
-        raise Usage("usage", None, USAGE)
+        raise Usage("usage", None, USAGE, detail="a line has a line feed inside")
     return found
 
 
@@ -333,8 +344,9 @@ def refused_lines(lines: List[str], answer: Answer) -> Tuple[RefusedLine, ...]:
     """Returns the refused lines of a batch, each of which printed its reason."""
     if not answer.refused:
         return ()
-    reasons = reasons_in(answer.output.decode(errors="replace"))
-    return tuple(RefusedLine(number, lines[number - 1], reason) for number, reason in zip(answer.refused, reasons))
+    reasons, details = reasons_in(answer.output.decode(errors="replace")), details_in(answer.explanation)
+    return tuple(RefusedLine(number, lines[number - 1], reason, details.get(number, ""))
+                 for number, reason in zip(answer.refused, reasons))
 
 
 def batch(path: FilePath, lines: Lines, *, now: Optional[Time] = None,
@@ -344,6 +356,7 @@ def batch(path: FilePath, lines: Lines, *, now: Optional[Time] = None,
     A refused line changes nothing, and the batch goes on with the next line. `refused` has the refused lines.
     """
     given = lines_of(lines)
-    answer = the_library().batch_file(encoded_path(path), text_of_lines(given), moment(now), milliseconds(busy_timeout),
-                                      is_synced(sync))
+    name = encoded_path(path)
+    wait = wait_to_change(name, milliseconds(busy_timeout))
+    answer = the_library().batch_file(name, text_of_lines(given), moment(now), wait, is_synced(sync))
     return batch_of(given, answer, path)

@@ -15,7 +15,7 @@ from .making import is_there
 from .words import FilePath
 
 # An empty file may be one that another program has just made, and has not locked and filled yet.
-LONGEST_MAKING = 10.0  # seconds
+LONGEST_CREATION = 10.0  # seconds
 
 
 def is_being_made(path: FilePath) -> bool:
@@ -24,7 +24,7 @@ def is_being_made(path: FilePath) -> bool:
         found = os.stat(path)
     except FileNotFoundError:
         return True
-    return found.st_size > 0 or abs(time.time() - found.st_mtime) < LONGEST_MAKING
+    return found.st_size > 0 or abs(time.time() - found.st_mtime) < LONGEST_CREATION
 
 
 def is_still_damaged(path: FilePath) -> bool:

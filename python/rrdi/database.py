@@ -5,15 +5,16 @@ from __future__ import annotations
 import datetime
 import os
 from types import TracebackType
-from typing import TYPE_CHECKING, List, Optional, Protocol, Type, overload
+from typing import TYPE_CHECKING, Iterable, List, Optional, Protocol, Tuple, Type, overload
 
 from .collecting import Collected
 from .collecting import RefusedLines as RefusedLines
-from .commands import Batch, Lines, RefusedLine, batch, creation, fetch_words, made, run_explained
-from .fetching import fetched
+from .commands import Batch, Lines, RefusedLine, batch, creation, fetch_words, made, run_on
+from .errors import Error
+from .fetching import Asked, fetched
 from .kept import KeptFile
 from .results import LastUpdate, Table, Value, info_of, last_update
-from .samples import Sample, sample_words
+from .samples import Sample, is_table, no_sample, sample_words
 from .times import Span, Time, moment, seconds_of
 from .words import FilePath, Words, flat, options
 
@@ -33,9 +34,18 @@ class _Way(Protocol):
 
     def create(self, words: List[str], overwrite: bool, exist_ok: bool) -> None: ...
 
+    def add(self, samples: Tuple[object, ...]) -> bool:
+        """Adds samples in a fast way. Returns False if they have to be added by words."""
+
+    def add_many(self, samples: Tuple[object, ...], first: int) -> int:
+        """Adds samples from one on, each as a change, in a fast way. Returns how many: not all if others are slower."""
+
     def change(self, words: List[str]) -> None: ...
 
     def ask(self, words: List[str]) -> str: ...
+
+    def rows(self, asked: Asked) -> Optional[Table[float]]:
+        """Fetches rows in a fast way. Returns None if it has to be done by words."""
 
     def batch(self, lines: Lines) -> Batch: ...
 
@@ -63,12 +73,21 @@ class _AtOnce:
             self._file.close()  # the next command opens the new file
         made(self.path, words, overwrite, exist_ok, self.now, self.busy_timeout, self.sync)
 
+    def add(self, samples: Tuple[object, ...]) -> bool:
+        return self._file is not None and self._file.add(samples, self.now)
+
+    def add_many(self, samples: Tuple[object, ...], first: int) -> int:
+        return 0 if self._file is None else self._file.add_many(samples, first, self.now)
+
     def change(self, words: List[str]) -> None:
         self.ask(words)
 
+    def rows(self, asked: Asked) -> Optional[Table[float]]:
+        return None if self._file is None else self._file.rows(asked, self.now)
+
     def ask(self, words: List[str]) -> str:
         if self._file is None:
-            return run_explained(self.path, words, self.now, self.busy_timeout, self.sync)
+            return run_on(self.path, words, self.now, self.busy_timeout, self.sync)
         return self._file.run(words, self.now)
 
     def batch(self, lines: Lines) -> Batch:
@@ -95,8 +114,10 @@ class Database:
             database.update("20:2")
 
     Each command runs when it is called, and its change is then in the file. The first command of a block opens the
-    file, and the end of the block closes it; in between the file is locked, so no other program can read it or change
-    it by rrdi. Without a block, each command opens and closes the file. `open` and `close` are a block without `with`.
+    file, and the end of the block closes it. In between others can read the file by rrdi, and nobody else can change it,
+    this program by the path included. (If a handler of a signal raises just as the block ends, the file may stay open
+    until this object is dropped, or its next block ends.) Without a block, each command opens and closes the file.
+    `open` and `close` are a block without `with`.
 
     With `collect=True` changes wait, and run together at the end of the block, in one call; the file is locked only
     during a call. A query such as `fetch` or `last` first runs the waiting changes, in the same call. If the block ends
@@ -152,8 +173,31 @@ class Database:
 
     def update(self, *samples: Sample, template: Optional[str] = None) -> None:
         """Adds samples, as `rrdi.update`: all samples of a call or none."""
+        if template is None and self._way.add(samples):
+            return
         words = sample_words(samples, self.path, self._way.time_of_samples(), template)
         self._way.change(["update", *words])
+
+    def update_many(self, samples: Iterable[Sample]) -> int:
+        """Adds samples one after the other: each is a change of its own, which `revert` undoes alone. Returns their number.
+
+        # Errors
+        Those of `update`, for the first sample that is refused. The samples before it are in the file; `stored` of the
+        exception is their number.
+        """
+        if is_table(samples):
+            raise no_sample(samples)
+        given, stored = tuple(samples), 0
+        while stored < len(given):
+            more = self._way.add_many(given, stored)
+            if not more:
+                try:
+                    self.update(given[stored])
+                except Error as error:
+                    error.stored = stored
+                    raise
+            stored += more or 1
+        return stored
 
     def tune(self, *words: Words) -> None:
         """Changes settings, or adds or removes an archive, as `rrdi.tune`."""
@@ -221,5 +265,9 @@ class Database:
     def fetch(self, function: Words, *words: Words, values: type = float, resolution: Optional[Span] = None,
               start: Optional[Time] = None, end: Optional[Time] = None) -> object:
         """Returns rows of one archive, as `rrdi.fetch`."""
+        if values is float and not words:
+            found = self._way.rows(Asked(function, resolution, start, end))
+            if found is not None:
+                return found
         asked = fetch_words(function, words, resolution, start, end)
         return fetched(self._way.ask, asked, moment(self.now), values)

@@ -9,15 +9,20 @@ from __future__ import annotations
 
 import errno
 import os
+import re
 from typing import Dict, List, Optional, Tuple, Type
 
-# The library's numbers. docs/embedding.md has the table.
+from .escaping import escaped
+
+# The library's numbers. docs/rrdi.3 has the table.
 OK, NO_ROOM, NO_MEMORY = 0, 1, 2
 USAGE, BAD_WORD, NO_DATABASE, REFUSED, CANNOT_OPEN, CANNOT_WRITE = 10, 11, 12, 13, 14, 15
 NOT_OURS, VERSION, TRUNCATED, BAD_BLOCK, BAD_ENTRY, TRAILING, READ_FAILED = 20, 21, 22, 23, 24, 25, 26
+EXPLAINED = frozenset({USAGE, BAD_WORD, REFUSED})  # faults of which an answer says what was wrong
 # What the system says if another program holds a lock, and if a user may not do something.
 LOCKED = frozenset({errno.EAGAIN, errno.EWOULDBLOCK})
 NOT_PERMITTED = frozenset({errno.EACCES, errno.EPERM})
+_OF_A_LINE = re.compile(r"line (\d+): (.*)", re.ASCII)
 ERROR = "ERROR: "  # begins the line of a fault, and of a refused line of a batch; the reason follows
 NO_FILE = "no database"  # the reason of a refused line if there is no file
 
@@ -28,8 +33,10 @@ class Error(Exception):
     `reason` is the program's text after `ERROR: `, `path` the file (None in memory), `fault` the library's number,
     `at` the byte, or the number of the journal entry, at which a file is damaged, and `system_error` the number
     (`errno`) of the system's reason if the file cannot be opened or written. `detail` says more, such as which value of
-    which sample is wrong; it may be empty.
+    which sample is wrong; it may be empty. `stored` is the number of samples that `update_many` had stored before.
     """
+
+    stored = 0
 
     def __init__(self, reason: str, path: Optional[str] = None, fault: int = 0, at: Optional[int] = None,
                  system_error: int = 0, detail: str = ""):
@@ -44,7 +51,7 @@ class Error(Exception):
             why = f": {os.strerror(self.system_error)}" if self.system_error else ""
             if self.detail:
                 why += f"{'; ' if why else ': '}{self.detail}"
-        return f"{self.path}: {self.reason}{why}" if self.path is not None else self.reason + why
+        return f"{escaped(self.path)}: {self.reason}{why}" if self.path is not None else self.reason + why
 
 
 class OperationalError(Error):
@@ -191,6 +198,14 @@ def error_of(fault: int, reason: str, path: Optional[str] = None, at: int = 0, s
     return kind(reason, path, fault, at if TRUNCATED <= fault <= TRAILING else None, system_error)
 
 
-def error_of_line(reason: str, path: Optional[str] = None) -> Error:
+def error_of_line(reason: str, path: Optional[str] = None, detail: str = "") -> Error:
     """Returns the exception for the reason of a refused line of a batch, which has no number."""
-    return error_of(fault_of(reason)[0], reason, path)
+    error = error_of(fault_of(reason)[0], reason, path)
+    error.detail = detail
+    return error
+
+
+def details_in(explanation: bytes) -> Dict[int, str]:
+    """Returns what was wrong with the refused lines of a batch, by their numbers."""
+    found = (_OF_A_LINE.fullmatch(line) for line in explanation.decode(errors="replace").split("\n"))
+    return {int(line[1]): line[2] for line in found if line is not None}

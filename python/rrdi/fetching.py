@@ -2,15 +2,40 @@
 """Fetches rows together with the step between them. `fetch` shows this step only if it prints two rows or more."""
 from __future__ import annotations
 
-from typing import Callable, List, Optional, Tuple, Type
+from typing import Callable, List, NamedTuple, Optional, Tuple, Type, Union
 
 from .errors import OperationalError
+from .extension import the_extension
+from .limits import FUNCTIONS
 from .printed import PrintedRows, printed_rows
 from .results import Table, Value, table
+from .times import Span, Time, span_word, time_word
+from .words import Words
 
 DAY = 86_400
 # If the settings of a database change between two queries, the queries are repeated.
 TRIES = 10
+
+
+class Asked(NamedTuple):
+    """What a call asks for: a function, and the options that it has."""
+
+    function: Words
+    resolution: Union[Span, str, None]
+    start: Union[Time, str, None]
+    end: Union[Time, str, None]
+
+    def numbers(self, now: int) -> Optional[Tuple[int, int, int, int]]:
+        """Returns the place of the function in `FUNCTIONS`, the resolution, the start and the end, as the command takes
+        them. Returns None if one of them is a text, or no whole number from 0 on below 2^63."""
+        resolution, end = span_word(self.resolution), time_word(self.end)
+        found = [1 if resolution is None else resolution, time_word(self.start), now if end is None else end]
+        if found[1] is None and isinstance(found[2], int):
+            found[1] = max(found[2] - DAY, 0)
+        whole = [number for number in found if isinstance(number, int) and 0 <= number < 2**63]
+        if self.function not in FUNCTIONS or len(whole) < len(found):
+            return None
+        return FUNCTIONS.index(str(self.function)), whole[0], whole[1], whole[2]
 
 
 def take_option(words: List[str], letter: str, name: str) -> Tuple[Optional[str], List[str]]:
@@ -39,14 +64,28 @@ def with_next_row(asked: List[str], row: int, now: int) -> List[str]:
 
 def fetched(run: Callable[[List[str]], str], asked: List[str], now: int, values: Type[Value]) -> Table[Value]:
     """Runs `fetch` with the words `asked`, and returns the rows with their span and their step."""
-    rows, step = with_step(run, asked, now)
+    text = run(["fetch", *asked])
+    found = in_floats(text) if values is float else None
+    if found is not None:
+        return found  # type: ignore[return-value]
+    rows, step = with_step(run, asked, now, text)
     return table(rows, step, values)
 
 
-def with_step(run: Callable[[List[str]], str], asked: List[str], now: int) -> Tuple[PrintedRows, int]:
-    """Runs `fetch`, and returns the rows, and the seconds from one row to the next."""
-    for _ in range(TRIES):
-        rows = printed_rows(run(["fetch", *asked]))
+def in_floats(printed: str) -> Optional[Table[float]]:
+    """Returns two rows or more of what `fetch` has printed, by the extension. Returns None without it."""
+    extension = the_extension()
+    found = None if extension is None else extension.table(printed)
+    if found is None:
+        return None
+    names, first, step, rows = found
+    return Table((first - step, first + step * (len(rows) - 1), step), names, rows)
+
+
+def with_step(run: Callable[[List[str]], str], asked: List[str], now: int, printed: str) -> Tuple[PrintedRows, int]:
+    """Returns the rows that `fetch` has printed, and the seconds from one row to the next. Runs it again if need be."""
+    for tried in range(TRIES):
+        rows = printed_rows(run(["fetch", *asked]) if tried else printed)
         if len(rows.times) > 1:
             return rows, rows.times[1] - rows.times[0]
         longer = printed_rows(run(["fetch", *with_next_row(asked, rows.times[0], now)]))

@@ -2,27 +2,30 @@
 """A file that stays open between commands, locked, with its database in memory.
 
 A command on such a file spares the opening, reading and decoding of the file, which is most of its work, and writes its
-change before it returns, as every command does. Until the file is closed, no other program can read it or change it by
-rrdi.
+change before it returns, as every command does. Until the file is closed, others can read it by rrdi between two
+commands, and cannot change it.
 """
 from __future__ import annotations
 
 import os
 import threading
-from typing import Callable, List, Optional
+from typing import Callable, List, Optional, Tuple
 from weakref import WeakValueDictionary
 
-from .commands import Batch, Lines, add_detail, batch_of, failed, lines_of, text_of_lines
+from .commands import Batch, Lines, batch_of, failed, lines_of, text_of_lines
 from .environment import is_synced, milliseconds
-from .errors import BAD_WORD, CANNOT_OPEN, LOCKED, OK, REFUSED, USAGE, Refused, Unreadable
+from .errors import CANNOT_OPEN, EXPLAINED, LOCKED, OK
+from .fetching import Asked
 from .library import the_library
-from .locks import Identity, identity_at
-from .protocol import CLOSED, Answer, OpenedFile
+from .locks import Identity, identity_at, is_open_here, keepers
+from .printed import printed_rows
+from .protocol import CLOSED, DONE, Answer, OpenedFile
+from .results import Table
 from .times import Time, moment
 from .words import FilePath, encoded, encoded_path
 
 # After any other fault the file is closed, and the next command opens and reads it again.
-_HARMLESS = frozenset({OK, USAGE, BAD_WORD, REFUSED})
+_HARMLESS = EXPLAINED | {OK}
 TRIES = 10  # of a command whose file is closed each time before the command runs
 
 
@@ -39,16 +42,60 @@ class KeptFile:
         self._path, self._wait, self._syncs = encoded_path(path), milliseconds(busy_timeout), is_synced(sync)
         self._opened: Optional[OpenedFile] = None
         self._identity: Optional[Identity] = None
+        self._names: Optional[Tuple[str, ...]] = None  # of the sources, until a command may have changed them
         self.guard = threading.RLock()
         _files[id(self)] = self
 
     def run(self, words: List[str], now: Optional[Time] = None) -> str:
-        """Runs one command, and returns its output. An error says which sample, value or time was wrong."""
-        try:
-            return self._run(words, now)
-        except (Refused, Unreadable) as error:
-            add_detail(error, words, lambda question: self._run(question, now))
-            raise
+        """Runs one command, and returns its output."""
+        given, time = encoded(words), moment(now)
+        answer = self._answer(lambda opened: opened.run(given, time), lambda: the_library().run_file(
+            self._path, given, time, self._wait, self._syncs))
+        if answer.fault != OK:
+            raise failed(answer, self.path)
+        return answer.output.decode()
+
+    def add(self, samples: Tuple[object, ...], now: Optional[int] = None) -> bool:
+        """Adds samples in the library's fast way. Returns False if nothing was added, and `run` has to do it, or say what
+        is wrong: the file is not open yet, or is another one by now; the samples are not such that the way is fast."""
+        opened = self._opened
+        answer = None if opened is None else opened.update(samples, now)
+        if answer is DONE:
+            return True
+        if answer is None or answer.fault in _HARMLESS:
+            return False
+        self._noted(answer)
+        raise failed(answer, self.path)
+
+    def add_many(self, samples: Tuple[object, ...], first: int, now: Optional[int] = None) -> int:
+        """Adds the samples from the one of index `first` on, each as a change of its own, in the library's fast way. Returns
+        how many were stored: fewer than all if `add` or `run` has to add the next one, or say what is wrong."""
+        opened = self._opened
+        found = None if opened is None else opened.update_many(samples, first, now)
+        if found is None:
+            return 0
+        answer, stored = found
+        if answer.fault not in _HARMLESS:
+            self._noted(answer)
+            error = failed(answer, self.path)
+            error.stored = first + stored
+            raise error
+        return stored
+
+    def rows(self, asked: Asked, now: Optional[int] = None) -> Optional[Table[float]]:
+        """Fetches rows in the library's fast way. Returns None if `run` has to do it, as in `add`."""
+        numbers = asked.numbers(moment(now))
+        with self.guard:
+            opened = self._opened
+            found = None if opened is None or numbers is None else opened.fetch(*numbers)
+            if found is None or not found[2]:
+                return None
+            names = self._names or printed_rows(self.run(["lastupdate"], now)).names
+            if self._opened is not opened:
+                return None
+            self._names = names
+        start, step, rows = found
+        return Table((start, start + step * len(rows), step), names, rows)
 
     def batch(self, lines: Lines, now: Optional[Time] = None) -> Batch:
         """Runs lines, as `rrdi.batch`: writes the file once."""
@@ -71,18 +118,11 @@ class KeptFile:
         opened = self._opened
         return opened is not None and opened.is_open and self._identity == identity
 
-    def _run(self, words: List[str], now: Optional[Time]) -> str:
-        given, time = encoded(words), moment(now)
-        answer = self._answer(lambda opened: opened.run(given, time), lambda: the_library().run_file(
-            self._path, given, time, self._wait, self._syncs))
-        if answer.fault != OK:
-            raise failed(answer, self.path)
-        return answer.output.decode()
-
     def _answer(self, run: Callable[[OpenedFile], Answer], run_at_path: Callable[[], Answer]) -> Answer:
         """Runs a command on the open file, or on the file at the path if it cannot stay open. A fork, or a handler of a
         signal, may close the file before the command runs; then the command opens it again."""
         with self.guard:
+            self._names = None
             for _ in range(TRIES):
                 opened = self._current()
                 if opened is None:
@@ -100,7 +140,7 @@ class KeptFile:
         `Busy` if another program holds the lock.
         """
         opened = self._opened
-        if opened is not None and not (opened.is_open and identity_at(self._path) == self._identity):
+        if opened is not None and not opened.is_current():
             self.close()
         if self._opened is None:
             self._open()
@@ -108,7 +148,8 @@ class KeptFile:
 
     def _open(self) -> None:
         before = identity_at(self._path)
-        answer, opened = the_library().open(self._path, self._wait, self._syncs)
+        wait = 0 if is_open_here(self._path) else self._wait
+        answer, opened = the_library().open(self._path, wait, self._syncs)
         if opened is None:
             is_locked = answer.fault == CANNOT_OPEN and answer.system_error in LOCKED
             if is_locked and self._opened is None:  # no handler of a signal has opened it meanwhile
@@ -116,6 +157,8 @@ class KeptFile:
         elif before is None or identity_at(self._path) != before:  # another file has taken the name meanwhile
             opened.close()
         else:
+            opened.device, opened.inode = before
+            keepers[before] = self  # first: after an interrupt here nothing is open
             self._opened, self._identity = opened, before
 
     def _noted(self, answer: Answer) -> Answer:
@@ -130,12 +173,6 @@ _files: WeakValueDictionary[int, KeptFile] = WeakValueDictionary()
 
 def _kept_files() -> List[KeptFile]:
     return [file for file in (reference() for reference in _files.valuerefs()) if file is not None]
-
-
-def is_open_here(path: bytes) -> bool:
-    """Checks whether this program has a file open."""
-    identity = identity_at(path)
-    return any(file.has(identity) for file in _kept_files())
 
 
 def _after_fork_in_child() -> None:

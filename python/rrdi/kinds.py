@@ -1,6 +1,7 @@
 # SPDX-License-Identifier: MIT OR Apache-2.0
 """Tells by the first bytes of a file of which program it is."""
 
+from .escaping import escaped
 from .locks import open_regular
 
 # The first bytes of a file of rrdi: without a change, and during a change.
@@ -31,3 +32,9 @@ def owner_of(file: str) -> str:
         return "RRDtool"
     is_method = begin[:3] == b"\0\0\0" and 1 <= (begin[3:] or b"\0")[0] <= 8
     return "whisper" if is_method and file.endswith(WHISPER_END) else ""
+
+
+def why_not_ours(file: str) -> str:
+    """Says how to convert a file of another program, as the program does; nothing if it is of no known one."""
+    owner = owner_of(file)
+    return escaped(f"{file} is a file of {owner}; convert it: rrdi-import {file} NEW.rrdi") if owner else ""

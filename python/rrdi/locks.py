@@ -18,11 +18,11 @@ import time
 from contextlib import contextmanager
 from functools import lru_cache, partial
 from operator import methodcaller
-from typing import Callable, Iterable, Iterator, List, Optional, Tuple, Union
+from typing import Callable, Iterable, Iterator, List, Optional, Protocol, Tuple, Union
 from weakref import WeakValueDictionary
 
 SHARED, EXCLUSIVE = fcntl.LOCK_SH, fcntl.LOCK_EX
-FIRST_PAUSE, LONGEST_PAUSE = 0.001, 0.05  # seconds
+FIRST_PAUSE, LONGEST_PAUSE = 0.001, 0.005  # seconds
 OPENINGS = 100  # if another program replaces the file each time, while this one waits for the lock
 INTERRUPTIONS = 1_000  # of a call, in a row
 MOST_NUMBERS = 1_024  # of open files that are looked at where the system does not list them
@@ -190,6 +190,27 @@ def locked(file: io.FileIO, kind: int, seconds: float) -> Iterator[None]:
         yield
     finally:
         unlock(file)
+
+
+# ---- Files that this program keeps open
+
+class Keeper(Protocol):
+    """Keeps a file open, with its lock."""
+
+    def has(self, identity: Optional[Identity]) -> bool: ...
+
+
+# By the file that each has opened last: a change by path looks for one of perhaps a thousand.
+keepers: WeakValueDictionary[Identity, Keeper] = WeakValueDictionary()
+
+
+def is_open_here(path: bytes) -> bool:
+    """Checks whether this program keeps a file open: then a change of the file by its path would wait for this program."""
+    if not keepers:
+        return False
+    identity = identity_at(path)
+    keeper = None if identity is None else keepers.get(identity)
+    return keeper is not None and keeper.has(identity)
 
 
 # ---- Children

@@ -112,7 +112,7 @@ class NewFile:
             return False
         except OSError as error:
             if error.errno not in NO_LINKS:
-                raise
+                raise self._of_name(error) from None
             return self._take_name()
         return True
 
@@ -120,9 +120,16 @@ class NewFile:
         """Gives the file its name, in place of a file that has it. The caller holds the lock of that file.
 
         # Errors
-        `OSError` if the system refuses the name.
+        `OSError` if the system refuses the name, also since another file is mounted there.
         """
-        os.rename(self.unfinished, self.path)
+        try:
+            os.rename(self.unfinished, self.path)
+        except OSError as error:
+            raise self._of_name(error) from None
+
+    def _of_name(self, error: OSError) -> OSError:
+        """Returns an error that names the file, and not the other name, which nobody knows."""
+        return OSError(error.errno, error.strerror, self.path)
 
     def _take_name(self) -> bool:
         """Gives the file its name where there are no links: takes the name by an empty file, and replaces that one."""

@@ -6,11 +6,11 @@ import errno
 from typing import Iterable, NamedTuple, Optional, Tuple, Union
 
 from .commands import RefusedLine, lines_of, refused_lines, text_of_lines
-from .errors import CANNOT_OPEN, OK, Error, error_of, reason_of
+from .errors import CANNOT_OPEN, EXPLAINED, OK, Error, error_of, reason_of
 from .library import Answer, the_library
 from .samples import Sample, sample_words
 from .times import Time, moment
-from .words import encoded, flat
+from .words import Word, encoded, flat
 
 
 class Ran(NamedTuple):
@@ -36,10 +36,12 @@ def _failed(answer: Answer) -> Error:
     number = errno.ENOENT if answer.fault == CANNOT_OPEN else 0
     found = error_of(answer.fault, reason_of(answer.fault, answer.output), None, answer.at, number)
     found.system_error = 0
+    if answer.fault in EXPLAINED:
+        found.detail = answer.explanation.decode(errors="replace")
     return found
 
 
-def run(data: Optional[bytes], *words: Sample, now: Optional[Time] = None) -> Ran:
+def run(data: Optional[bytes], *words: Union[Sample, Word], now: Optional[Time] = None) -> Ran:
     """Runs one command on the bytes of a database, or on none: `run(None, "create", ..)`. Reads and writes no file.
 
     The samples of an `update` may be tuples, as in `rrdi.update`.
@@ -50,10 +52,7 @@ def run(data: Optional[bytes], *words: Sample, now: Optional[Time] = None) -> Ra
     given = ["update", *sample_words(words[1:])] if words[:1] == ("update",) else flat(words)  # type: ignore[arg-type]
     answer = the_library().run(data, encoded(given), moment(now))
     if answer.fault != OK:
-        from .explaining import explain  # here, since most commands succeed
-        error = _failed(answer)
-        explain(error, given, lambda question: run(data, *question, now=now).output)
-        raise error
+        raise _failed(answer)
     changed = data if answer.data is None else answer.data
     assert changed is not None, "without a database rrdi accepts `create` alone"
     return Ran(changed, answer.output.decode())

@@ -26,7 +26,7 @@ from .words import FilePath
 Number = Union[int, float, Decimal, Fraction, SupportsFloat, SupportsInt]
 Cell = Union[str, Number, datetime.datetime, None]
 Part = Union[Cell, Iterable[Cell], Mapping[str, Cell]]
-Sample = Union[str, int, Iterable[Part], Iterable[Iterable[Part]]]
+Sample = Union[str, Iterable[Part], Iterable[Iterable[Part]]]
 
 LEAST, MOST = -2**63, 2**64 - 1  # whole numbers: the least of a DERIVE, the most of a COUNTER
 EXACT = Context(prec=50, rounding=ROUND_HALF_EVEN, traps=[])
@@ -202,6 +202,21 @@ def _of_value(error: Exception, at: Union[int, str], number: int, path: Optional
     return BadSample("bad value", _decoded(path), text) if isinstance(error, ValueError) else TypeError(text)
 
 
+def is_table(value: object) -> bool:
+    """Returns whether a value is a DataFrame of pandas, which is an iterable of the columns' names."""
+    return hasattr(type(value), "itertuples")
+
+
+def no_sample(value: object) -> TypeError:
+    """Returns the error of what stands in the place of a sample and is none."""
+    text = f"a sample must be text or a tuple of a time and values, not {type(value).__name__}"
+    if is_table(value):
+        text += "; pass its itertuples()"
+    elif isinstance(value, int) and not isinstance(value, bool):
+        text += f"; write ({value}, VALUE)"
+    return TypeError(text)
+
+
 def sample_words(samples: Iterable[object], path: Optional[FilePath] = None, now: Optional[int] = None,
                  template: Optional[str] = None) -> List[str]:
     """Returns the samples as text, after the option of a template, if there is one or if values have names.
@@ -221,7 +236,7 @@ def sample_words(samples: Iterable[object], path: Optional[FilePath] = None, now
     return found.words if template is None else [f"--template={template}", *found.words]
 
 
-class _Named(NamedTuple):
+class _SampleByName(NamedTuple):
     """A sample with values by name: the place of its word, and the texts of its time and values."""
 
     place: int
@@ -235,7 +250,7 @@ class _Words:
     def __init__(self, path: Optional[FilePath], now: Optional[int]):
         self.path, self.now = path, now
         self.words: List[str] = []
-        self.named: List[_Named] = []
+        self.named: List[_SampleByName] = []
 
     def add_all(self, samples: Iterable[object]) -> None:
         for sample in samples:
@@ -244,12 +259,10 @@ class _Words:
             elif isinstance(sample, str):
                 is_now = self.now is not None and sample.startswith("N:")
                 self.words.append(f"{self.now}{sample[1:]}" if is_now else sample)
-            elif isinstance(sample, int) and not isinstance(sample, bool):
-                self.words.append(str(sample))
-            elif is_many(sample) and not isinstance(sample, NO_SAMPLES):
+            elif is_many(sample) and not isinstance(sample, NO_SAMPLES) and not is_table(sample):
                 self._add(list(sample))  # type: ignore[call-overload]
             else:
-                raise TypeError(f"a sample must be text or a tuple of a time and values, not {type(sample).__name__}")
+                raise no_sample(sample)
 
     def _add(self, parts: Sequence[object]) -> None:
         if not parts or not _is_time(parts[0]):
@@ -276,7 +289,7 @@ class _Words:
                 texts[str(name)] = value_text(value)
             except (ValueError, TypeError) as error:
                 raise _of_value(error, str(name), number, self.path) from None
-        self.named.append(_Named(len(self.words), _time_of(parts, number, self.path, self.now), texts))
+        self.named.append(_SampleByName(len(self.words), _time_of(parts, number, self.path, self.now), texts))
         self.words.append("")
 
     def put_names(self) -> str:

@@ -31,14 +31,22 @@ def seconds_of(time: Time) -> int:
         return int(time)
     if isinstance(time, datetime.datetime):
         if time.utcoffset() is None:
-            raise ValueError(f"the datetime {time} has no zone; "
-                             "write datetime.now(timezone.utc), or time.astimezone() for a local time")
+            raise ValueError(f"the datetime {time} has no zone; write {_with_zone(time)}")
         return int((time - EPOCH) // SECOND)  # that of pandas is no int
     if isinstance(time, Real):
         if not math.isfinite(time):
             raise ValueError(f"{time} is no time")
         return math.floor(time)
-    raise TypeError(f"a time must be a number or a datetime, not {type(time).__name__}")
+    kind = type(time).__name__
+    hint = "; write pandas.Timestamp(time).tz_localize('UTC')" if kind == "datetime64" else ""
+    raise TypeError(f"a time must be a number or a datetime, not {kind}{hint}")
+
+
+def _with_zone(time: datetime.datetime) -> str:
+    """Returns how to write a time that has no zone. A Timestamp of pandas has no astimezone() without a zone."""
+    if hasattr(time, "tz_localize"):
+        return "time.tz_localize('UTC'), or the zone of a local time in place of UTC"
+    return "datetime.now(timezone.utc), or time.astimezone() for a local time"
 
 
 def time_word(time: Union[Time, str, None]) -> Optional[Word]:

@@ -75,9 +75,9 @@ def encoded(words: Sequence[str]) -> bytes:
     try:
         data = "\0".join(words).encode()
     except UnicodeEncodeError:
-        raise Usage("usage", None, USAGE) from None
-    if data.count(b"\0") != len(words) - 1:
-        raise Usage("usage", None, USAGE)
+        raise Usage("usage", None, USAGE, detail="an argument is not in UTF-8") from None
+    if data.count(b"\0") >= max(len(words), 1):
+        raise Usage("usage", None, USAGE, detail="a word has a zero byte")
     return data
 
 
@@ -94,13 +94,9 @@ def line_of(words: Sequence[str]) -> str:
     """
     line = " ".join(words)
     if len(line) > LONGEST_LINE or not all(map(is_word, words)):
-        raise Usage("usage", None, USAGE)
+        raise Usage("usage", None, USAGE, detail="a line takes words of printable ASCII, none of them empty, and at most "
+                                                 f"{LONGEST_LINE} bytes")
     return line
-
-
-def in_one_line(text: str) -> str:
-    """Returns a text for a log or a terminal, in one line: names of others may have anything in them."""
-    return "".join(letter if letter.isprintable() else "?" for letter in text)
 
 
 def present(now: Optional[int]) -> int:

@@ -84,7 +84,7 @@ class _AsRrdtool:
 def _change(command: str, words: Tuple[object, ...]) -> None:
     with _AsRrdtool():
         for name, file, *others in _translated(command, words):
-            commands.run_explained(file, [name, *others])
+            commands.run_on(file, [name, *others])
 
 
 # ---- Functions that rrdi has

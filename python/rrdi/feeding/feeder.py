@@ -4,25 +4,30 @@ from __future__ import annotations
 
 import errno
 import os
+import re
 import selectors
 import sys
 import time
 from contextlib import suppress
 from dataclasses import dataclass
+from itertools import groupby
 from operator import length_hint
 from queue import Empty, SimpleQueue
 from typing import Callable, Dict, Iterable, Iterator, List, Optional, Set, Tuple
 
+from ..escaping import escaped
 from ..limits import LONGEST_LINE
+from ..open_files import OpenBounds
 from .ordering import in_order
 from .workers import FIRST, Batch, Workers
-from .writers import NO_ROOM, TOO_OLD, Outcome, Writer, text_of
+from .writers import NO_ROOM, TOO_OLD, Outcome, Reason, Writer, text_of
 
 UPDATE = b"update "
 SHORT = LONGEST_LINE - len(UPDATE)  # bytes of a line whose sample cannot be too long
 DIGITS = frozenset(b"0123456789")
 FIRST_PAUSE, LONGEST_PAUSE = 0.1, 60.0  # seconds
-SAMPLES_OF_A_LINE = 100
+SAMPLES_OF_A_LINE, FEW = 100, 10  # samples in a line of a message; with few of a file, each has a line of its own
+NUMBERS, EXPLAINED_AGAIN = re.compile("[0-9]+"), 60.0  # seconds
 READ = 1 << 18  # bytes of one read of the input
 LONGEST_GIVEN = 1 << 24  # bytes of a line of the input, which may have many samples
 LONGEST_SHOWN = 4_096  # bytes of a bad line in a message
@@ -35,6 +40,9 @@ class FeedOptions:
     jobs: int = 4
     held: int = 1_000_000
     patience: int = 30
+    open_files: int = OpenBounds().files
+    open_seconds: int = int(OpenBounds().seconds)
+    open_memory: int = OpenBounds().memory
 
 
 @dataclass
@@ -48,16 +56,15 @@ class Waiting:
 
 
 def line_text(line: "bytes | bytearray") -> str:
-    """Returns a line for a message: without its end, and with control characters as escapes."""
-    return printable(text_of(line[:LONGEST_SHOWN]).strip() + (".." if len(line) > LONGEST_SHOWN else ""))
-
-
-def printable(text: str) -> str:
-    """Returns a text with control characters as escapes: they could change what a terminal shows."""
-    return "".join(letter if letter.isprintable() else ascii(letter)[1:-1] for letter in text)
+    """Returns a line for a message: without its end."""
+    return escaped(text_of(line[:LONGEST_SHOWN]).strip() + (".." if len(line) > LONGEST_SHOWN else ""))
 
 
 NO_MEMORY_LEFT = Outcome(lost="MemoryError")
+
+
+def nothing() -> None:
+    pass
 
 
 def selector_of(source: int) -> Optional[selectors.BaseSelector]:
@@ -88,10 +95,10 @@ class Feeder:
         self.ended: SimpleQueue[Tuple[bytes, List[bytes], Outcome]] = SimpleQueue()
         self.pauses: Dict[bytes, float] = {}
         self.threads = Workers(options.jobs, self.run)
+        self.let_go: Callable[[], None] = nothing  # closes the files that stay open, before SIGUSR1 has all samples written
         self.count, self.is_ending, self.is_hurried, self.has_failed = 0, False, False, False
-        self.bad_lines = self.too_old = 0
-        # Returns what was wrong with a refused sample of a file; the reason is rrdi's.
-        self.explain: Callable[[bytes, bytes, str], str] = lambda file, sample, reason: ""
+        self.bad_lines = self.refused = self.too_old = 0
+        self.explained: Dict[str, float] = {}  # when a kind of reason may be explained again
         # What was read and is not yet in lines; the lines, and those of them that are not yet taken.
         self.data = b""
         self.lines: List[bytes] = []
@@ -113,20 +120,33 @@ class Feeder:
         self.bad_lines += 1
         self.say(f"{reason}, got: {line_text(line)}")
 
-    def say_refused(self, file: bytes, sample: bytes, reason: str) -> None:
-        self.too_old += reason.startswith(TOO_OLD)
-        self.say(f"{printable(text_of(file))} {printable(text_of(sample))}: {reason}")
-        detail = self.explained(file, sample, reason)
-        if detail:
-            self.say(detail)
+    def say_refused(self, file: bytes, refused: Iterable[Tuple[bytes, str]]) -> None:
+        """Reports the refused samples of a batch: each in a line or, if many in a row have one reason, many in a line. So
+        thousands of late samples bury nothing else, and can all be fed again."""
+        for reason, group in groupby(refused, lambda one: one[1]):
+            name, samples = escaped(text_of(file)), [escaped(text_of(sample)) for sample, _ in group]
+            self.refused += len(samples)
+            self.too_old += len(samples) * reason.startswith(TOO_OLD)
+            in_line = 1 if len(samples) <= FEW else SAMPLES_OF_A_LINE
+            for at in range(0, len(samples), in_line):
+                self.say(f"{name} {' '.join(samples[at:at + in_line])}: {reason}")
+            if isinstance(reason, Reason):
+                self.explain(reason)
+
+    def explain(self, reason: Reason) -> None:
+        """Says what was wrong, once a minute for reasons that differ by their numbers only."""
+        kind, now = NUMBERS.sub("", reason), time.monotonic()
+        if reason.detail and now >= self.explained.get(kind, now):
+            self.explained[kind] = now + EXPLAINED_AGAIN
+            self.say(reason.detail)
 
     def say_lost(self, file: bytes, reason: str, samples: List[bytes]) -> None:
         """Reports samples that may be lost, in lines that the user can feed again."""
         try:
-            name = text_of(file)
+            name = escaped(text_of(file))
             self.say(f"{name}: {reason}; {len(samples)} samples may be lost")
             for at in range(0, len(samples), SAMPLES_OF_A_LINE):
-                self.say(f"may be lost: {name} {text_of(b' '.join(samples[at:at + SAMPLES_OF_A_LINE]))}")
+                self.say(f"may be lost: {name} {escaped(text_of(b' '.join(samples[at:at + SAMPLES_OF_A_LINE])))}")
         except MemoryError:
             self.say("samples may be lost that there is no memory to show")
 
@@ -134,7 +154,7 @@ class Feeder:
         """Reports the lines that were read and not taken."""
         try:
             for line in self.untaken() if self.lines else self.data.split(b"\n"):
-                self.say(f"a line may be lost, got: {printable(text_of(line).strip())}")
+                self.say(f"a line may be lost, got: {escaped(text_of(line).strip())}")
         except MemoryError:
             self.say("lines may be lost that there is no memory to show")
 
@@ -274,8 +294,7 @@ class Feeder:
             samples = list(outcome.left)
         if outcome.lost:
             self.say_lost(file, outcome.lost, samples)
-        for sample, reason in outcome.refused:
-            self.say_refused(file, sample, reason)
+        self.say_refused(file, outcome.refused)
         if outcome.again:
             pause = self.pauses.get(file, FIRST_PAUSE)
             self.pauses[file] = min(2 * pause, LONGEST_PAUSE)
@@ -284,13 +303,6 @@ class Feeder:
         else:
             self.pauses.pop(file, None)
         self.running.discard(file)
-
-    def explained(self, file: bytes, sample: bytes, reason: str) -> str:
-        """Returns what was wrong with a refused sample; nothing if that cannot be found out."""
-        try:
-            return self.explain(file, sample, reason)
-        except Exception:  # the reason was said; the samples go on
-            return ""
 
     def start(self, file: bytes) -> None:
         waiting, samples = self.waiting.get(file), self.held.get(file, [])
@@ -318,6 +330,7 @@ class Feeder:
         # A signal may come at any moment, and then counts for the next time.
         is_hurried, self.is_hurried = self.is_hurried, False
         if is_hurried:
+            self.let_go()
             # A file with a running batch stays due until that batch has ended.
             self.since = dict.fromkeys(self.since, now - self.options.seconds)
         for file in [file for file, waiting in self.waiting.items() if is_hurried or now >= waiting.due]:
@@ -390,6 +403,8 @@ class Feeder:
             pass
         if self.bad_lines:
             self.say(f"bad lines: {self.bad_lines}")
+        if self.refused > FEW:
+            self.say(f"samples refused: {self.refused}")
         if self.too_old:
             self.say(f"samples too old: {self.too_old}")
 

@@ -9,11 +9,12 @@ from __future__ import annotations
 
 import errno
 import re
-from typing import List
+from typing import List, Optional
 
 from ..environment import is_synced, milliseconds
 from ..errors import BAD_WORD, CANNOT_WRITE, OK, REFUSED, USAGE
 from ..limits import MOST_CHANGES
+from ..open_files import OpenBounds, OpenFiles
 from ..protocol import Answer, Library, OpenedFile
 from ..words import present
 from .writers import BatchWriter, Outcome, lines_of, outcome_of
@@ -24,15 +25,24 @@ BUSY = (errno.EAGAIN, errno.EWOULDBLOCK)
 
 
 class GroupWriter(BatchWriter):
-    """Writes by the library."""
+    """Writes by the library, to files that may stay open until their next samples come."""
 
-    def __init__(self, library: Library):
+    def __init__(self, library: Library, files: Optional[OpenFiles] = None):
         super().__init__(library)
-        self.library = library
+        self.library, self.files = library, files or OpenFiles(OpenBounds(files=0))
 
     def write(self, file: bytes, samples: List[bytes]) -> Outcome:
-        if len(samples) < MANY:
-            return super().write(file, samples)
+        with self.files.lend(file) as lent:
+            if lent.busy is not None:
+                return outcome_of(file, samples, lent.busy)
+            if lent.opened is not None:
+                outcome = write_open(file, lent.opened, samples)
+                lent.is_sound = not (outcome.again or outcome.lost)
+                return outcome
+            return super().write(file, samples) if len(samples) < MANY else self.write_many(file, samples)
+
+    def write_many(self, file: bytes, samples: List[bytes]) -> Outcome:
+        """Writes to a file that is open for this batch only."""
         answer, opened = self.library.open(file, milliseconds(None), is_synced(None))
         if opened is None and answer.system_error in BUSY:  # the batch would only wait once more
             return outcome_of(file, samples, answer)
@@ -46,7 +56,10 @@ class GroupWriter(BatchWriter):
 
 def write_open(file: bytes, opened: OpenedFile, samples: List[bytes]) -> Outcome:
     """Passes samples to a file that stays open and locked meanwhile."""
-    now, before = present(None), opened.run(b"info", 0)
+    now = present(None)
+    if len(samples) < MANY:
+        return outcome_of(file, samples, opened.batch(lines_of(samples), now))
+    before = opened.run(b"info", 0)
     depth = journal_of(before)
     older, newer = samples[:-depth], samples[-depth:]
     words = b" ".join(older)

@@ -7,9 +7,20 @@ from typing import List, NamedTuple, Optional, Protocol, Sequence, Tuple
 from ..by_program import NoAnswer
 from ..damaged import is_being_made
 from ..environment import is_synced, milliseconds
-from ..errors import CANNOT_OPEN, NO_MEMORY, OK, TRUNCATED, reason_of, reasons_in
+from ..errors import CANNOT_OPEN, EXPLAINED, NO_MEMORY, OK, TRUNCATED, details_in, reason_of, reasons_in
 from ..protocol import Answer, OnFiles
 from ..words import present
+
+
+class Reason(str):
+    """Why a sample was refused: the reason and, as `detail`, what was wrong, if that is known."""
+
+    detail: str
+
+    def __new__(cls, reason: str, detail: str = "") -> Reason:
+        found = super().__new__(cls, reason)
+        found.detail = detail
+        return found
 
 
 class Outcome(NamedTuple):
@@ -18,7 +29,7 @@ class Outcome(NamedTuple):
 
     again: str = ""  # why feed has to try samples again: rrdi has none of them
     lost: str = ""  # why samples may be lost
-    refused: Tuple[Tuple[bytes, str], ...] = ()  # each refused sample, and why
+    refused: Tuple[Tuple[bytes, str], ...] = ()  # each refused sample, and why: a `Reason` if rrdi refused it
     done: int = 0  # of the first samples, those that an earlier change has stored or refused
     left: Optional[Tuple[bytes, ...]] = None  # the samples that `again` or `lost` is about, if not those after `done`
 
@@ -28,7 +39,7 @@ class Writer(Protocol):
         """Passes the samples of one file to rrdi, each as an update of its own."""
 
     def create(self, file: bytes, arguments: Sequence[str]) -> str:
-        """Creates a database. Returns the reason if that fails, and otherwise nothing."""
+        """Creates a database. Returns the reason if that fails, a `Reason` if it is rrdi's, and otherwise nothing."""
 
 
 NO_ROOM = "out of memory"
@@ -59,8 +70,9 @@ def outcome_of(file: bytes, samples: List[bytes], answer: Answer, before: int = 
         return Outcome(again=reason_of(answer.fault, answer.output))
     if answer.fault != OK:
         return Outcome(lost=reason_of(answer.fault, answer.output))
-    reasons = reasons_in(text_of(answer.output))
-    return Outcome(refused=tuple((samples[number - 1 - before], why) for number, why in zip(answer.refused, reasons)))
+    reasons, details = reasons_in(text_of(answer.output)), details_in(answer.explanation)
+    return Outcome(refused=tuple((samples[number - 1 - before], Reason(why, details.get(number, "")))
+                                 for number, why in zip(answer.refused, reasons)))
 
 
 class BatchWriter:
@@ -86,4 +98,7 @@ class BatchWriter:
             answer = self.rrdi.run_file(file, words, present(None), milliseconds(None), is_synced(None))
         except NoAnswer as none:
             return str(none)
-        return "" if answer.fault == OK else reason_of(answer.fault, answer.output)
+        if answer.fault == OK:
+            return ""
+        detail = answer.explanation.decode(errors="replace") if answer.fault in EXPLAINED else ""
+        return Reason(reason_of(answer.fault, answer.output), detail)

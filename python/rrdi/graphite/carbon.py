@@ -7,6 +7,8 @@ carbon.conf, beside carbon's own:
 - RRDI_LIBRARY: the C library, if the package would not find it
 - RRDI_JOURNAL: how many slots of a metric can come late (16)
 - RRDI_MAX_FUTURE: by how many seconds a point may be ahead of the clock (600)
+- RRDI_OPEN_FILES, RRDI_OPEN_SECONDS, RRDI_OPEN_MEMORY: how many files stay open between writes (256; 0 for none), for how
+  many seconds (2), and with how many MB of memory (64)
 """
 from __future__ import annotations
 
@@ -17,6 +19,7 @@ from carbon.database import TimeSeriesDatabase
 
 from ..library import load_library
 from ..limits import MOST_CHANGES
+from ..open_files import OpenBounds
 from ..reader.selected import OpenFile
 from .layout import METHODS, Retentions, check_retentions, method_of, template
 from .losses import Losses
@@ -24,16 +27,26 @@ from .slots import Point
 from .store import StoreOptions, Store
 
 
-def whole_number(settings: Any, name: str, default: int, most: int) -> int:
-    """A setting that is a whole number from 1 on.
+MOST_OPEN = 1_000_000  # files; the system allows fewer
+
+
+def whole_number(settings: Any, name: str, default: int, most: int, least: int = 1) -> int:
+    """A setting that is a whole number from `least` on.
 
     # Errors
     `SystemExit` with a line for the user, as carbon itself ends on wrong settings.
     """
     value = settings.get(name, default)
-    if not isinstance(value, int) or not 1 <= value <= most:
-        raise SystemExit(f"{name} must be a whole number from 1 to {most}, not {value}")
+    if not isinstance(value, int) or not least <= value <= most:
+        raise SystemExit(f"{name} must be a whole number from {least} to {most}, not {value}")
     return value
+
+
+def bounds_of(settings: Any) -> OpenBounds:
+    usual = OpenBounds()
+    return OpenBounds(whole_number(settings, "RRDI_OPEN_FILES", usual.files, MOST_OPEN, 0),
+                  whole_number(settings, "RRDI_OPEN_SECONDS", int(usual.seconds), 10**9),
+                  whole_number(settings, "RRDI_OPEN_MEMORY", usual.memory, 10**9))
 
 
 def every(seconds: float, call: Callable[[], None]) -> None:
@@ -63,7 +76,8 @@ class RrdiDatabase(TimeSeriesDatabase):  # type: ignore[misc]
         most_future = whole_number(settings, "RRDI_MAX_FUTURE", 600, 10**9)
         interval = settings.CARBON_METRIC_INTERVAL
         self.losses = Losses(log.msg, interval or 60)
-        options = StoreOptions(settings.LOCAL_DATA_DIR, self.journal, most_future, bool(settings.TAG_HASH_FILENAMES))
+        options = StoreOptions(settings.LOCAL_DATA_DIR, self.journal, most_future, bool(settings.TAG_HASH_FILENAMES),
+                               bounds_of(settings))
         self.store = Store(options, self.losses)
         if interval > 0:
             every(interval, self.report)

@@ -134,7 +134,7 @@ class Globs:
                     places.setdefault(sign, []).append(self.size)
                     self.size += 1
             ends.append(self.size)
-            self.size += 1
+            self.size += 1  # the bit of the end
         self.starts, self.stars, self.ends = (bits(found, self.size) for found in (starts, stars, ends))
         self.any = bits(places.pop(ANY, []), self.size)
         self.sets = [(Set(sign), bits(found, self.size)) for sign, found in places.items() if len(sign) > 1]

@@ -7,7 +7,7 @@ import time
 from collections import Counter
 from typing import Callable, Dict, Mapping
 
-from ..words import in_one_line
+from ..escaping import escaped
 
 # What each count is of. All but the first count points that were lost.
 KINDS: Dict[str, str] = {
@@ -51,7 +51,7 @@ class Losses:
         if left_out:
             self._log(f"rrdi: {left_out} more lines were left out")
         if is_shown:
-            self._log(in_one_line(text))
+            self._log(escaped(text))
 
     def take(self) -> Dict[str, int]:
         """Returns the counts of all kinds, and begins again with 0."""

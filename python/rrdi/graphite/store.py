@@ -5,12 +5,14 @@ from __future__ import annotations
 import os
 import time
 from collections import Counter
+from functools import partial
 from typing import Callable, Dict, Iterable, List, Mapping, NamedTuple, Optional, Tuple
 
 from ..commands import Batch, batch
 from ..kept import KeptFile
 from ..locks import identity_at, identity_of
 from ..making import is_there, make
+from ..open_files import OpenBounds, OpenFiles
 from ..reader.selected import Front, OpenFile
 from ..waiting import MOST_OF_A_FILE, MOST_OF_ALL, newest, why
 from ..words import encoded_path
@@ -28,6 +30,7 @@ class StoreOptions(NamedTuple):
     journal: int = 16
     most_future: int = 600  # seconds
     is_hashed: bool = True  # how files of tagged metrics are named
+    open: OpenBounds = OpenBounds()  # of files that stay open
 
 
 class Known(NamedTuple):
@@ -49,7 +52,7 @@ class Store:
     """The files of all metrics below a folder. One thread writes."""
 
     def __init__(self, options: StoreOptions, losses: Losses, clock: Callable[[], float] = time.time):
-        self.options, self.losses, self._clock = options, losses, clock
+        self.options, self.losses, self._clock, self._files = options, losses, clock, OpenFiles(options.open)
         self._new: Dict[str, Template] = {}  # the files that are to be made with their first points
         self._known: Dict[str, Known] = {}
         self._waiting: Dict[str, List[Point]] = {}
@@ -91,6 +94,10 @@ class Store:
         except Exception as fault:  # the points must survive any exception
             self._wait(metric, path, given, why(path, fault))
 
+    def close(self) -> None:
+        """Closes the files that stayed open. Another write may follow."""
+        self._files.close_all()
+
     # ---- Points that wait
 
     def _taken(self, path: str) -> List[Point]:
@@ -116,11 +123,11 @@ class Store:
         slots, left_out = sort_points(points, step, self._clock() + self.options.most_future)
         counts, reason = Counter(left_out), ""
         if slots:
-            tried = (self._begin(path, slots, new) if new else None) or put(path, slots, known)
+            tried = (self._begin(path, slots, new) if new else None) or put(path, slots, known, self._files)
             self._remember(path, known, slots, tried)
             counts.update(tried.counts)
             if tried.slots:
-                tried = put(path, tried.slots, None)
+                tried = put(path, tried.slots, None, self._files)
                 counts.update(tried.counts)
             counts["refused"] += len(tried.slots)
             reason = tried.reason
@@ -155,12 +162,14 @@ def read_known(path: str) -> Known:
         return Known(file.front, identity_of(os.fstat(file.file)))
 
 
-def put(path: str, slots: Slots, known: Optional[Known]) -> Tried:
+def put(path: str, slots: Slots, known: Optional[Known], files: OpenFiles) -> Tried:
     """Gives slots to a file that is there; late ones by reverts. If another program has taken back samples meanwhile, all
     slots are left, because the interval before the first one was another than it seemed."""
     front = (known or read_known(path)).front
     if min(slots) > front.last:
-        return give(path, 0, lines_of(slots, front.last, front.step, front.sources > 1, front.depth), slots, {}, front.last)
+        lines = lines_of(slots, front.last, front.step, front.sources > 1, front.depth)
+        return give(path, 0, lines, slots, {}, front.last, partial(files.batch, path))
+    files.close(encoded_path(path))
     return put_late(path, slots)
 
 

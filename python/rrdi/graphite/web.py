@@ -22,8 +22,8 @@ from graphite.node import BranchNode, LeafNode
 from graphite.readers.utils import BaseReader, merge_with_carbonlink
 
 from ..errors import Error
+from ..escaping import escaped
 from ..reader.selected import OpenFile
-from ..words import in_one_line
 from .finding import TooMuch, find
 from .names import metric_of, path_of
 from .series import read_series
@@ -67,7 +67,7 @@ class RrdiReader(BaseReader):  # type: ignore[misc]
         return (found.start, found.end, found.step), values
 
     def complain(self, fault: Exception) -> None:
-        log.info(in_one_line(f"rrdi: cannot read {self.path}: {fault}"))
+        log.info(escaped(f"rrdi: cannot read {self.path}: {fault}"))
 
 
 class RrdiFinder(BaseFinder):  # type: ignore[misc]

@@ -15,6 +15,8 @@ a `tune` for each gives back its heartbeat, bounds and type. Which samples a row
 - If steps of a row were unknown, the next coarser `AVERAGE` differs from the average of the finer rows. One row, or two
   at the ends of an outage, in which unknown steps would explain the difference get them. Failing that, the unknown rows
   get a few known steps, too few to make a row known: as many as the `AVERAGE` archive two levels coarser tells.
+- Where no coarser `AVERAGE` consists of whole rows, as of 70 seconds below 500, the next coarser one tells how a row that
+  its end cuts is divided, and whether an unknown row had known steps.
 - If no `AVERAGE` archive reaches that far back, the rows of the other functions are converted in the same way.
 - The unfinished row and step get first their unknown seconds and then the known ones at their mean rate.
 - The last raw value of each COUNTER and DERIVE is sent after the tunes, in a sample of one second: the rate of that second

@@ -17,7 +17,7 @@ from .plan import Span, note_made_up_rows, plan
 from .rates import SourceRates, unfinished_step
 from .steps import Stretches
 
-SAMPLES_OF_A_LINE, BYTES_OF_A_LINE = 200, 65_000
+BYTES_OF_A_LINE = 65_000  # of samples: the fewer lines, the less a journal has to keep of the rows that they replace
 OF_FRACTIONS = ("DCOUNTER", "DDERIVE")  # types of counters that take fractions
 
 
@@ -134,7 +134,7 @@ def updates(samples: Iterable[str]) -> Iterator[str]:
     words: list[str] = []
     size = 0
     for sample in samples:
-        if words and (len(words) == SAMPLES_OF_A_LINE or size + len(sample) > BYTES_OF_A_LINE):
+        if words and size + len(sample) > BYTES_OF_A_LINE:
             yield " ".join(["update", *words])
             words, size = [], 0
         words.append(sample)

@@ -18,6 +18,7 @@ class Span:
     `beside` has the archives with rows of the same length, by their function: for each function the archive that reaches
     back farthest. `above` is the next coarser archive of averages whose rows consist of whole rows of this archive,
     `above_beside` has the archives with rows as long as those of `above`, and `above_twice` is the next coarser archive.
+    If there is none, `overlapping` is the next coarser archive of averages.
     """
 
     def __init__(self, begin: int, end: int, archive: RrdArchive, archives: list[RrdArchive]):
@@ -25,6 +26,9 @@ class Span:
         self.beside = self.companions(archive, archives)
         self.above = self.coarser(archive, archives)
         self.above_twice = self.coarser(self.above, archives) if self.above else None
+        self.overlapping = None if self.above else min((other for other in archives if other.function == "AVERAGE" and
+                                                        other.seconds > archive.seconds), key=lambda other: other.seconds,
+                                                       default=None)
         self.above_beside = self.companions(self.above, archives) if self.above else {}
         # How many steps of a known row may be unknown, and how many of an unknown row may be known, in all archives
         # with rows of this length.

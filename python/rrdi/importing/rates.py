@@ -8,6 +8,7 @@ from dataclasses import dataclass, field
 from ..amounts import MILLION
 from .rounding import Converter
 from .dump import RrdArchive, RrdSource
+from .overlapping import Overlapping
 from .plan import Span
 from .steps import Row, Stretches, Wanted, lay, sum_of_rest
 
@@ -62,6 +63,7 @@ class SourceRates:
     def __init__(self, column: int, step: int, whole: int, converter: Converter):
         self.column, self.step, self.whole, self.converter = column, step, whole, converter
         self.coarser: Coarser | None = None
+        self.overlapping: Overlapping | None = None
 
     def all_rates(self, spans: list[Span]) -> Stretches:
         """Returns the rates of all spans. Starts with the newest span, because a finer span may cut a coarser row."""
@@ -107,6 +109,7 @@ class SourceRates:
     def rates_of_rows(self, span: Span, later: Stretches) -> Stretches:
         rates: Stretches = []
         self.coarser = None
+        self.overlapping = Overlapping(self, span, span.overlapping) if span.overlapping else None
         seconds = span.archive.seconds
         for begin in range(span.begin, span.end, seconds):
             time = begin + seconds
@@ -131,10 +134,8 @@ class SourceRates:
         end = span.end
         rest = sum_of_rest(later, end, min(time, self.whole), self.step)
         steps = (end - begin) // self.step
-        known = steps + rest.known
         if time > span.archive.end:
-            known = self.known_so_far(span.archive)
-            steps = min(max(known - rest.known, 0), steps)
+            steps = min(max(self.known_so_far(span.archive) - rest.known, 0), steps)
         if not row.is_known or steps == 0:
             rates.append((end, None))
             return
@@ -165,9 +166,12 @@ class SourceRates:
         elif coarser is not None and coarser.dropped.get(end):
             begin += coarser.dropped[end] * self.step
             rates.append((begin, None))
-        if row.is_known:
-            lay(rates, begin, end, self.step, self.wanted(row, (end - begin) // self.step))
-        else:
+        over, wanted = self.overlapping if row.has_average else None, self.wanted(row, (end - begin) // self.step)
+        if row.is_known and not (over and over.cut(rates, begin, end, wanted)):
+            lay(rates, begin, end, self.step, wanted)
+        elif not row.is_known and over:
+            over.lay_unknown(rates, begin, end)
+        elif not row.is_known:
             rates.append((end, None))
 
     def lay_hidden(self, rates: Stretches, span: Span, coarser: Coarser, begin: int) -> int:

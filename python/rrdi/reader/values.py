@@ -1,5 +1,19 @@
 # SPDX-License-Identifier: MIT OR Apache-2.0
-"""The database in a file, with numbers that a program can use: exact decimals, or floats."""
+"""The database in a file, with numbers that a program can use: exact decimals, or floats.
+
+A database is a dictionary, and so is each part of it. JSON has the same names:
+
+- the database: `version` (of the layout), `step`, `last_time`, `journal_depth`, `sources`, `archives`, `journal`;
+- a source: `name`, `type`, `heartbeat`, `min`, `max`, `last_raw`; `known_seconds` and `sum` of its partial step;
+- an archive: `function`, `steps`, `xff`; `preparations`, the partial row of each source, with `known_steps` and `value`;
+  `rows`, the oldest first, each with `time` (its end) and `cells`;
+- an entry of the journal, the newest change first: `change`, and what it replaced. `update`: `last_time`; `sources`, each
+  with `last_raw`, `known_seconds` and `sum`; `archives`, each with `preparations` and `rows`. `tune`: `sources`, each with
+  its `number` and the names of a source. `resize`: `archive`, its number, and its `rows` before. `removal`: `archive`, its
+  number, and the names of an archive. `addition`: nothing more.
+
+None is an unknown value, or no bound.
+"""
 from __future__ import annotations
 
 from decimal import Context, Decimal

@@ -7,9 +7,7 @@ example:
   rrdi-carbon-cache --config=/etc/carbon/carbon.conf start
 
 The options are those of carbon-cache, which `carbon-cache --help` lists.
-carbon.conf needs the line `DATABASE = rrdi`. carbon knows a database only if
-its class was imported first: this program does that, and then what carbon-cache
-does.
+carbon.conf needs the line `DATABASE = rrdi`.
 
 options:
   -h, --help           show this help and exit

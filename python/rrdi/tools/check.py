@@ -10,15 +10,15 @@ examples:
   * * * * * rrdi-check room.rrdi temp --above 30 --changes temp.state
 
 It prints one line, and its status is 0 (OK), 1 (WARNING), 2 (CRITICAL) or 3
-(UNKNOWN), as Nagios and Icinga expect. The value is the newest known row of the
-finest archive. A source without a new value is CRITICAL too.
+(UNKNOWN). The value is the newest known row of the finest archive. A source
+without a new value is CRITICAL too.
 
 options, anywhere on the line:
   --above N            CRITICAL above N
   --below N            CRITICAL below N
   -c, --critical RANGE
                        CRITICAL outside RANGE, in place of both; a RANGE is
-                       5:10, 10: (or more), ~:10 (or less), 10 (from 0 on), or
+                       5:10, 10: (or more), '~:10' (or less), 10 (from 0 on), or
                        @5:10, which alarms inside
   -w, --warning RANGE  WARNING outside RANGE
   --for SPAN           only if all known rows of the last SPAN are outside,
@@ -33,8 +33,8 @@ options, anywhere on the line:
   -h, --help           show this help and exit
   --version            show the version and exit
 
-The file is only read, under a shared lock; RRDI_WAIT sets how many seconds to
-wait for it (default: 5). docs/cookbook.md has examples.
+RRDI_WAIT sets how many seconds to wait for the file's lock (default: 5).
+docs/cookbook.md has examples.
 
 Exit status: that of the line; 3 also if FILE cannot be read or has no such
 source, or the arguments are wrong.
@@ -48,10 +48,10 @@ import time
 from typing import Dict, List, NamedTuple, Optional, Tuple
 
 from ..amounts import Millionths, shortened
+from ..escaping import escaped
 from ..locks import open_regular
 from ..making import NewFile
 from ..reader.selected import OpenFile, StoredArchive
-from ..words import in_one_line
 from .command_line import Failure, Tool, WrongArguments, called_name, error_text, say
 from .options import given_words
 from .program import as_millionths
@@ -133,7 +133,8 @@ def range_of(option: str, text: str) -> ValueRange:
     """
     found = RANGE.fullmatch(text)
     if found is None or not (found[2] or found[4]):
-        raise WrongArguments(f"--{option} must be a range such as 10, 5:10, 10:, ~:10 or @5:10, not {text!r}")
+        quoted = "; bash needs quotes around '~:10'" if text.startswith("/") else ""  # a directory took the place of ~
+        raise WrongArguments(f"--{option} must be a range such as 10, 5:10, 10:, ~:10 or @5:10, not {text!r}{quoted}")
     mark, start, _, end = found.groups()
     low = None if start == "~" else as_millionths(start or "0")
     high = None if end is None else as_millionths(end)
@@ -289,7 +290,7 @@ def verdict_of(options: CheckOptions) -> Verdict:
 
 def line_of(options: CheckOptions, verdict: Verdict) -> str:
     """Returns the line of a plugin: the status and the reason for people, and the value with its limits for programs."""
-    text = in_one_line(f"{WORDS[verdict.status]} - {options.file}: {verdict.text}").replace("|", "?")
+    text = escaped(f"{WORDS[verdict.status]} - {options.file}: {verdict.text}").replace("|", "?")
     if verdict.status == UNKNOWN:
         return text
     warning, critical = (options.limits[status].text if status in options.limits else "" for status in (WARNING, CRITICAL))
@@ -332,7 +333,7 @@ def keep_status(state: str, status: int) -> None:
                 file.write(f"{status}\n")
             new.replace()
     except OSError as error:
-        say(called_name(TOOL), f"{in_one_line(state)}: the status is not kept: {error.strerror or error_text(error)}")
+        say(called_name(TOOL), f"{escaped(state)}: the status is not kept: {error.strerror or error_text(error)}")
 
 
 def check(words: List[str]) -> int:

@@ -8,10 +8,13 @@ import time
 from typing import Callable, List, NamedTuple, Optional
 
 from .. import __version__
+from ..escaping import escaped
 
 
 class Failure(Exception):
-    """The reason why a tool failed; the text is a line for the user."""
+    """The reason why a tool failed; the text is a line for the user, and `detail` a further line, or empty."""
+
+    detail = ""
 
 
 class WrongArguments(Exception):
@@ -41,10 +44,10 @@ def called_name(tool: Tool) -> str:
     return tool.name if name.endswith(".py") or name in ("", "-c", "-m", "__main__") else name
 
 
-def give_up_output() -> None:
-    """Discards the rest of standard output, so that Python does not report the same error again at its end."""
+def give_up_output(stream: int = 1) -> None:
+    """Discards the rest of a standard stream, so that Python does not report the same error again at its end."""
     try:
-        os.dup2(os.open(os.devnull, os.O_WRONLY), 1)
+        os.dup2(os.open(os.devnull, os.O_WRONLY), stream)
     except OSError:
         pass
 
@@ -64,7 +67,22 @@ def flush_output() -> None:
 def add_line(name: str, hint: str) -> None:
     """Prints a further line, if there is something to say."""
     if hint:
-        print(f"{name}: {hint}", file=sys.stderr)
+        print_line(name, hint)
+
+
+def print_line(name: str, text: str) -> None:
+    """Prints a line on standard error. Names of files and words of others may have anything in them."""
+    complain(f"{name}: {escaped(text)}")
+
+
+def complain(text: str) -> None:
+    """Prints a line on standard error, unless that is closed or full: then nobody reads it, and the exit status alone tells."""
+    if sys.stderr is None:
+        return
+    try:
+        print(text, file=sys.stderr, flush=True)
+    except OSError:
+        give_up_output(2)
 
 
 def run(tool: Tool, words: Optional[List[str]] = None) -> int:
@@ -77,7 +95,7 @@ def run(tool: Tool, words: Optional[List[str]] = None) -> int:
     name = called_name(tool)
     try:
         if words[:1] in (["-h"], ["--help"]):
-            print((tool.help or "").strip())
+            print((tool.help or f"usage: {name} {tool.usage}").strip())  # PYTHONOPTIMIZE=2 leaves no help
             status = 0
         elif words[:1] == ["--version"]:
             print(tool.version or f"{tool.name} {__version__}")
@@ -87,16 +105,21 @@ def run(tool: Tool, words: Optional[List[str]] = None) -> int:
         flush_output()
         return status
     except WrongArguments as wrong:
-        print(f"{name}: {wrong}" if str(wrong) else f"usage: {name} {tool.usage}", file=sys.stderr)
-        if not str(wrong):
-            from .hints import option_hint  # few runs fail
-            add_line(name, option_hint(words, tool.help or ""))
+        if str(wrong):
+            print_line(name, str(wrong))
+        else:
+            complain(f"usage: {name} {tool.usage}")
+            if tool.help:
+                from .hints import option_hint  # few runs fail
+                add_line(name, option_hint(words, tool.help))
         return tool.misused
     except Failure as failure:
-        print(f"{name}: {failure}", file=sys.stderr)
+        print_line(name, str(failure))
         if str(failure).endswith("file: not ours"):
             from .hints import file_hint
             add_line(name, file_hint(words))
+        else:
+            add_line(name, failure.detail)
     except BrokenPipeError:
         give_up_output()
         return tool.failed
@@ -104,9 +127,9 @@ def run(tool: Tool, words: Optional[List[str]] = None) -> int:
         give_up_output()
         return 130
     except OSError as error:
-        print(f"{name}: {error_text(error)}", file=sys.stderr)
+        print_line(name, error_text(error))
     except MemoryError:
-        print(f"{name}: out of memory", file=sys.stderr)
+        complain(f"{name}: out of memory")
     except Exception:
         sys.excepthook(*sys.exc_info())  # as Python itself, whose status is 1: that may have another meaning here
     try:
@@ -118,8 +141,7 @@ def run(tool: Tool, words: Optional[List[str]] = None) -> int:
 
 def say(tool_name: str, text: str) -> None:
     """Prints a line of a tool on standard error, if that is open."""
-    if sys.stderr is not None:
-        print(f"{tool_name}: {text}", file=sys.stderr, flush=True)
+    print_line(tool_name, text)
 
 
 class Progress:

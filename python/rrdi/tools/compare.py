@@ -10,15 +10,14 @@ options:
   -h, --help           show this help and exit
   --version            show the version and exit
 
-For each archive you get a line with the cells that agree, those that are known
-in only one of the files, those that differ, and the time of the newest row that
-does not agree. To differ is to be more than a millionth apart, and more than
-the eleventh digit, the last that rrdtool prints. A last line names the data
-sources that only the old file has. rrdtool must be installed.
+For each archive you get a line with the cells that agree, those known in only
+one of the files, those that differ, and the time of the newest row that does
+not agree. To differ is to be more than a millionth apart, and more than the
+eleventh digit, the last that rrdtool prints. A last line names the data sources
+that only the old file has. rrdtool must be installed.
 
 environment:
-  RRDI                 a program to run instead of the C library, or of the
-                       rrdi on the PATH
+  RRDI                 the program to run instead of the C library
 
 Exit status: 0 if all cells agree; 1 if one does not, if there is no archive to
 compare, or if a program failed; 2 after wrong arguments.
@@ -29,10 +28,10 @@ import math
 import re
 from typing import Dict, Iterator, List, NamedTuple, Optional
 
+from ..escaping import escaped
 from ..importing.differing import MOST_APART, SHARE_APART
 from ..limits import FUNCTIONS
 from ..printed import printed_rows
-from ..words import in_one_line
 from . import program, rrdtool_program
 from .command_line import Failure, Tool, WrongArguments
 
@@ -162,7 +161,7 @@ def compare(words: List[str]) -> int:
             status = 1
     missing = missing_sources(info, new)
     if missing:
-        print(f"only in the old file: {in_one_line(', '.join(missing))}")
+        print(f"only in the old file: {escaped(', '.join(missing))}")
     return status
 
 

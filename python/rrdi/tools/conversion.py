@@ -5,14 +5,15 @@ from __future__ import annotations
 import os
 from typing import Callable, Iterable, Iterator, List, Optional
 
+from ..errors import Damaged
+from ..escaping import escaped
 from ..importing.batch import RrdBatch
-from ..importing.dump import read_rrd
+from ..importing.native import read_old
 from ..importing.whisper import read_whisper, whisper_batch
 from ..kinds import WHISPER_END
-from ..locks import state_of
+from ..locks import open_regular, state_of
 from ..making import NewFile
 from ..reader.selected import OpenFile
-from ..words import in_one_line
 from . import program, rrdtool_program
 from .command_line import Failure
 from .reading import reporting
@@ -44,9 +45,9 @@ class Conversion:
 
     def note(self, text: str) -> None:
         """Keeps and passes on what cannot be converted, in one line, whatever the old file's texts have in them."""
-        shown = in_one_line(text if len(text) <= LONGEST_NOTE else f"{text[:LONGEST_NOTE]}..")
-        self.notes.append(shown)
-        self._note(shown)
+        note = escaped(text if len(text) <= LONGEST_NOTE else f"{text[:LONGEST_NOTE]}..")
+        self.notes.append(note)
+        self._note(note)
 
     def lines(self, reading: Reading = lambda done, size: None) -> Iterator[str]:
         """Reads the old file, and yields the lines of the batch that makes the new database.
@@ -54,13 +55,13 @@ class Conversion:
         # Errors
         - `Refusal` if the file can't be read, or rrdi can't have such a database.
         - `OSError` if a file of whisper can't be opened or read.
-        - `Failure` if rrdtool is needed and not installed.
+        - `Failure` if rrdtool is needed to read it and not installed.
         """
         if self.old.endswith(WHISPER_END):
             lines, there = whisper_batch(read_whisper(self.old), self.journal, self.note), 0
         else:
             size = size_of(self.old)
-            old = read_rrd(rrdtool_program.found(), self.old, lambda cells: reading(8 * cells, size))
+            old = read_old(self.old, rrdtool_program.found, lambda cells: reading(8 * cells, size))
             self._batch = RrdBatch(old, self.journal, self.note)
             lines, there, self.changed = self._batch.noted_lines(), len(old.sources), self._batch.changed
         for line in lines:
@@ -85,37 +86,75 @@ class Conversion:
             self._batch.note_differences(lambda place: opened.rows(archives[place], 1, last))
 
 
-def make(new: str, lines: Iterable[str], look: Callable[[str], None], makes_folder: bool = False) -> None:
+def make(new: str, lines: Iterable[str], look: Callable[[str], None]) -> None:
     """Creates a database with a batch. The database gets its name when it is complete, and never that of another file.
     Before that, `look` gets the name under which it is read.
 
     # Errors
     - `Failure` if there is a file of this name, or rrdi refuses the batch.
-    - `OSError` if the folder can't be made, or the system refuses the name.
+    - `OSError` if the system refuses the name.
     """
     if os.path.lexists(new):
         raise Failure(f"{new} already exists")
     given = list(lines)
-    with NewFile(new, makes_folder) as made:
-        try:
-            program.batch(made.unfinished, given)
-        except program.CommandFailed as failed:
-            raise Failure(failed.of_file(new, os.path.dirname(new) or ".")) from None
-        look(made.unfinished)
+    with NewFile(new) as made:
+        fill(made, new, given, look)
         if not made.appear():
             raise Failure(f"{new} already exists")
 
 
-def kept_name(old: str) -> str:
-    """Returns the name that a file gets when a database takes its place.
+def make_or_find(new: str, lines: Iterable[str], look: Callable[[str], None]) -> bool:
+    """Creates a database as `make` does, and its folder. Returns False if the same database is there already.
 
     # Errors
-    `Failure` if there is a file of that name.
+    - `Failure` if there is another file of this name, or rrdi refuses the batch.
+    - `OSError` if the folder can't be made, or the system refuses the name or does not read the file.
     """
-    kept = f"{old}.old"
-    if os.path.lexists(kept):
+    given = list(lines)
+    with NewFile(new, makes_folder=True) as made:
+        fill(made, new, given, look)
+        if not os.path.lexists(new) and made.appear():
+            return True
+        different = difference(new, made.unfinished)
+        if different:
+            raise Failure(f"{new} already exists, {different}")
+        return False
+
+
+def fill(made: NewFile, new: str, lines: Iterable[str], look: Callable[[str], None]) -> None:
+    try:
+        program.batch(made.unfinished, lines)
+    except program.CommandFailed as failed:
+        raise Failure(failed.of_file(new, os.path.dirname(new) or ".")) from None
+    look(made.unfinished)
+
+
+def difference(there: str, made: str) -> str:
+    """Returns what is said of a file that is not the database that was made; nothing if it is."""
+    try:
+        with open_regular(there) as file, open_regular(made) as wanted:
+            if file.readall() == wanted.readall():
+                return ""
+        with OpenFile(there) as one, OpenFile(made) as other:
+            last, made_last = one.front.last, other.front.last
+    except OSError as error:
+        return f"and cannot be read: {error.strerror or error}"
+    except Damaged:
+        return "and is no database"
+    return f"with samples up to {last} and not {made_last}" if last != made_last else "with other settings or rows"
+
+
+def is_left_over(path: str, kept: str) -> bool:
+    """Checks whether a file has the name that it keeps already: a run was killed before the new file came.
+
+    # Errors
+    `Failure` if another file has that name.
+    """
+    if not os.path.lexists(kept):
+        return False
+    if not os.path.samestat(os.stat(path), os.lstat(kept)):  # a link to it would soon lead to the new file
         raise Failure(f"{kept} already exists")
-    return kept
+    return True
 
 
 def take_owner(new: str, before: os.stat_result) -> None:
@@ -130,13 +169,14 @@ def take_owner(new: str, before: os.stat_result) -> None:
     os.chmod(new, before.st_mode & 0o7777)
 
 
-def swap_in(old: str, lines: Iterable[str], look: Callable[[str], None], before: os.stat_result) -> None:
-    """Puts a new database in the place of a file, which keeps its content under its `kept_name`. The database gets the
+def swap_in(old: str, kept: str, lines: Iterable[str], look: Callable[[str], None], before: os.stat_result) -> None:
+    """Puts a new database in the place of a file, which keeps its content under the name `kept`. The database gets the
     owner and the mode of the file, after `look` got the name under which it is read. `before` is the file's status from
     before it was read. There is no moment without a file of the name.
 
     # Errors
-    - `Failure` if the file has changed since `before`, or there is a file of the other name, or rrdi refuses the batch.
+    - `Failure` if the file has changed since `before`, or there is another file of the name `kept`, or rrdi refuses the
+      batch.
     - `OSError` if the system refuses the owner, the mode or a name.
     """
     with NewFile(old) as made:
@@ -145,9 +185,9 @@ def swap_in(old: str, lines: Iterable[str], look: Callable[[str], None], before:
         take_owner(made.unfinished, before)
         if state_of(os.stat(old)) != state_of(before):
             raise Failure("it changed while it was converted; first stop what records into it")
-        kept = kept_name(old)
-        try:
-            os.link(old, kept)
-        except FileExistsError:
-            raise Failure(f"{kept} already exists") from None
+        if not is_left_over(old, kept):
+            try:
+                os.link(old, kept)
+            except FileExistsError:
+                raise Failure(f"{kept} already exists") from None
         made.replace()

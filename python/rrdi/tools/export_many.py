@@ -3,28 +3,27 @@
 from __future__ import annotations
 
 import os
-from functools import partial
 from typing import Callable, List, Optional
 
 from ..importing.dump import Refusal
+from ..importing.native import read_old
 from ..kinds import RRDTOOL_MARK, WHISPER_END, first_bytes
-from ..locks import EXCLUSIVE, SHARED, close, lock, open_locked, state_of
+from ..locks import EXCLUSIVE, SHARED, close, lock, open_locked, open_regular, state_of
 from ..making import NewFile
-from ..reader import Damaged, Reader, opened
+from ..reader import Reader, opened
 from ..reader.files import patience
+from ..reader.pieces import Parts
 from ..reader.selected import OpenFile
 from ..reader.stored import Stored
-from ..words import in_one_line
 from . import rrdtool_program
-from .children import ChildAnswer, answers
-from .command_line import Failure, error_text, say
-from .conversion import size_of, take_owner
-from .import_many import NEW_END, RRDTOOL_END, Bar, OldFile, counted, files_of, links_below, tidy
-from .restoring import restore_equal
-from .whisper_file import copy_of, write_equal
+from .command_line import Failure
+from .conversion import Reading, is_left_over, take_owner
+from .import_many import NEW_END, RRDTOOL_END
+from .many_files import IS_THERE, PASSED_OVER, THERE, WHOLE, Conversions, OldFile, counted, files_of, has, links_below, tidy
+from .restoring import difference, restore_equal
+from .whisper_file import bytes_of, copy_of, write_equal
 
 KEPT_END = ".rrdi"  # of a database whose name a file of RRDtool has taken
-PASSED_OVER = "is a file of RRDtool already"
 
 
 # ---- One file
@@ -61,19 +60,6 @@ def make_new(new: str, fill: Callable[[str], None], makes_folder: bool = False) 
     flush(os.path.dirname(made.path))
 
 
-def is_left_over(path: str, kept: str) -> bool:
-    """Checks whether a database has got its other name by a run that was killed before the new file came.
-
-    # Errors
-    `Failure` if another file has that name.
-    """
-    if not os.path.lexists(kept):
-        return False
-    if not os.path.samefile(path, kept):
-        raise Failure(f"{kept} already exists")
-    return True
-
-
 def swap_in_place(path: str) -> str:
     """Puts a file of RRDtool in the place of a database, which keeps its content under another name. The file gets the owner
     and the mode of the database. There is no moment without a file of the name, and nobody changes the database meanwhile.
@@ -92,8 +78,11 @@ def swap_in_place(path: str) -> str:
         others = before.st_nlink - 1 - is_left_over(path, kept)
         database = Reader(Stored.of_file(file.fileno())).database()
         with NewFile(path) as made:
-            os.umask(0o077)  # of this process: nobody else reads the new file before it has the mode of the database
-            restore_equal(database, made.unfinished)
+            mask = os.umask(0o077)  # nobody else reads the new file before it has the mode of the database
+            try:
+                restore_equal(database, made.unfinished)
+            finally:
+                os.umask(mask)
             take_owner(made.unfinished, before)
             flush(made.unfinished)
             # Another exporter waits now; or it has put its own file there, which RRDtool may have changed since.
@@ -106,7 +95,7 @@ def swap_in_place(path: str) -> str:
     finally:
         close(file)
     flush(os.path.dirname(path))
-    text = described(len(database["sources"]), len(database["archives"]))
+    text = has(len(database["sources"]), len(database["archives"]))
     return f"converted, the database is {kept}{text}{other_names(others)}"
 
 
@@ -116,21 +105,38 @@ def other_names(count: int) -> str:
 
 
 def into_rrd(path: str, new: str) -> str:
+    """Makes a file of RRDtool, or finds that there is one with the same content."""
     with opened(path) as stored:
         database = Reader(stored).database()
-    make_new(new, lambda unfinished: restore_equal(database, unfinished), makes_folder=True)
-    return f"{new}{described(len(database['sources']), len(database['archives']))}"
+    text = has(len(database["sources"]), len(database["archives"]))
+    if not os.path.lexists(new):
+        make_new(new, lambda unfinished: restore_equal(database, unfinished), makes_folder=True)
+        return f"{WHOLE}\n{new}{text}"
+    different = difference_of(database, new)
+    if different:
+        raise Failure(f"{new} already exists, and is not equal: {different}")
+    return f"{THERE}\n{new} {IS_THERE}{text}"
+
+
+def difference_of(database: Parts, new: str) -> str:
+    try:
+        return difference(database, read_old(new, rrdtool_program.found))
+    except Refusal as refusal:
+        return str(refusal)
 
 
 def into_whisper(path: str, new: str) -> str:
+    """Makes a file of whisper, or finds that there is one with the same content."""
     with OpenFile(path) as file:
         copy = copy_of(file)
-    make_new(new, lambda unfinished: write_equal(copy, unfinished), makes_folder=True)
-    return "; ".join([f"{new}{described(1, len(copy.file.archives))}", *copy.notes])
-
-
-def described(sources: int, archives: int) -> str:
-    return f" ({counted(sources, 'data source')}, {counted(archives, 'archive')})"
+    text = "; ".join([has(1, len(copy.file.archives)), *copy.notes])
+    if not os.path.lexists(new):
+        make_new(new, lambda unfinished: write_equal(copy, unfinished), makes_folder=True)
+        return f"{WHOLE}\n{new}{text}"
+    with open_regular(new) as there:
+        if there.readall() != bytes_of(copy.file):
+            raise Failure(f"{new} already exists, and is not equal")
+    return f"{THERE}\n{new} {IS_THERE}{text}"
 
 
 # ---- Many files
@@ -140,33 +146,23 @@ def new_path(into: str, name: str, is_whisper: bool) -> str:
     return os.path.join(into, (stem if end in (NEW_END, RRDTOOL_END) else name) + (WHISPER_END if is_whisper else RRDTOOL_END))
 
 
-def work_on(into: Optional[str], is_whisper: bool, file: OldFile) -> ChildAnswer:
-    """Converts a file, and says what was done or why it was not."""
-    try:
+class Exporter(Conversions):
+    """Makes files of RRDtool or of whisper."""
+
+    def __init__(self, files: List[OldFile], into: Optional[str], is_whisper: bool, tool: str):
+        self.is_whisper = is_whisper
+        super().__init__(files, into, "RRDtool", tool)
+
+    def new_of(self, file: OldFile) -> str:
+        return new_path(self.into or "", file.name, self.is_whisper)
+
+    def converted(self, file: OldFile, reading: Reading) -> str:
         if first_bytes(file.path) == RRDTOOL_MARK:
-            return ChildAnswer(True, PASSED_OVER)
-        if into is None:
-            return ChildAnswer(True, swap_in_place(file.path))
-        new = new_path(into, file.name, is_whisper)
-        return ChildAnswer(True, into_whisper(file.path, new) if is_whisper else into_rrd(file.path, new))
-    except OSError as error:
-        return ChildAnswer(False, error_text(error))
-    except MemoryError:
-        return ChildAnswer(False, "out of memory")
-    except (Damaged, Failure, Refusal) as failure:
-        return ChildAnswer(False, str(failure))
-
-
-def summary(total: int, passed_over: int, refused: int, links: int) -> str:
-    """Returns the last line."""
-    parts = [f"{total - passed_over - refused} converted"]
-    if passed_over:
-        parts.append(f"{passed_over} already of RRDtool")
-    if refused:
-        parts.append(f"{refused} not converted")
-    if links:
-        parts.append(f"{counted(links, 'link')} passed over")
-    return f"{counted(total, 'file')}: {'; '.join(parts)}"
+            return f"{PASSED_OVER}\nis a file of RRDtool already"
+        if self.into is None:
+            return f"{WHOLE}\n{swap_in_place(file.path)}"
+        new = self.names.new(file)
+        return into_whisper(file.path, new) if self.is_whisper else into_rrd(file.path, new)
 
 
 def export_many(words: List[str], into: Optional[str], is_whisper: bool, jobs: int, tool: str) -> int:
@@ -181,16 +177,7 @@ def export_many(words: List[str], into: Optional[str], is_whisper: bool, jobs: i
     if not is_whisper:
         rrdtool_program.found()
     tidy(os.path.dirname(file.path if into is None else new_path(into, file.name, is_whisper)) for file in files)
-    bar, sizes, passed_over, refused = Bar(files), [size_of(file.path) for file in files], 0, 0
-    for size, (file, answer) in zip(sizes, answers(files, partial(work_on, into, is_whisper), jobs)):
-        bar.end_file(size)
-        if answer.is_done:
-            print(in_one_line(f"{file.path}: {answer.text}"), flush=True)
-        else:
-            say(tool, in_one_line(f"{file.path}: not converted: {answer.text}"))
-        passed_over += answer.text == PASSED_OVER
-        refused += not answer.is_done
-        bar.reading(0, 0)
-    bar.progress.end()
-    print(summary(len(files), passed_over, refused, sum(links_below(word, ends) for word in words if os.path.isdir(word))))
-    return 1 if refused else 0
+    exporter = Exporter(files, into, is_whisper, tool)
+    exporter.convert(jobs)
+    print(exporter.summary(sum(links_below(word, ends) for word in words if os.path.isdir(word))))
+    return exporter.status

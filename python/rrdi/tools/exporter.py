@@ -12,13 +12,10 @@ examples:
   rrdi-export --in-place /var/lib/munin
 
 The first form makes NEW.rrd, which must not exist, with `rrdtool restore`. The
-second prints the XML that `rrdtool restore` takes, and needs no RRDtool. Both
-have the data sources, the archives, all rows and the unfinished ones. A new
-file gets its name when it is on the disk, and was read back and is equal.
-
-The last two forms convert many files: those that are named, and all below the
-directories TREE whose names end in .rrdi or .rrd. They print a line for each
-file, and a line with the counts. First stop the programs that record into the
+second prints the XML for it, and needs no RRDtool. A new file gets its name
+when it is on the disk, was read back, and is equal. The last two forms convert
+many files: those named, and all below the directories TREE whose names end in
+.rrdi or .rrd. First stop the programs that record into the
 files.
 
 options, anywhere on the line:
@@ -34,7 +31,8 @@ options, anywhere on the line:
   --version            show the version and exit
 
 FILE may be - for standard input in the first two forms. It is read under a
-shared lock. No existing file is ever replaced by another one.
+shared lock. No existing file is replaced; repeat a run that was stopped, and
+what is there already stays.
 
 environment:
   RRDI_WAIT            seconds to wait for a program that changes FILE
@@ -50,8 +48,8 @@ from __future__ import annotations
 import os
 from typing import List, NamedTuple, Optional
 
+from ..escaping import escaped
 from ..reader.selected import OpenFile
-from ..words import in_one_line
 from .command_line import Failure, Progress, Tool, WrongArguments, called_name, say
 from .export_many import export_many, make_new
 from .options import given_words, number_of
@@ -95,7 +93,7 @@ def make_whisper(file: str, new: str) -> None:
         except Failure as failure:
             raise Failure(f"{file}: {failure}") from None
     for note in copy.notes:
-        say(called_name(TOOL), in_one_line(f"{file}: {note}"))
+        say(called_name(TOOL), escaped(f"{file}: {note}"))
     make_new(new, lambda unfinished: write_equal(copy, unfinished))
 
 

@@ -17,6 +17,13 @@ options:
                        written (default: 1000000)
   --patience SECONDS   at the end, go on trying files that cannot be opened
                        for this long (default: 30)
+  --open-files FILES   keep up to so many files open that get samples all the
+                       time (default: 256; 0: none)
+  --open-seconds SECONDS
+                       for so long; others can read an open file, and not
+                       change it (default: 2)
+  --open-memory MEGABYTES
+                       with no more memory than this (default: 64)
   --backfill           put samples in that are earlier than the last one of
                        FILE, as far back as its journal reaches
   --graphite DIRECTORY
@@ -27,25 +34,14 @@ options:
   -h, --help           show this help and exit
   --version            show the version and exit
 
-A line of RULES is NAME FILE [ARGUMENTS OF create..], and the first one whose
-NAME matches counts. * in NAME matches within one part of a name, ** over
-several parts; a star in FILE is what the same star in NAME matched. No file
-outside DIRECTORY is written.
+At the end of the input, and after SIGTERM, SIGINT and SIGHUP, all samples are
+written; after SIGUSR1 too, for which it closes all files, and then it goes on.
 
-Samples are written by their times, whatever the order of their lines. With
---backfill, a late sample takes changes of FILE back and sends them again after
-it, as one change under one lock. One that is too old is reported, and counted
-at the end.
+environment:
+  RRDI                 a program to run instead of the C library: a process for
+                       each file, which is two to five times as slow
 
-If FILE cannot be opened, because another program has its lock, its samples are
-kept and tried again after a pause, which doubles from a tenth of a second to a
-minute. At the end of the input, and after SIGTERM, SIGINT and SIGHUP, all
-samples are written; after SIGUSR1 too, and then it goes on. A kill or a crash
-of the system costs the samples that are still held.
-
-The C library librrdi writes the files. If there is none, or the variable RRDI
-names a program, each batch is a process, `rrdi batch FILE`, which is two to
-five times as slow. docs/feeding.md has more.
+docs/feeding.md has more, and the form of RULES.
 
 Exit status: 0; 1 if a line was bad, a sample was refused or may be lost (each
 is reported on standard error), or DIRECTORY or RULES cannot be used; 2 after
@@ -58,18 +54,21 @@ import re
 import signal
 import stat
 import tempfile
-from typing import Dict, List, NamedTuple, Optional, Tuple
+from typing import List, NamedTuple, Optional
 
 from ..choice import chosen, chosen_library
-from ..explaining import why_refused
 from ..feeding.feeder import Feeder, FeedOptions
 from ..feeding.grouped import GroupWriter
 from ..feeding.metrics import Creating, MetricFeeder
 from ..feeding.rules import EACH_NAME, BadRule, Names, Rule, read_rules
-from ..feeding.writers import BatchWriter, Writer
+from ..feeding.writers import BatchWriter, Reason, Writer
 from ..making import is_there
-from . import program
+from ..open_files import OpenBounds, OpenFiles
 from .command_line import Failure, Tool, WrongArguments, called_name
+
+
+MAY_BE_0 = ("patience", "open_files")
+IN_NAMES = str.maketrans("-_", "_-")
 
 
 class FeedArguments(NamedTuple):
@@ -87,12 +86,12 @@ def read_arguments(words: List[str]) -> FeedArguments:
             continue
         if len(words) < 2 or not words[0].startswith("--"):
             raise WrongArguments
-        name, value = words[0][2:], words[1]
+        name, value = words[0][2:].translate(IN_NAMES), words[1]
         if name == "graphite" and value:
             directory = value
         elif name == "rules" and value:
             rules = value
-        elif name in vars(options) and re.fullmatch("[0-9]{1,12}", value) and (int(value) or name == "patience"):
+        elif name in vars(options) and re.fullmatch("[0-9]{1,12}", value) and (int(value) or name in MAY_BE_0):
             setattr(options, name, int(value))
         else:
             raise WrongArguments
@@ -121,46 +120,10 @@ def rules_of(path: Optional[str], writer: Writer) -> List[Rule]:
         for number, arguments in enumerate(sorted({rule.arguments for rule in rules if rule.arguments})):
             reason = Creating(writer).create(os.fsencode(f"{folder}/{number}"), arguments)
             if reason:
-                raise Failure(f"{path}: create {' '.join(arguments)}: {reason}")
+                failure = Failure(f"{path}: create {' '.join(arguments)}: {reason}")
+                failure.detail = reason.detail if isinstance(reason, Reason) else ""
+                raise failure
     return rules
-
-
-FileState = Tuple[int, ...]
-
-
-def state_of(file: bytes) -> FileState:
-    """Returns what is another after each change of a file; nothing if there is none, or the system can't look at it."""
-    try:
-        status = os.stat(file)
-    except OSError:
-        return ()
-    return status.st_dev, status.st_ino, status.st_size, status.st_mtime_ns
-
-
-class Explaining:
-    """Explains refusals. Asks each file for its sources once, and again after a change of the file."""
-
-    MOST_KEPT = 1_000  # files
-
-    def __init__(self) -> None:
-        # Each file as it was when it was asked, and its answer.
-        self.settings: Dict[bytes, Tuple[FileState, str]] = {}
-
-    def why(self, file: bytes, sample: bytes, reason: str) -> str:
-        """Returns what was wrong with a refused sample; nothing if that is not known."""
-        return why_refused(sample.decode(errors="replace"), reason, lambda question: self.ask(file, question[0]))
-
-    def ask(self, file: bytes, question: str) -> str:
-        before, answer = self.settings.get(file, (None, ""))
-        state = state_of(file)
-        if state == before or before is None and len(self.settings) >= self.MOST_KEPT:
-            return answer
-        try:
-            answer = program.ask([question, os.fsdecode(file)])
-        except Failure:
-            answer = ""
-        self.settings[file] = (state, answer)
-        return answer
 
 
 def is_directory(path: str) -> bool:
@@ -172,25 +135,27 @@ def is_directory(path: str) -> bool:
     return is_there(path) and stat.S_ISDIR(os.stat(path).st_mode)
 
 
-def chosen_writer(fills: bool) -> Writer:
+def chosen_writer(files: OpenFiles, fills: bool) -> Writer:
     library = chosen_library()
-    writer = GroupWriter(library) if library is not None else BatchWriter(chosen())
+    writer = GroupWriter(library, files) if library is not None else BatchWriter(chosen())
     if not fills:
         return writer
     from .fixing.backfill import BackfillWriter  # most runs take no old samples
-    return BackfillWriter(writer)
+    return BackfillWriter(writer, files)
 
 
 def feeder_of(arguments: FeedArguments) -> Feeder:
-    writer, name = chosen_writer(arguments.fills), called_name(TOOL)
+    options = arguments.options
+    files = OpenFiles(OpenBounds(options.open_files, options.open_seconds, options.open_memory))
+    writer, name = chosen_writer(files, arguments.fills), called_name(TOOL)
     if arguments.directory is None:
-        feeder = Feeder(arguments.options, writer, name)
+        feeder = Feeder(options, writer, name)
     elif is_directory(arguments.directory):
         names = Names(os.fsencode(os.path.abspath(arguments.directory)), rules_of(arguments.rules, writer))
-        feeder = MetricFeeder(arguments.options, writer, names, name)
+        feeder = MetricFeeder(options, writer, names, name)
     else:
         raise Failure(f"{arguments.directory} is not a directory")
-    feeder.explain = Explaining().why
+    feeder.let_go = files.close_all
     return feeder
 
 
@@ -202,7 +167,8 @@ def feed(words: List[str]) -> int:
     return feeder.feed()
 
 
-USAGE = ("[--seconds SECONDS] [--jobs JOBS] [--held SAMPLES] [--patience SECONDS] [--backfill] "
+USAGE = ("[--seconds SECONDS] [--jobs JOBS] [--held SAMPLES] [--patience SECONDS] "
+         "[--open-files FILES] [--open-seconds SECONDS] [--open-memory MEGABYTES] [--backfill] "
          "[--graphite DIRECTORY [--rules RULES]]")
 TOOL = Tool("rrdi-feed", USAGE, __doc__, feed)
 main = TOOL.main

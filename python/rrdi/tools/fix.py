@@ -9,14 +9,13 @@ examples:
   rrdi-fix net.rrdi 1700000160 U --source in
 
 TIME is the time of the sample: seconds since 1970, or a time of your zone as
-rrdi-show --journal prints it, or one of UTC with a Z at its end. VALUE takes the place of the sample's value, and
-may be U for unknown; of several sources give all, such as 21.5:U. Without
-VALUE the file is as if the sample had never come.
+rrdi-show --journal prints it, or one of UTC with a Z at its end. VALUE takes
+the place of the sample's value; U is unknown, and of several sources give all,
+such as 21.5:U. Without VALUE the file is as if the sample had never come.
 
-The tool takes changes back to the sample, and sends those after it again, all
-as one change of the file under one lock. It reaches as far as the journal does
-(rrdi-show --journal FILE). If it cannot do all of it, it says why and leaves
-FILE as it was.
+The tool reverts to the sample and sends the later changes again, all as one
+change of the file. It reaches as far as the journal (rrdi-show --journal FILE).
+If it cannot do all of it, it says why and leaves FILE as it was.
 
 options, anywhere on the line:
   --source NAME        change the value of this source only
@@ -27,8 +26,7 @@ options, anywhere on the line:
   --version            show the version and exit
 
 environment:
-  RRDI                 a program to run instead of the C library, or of the
-                       rrdi on the PATH
+  RRDI                 the program to run instead of the C library
   RRDI_WAIT            how many seconds to wait for FILE's lock (default: 5)
   RRDI_SYNC            1: flush the change to the disk
 
@@ -43,18 +41,15 @@ import errno
 import os
 import re
 import sys
-import time as clock
 from typing import Dict, List, NamedTuple, Optional, Set, Tuple
 
-from ..limits import LATEST
 from .command_line import Failure, Tool, WrongArguments, error_text
 from .fixing.held import HeldFile, held
 from .fixing.history import History, OneSample, SentUpdate, given_samples, history_of, with_given, wrong_change
 from .options import given_words
-from .spans import PRINTED, exact_seconds, time_text
+from .spans import PRINTED, exact_seconds, local_times, time_text
 
 WITH_VALUE = {"--source": "source", "--samples": "samples"}
-SET_BACK = 10_800  # seconds: clocks are set back by no more, and by quarters of an hour
 NEGATIVE = re.compile(r"-[0-9][0-9.]*(:.*)?")
 VALUE = re.compile(r"U|-?[0-9]{1,20}(\.[0-9]{1,6})?")
 
@@ -96,17 +91,7 @@ def times_of(text: str) -> Set[int]:
         return {exact}
     if found is None:
         raise WrongArguments(f"the time {text!r} is neither seconds since 1970 nor like 2026-11-25 14:00:00")
-    year, month, day, hour, minute, second = (int(part or 0) for part in found.groups())
-    wanted = f"{year:04}-{month:02}-{day:02} {hour:02}:{minute:02}:{second:02}"
-    try:
-        near = int(clock.mktime((year, month, day, hour, minute, second, 0, 0, -1)))
-        times = {near + by for by in range(-SET_BACK, SET_BACK + 1, 900)}
-        times = {time for time in times if 0 <= time <= LATEST and time_text(time) == wanted}
-    except (OverflowError, ValueError):
-        times = set()
-    if not times:
-        raise WrongArguments(f"there is no time {text!r}")
-    return times
+    return set(local_times(text, found.groups()))
 
 
 # ---- The sample

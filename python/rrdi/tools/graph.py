@@ -10,18 +10,16 @@ example:
 The arguments are those of `rrdtool graph`, as rrdgraph(1) describes them. A DEF
 with a file of rrdi gets its rows from rrdi, with step, start, end and reduce.
 --start and --end also take 2026-11-25 14:00, 2026-11-25T14:00Z (UTC) and
-@1700000000; in RRDtool's times, -5min is five minutes and -5m five months.
-You get the size of the picture and the texts of PRINT. If PICTURE is -, the
-picture goes to standard output. RRDtool's library must be installed (Debian:
-librrd8, which comes with rrdtool).
+@1700000000. You get the size of the picture and the texts of PRINT. If PICTURE
+is -, the picture goes to standard output. RRDtool's library must be installed
+(Debian: librrd8).
 
 options, besides those of rrdtool graph:
   -h, --help           as the first word: show this help and exit
   --version            as the first word: show the version and exit
 
 environment:
-  RRDI                 a program to run instead of the C library, or of the
-                       rrdi on the PATH
+  RRDI                 the program to run instead of the C library
 
 Exit status: 0; 1 if nothing was drawn; 2 after wrong arguments.
 """

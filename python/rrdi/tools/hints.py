@@ -8,7 +8,7 @@ import difflib
 import re
 from typing import List, Optional, Sequence
 
-from ..kinds import owner_of
+from ..kinds import why_not_ours
 
 OPTION = re.compile(r"(?<![\w-])(--?[a-zA-Z][\w-]*)")
 
@@ -34,7 +34,7 @@ def option_hint(words: List[str], help_text: str) -> str:
 def file_hint(words: List[str]) -> str:
     """Returns which of a tool's files rrdi-import can convert; nothing if it can convert none."""
     for word in words:
-        owner = owner_of(word)
-        if owner:
-            return f"{word} is a file of {owner}; convert it: rrdi-import {word} NEW.rrdi"
+        why = why_not_ours(word)
+        if why:
+            return why
     return ""

@@ -3,21 +3,17 @@
 
 usage: rrdi-import [--journal DEPTH] OLD.rrd|OLD.wsp NEW.rrdi
        rrdi-import [--journal DEPTH] OLD.rrd|OLD.wsp > MOVED.batch
-       rrdi-import [--journal DEPTH] --into DIRECTORY OLD|TREE..
-       rrdi-import [--journal DEPTH] --in-place OLD.rrd|TREE..
+       rrdi-import [--journal DEPTH] [--jobs N] --into DIRECTORY OLD|TREE..
+       rrdi-import [--journal DEPTH] [--jobs N] --in-place OLD.rrd|TREE..
 
 examples:
   rrdi-import room.rrd room.rrdi && rrdi-compare room.rrd room.rrdi
   rrdi-import --in-place /var/lib/munin
 
-The first form creates NEW.rrdi, which must not exist. The second prints what
-`rrdi batch NEW.rrdi` takes: a database with the same step, data sources and
-archives, and updates with rates that give the same rows again.
-
-The other forms convert many files: those that are named, and all below the
-directories TREE whose names end in .rrd or .wsp. They print a line for each
-file with what was left out and which archives differ, and a line with the
-counts. First stop the programs that record into the old files.
+The first form creates NEW.rrdi, which must not exist. The second prints the
+batch that does, for `rrdi batch NEW.rrdi`. The other forms convert many files:
+those that are named, and all below the directories TREE whose names end in .rrd
+or .wsp. First stop the programs that record into the old files.
 
 options:
   --journal DEPTH      how many changes the new database can revert
@@ -27,16 +23,20 @@ options:
   --in-place           give the new database the name, owner and mode of the
                        old file, which becomes NAME.rrd.old; a file stays as
                        it is if it cannot be converted whole
+  --jobs N             convert N files at a time (default: one for each
+                       processor)
   -h, --help           show this help and exit
   --version            show the version and exit
 
-No existing file is ever replaced by another one's database. rrdtool must be
-installed to read OLD.rrd. A file whose name ends in .wsp gets the layout of
-Graphite's storage over rrdi (docs/graphite.md). What cannot be converted
-is listed on standard error; docs/moving-files.md says why.
+No existing file is replaced by another one's database; repeat a run that was
+stopped, and what is there already stays. rrdtool must be installed only for an
+OLD.rrd with a COMPUTE source, a forecast, or another layout. A file whose name
+ends in .wsp gets the layout of Graphite's storage over rrdi (docs/graphite.md).
+What cannot be converted is listed on standard error; docs/moving-files.md says
+why.
 
-Exit status: 0 if all files were converted with all their data sources; 1 if
-not, and a line on standard error says why; 2 after wrong arguments.
+Exit status: 0 if all files are there with all their data sources; 1 if not,
+and a line on standard error says why; 2 after wrong arguments.
 """
 from __future__ import annotations
 
@@ -44,9 +44,9 @@ import os
 import re
 from typing import Iterator, List, NamedTuple, Optional
 
+from ..escaping import escaped
 from ..importing.dump import Refusal
 from ..kinds import is_of_rrdi
-from ..words import in_one_line
 from .command_line import Failure, Progress, Tool, WrongArguments, called_name, say
 from .conversion import Conversion, make
 from .import_many import import_many
@@ -55,23 +55,28 @@ INTO, IN_PLACE = "--into", "--in-place"
 
 
 class ImportArguments(NamedTuple):
-    """The arguments: of one file the new name, of many files the directory, or none if they are converted in place."""
+    """The arguments: of one file the new name, of many files the directory, or none if they are converted in place, and how
+    many are converted at a time."""
 
     journal: Optional[str]
     is_many: bool
     old: List[str]
     new: Optional[str]
+    jobs: int = 1
 
 
 def read_arguments(words: List[str]) -> ImportArguments:
     journal: Optional[str] = None
     into: Optional[str] = None
+    jobs: Optional[str] = None
     is_in_place = False
     words = list(words)
     while words and words[0].startswith("--"):
         option = words.pop(0)
         if option == "--journal" and journal is None and words and re.fullmatch("[0-9]{1,12}", words[0]):
             journal = words.pop(0)
+        elif option == "--jobs" and jobs is None and words and re.fullmatch("0*[1-9][0-9]{0,9}", words[0]):
+            jobs = words.pop(0)
         elif option == INTO and into is None and words:
             into = words.pop(0)
         elif option == IN_PLACE and not is_in_place:
@@ -81,10 +86,10 @@ def read_arguments(words: List[str]) -> ImportArguments:
     if any(not word or word.startswith("-") for word in words) or into is not None and (not into or is_in_place):
         raise WrongArguments
     is_many = is_in_place or into is not None
-    if not 1 <= len(words) <= (len(words) if is_many else 2):
+    if not 1 <= len(words) <= (len(words) if is_many else 2) or jobs is not None and not is_many:
         raise WrongArguments
     if is_many:
-        return ImportArguments(journal, True, words, into)
+        return ImportArguments(journal, True, words, into, int(jobs or len(os.sched_getaffinity(0))))
     return ImportArguments(journal, False, words[:1], words[1] if len(words) == 2 else None)
 
 
@@ -112,7 +117,7 @@ def look_at(old: str) -> None:
 def import_one(old: str, new: Optional[str], journal: Optional[str]) -> int:
     """Converts one file, and returns the status."""
     look_at(old)
-    conversion = Conversion(old, journal, lambda text: say(called_name(TOOL), f"{in_one_line(old)}: {text}"))
+    conversion = Conversion(old, journal, lambda text: say(called_name(TOOL), f"{escaped(old)}: {text}"))
     progress = Progress(f"reading {old}")
 
     def reading(done: int, size: int) -> None:
@@ -140,15 +145,15 @@ def ended(lines: Iterator[str], progress: Progress) -> Iterator[str]:
 def convert(words: List[str]) -> int:
     arguments = read_arguments(words)
     if arguments.is_many:
-        return import_many(arguments.old, arguments.new, arguments.journal, called_name(TOOL))
+        return import_many(arguments.old, arguments.new, arguments.journal, arguments.jobs, called_name(TOOL))
     try:
         return import_one(arguments.old[0], arguments.new, arguments.journal)
     except Refusal as refusal:
         old = arguments.old[0]
         reason = str(refusal)  # it may have texts of the old file in it
-        raise Failure(in_one_line(reason if old in reason else f"{old}: {reason}")) from None
+        raise Failure(escaped(reason if old in reason else f"{old}: {reason}")) from None
 
 
 TOOL = Tool("rrdi-import", "[--journal DEPTH] OLD.rrd|OLD.wsp [NEW.rrdi]\n"
-            "       rrdi-import [--journal DEPTH] --into DIRECTORY|--in-place OLD|TREE..", __doc__, convert)
+            "       rrdi-import [--journal DEPTH] [--jobs N] --into DIRECTORY|--in-place OLD|TREE..", __doc__, convert)
 main = TOOL.main

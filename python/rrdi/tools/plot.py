@@ -10,16 +10,11 @@ examples:
   rrdi-plot net.rrdi net.png AVERAGE --source in,out --area --unit B/s
   rrdi-plot --html /var/lib/rrdi /var/www/rrdi
 
-PICTURE ends in .png or .svg, and is written at the end, if all went well. A
-row's line covers its seconds. The legend has the last, least, mean and
-greatest value of each source. If the file has archives of MIN or MAX beside
-that of AVERAGE, with rows of the same length, a band shows their span. Rows
-that are too narrow to be seen become one row with a band.
+PICTURE ends in .png or .svg, and is written at the end, if all went well.
 
-The second form writes pages for a browser: OUT/index.html shows the last day
-of each database below DIR, and OUT/NAME.html the last day, week, month and
-year of the file NAME. Spikes are cut. Pages need neither scripts nor gnuplot,
-and are light or dark as the browser wants. Pages of files that are gone stay.
+The second form writes pages for a browser, without gnuplot: OUT/index.html
+shows the last day of each database below DIR, and OUT/NAME.html the last day,
+week, month and year of the file NAME.
 
 options:
   --html DIR           write pages of all databases below DIR; -s, -r, --dark
@@ -41,7 +36,7 @@ options:
   --min N, --max N     let the axis begin at N or below, end at N or above
   --rigid              cut what is beyond --min and --max
   --cut-spikes         let few values that are far from all others go beyond
-                       the axis; a mark shows where, and a line how far
+                       the axis
   --keep-spikes        do not cut them on pages
   --no-band            draw no band
   --no-legend          draw no legend
@@ -49,15 +44,13 @@ options:
   --unit UNIT          write a unit after the numbers, such as B/s
   --title TEXT         instead of the file's name
   --size WIDTHxHEIGHT  the size of the picture in points (default: 900 wide,
-                       and as high as the legend needs)
-  --width N, --height N
-                       the same, one by one
+                       and as high as the legend needs); or --width N and
+                       --height N
   -h, --help           show this help and exit
   --version            show the version and exit
 
 environment:
-  RRDI                 a program to run instead of the C library, or of the
-                       rrdi on the PATH
+  RRDI                 the program to run instead of the C library
   RRDI_PLOT_SETUP      commands that gnuplot runs before it draws
   TZ                   the time zone, if not the machine's
 

@@ -8,14 +8,17 @@ import time
 from functools import partial
 from typing import Dict, List, NamedTuple, Optional, Set
 
+from ..choice import chosen
+from ..escaping import escaped
 from ..kinds import RRDTOOL_MARK, first_bytes
 from ..locks import open_regular
 from ..making import NewFile, is_there, remove_left_over
-from ..words import in_one_line
+from ..printed import Settings
 from . import program
 from .children import ChildAnswer, answers
 from .command_line import Failure, Progress, error_text, say
-from .import_many import NEW_END, RRDTOOL_END, OldFile, counted, found_below
+from .import_many import NEW_END, RRDTOOL_END
+from .many_files import OldFile, counted, found_below
 from .plotting.asked import PlotOptions
 from .plotting.columns import NothingToDraw
 from .plotting.composing import picture_of, span
@@ -42,18 +45,18 @@ class PagesAsked(NamedTuple):
         return PlotOptions(path, "", self.function, {**self.values, **others}, self.flags)
 
 
-def picture_or_none(options: PlotOptions) -> Optional[Picture]:
+def picture_or_none(options: PlotOptions, settings: Settings) -> Optional[Picture]:
     try:
-        return picture_of(options)
+        return picture_of(options, settings)
     except NothingToDraw:
         return None
 
 
-def section(asked: PagesAsked, path: str, name: str, until: int, size: Dict[str, str]) -> Section:
-    """Draws a length of time of a file."""
+def section(asked: PagesAsked, path: str, settings: Settings, name: str, until: int, size: Dict[str, str]) -> Section:
+    """Draws a length of time of a file. Its settings are read once for all lengths: a file is read whole each time."""
     begin = max(until - LENGTHS[name], 0)
     times = {"start": str(begin), "end": str(until)}
-    return Section(name, begin, until, picture_or_none(asked.of_file(path, {**times, **size})))
+    return Section(name, begin, until, picture_or_none(asked.of_file(path, {**times, **size}), settings))
 
 
 def check_page(path: str) -> None:
@@ -87,10 +90,10 @@ def draw_file(asked: PagesAsked, file: OldFile) -> str:
     _, until = span(settings, asked.of_file(file.path, {}))
     seen = until if "end" in asked.values else int(time.time())
     age = age_text(f"{time_text(settings.last)} {zone_of(settings.last)}", seen - settings.last >= DAY)
-    sections = [section(asked, file.path, name, until, {}) for name in LENGTHS]
+    sections = [section(asked, file.path, settings, name, until, {}) for name in LENGTHS]
     page = file_page(file.name, age, sections, asked.values.get("unit", ""))
     write_page(os.path.join(asked.into, file.name + PAGE_END), page)
-    return card(file.name, age, section(asked, file.path, "Day", until, CARD))
+    return card(file.name, age, section(asked, file.path, settings, "Day", until, CARD))
 
 
 def drawn_or_reason(asked: PagesAsked, file: OldFile) -> ChildAnswer:
@@ -124,6 +127,7 @@ def draw_folder(asked: PagesAsked, tool: str) -> int:
     names = (INDEX, *(file.name for file in files))
     for folder in dict.fromkeys(os.path.dirname(os.path.join(asked.into, name)) for name in names):
         remove_left_over(folder)  # a run that was killed has left it
+    chosen()  # here, because otherwise each process would load it
     progress, cards, refused = Progress("drawing"), [], []
     for number, (file, answer) in enumerate(answers(files, partial(drawn_or_reason, asked), asked.jobs), 1):
         if answer.is_done:
@@ -131,7 +135,7 @@ def draw_folder(asked: PagesAsked, tool: str) -> int:
         else:
             progress.end()
             refused.append(NotDrawn(file.name, answer.text))
-            say(tool, in_one_line(f"{file.path}: not drawn: {answer.text}"))
+            say(tool, escaped(f"{file.path}: not drawn: {answer.text}"))
         progress.show(number, len(files))
     progress.end()
     title = asked.values.get("title", os.path.basename(os.path.abspath(asked.tree)))

@@ -12,7 +12,7 @@ from typing import TYPE_CHECKING, Callable, Iterable, Iterator, List, Optional
 from ..by_program import NoAnswer
 from ..choice import chosen, program_path
 from ..environment import milliseconds, sync_of_environment
-from ..errors import LOCKED, OK, reason_of, reasons_in
+from ..errors import EXPLAINED, LOCKED, OK, details_in, reason_of, reasons_in
 from ..limits import LONGEST_LINE
 from ..printed import Settings, settings_of
 from ..words import as_bytes, as_text
@@ -26,11 +26,12 @@ OF_A_LINE = re.compile("[\t -~]*")
 
 
 class CommandFailed(Failure):
-    """rrdi refused a command, or cannot run it; the text is its reason, and `system_error` the system's, or 0."""
+    """rrdi refused a command, or cannot run it; the text is its reason, `system_error` the system's number, or 0, and
+    `detail` what was wrong, if that is known."""
 
-    def __init__(self, reason: str, system_error: int = 0):
+    def __init__(self, reason: str, system_error: int = 0, detail: str = ""):
         super().__init__(reason)
-        self.system_error = system_error
+        self.system_error, self.detail = system_error, detail
 
     def of_file(self, file: str, opened: Optional[str] = None) -> str:
         """Returns the reason with the file, and why the system did not open or write it. If the library does not tell, the
@@ -66,7 +67,8 @@ def answered(call: Callable[..., Answer], file: str, given: bytes) -> Answer:
             raise CommandFailed(f"{none.program} ended with status {none.status}") from None
         raise Failure(f"cannot run {none.program}: {none.reason}") from None
     if answer.fault != OK:
-        raise CommandFailed(reason_of(answer.fault, answer.output).split("\n")[0], answer.system_error)
+        detail = answer.explanation.decode(errors="replace") if answer.fault in EXPLAINED else ""
+        raise CommandFailed(reason_of(answer.fault, answer.output).split("\n")[0], answer.system_error, detail)
     return answer
 
 
@@ -76,7 +78,7 @@ def naming(file: str) -> Iterator[None]:
     try:
         yield
     except CommandFailed as failed:
-        raise CommandFailed(failed.of_file(file)) from None
+        raise CommandFailed(failed.of_file(file), detail=failed.detail) from None
 
 
 def ask(words: List[str]) -> str:
@@ -98,10 +100,11 @@ def batch(file: str, lines: Iterable[str]) -> List[str]:
     for line in given:
         if len(line) > LONGEST_LINE or not OF_A_LINE.fullmatch(line):
             raise Failure(f"a line of a batch has a character that it cannot have, or is too long: {line[:60]!r}")
-    printed = as_text(answered(chosen().batch_file, file, as_bytes("".join(line + "\n" for line in given))).output)
+    answer = answered(chosen().batch_file, file, as_bytes("".join(line + "\n" for line in given)))
+    printed = as_text(answer.output)
     refused = reasons_in(printed)
     if refused:
-        raise CommandFailed(refused[0])
+        raise CommandFailed(refused[0], detail=details_in(answer.explanation).get(answer.refused[0], ""))
     return printed.splitlines()
 
 

@@ -31,8 +31,7 @@ Each change is flushed to the disk, as with RRDI_SYNC=1. A FILE of another
 kind, or of a newer rrdi, is an error and stays as it is.
 
 environment:
-  RRDI                 a program to run instead of the C library, or of the
-                       rrdi on the PATH
+  RRDI                 the program to run instead of the C library
   LOADAVG              the file with the averages (default: /proc/loadavg)
   RRDI_PROC            the directory of the system's files (default: /proc)
 

@@ -7,7 +7,8 @@ import subprocess
 from typing import Callable, Iterable, Iterator, Optional, Tuple
 
 from ..amounts import MILLION
-from ..importing.dump import Refusal, RrdArchive, RrdFile, RrdSource, read_rrd
+from ..importing.dump import Refusal, RrdArchive, RrdFile, RrdSource
+from ..importing.native import read_old
 from ..reader.pieces import Parts
 from . import rrdtool_program
 from .command_line import Failure
@@ -49,7 +50,7 @@ def restore_equal(database: Parts, new: str, writing: Writing = lambda count: No
     """
     restore(as_xml(database), new, writing)
     try:
-        different = difference(database, read_rrd(rrdtool_program.found(), new))
+        different = difference(database, read_old(new, rrdtool_program.found))
     except Refusal as refusal:
         raise Failure(f"what rrdtool restored cannot be read back: {refusal}") from None
     if different:

@@ -43,7 +43,11 @@ def ask(words: List[str]) -> str:
     # Errors
     `Failure` with rrdtool's own message if rrdtool fails or is not installed.
     """
-    ran = subprocess.run([found(), *words], capture_output=True)
+    # Where numbers have a comma, so have those that `rrdtool fetch` prints. LC_ALL would overrule LC_NUMERIC.
+    env = {**os.environ, "LC_NUMERIC": "C"}
+    if "LC_ALL" in env:
+        env["LANG"] = env.pop("LC_ALL")
+    ran = subprocess.run([found(), *words], capture_output=True, env=env)
     if ran.returncode != 0:
         text = ran.stderr.decode(errors="replace").strip()
         raise Failure(text or f"rrdtool ended with status {ran.returncode}")

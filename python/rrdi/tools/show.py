@@ -13,9 +13,9 @@ examples:
   rrdi-show --journal load.rrdi
 
 The first form shows the data sources and the archives; the second the rows of
-the archive that `rrdtool fetch` would read, with times of your zone. With an
-option of the third form, the output is for programs, and without FUNCTION it
-has all archives. --journal shows what the next reverts would take back.
+the archive that `rrdtool fetch` would read, with times of your zone. The third
+form is for programs, and without FUNCTION it prints all archives. --journal
+shows what the next reverts would take back.
 
 options, anywhere on the line:
   -s, --start START    show rows after START (default: a day before END)
@@ -32,15 +32,17 @@ options, anywhere on the line:
   -h, --help           show this help and exit
   --version            show the version and exit
 
-The file is only read, under a shared lock; RRDI_WAIT sets how many seconds to
-wait for it (default: 5). With --csv, --json or --openmetrics and no FUNCTION,
-FILE may be - for standard input. docs/export.md has more.
+RRDI_WAIT sets how many seconds to wait for the file's lock (default: 5). With
+--csv, --json or --openmetrics and no FUNCTION, FILE may be - for standard
+input. docs/export.md has more.
 
 Exit status: 0; 1 and a line on standard error if FILE cannot be read, is not a
 database, or has no such rows; 2 after wrong arguments.
 """
 from __future__ import annotations
 
+import io
+import sys
 from typing import Dict, Iterator, List, NamedTuple, Optional
 
 from ..printed import Archive, Settings
@@ -233,6 +235,8 @@ def show(words: List[str]) -> int:
         lines = overview(options.file)
     else:
         lines = iter(WAYS[options.way](read_file(options.file), options.file))
+    if options.way == "openmetrics" and isinstance(sys.stdout, io.TextIOWrapper):
+        sys.stdout.reconfigure(encoding="utf-8")  # whatever the locale says
     for line in lines:
         print(line)
     return 0

@@ -5,10 +5,11 @@ from __future__ import annotations
 import calendar
 import re
 import time
-from typing import Optional, Sequence, Tuple
+from typing import List, Optional, Sequence, Tuple
 
 from ..compat.syntax import Untranslatable
 from ..compat.at_style import span
+from ..limits import LATEST
 from .command_line import Failure, WrongArguments
 
 # A time as these tools print it, and one of ISO 8601, which may have a zone.
@@ -16,6 +17,7 @@ PRINTED = re.compile(r"(\d{4})-(\d\d)-(\d\d)(?:[T ](\d\d):(\d\d)(?::(\d\d))?)?")
 ISO = re.compile(PRINTED.pattern + r"(?: ?(Z)|([-+]\d\d):?(\d\d))?")
 SECONDS = re.compile("@([0-9]{1,10})")
 DAY = 86_400  # seconds
+SET_BACK = 10_800  # seconds: clocks are set back by no more, and by quarters of an hour
 UNITS = (("week", 7 * DAY), ("day", DAY), ("h", 3_600), ("min", 60))
 
 
@@ -42,14 +44,37 @@ def checked(text: str, parts: Sequence[Optional[str]]) -> Tuple[int, int, int, i
     `WrongArguments` if there is no such date or time.
     """
     year, month, day, hour, minute, second = (int(part or 0) for part in parts)
-    is_date = 1 <= month <= 12 and 1 <= day <= calendar.monthrange(max(year, 1), month)[1]
+    is_date = year >= 1 and 1 <= month <= 12 and 1 <= day <= calendar.monthrange(year, month)[1]
     if not (is_date and hour < 24 and minute < 60 and second < 60):
         raise WrongArguments(f"there is no time {text!r}")
     return year, month, day, hour, minute, second
 
 
-def as_of_rrdtool(text: str) -> str:
-    """Returns a time in RRDtool's form. One as these tools print it is in the local time zone, unless it has another one.
+def local_times(text: str, parts: Sequence[Optional[str]]) -> List[int]:
+    """Returns the seconds since 1970 of a date and a time of day in the local time zone, the earliest first: two when a clock
+    was set back. What `mktime` alone returns of these depends on its calls before.
+
+    # Errors
+    `WrongArguments` if there is no such time: also if the clock was set forward over it.
+    """
+    numbers = checked(text, parts)
+    wanted = "{:04}-{:02}-{:02} {:02}:{:02}:{:02}".format(*numbers)
+    try:
+        near = int(time.mktime(numbers + (0, 0, -1)))
+        texts = {at: time_text(at) for at in range(near - SET_BACK, near + SET_BACK + 1, 900) if 0 <= at <= LATEST}
+    except (OverflowError, ValueError):
+        texts = {}
+    times = [at for at, told in texts.items() if told == wanted]
+    if parts[3] is None and not times:  # clocks are set forward at midnight
+        times = [at for at, told in texts.items() if told.startswith(wanted[:10])][:1]
+    if not times:
+        raise WrongArguments(f"there is no time {text!r}")
+    return times
+
+
+def as_of_rrdtool(text: str, is_end: bool = False) -> str:
+    """Returns a time in RRDtool's form. One as these tools print it is in the local time zone, unless it has another one;
+    of two, it is the earlier one, or as an end the later one.
 
     # Errors
     `WrongArguments` if there is no such time.
@@ -59,7 +84,7 @@ def as_of_rrdtool(text: str) -> str:
         return f"epoch+{exact}"
     if found is None:
         return text
-    return f"epoch+{int(time.mktime(checked(text, found.groups()) + (0, 0, -1)))}"
+    return f"epoch+{local_times(text, found.groups())[-1 if is_end else 0]}"
 
 
 def span_of(start: Optional[str], end: Optional[str], last: int) -> Tuple[int, int]:
@@ -70,7 +95,7 @@ def span_of(start: Optional[str], end: Optional[str], last: int) -> Tuple[int, i
     - `WrongArguments` if a time can't be parsed.
     - `Failure` if the start is not before the end.
     """
-    second = f"epoch+{last}" if end is None else as_of_rrdtool(end)
+    second = f"epoch+{last}" if end is None else as_of_rrdtool(end, is_end=True)
     try:
         begin, until = span("epoch+0" if start is None else as_of_rrdtool(start), second, int(time.time()))
     except (Untranslatable, OverflowError) as refused:

@@ -13,6 +13,7 @@ from typing import Dict, List, NamedTuple, Optional, Sequence, Tuple
 from ...errors import Error
 from ...feeding.ordering import in_order, seconds_of
 from ...feeding.writers import NO_ROOM, TOO_OLD, Outcome, Writer
+from ...open_files import OpenFiles
 from ...reader.selected import OpenFile
 from ..command_line import Failure
 from ..program import as_millionths
@@ -28,10 +29,10 @@ Refusals = List[Tuple[bytes, str]]
 # ---- The writer
 
 class BackfillWriter:
-    """Puts in late samples, and passes the others on to a writer."""
+    """Puts in late samples, and passes the others on to a writer, which may keep its files open meanwhile."""
 
-    def __init__(self, writer: Writer):
-        self.writer = writer
+    def __init__(self, writer: Writer, files: Optional[OpenFiles] = None):
+        self.writer, self._files = writer, files
 
     def create(self, file: bytes, arguments: Sequence[str]) -> str:
         return self.writer.create(file, arguments)
@@ -40,7 +41,7 @@ class BackfillWriter:
         last = last_of(file)
         late = [sample for sample in samples if seconds_of(sample) <= last and is_sample(sample)]
         newer = [sample for sample in samples if not (seconds_of(sample) <= last and is_sample(sample))]
-        first = put_in(file, late)
+        first = self._put_in(file, late)
         if first.again and first.left is None:
             return first
         if first.lost:  # the others may lie before some of those that are lost
@@ -48,8 +49,26 @@ class BackfillWriter:
         second = self.writer.write(file, newer) if newer else Outcome()
         if second.again or second.lost:
             second = second._replace(done=0, left=tuple(newer[second.done:]))
-        outcome = put_overtaken(file, second._replace(refused=first.refused + second.refused))
+        outcome = self._put_overtaken(file, second._replace(refused=first.refused + second.refused))
         return with_left(outcome, first) if first.again else outcome
+
+    def _put_in(self, file: bytes, late: List[bytes]) -> Outcome:
+        if late and self._files is not None:
+            self._files.close(file)
+        return put_in(file, late)
+
+    def _put_overtaken(self, file: bytes, outcome: Outcome) -> Outcome:
+        """Puts in samples that became late after the look at the file, because another program was faster."""
+        overtaken = [sample for sample, why in outcome.refused if why.startswith(NOT_LATER) and is_sample(sample)]
+        if not overtaken:
+            return outcome
+        refused = tuple(one for one in outcome.refused if one[0] not in overtaken)
+        put = self._put_in(file, overtaken)
+        if put.again or put.lost:
+            left = tuple(in_order([*(overtaken if put.again else put.left or ()), *(outcome.left or ())]))
+            lost = put.lost or outcome.lost
+            return Outcome("" if lost else put.again, lost, refused + put.refused, left=left)
+        return outcome._replace(refused=refused + put.refused)
 
 
 def with_left(outcome: Outcome, late: Outcome) -> Outcome:
@@ -69,20 +88,6 @@ def last_of(file: bytes) -> int:
             return opened.front.last
     except (Error, OSError):
         return -1
-
-
-def put_overtaken(file: bytes, outcome: Outcome) -> Outcome:
-    """Puts in samples that became late after the look at the file, because another program was faster."""
-    overtaken = [sample for sample, why in outcome.refused if why.startswith(NOT_LATER) and is_sample(sample)]
-    if not overtaken:
-        return outcome
-    refused = tuple(one for one in outcome.refused if one[0] not in overtaken)
-    put = put_in(file, overtaken)
-    if put.again or put.lost:
-        left = tuple(in_order([*(overtaken if put.again else put.left or ()), *(outcome.left or ())]))
-        lost = put.lost or outcome.lost
-        return Outcome("" if lost else put.again, lost, refused + put.refused, left=left)
-    return outcome._replace(refused=refused + put.refused)
 
 
 def put_in(file: bytes, late: List[bytes]) -> Outcome:

@@ -5,6 +5,7 @@ from __future__ import annotations
 import fcntl
 import os
 import re
+import shutil
 from contextlib import contextmanager
 from io import FileIO
 from typing import Iterator, List, Optional, Protocol
@@ -13,7 +14,7 @@ from ...by_program import as_argument
 from ...choice import chosen_library, program_path
 from ...environment import milliseconds, sync_of_environment
 from ...errors import ERROR, LOCKED, NO_FILE, reasons_in
-from ...locks import NO_LOCKS, SHARED, Identity, close, flock, identity_at, identity_of, open_regular
+from ...locks import EXCLUSIVE, NO_LOCKS, Identity, close, flock, identity_at, identity_of, open_regular
 from ...protocol import Library, OpenedFile
 from ...reader import settled
 from ...words import as_bytes, as_text
@@ -91,12 +92,13 @@ class ProgramSession:
 
     def __init__(self, path: str):
         import subprocess  # the library needs no process
-        self.argument = as_text(as_argument(as_bytes(path)))
+        argument = as_argument(as_bytes(path))
+        self.argument = as_text(argument)
         env = {**os.environ, "RRDI_WAIT": str(milliseconds(None) // 1_000)}
         try:
             # In a session of its own, so that a key that ends the tool does not end a run that writes.
             self.process = subprocess.Popen(
-                [program_path(), "batch", self.argument], bufsize=0, stdin=subprocess.PIPE, stdout=subprocess.PIPE,
+                [program_path(), "batch", argument], bufsize=0, stdin=subprocess.PIPE, stdout=subprocess.PIPE,
                 stderr=subprocess.PIPE, env=env, start_new_session=True)
         except OSError as error:
             raise NotOpened(f"cannot run {program_path()}: {error.strerror or error}") from None
@@ -157,7 +159,8 @@ class ProgramSession:
         `CommandFailed` if it printed a reason, or has a status that a batch without a refused line does not have.
         """
         assert self.process.stderr
-        reason, *others = [*as_text(self.process.stderr.read()).split("\n"), ""]
+        lines = [*as_text(self.process.stderr.read()).split("\n"), ""]
+        reason, *others = [line for line in lines if not line.startswith("rrdi: line ")]
         status = self.process.wait()
         begin = f"rrdi: {self.argument}: "  # of the line that says why
         why = "".join(f": {line[len(begin):]}" for line in others[:1] if line.startswith(begin))
@@ -274,12 +277,13 @@ def identity_of_file(path: str) -> Identity:
 
 
 def session_at(path: str) -> Session:
-    """Opens and locks a file.
+    """Opens and locks a file, by the program if there is one: the library shares the lock between two calls, and if somebody
+    reads at the moment when the change is to be stored, it lets go of the file, and another program may come first.
 
     # Errors
     `Failure` if it cannot be opened or locked, or is not a database.
     """
-    library = chosen_library()
+    library = None if shutil.which(program_path()) else chosen_library()
     try:
         if library is not None:
             return LibrarySession(library, path)
@@ -316,12 +320,12 @@ def read_by(session: Session, path: str, before: Identity) -> Optional[FileIO]:
 
 
 def is_locked(file: FileIO, path: str) -> bool:
-    """Checks whether a file is locked by somebody who opened it otherwise: that is the session.
+    """Checks whether a file is locked by somebody who opened it otherwise: that is the session, whose lock may be shared.
 
     # Errors
     `Failure` if the file system has no locks.
     """
-    error = flock(file, SHARED | fcntl.LOCK_NB)
+    error = flock(file, EXCLUSIVE | fcntl.LOCK_NB)
     if error in NO_LOCKS:
         raise Failure(f"{path}: {NO_LOCK}")
     return error in LOCKED

@@ -7,8 +7,8 @@ import re
 import time
 from typing import List, NamedTuple, Optional, Tuple
 
+from ...escaping import escaped
 from ...printed import Settings, printed_rows
-from ...words import in_one_line
 from .. import program
 from ..command_line import Failure
 from ..spans import DAY, length_text, span_of, time_text, zone_of
@@ -107,7 +107,7 @@ def short_time(at: int) -> str:
 
 def title_of(options: PlotOptions, width: int) -> str:
     """Returns the title as far as it fits."""
-    text = in_one_line(options.values.get("title", os.path.splitext(os.path.basename(options.file))[0]))
+    text = escaped(options.values.get("title", os.path.splitext(os.path.basename(options.file))[0]))
     most = int((width - 2 * EDGE) / LARGE_LETTER)
     return text if len(text) <= most else f"{text[:most - 1]}\u2026"
 
@@ -166,13 +166,13 @@ def cut_text(marks: List[CutMark], what: Shown, unit: str) -> List[str]:
     return [f"cut values go {' and '.join(ways)}"]
 
 
-def picture_of(options: PlotOptions) -> Picture:
-    """Reads the rows and returns the picture of them."""
+def picture_of(options: PlotOptions, settings: Optional[Settings] = None) -> Picture:
+    """Reads the rows and returns the picture of them; reads the settings too, unless they are given."""
     width, height = read_size(options.values)
-    settings = program.settings(options.file)
+    settings = settings or program.settings(options.file)
     function = options.function or settings.archives[0].function
     what = shown(options, settings, function, width)
-    unit, subtitle = in_one_line(options.values.get("unit", "")), subtitle_of(function, what.rows, width)
+    unit, subtitle = escaped(options.values.get("unit", "")), subtitle_of(function, what.rows, width)
     top = title_room(len(subtitle)) if options.picture else UNTITLED
     legend = legend_of(width, what.series, unit) if options.picture and "--no-legend" not in options.flags else None
     if legend and plot_height(height, top, legend.height) < LEAST_PLOT_HEIGHT:

@@ -87,19 +87,19 @@ def columns(picture: Picture, legend: Legend, left: int, up: float, given: List[
 
 
 def plots(picture: Picture, folder: str) -> Iterator[str]:
-    """Yields what is plotted: bands below areas below lines."""
-    look = picture.look
-    for number in range(len(picture.series)):
+    """Yields what is plotted: bands below areas below lines. The titles are those of an SVG's parts: nothing draws them."""
+    look, stack = picture.look, picture.style == "stack"
+    for number, one in enumerate(picture.series):
         if picture.has_band:
             yield (f"'{folder}/points' index {number} using 1:4:5 with filledcurves fillcolor rgb '{picture.color(number)}' "
-                   f"fillstyle transparent solid {look.band} noborder")
-    for number in range(len(picture.series)):
+                   f"fillstyle transparent solid {look.band} noborder title {quoted(one.name)}")
+    for number, one in enumerate(picture.series):
         if picture.style != "lines":
-            density = 0.75 if picture.style == "stack" else look.fill
             yield (f"'{folder}/points' index {number} using 1:2:3 with filledcurves fillcolor rgb '{picture.color(number)}' "
-                   f"fillstyle transparent solid {density} noborder")
-    for number in range(len(picture.series)):
-        yield f"'{folder}/points' index {number} using 1:3 with lines linewidth 1.5 linecolor rgb '{picture.color(number)}'"
+                   f"fillstyle transparent solid {0.75 if stack else look.fill} noborder title {quoted(one.name)}")
+    for number, one in enumerate(picture.series):
+        yield (f"'{folder}/points' index {number} using 1:3 with lines linewidth 1.5 linecolor rgb '{picture.color(number)}' "
+               f"title {quoted(one.name)}")
 
 
 def arrows(picture: Picture) -> Iterator[str]:
@@ -124,7 +124,7 @@ def commands(folder: str, end: str, picture: Picture) -> str:
         "set encoding utf8", f"set terminal {terminal} noenhanced", f"set output '{folder}/picture'", "set xdata time",
         "set timefmt '%s'", "# The format says that a label has two lines.", 'set format x "\\n"', f"set xtics ({times})",
         f"set ytics ({marks})", f"set tics textcolor rgb '{look.faint}' scale 0", f"set title textcolor rgb '{look.text}'",
-        f"set ylabel textcolor rgb '{look.faint}'", f"set border 1 linecolor rgb '{look.grid}' linewidth 1.5", "unset key",
+        f"set ylabel textcolor rgb '{look.faint}'", f"set border 1 back linecolor rgb '{look.grid}' linewidth 1.5", "unset key",
         f"set grid xtics ytics linetype 1 linecolor rgb '{look.grid}' linewidth 1, linetype 1 linecolor rgb '{look.grid}'",
         f"set lmargin at screen {size.across(size.left)}", f"set rmargin at screen {size.across(size.width - size.right)}",
         f"set tmargin at screen {size.up(size.height - size.top)}", f"set bmargin at screen {size.up(size.bottom)}",

@@ -68,7 +68,7 @@ def label_months(begin: int, end: int, distance: int) -> Iterator[Label]:
             yield f"{MONTHS[now.tm_mon - 1]}\\n{now.tm_year}", at
 
 
-def labels(begin: int, end: int, width: int = 900) -> List[Label]:
+def labels(begin: int, end: int, width: int) -> List[Label]:
     """Returns at most about seven labels at round times of the time zone, and fewer for a plot that is not so many points wide,
     so that the labels do not overlap."""
     distance = distance_of(end - begin, min(max(width // LABEL, 1), MOST_LABELS))

@@ -64,7 +64,7 @@ def axis(low: float, high: float, unit: str = "", height: int = MARKS * MARK) ->
     values = [number * step for number in range(first, last + 1)]
     power = power_of(max(abs(values[0]), abs(values[-1])), unit)
     scaled = step / 1_000**power
-    digits = next((digits for digits in range(7) if abs(round(scaled, digits) - scaled) < scaled / 1_000), 6)
-    texts = [with_unit(f"{value / 1_000**power:.{digits}f}", power if value else 0, unit if value else "")
-             if value else "0" for value in values]
+    most = 6 + 3 * max(power, 0)  # numbers of rrdi have six decimals, and with a prefix more
+    digits = next((digits for digits in range(most) if abs(round(scaled, digits) - scaled) < scaled / 1_000), most)
+    texts = [with_unit(f"{value / 1_000**power:.{digits}f}", power, unit) if value else "0" for value in values]
     return Axis(values, texts, values[0], values[-1])

@@ -7,7 +7,7 @@ from html import escape
 from typing import List, NamedTuple, Optional, Sequence
 from urllib.parse import quote
 
-from ...words import in_one_line
+from ...escaping import escaped
 from .gnuplot import Picture
 from .legend import HEADS
 from .look import LIGHT_COLORS
@@ -35,7 +35,7 @@ POLICY = "default-src 'none'; style-src 'unsafe-inline'"
 
 def shown_name(name: str) -> str:
     """Returns a name for a page: in one line, whatever the file is called."""
-    return escape(in_one_line(name))
+    return escape(escaped(name))
 
 
 def link_to(name: str) -> str:
@@ -80,7 +80,7 @@ def section_of(one: Section, name: str, unit: str) -> List[str]:
     if one.picture is None:
         return [head, "<p>No value is known in this time, or there are fewer than two rows.</p>"]
     return [head, f"<p>{escape('; '.join(one.picture.subtitle))}</p>",
-            svg_of(one.picture, one.begin, one.end, f"{in_one_line(name)}, {one.name.lower()}"), *table(one.picture, unit)]
+            svg_of(one.picture, one.begin, one.end, f"{escaped(name)}, {one.name.lower()}"), *table(one.picture, unit)]
 
 
 def age_text(last: str, is_old: bool) -> str:
@@ -105,7 +105,7 @@ def card(name: str, age: str, section: Section) -> str:
     cut = [f"<p>{escape(section.picture.subtitle[-1])}</p>"] if section.picture.marks else []
     keys = [f'<span class="key">{swatch(number)}{shown_name(one.name)}</span>'
             for number, one in enumerate(section.picture.series)]
-    picture = svg_of(section.picture, section.begin, section.end, f"{in_one_line(name)}, day")
+    picture = svg_of(section.picture, section.begin, section.end, f"{escaped(name)}, day")
     return "\n".join([head, age, picture, *keys, *cut, "</div>"])
 
 

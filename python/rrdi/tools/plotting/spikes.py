@@ -8,6 +8,7 @@ from .asked import Bounds
 from .columns import Column, Curve, Columns, known
 
 RARE, RARE_IN_BAND = 50, 4  # one row of so many may be a spike, by its line or by its band
+ROUNDING = 2e-9  # of an axis: its ends are at round values in floating point
 FAR = 2  # a spike is beyond the other values by more than so many times their range
 
 Range = Tuple[float, float]
@@ -93,12 +94,14 @@ def runs(times: List[int], seconds: int) -> List[Tuple[int, int]]:
 
 
 def cut_marks(rows: Columns, series: List[Curve], has_band: bool, low: float, high: float) -> List[CutMark]:
-    """Returns the places where the sources go beyond the ends of an axis."""
+    """Returns the places where the sources go beyond the ends of an axis. Where its ends are round values, a value may be
+    beyond them by less than anyone sees."""
     marks: List[CutMark] = []
+    room = (high - low) * ROUNDING
     for number, one in enumerate(series):
         lows, highs = (one.lows, one.highs) if has_band else (one.values, one.values)
-        above = [time for time, cell in zip(rows.times, highs) if cell > high]
-        below = [time for time, cell in zip(rows.times, lows) if cell < low]
+        above = [time for time, cell in zip(rows.times, highs) if cell > high + room]
+        below = [time for time, cell in zip(rows.times, lows) if cell < low - room]
         for is_above, times in ((True, above), (False, below)):
             marks += [CutMark(number, (first + last - rows.seconds) / 2, is_above) for first, last in runs(times, rows.seconds)]
     return marks

@@ -2,6 +2,7 @@
 """Draws a picture as SVG for a page, whose styles give the colors: the same picture is light or dark."""
 from __future__ import annotations
 
+from functools import lru_cache
 from html import escape
 from typing import Iterator, List, NamedTuple, Tuple
 
@@ -10,9 +11,11 @@ from .gnuplot import Picture
 from .labels import labels
 from .look import DARK, LIGHT, LIGHT_COLORS, Look
 
+SHORTEST = 3  # points of a line: one value alone is seen
 LETTER_DROP, TIMES_DROP, LINE_DROP = 4, 18, 16  # points by which a text is below its place
 
 Point = Tuple[float, float]
+Stretch = List[Tuple[int, float, float, float, float]]  # the points of known rows, as `segments` yields them
 
 
 class Frame(NamedTuple):
@@ -41,6 +44,7 @@ def frame_of(picture: Picture, begin: int, end: int) -> Frame:
                  picture.axis.high)
 
 
+@lru_cache(maxsize=8_192)  # a row begins where another one ends, and its line and its band have the same places
 def short(number: float) -> str:
     """Returns a number of points with one digit after the point, or none."""
     text = f"{number:.1f}"
@@ -88,15 +92,34 @@ def curves(picture: Picture, frame: Frame) -> Iterator[str]:
             yield shape(kind, number, "".join(outline(kind, frame, stretch) for stretch in segments(picture.rows, one)))
 
 
-def outline(kind: str, frame: Frame, stretch: List[Tuple[int, float, float, float, float]]) -> str:
+def placed(frame: Frame, stretch: Stretch, part: int) -> List[Point]:
+    """Returns where the points of a stretch are, by their times and that one of their other parts."""
+    time, value, found = stretch[0][0], stretch[0][part], []
+    across, down = frame.across(time), frame.down(value)
+    for point in stretch:  # of two neighbours, one part is the same
+        if point[0] != time:
+            time, across = point[0], frame.across(point[0])
+        if point[part] != value:
+            value, down = point[part], frame.down(point[part])
+        found.append((across, down))
+    return found
+
+
+def widened(points: List[Point]) -> List[Point]:
+    """Returns a line that is as long as the shortest one."""
+    (begin, first), (end, last) = points[0], points[-1]
+    more = (SHORTEST - (end - begin)) / 2
+    return [(begin - more, first), *points, (end + more, last)] if more > 0 else points
+
+
+def outline(kind: str, frame: Frame, stretch: Stretch) -> str:
     """Returns the path of a stretch of known rows: a line, or the outline of an area or of a band."""
     upper = {"band": 4, "area": 2, "line": 2}[kind]
-    over = [(frame.across(point[0]), frame.down(point[upper])) for point in stretch]
+    over = placed(frame, stretch, upper)
     if kind == "line":
-        return path_of(over)
+        return path_of(widened(over))
     lower = {"band": 3, "area": 1}[kind]
-    under = [(frame.across(point[0]), frame.down(point[lower])) for point in reversed(stretch)]
-    return path_of(over + under) + "z"
+    return path_of(over + placed(frame, stretch, lower)[::-1]) + "z"
 
 
 def arrows(picture: Picture, frame: Frame) -> Iterator[str]:

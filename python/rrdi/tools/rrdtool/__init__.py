@@ -14,8 +14,8 @@ now-1h, durations such as 5m, and exponents. graph, graphv and xport need
 RRDtool's library (rrdi-graph --help).
 
 With - you get RRDtool's pipe mode: a command per line on standard input, and
-after each its output and OK, or ERROR and the reason. Pipe mode also has cd,
-mkdir, ls, pwd and quit.
+after each its output and OK, or ERROR and the reason. It also has cd, mkdir,
+ls, pwd and quit.
 
 options:
   --exact              print 17 digits instead of RRDtool's 11
@@ -28,8 +28,7 @@ options:
   --version            show the version and exit
 
 environment:
-  RRDI                 a program to run instead of the C library, or of the
-                       rrdi on the PATH
+  RRDI                 the program to run instead of the C library
 
 docs/migrate.md has more.
 
@@ -43,8 +42,9 @@ import sys
 from functools import lru_cache
 from typing import TYPE_CHECKING, List
 
+from ...escaping import escaped
 from .. import program
-from ..command_line import Failure, Tool, WrongArguments, error_text, give_up_output
+from ..command_line import Failure, Tool, WrongArguments, complain, error_text, give_up_output
 from ..exponents import be_exact
 from ..rrdtool_output import Printed, lines_of, plain
 from .running import Commands, commands_for
@@ -92,8 +92,10 @@ def run_pipe(words: List[str], has_lengths: bool) -> int:
         try:
             Pipe.change_directory(words)
         except Failure as failure:
-            print(f"ERROR: {failure}", file=sys.stderr)
+            complain(f"ERROR: {escaped(str(failure))}")
             return 2
+    if sys.stdin is None or sys.stdout is None:
+        raise Failure("standard input or output is closed")
     commands = Commands()
     pipe = Pipe(lambda name, others: run_command(commands, name, others), HELP, sys.stdout.buffer, has_lengths)
     pipe.answer_all(sys.stdin.buffer)
@@ -133,11 +135,11 @@ def run_words(words: List[str]) -> int:
         sys.stdout.flush()
         return 0
     except Failure as failure:
-        print(f"ERROR: {failure}", file=sys.stderr)
+        complain(f"ERROR: {escaped(str(failure))}")
     except BrokenPipeError:
         give_up_output()
     except OSError as error:
-        print(f"ERROR: {error_text(error)}", file=sys.stderr)
+        complain(f"ERROR: {escaped(error_text(error))}")
         give_up_output()
     return 1
 

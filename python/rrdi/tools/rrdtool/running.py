@@ -54,31 +54,20 @@ def explaining(file: str) -> Iterator[None]:
     try:
         yield
     except CommandFailed as failed:
-        raise Failure(explain(file, str(failed))) from None
+        raise Failure(explain(file, with_detail(failed))) from None
 
 
-def why_of(command: Command, reason: str) -> str:
-    """Returns what was wrong with a sample of a refused update, after a colon; nothing if that is not known."""
-    from ... import explaining  # here, since most commands succeed
-    from ...errors import error_of_line
-    name, file, *others = command
-
-    def ask(question: List[str]) -> str:
-        try:
-            return program.ask([question[0], file, *question[1:]])
-        except CommandFailed:
-            return ""
-    error = error_of_line(reason)
-    explaining.explain(error, [name, *others], ask)
-    return f": {error.detail}" if error.detail else ""
+def with_detail(failed: CommandFailed) -> str:
+    """Returns the reason of rrdi and what was wrong, if that is known."""
+    return f"{failed}: {failed.detail}" if failed.detail else str(failed)
 
 
-def explain_update(command: Command, reason: str, now: int) -> str:
+def explain_update(command: Command, failed: CommandFailed, now: int) -> str:
     """Returns the reason why an update was refused. If a sample is too old, programs look for RRDtool's text."""
-    file = command[1]
+    file, reason = command[1], str(failed)
     found = re.fullmatch(r"not later than (\d+)", reason)
     if found is None:
-        return explain(file, reason + why_of(command, reason))
+        return explain(file, with_detail(failed))
     before = program.last(file)
     for sample in command[2:]:
         text = sample.split(":")[0]
@@ -144,7 +133,7 @@ class Commands:
             try:
                 program.ask(command)
             except CommandFailed as failed:
-                raise Failure(f"creating '{command[1]}': {failed}") from None
+                raise Failure(f"creating '{command[1]}': {with_detail(failed)}") from None
         return ""
 
     def update(self, words: List[str]) -> str:
@@ -157,7 +146,7 @@ class Commands:
             try:
                 program.ask(command)
             except CommandFailed as failed:
-                raise Failure(explain_update(command, str(failed), now)) from None
+                raise Failure(explain_update(command, failed, now)) from None
 
     def update_with_rows(self, words: List[str]) -> str:
         """Updates, and returns the rows that the update finished."""
@@ -213,7 +202,7 @@ class Commands:
         except OSError as error:
             raise Failure(f"opening '{error.filename}': {error.strerror}") from None
         except CommandFailed as failed:
-            raise Failure(explain(file, str(failed))) from None
+            raise Failure(explain(file, with_detail(failed))) from None
         return ""
 
     # ---- Reading
