@@ -15,9 +15,13 @@ BUILD = out
 KIT = $(dir $(realpath $(shell command -v rt)))..
 OF_KIT = $(KIT)/c/libos_c.a $(KIT)/c/liblibc_c.a
 EXPORTS = rrdi_run rrdi_batch rrdi_run_file rrdi_batch_file rrdi_open rrdi_run_open rrdi_batch_open rrdi_update_open \
-	rrdi_fetch_open rrdi_close
+	rrdi_fetch_open rrdi_close rrdi_create_new rrdi_update_many rrdi_strerror rrdi_libversion \
+	rrdi_db_open rrdi_db_update rrdi_db_update_many rrdi_db_fetch rrdi_db_last rrdi_db_error rrdi_db_close
+# The part of the library that is plain C, over the functions of rrdi_c.
+PLAIN = $(wildcard library/c/*.c)
+COMPILE_PLAIN = $(CC) -std=gnu11 -O2 -Wall -Wextra -fPIC -Iinclude $(PLAIN)
 # The functions of the headers alone, which have a manual page too.
-INLINE = rrdi_create_new rrdi_strerror rrdi_version rrdi_words rrdi_whole rrdi_count rrdi_millionths rrdi_double rrdi_to_double
+INLINE = rrdi_version rrdi_words rrdi_whole rrdi_count rrdi_millionths rrdi_double rrdi_to_double
 # Where below PREFIX the library goes; Debian has lib/x86_64-linux-gnu.
 LIBDIR = lib
 LIBRARIES = $(DESTDIR)$(PREFIX)/$(LIBDIR)
@@ -45,7 +49,7 @@ VERSION := $(shell cat VERSION)
 HAS_LIBRARY = $(if $(filter command,$(firstword $(origin ARCHIVE))),$(ARCHIVE),$(wildcard $(ARCHIVE)))
 
 # The line after ## is what `make help` says of a target.
-all: ## proves and builds the program, and runs a first session (half an hour the first time, 6 GB of disk)
+all: ## proves and builds the program, and runs a first session (half an hour the first time, 8 GB of disk)
 	cd crates/rrdi && rt run -- batch < ../../docs/first-session.txt
 
 help: ## prints this list
@@ -77,23 +81,43 @@ clean: ## removes what was proved and built
 ALONE = env -u MAKEFLAGS -u MFLAGS -u MAKELEVEL
 
 # Other names than those of rrdi.h can't be seen of either library, so they can't clash with those of another one.
-link-library: $(BUILD)/librrdi.so.0 $(BUILD)/librrdi.a
+link-library: $(BUILD)/librrdi.so.0 $(BUILD)/librrdi.a extension
+
+# An archive that was built elsewhere needs the kit too.
+HAS_KIT = for file in $(OF_KIT); do [ -e "$$file" ] || \
+	{ echo "make: $$file not found; the library is linked with the Rattle kit, so put its rt on the PATH" >&2; exit 1; }; done
 
 # librrdi.so is a copy and no link, because rt refuses links in the repository.
-$(BUILD)/librrdi.so.0: $(ARCHIVE) include/librrdi.map
+$(BUILD)/librrdi.so.0: $(ARCHIVE) $(PLAIN) library/c/internal.h include/rrdi.h include/librrdi.map
+	@$(HAS_KIT)
 	mkdir -p $(BUILD)
-	$(CC) -shared -o $@ -Wl,-soname,librrdi.so.0 -Wl,--version-script=include/librrdi.map -Wl,--no-undefined \
-		-Wl,-z,relro,-z,now -Wl,--gc-sections -Wl,--as-needed \
+	$(COMPILE_PLAIN) -shared -o $@ -Wl,-soname,librrdi.so.0 -Wl,--version-script=include/librrdi.map -Wl,--no-undefined \
+		-Wl,-z,relro,-z,now -Wl,--gc-sections -Wl,--as-needed -Wl,-Bsymbolic-functions \
 		-Wl,--whole-archive $(ARCHIVE) -Wl,--no-whole-archive $(OF_KIT)
 	cp $@ $(BUILD)/librrdi.so
 
-$(BUILD)/librrdi.a: $(ARCHIVE)
+$(BUILD)/librrdi.a: $(ARCHIVE) $(PLAIN) library/c/internal.h include/rrdi.h
+	@$(HAS_KIT)
 	mkdir -p $(BUILD)
-	$(LD) -r -o $(BUILD)/librrdi.o --whole-archive $(ARCHIVE) --no-whole-archive $(OF_KIT)
+	$(COMPILE_PLAIN) -r -nostdlib -o $(BUILD)/plain.o
+	$(LD) -r -o $(BUILD)/librrdi.o $(BUILD)/plain.o --whole-archive $(ARCHIVE) --no-whole-archive $(OF_KIT)
 	objcopy $(EXPORTS:%=--keep-global-symbol=%) $(BUILD)/librrdi.o
 	rm -f $@
 	$(AR) rcs $@ $(BUILD)/librrdi.o
-	rm $(BUILD)/librrdi.o
+	rm $(BUILD)/librrdi.o $(BUILD)/plain.o
+
+# What Python calls the library by, if Python's headers are there: otherwise ctypes takes its place. One file is for each Python
+# from 3.8 on.
+EXTENSION = $(BUILD)/_rrdi.abi3.so
+extension:
+	@headers=$$($(PYTHON3) -c 'import sysconfig; print(sysconfig.get_path("include"))'); \
+	if [ -e "$$headers/Python.h" ]; then $(MAKE) --no-print-directory HEADERS_OF_PYTHON="$$headers" $(EXTENSION); \
+	else echo "make: no Python.h, so import rrdi is slower; python3-dev has it" >&2; fi
+
+$(EXTENSION): python/rrdi/_rrdi.c python/rrdi/_numbers.h include/rrdi.h
+	mkdir -p $(BUILD)
+	$(CC) -std=c11 -O2 -Wall -Wextra -fPIC -fvisibility=hidden -shared -s -o $@ -I"$(HEADERS_OF_PYTHON)" -Iinclude \
+		-Wl,-z,relro,-z,now python/rrdi/_rrdi.c
 
 $(ARCHIVE):
 	@echo "make: $@ not found; run make library first, or pass ARCHIVE=path" >&2
@@ -138,8 +162,10 @@ install-directories:
 
 install-library: link-library install-directories
 	install -m 644 $(BUILD)/librrdi.so.0 $(BUILD)/librrdi.a "$(LIBRARIES)"
+	if [ -e $(EXTENSION) ]; then install -m 644 $(EXTENSION) "$(PRIVATE)"; fi
 	ln -sf librrdi.so.0 "$(LIBRARIES)/librrdi.so"
-	install -m 644 include/rrdi.h include/rrdi_create.h "$(HEADERS)"
+	install -m 644 include/rrdi.h "$(HEADERS)"
+	rm -f "$(HEADERS)/rrdi_create.h"
 	sed -e 's|@PREFIX@|$(PREFIX)|' -e 's|@LIBDIR@|$(LIBDIR)|' -e 's|@VERSION@|$(VERSION)|' include/rrdi.pc.in \
 		> "$(LIBRARIES)/pkgconfig/rrdi.pc"
 	chmod 644 "$(LIBRARIES)/pkgconfig/rrdi.pc"

@@ -103,7 +103,7 @@ static double call(struct rrdi_file *open, int file) {
     spell(file);
     answer.fault = RRDI_OK;
     if ((*way == 'o' || *way == 'n') && !open->is_open)
-        rrdi_open((uint8_t *)path, strlen(path), 5000, false, open, output, sizeof output, &answer);
+        rrdi_open(path, strlen(path), 5000, false, open, output, sizeof output, &answer);
     double begin = now();
     if (*way == 'l')
         by_librrd();
@@ -112,7 +112,7 @@ static double call(struct rrdi_file *open, int file) {
     else if (*way == 'o')
         rrdi_run_open(open, words, length, 0, output, sizeof output, &answer);
     else
-        rrdi_run_file((uint8_t *)path, strlen(path), words, length, 0, 5000, false, output, sizeof output, &answer);
+        rrdi_run_file(path, strlen(path), words, length, 0, 5000, false, output, sizeof output, &answer);
     double took = now() - begin;
     if (answer.fault)
         fail(rrdi_strerror(answer.fault));

@@ -16,11 +16,12 @@ from typing import Callable, Dict, List, Sequence
 
 from harness import PEERS, TOP, Bench, Sides, Values, Work, instructions
 from processes import COUNTED, make_files, programs
-from support.sizes import HUGE, LARGE, SMALL, Kind
+from support.sizes import HUGE, LARGE, SMALL, STEP, Kind
 
 import rrdi
 
 BEFORE = 100  # the samples of a file at the start
+TURNS = 34  # the calls on an open file: its log is begun, and brought into place twice
 MICROSECONDS = "µs"
 
 
@@ -62,11 +63,11 @@ def words_of(program: Path, way: str, kind: Kind, what: str, files: int, turns: 
 def c_calls(kind: Kind, what: str, count: int, bench: Bench) -> Sides:
     """In numbers a call has one sample."""
     program, ways = compiled(bench)
-    files = bench.few(10 if kind == HUGE else 200)
+    files = bench.few(10 if kind == HUGE else 40)
     folders = copies(bench, kind, files, [way for way in ways if what == "fetch" or count == 1 or way != "numbers"])
 
     def timed(way: str, number: int) -> Values:
-        words = words_of(program, way, kind, what, files, 2, count, 2 * number)
+        words = words_of(program, way, kind, what, files, TURNS, count, TURNS * number)
         return float(subprocess.check_output(words, cwd=folders[way])),
     return {WAYS.get(way, way): partial(timed, way) for way in folders}
 
@@ -110,10 +111,33 @@ def python_calls(kind: Kind, count: int, bench: Bench) -> Sides:
     return {way: partial(timed, way) for way in ways}
 
 
+def python_fetches(kind: Kind, bench: Bench) -> Sides:
+    """Fetches 61 rows of each file, which the samples before have filled."""
+    rrdi.load_library(bench.needs_library())
+    files, has_peer = bench.few(200), bench.has("python3-rrdtool", find_spec("rrdtool") and "rrdtool" in programs(bench))
+    folders = copies(bench, kind, files, ["rrdi", "open", *["rrdtool"] * has_peer])
+    start = int(kind.sample(20).partition(":")[0])
+    opened = [bench.closing.enter_context(rrdi.Database(folders["open"] / str(file))) for file in range(files)]
+    for database in opened:
+        database.last()
+    asked = {"start": start, "end": start + 60 * STEP}
+    ways: Dict[str, List[Callable[..., object]]] = {
+        "rrdi": [partial(rrdi.fetch, folders["rrdi"] / str(file), "AVERAGE", **asked) for file in range(files)],
+        "open": [partial(database.fetch, "AVERAGE", **asked) for database in opened]}
+    if has_peer:
+        fetch, words = import_module("rrdtool").fetch, [f"--{name}={value}" for name, value in asked.items()]
+        ways["rrdtool"] = [partial(fetch, f"{folders['rrdtool']}/{file}", "AVERAGE", *words) for file in range(files)]
+
+    def timed(way: str, number: int) -> Values:
+        return 1e6 * statistics.median(timeit(fetch, number=1) for fetch in ways[way]),
+    return {way: partial(timed, way) for way in ways}
+
+
 KINDS, COUNTS = (SMALL, LARGE, HUGE), (1, 20)
 WORKS = [
     *(Work(f"python: {kind.name}, {count} a call", (MICROSECONDS,), partial(python_calls, kind, count))
       for kind, count in product(KINDS[:2], COUNTS)),
+    *(Work(f"python: {kind.name}, fetch", (MICROSECONDS,), partial(python_fetches, kind)) for kind in KINDS[:2]),
     *(Work(f"c: {kind.name}, {count} a call", (MICROSECONDS,), partial(c_calls, kind, "update", count))
       for kind, count in product(KINDS, COUNTS)),
     *(Work(f"c: {kind.name}, fetch", (MICROSECONDS,), partial(c_calls, kind, "fetch", BEFORE)) for kind in KINDS),

@@ -8,13 +8,13 @@ import socket
 import subprocess
 import sys
 import time
+from contextlib import suppress
 from functools import partial
 from importlib import import_module
 from importlib.util import find_spec
 from itertools import product
 from pathlib import Path
 from typing import Callable, Dict, List, Tuple
-from unittest import mock
 
 from harness import TOP, Bench, Sides, Values, Work, processor_seconds, run_seconds
 from processes import PROCESSOR, make_files, programs
@@ -26,7 +26,7 @@ import rrdi
 from rrdi.graphite import store as stores
 from rrdi.graphite.layout import template
 from rrdi.graphite.losses import Losses
-from rrdi.kept import KeptFile
+from rrdi.open_files import OpenBounds
 
 RATE = "a second"
 PATIENCE = 600  # seconds until everything is written, on a machine that is busy
@@ -86,9 +86,8 @@ def through_rrdcached(folder: Path, data: bytes, count: int) -> Values:
             first = answers.readline()
             return [first, *(answers.readline() for _ in range(int(first.split()[0])))]
         try:
-            wait_until(place.exists)
+            wait_until(lambda: is_connected(to, str(place)))
             begin = time.monotonic()
-            to.connect(str(place))
             answers = to.makefile("r")
             for lines in (b"BATCH", data + b".", b"FLUSHALL"):
                 ask(lines)
@@ -98,6 +97,14 @@ def through_rrdcached(folder: Path, data: bytes, count: int) -> Values:
             daemon.terminate()
         spent = processor_seconds(daemon)
     return count / took, 1e6 * spent / count
+
+
+def is_connected(to: socket.socket, place: str) -> bool:
+    """Connects, if the daemon listens by now. The socket of the round before may still have its name."""
+    with suppress(FileNotFoundError, ConnectionRefusedError):
+        to.connect(place)
+        return True
+    return False
 
 
 def wait_until(is_true: Callable[[], bool]) -> None:
@@ -162,18 +169,16 @@ RETENTIONS = [(10, 2160), (60, 1440), (600, 1008)]
 def writer(points: int, bench: Bench) -> Sides:
     """Writes points to files, as carbon's writer does: by rrdi, by rrdi with files that stay open, and by whisper."""
     rrdi.load_library(bench.needs_library())
-    losses, kept = Losses(print), {}
-    store = stores.Store(stores.StoreOptions(str(bench.folder)), losses)
+    losses = Losses(print)
     begin, files = int(time.time()) // STEP * STEP - 20_000, bench.few(200)
-    for name in (f"{way}{file}" for way in ("rrdi", "open") for file in range(files)):
-        store.create(name, template(RETENTIONS, 0.5, "average", 16))
-        store.write(name, [(begin - STEP * at, 1.5) for at in range(20, 0, -1)])
-    for path in (str(store.path(f"open{file}")) for file in range(files)):
-        kept[path] = KeptFile(path)
-        bench.closing.callback(kept[path].close)
-    bench.closing.enter_context(mock.patch.object(stores, "batch", lambda path, lines: (
-        kept[path].batch(lines) if path in kept else rrdi.batch(path, lines))))
-    writes: Dict[str, Callable[[str, List[Tuple[int, float]]], object]] = {"rrdi": store.write, "open": store.write}
+    writes: Dict[str, Callable[[str, List[Tuple[int, float]]], object]] = {}
+    for way, bounds in (("rrdi", OpenBounds(files=0)), ("open", OpenBounds(files, PATIENCE, 1_000))):
+        store = stores.Store(stores.StoreOptions(str(bench.folder), open=bounds), losses)
+        writes[way] = store.write
+        for name in (f"{way}{file}" for file in range(files)):
+            store.create(name, template(RETENTIONS, 0.5, "average", 16))
+            for at in (22, 2, 1):  # at the third write a file that may stay open is opened
+                store.write(name, [(begin - STEP * back, 1.5) for back in range(at, at - 20 if at > 20 else at - 1, -1)])
     if bench.has("python3-whisper", find_spec("whisper")):
         whisper = import_module("whisper")
         for file in range(files):

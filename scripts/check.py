@@ -11,7 +11,8 @@ Two rows of steps run beside each other:
   then builds the C library there, and make links it.
 
 pytest then tries what they have built. The first step that fails ends the others. At the end you see the minutes of each
-step, what was left out, and how many crates, tests and planted bugs passed. The status is 0 if nothing failed."""
+step, the slowest tests, what was left out, what failed, and how many crates, tests and planted bugs passed. The status is
+0 if nothing failed."""
 from __future__ import annotations
 
 import argparse
@@ -41,6 +42,10 @@ USEFUL = {"strace": "strace", "mypy": "mypy", "rrdtool": "rrdtool", "gnuplot": "
 WORKER = 2 << 30
 BUGS = "scripts/try-planted-bugs"
 LEFT_OUT = re.compile(r"^(?:left out: |SKIPPED )(.*)|^test result: .*; ([1-9]\d* ignored)")
+# A test that failed, and what the tests together fail by (tests/support/counts.py).
+WRONG = re.compile(r"^(?:FAILED|ERROR) .*|^.* (?:but must try at least|rejects no planted answer).*|^(?:NOT PROVED|REFUSED).*")
+# A test among the slowest, as pytest lists them.
+SLOW = re.compile(r"^\d+\.\d+s (?:call|setup) .*")
 # What `rt ci` builds and pytest tries.
 BUILT = re.compile(r"crates/(rrdi/out/rrdi|(tests_\w+)/out/\2_tests)")
 
@@ -56,14 +61,14 @@ class Step(NamedTuple):
 
 def rows(copy: Path, workspace: Path) -> tuple[tuple[Step, ...], ...]:
     """Returns the steps before the tests."""
-    return ((Step("rt ci", ("rt", "ci"), r"^(?:test result: ok\. )?(\d+) passed[,;] 0 failed", 190, copy),),
+    return ((Step("rt ci", ("rt", "ci"), r"^(?:test result: ok\. )?(\d+) passed[,;] 0 failed", 155, copy),),
             (Step("planted bugs", (TOP / BUGS, "--in", workspace), r"^(\d+) planted bugs.*: 0 wrong$", 100),
              Step("library", (TOP / "library/build", workspace)),
              Step("link", ("make", "--no-print-directory", "link-library", "record"))))
 
 
 def tests(*options: str) -> Step:
-    words = (sys.executable, "-B", "-m", "pytest", "-q", "-n", workers(), "--lacking", *options)
+    words = (sys.executable, "-B", "-m", "pytest", "-q", "-n", workers(), "--lacking", "--durations=12", *options)
     return Step("pytest", words, r"\b(\d+) passed", 1_800)
 
 
@@ -101,6 +106,8 @@ class Check:
     failed: int = 0
     times: list[str] = field(default_factory=list)
     left_out: list[str] = field(default_factory=list)
+    slow: list[str] = field(default_factory=list)
+    wrong: list[str] = field(default_factory=list)
     running: list[subprocess.Popen[str]] = field(default_factory=list)
     lock: threading.Lock = field(default_factory=threading.Lock)
 
@@ -127,6 +134,8 @@ class Check:
         """Counts what passed in a step that has ended, and fails if that is too little."""
         counts = [int(found[1]) for line in lines if step.passed for found in re.finditer(step.passed, line)]
         self.left_out += [f"{step.name}: {found[1] or found[2]}" for found in map(LEFT_OUT.match, lines) if found]
+        self.slow += [f"{step.name}: {line}" for line in lines if SLOW.match(line)]
+        self.wrong += [f"{step.name}: {line}" for line in lines if WRONG.match(line)]
         self.passed += sum(counts)
         if status:
             self.fail(f"{step.name} ended with status {status}")
@@ -164,10 +173,11 @@ class Check:
                 self.fail("interrupted")
 
     def last_lines(self, begin: float) -> str:
-        """Returns the time of each step, what was left out, and the last line."""
+        """Returns the time of each step, the slowest tests, what was left out, what failed, and the last line."""
         times = [*self.times, f"{minutes(time.monotonic() - begin):>8}  all, some beside each other"]
         return "\n".join([f"check: minutes of each step, on {len(os.sched_getaffinity(0))} processors", *times,
-                          *(f"left out: {what}" for what in self.left_out), f"{self.passed} passed, {self.failed} failed"])
+                          *(f"slow: {what}" for what in self.slow), *(f"left out: {what}" for what in self.left_out),
+                          *(f"failed: {what[:300]}" for what in self.wrong), f"{self.passed} passed, {self.failed} failed"])
 
 
 def copy_without_bugs(top: Path, folder: Path) -> None:

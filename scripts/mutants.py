@@ -2,8 +2,8 @@
 """Mutants: the small bugs that can be planted in a source, each by another text in place of one part of it.
 
 Those of Python come from its syntax tree: a comparison turned, a constant one larger or smaller, arguments exchanged, a
-call left out, an early return or a loop that runs once, `and` for `or`, the other branch, an exception passed over or let
-through. Those of C and Perl come from the text of a line."""
+call left out, an early return or a loop that runs once, `and` for `or`, `+` for `-`, the other branch, a default changed, an
+exception passed over or let through. Those of C and Perl come from the text of a line."""
 from __future__ import annotations
 
 import ast
@@ -11,20 +11,22 @@ import re
 from typing import Callable, Iterator, NamedTuple, Union
 
 TURNED = {"<": "<=", "<=": "<", ">": ">=", ">=": ">", "==": "!=", "!=": "==", "in": "not in", "not in": "in", "is": "is not",
-          "is not": "is", "and": "or", "or": "and", "&&": "||", "||": "&&"}
+          "is not": "is", "and": "or", "or": "and", "&&": "||", "||": "&&", "+": "-", "-": "+"}
 SIGNS = {ast.Lt: "<", ast.LtE: "<=", ast.Gt: ">", ast.GtE: ">=", ast.Eq: "==", ast.NotEq: "!=", ast.In: "in",
-         ast.NotIn: "not in", ast.Is: "is", ast.IsNot: "is not", ast.And: "and", ast.Or: "or"}
+         ast.NotIn: "not in", ast.Is: "is", ast.IsNot: "is not", ast.And: "and", ast.Or: "or", ast.Add: "+", ast.Sub: "-"}
 PLAIN = (ast.Name, ast.Attribute, ast.Call, ast.Subscript, ast.NamedExpr)
 LEAVES = (ast.Return, ast.Raise, ast.Continue)
 NOT_EXCHANGED = ("max", "min", "isinstance", "check")  # whose arguments have no order, or can have no other
 Node = Union[ast.expr, ast.stmt]
 IN_TEXT = ast.JoinedStr  # the places in such a text are those of no file
+CACHE = "lru_cache"  # whose arguments bound memory
 # What is exchanged in a line of C or Perl, and by what.
 OF_TEXT: tuple[tuple[str, "str | Callable[[re.Match[str]], str]"], ...] = (
-    (r" (<=?|>=?|==|!=|&&|\|\|) ", lambda found: f" {TURNED[found[1]]} "),
+    (r" (<=?|>=?|==|!=|&&|\|\||\+|-) ", lambda found: f" {TURNED[found[1]]} "),
     (r"(?<![\w.$%])\d+(?![\w.])", lambda found: str(int(found[0]) + 1)),
-    (r"^(\s+)[\w:>$-]+\(.*\);$", r"\1;"),
-    (r"\breturn (?!0;)[^;]+;", "return 0;"),
+    (r"(?<![\w.$%])[1-9]\d*(?![\w.])", lambda found: str(int(found[0]) - 1)),
+    (r"^( +)(?:[\w:>$-]+\(.*\)|\*?[\w.>-]+(?:\[[^]]*\])? [-+*/|&<>]*= [^;]*|continue);$", r"\1;"),
+    (r"\breturn (?!(?:0|false|NULL|RRDI_OK);)[^;]+;", "return 0;"),
     (r"(?<=[( ])!(?=[\w($])", ""))
 # Comments, texts, documentation and what the preprocessor reads.
 NO_CODE = (r"""/\*.*?\*/|"(?:\\.|[^"\\\n])*"|'(?:\\.|[^'\\\n])*'|^=\w.*?^=cut|^__END__.*|"""
@@ -49,7 +51,12 @@ class Mutant(NamedTuple):
         at = data.count(b"\n", 0, self.begin)
         old, new = data.decode().split("\n"), self.planted(data).decode().split("\n")
         more = f" {new[at + 1].strip()}" if self.new.startswith(b"\n") else ""
-        return self.file, old[at].strip(), (new[at].strip() or "(nothing)") + more
+        return self.file, part(old[at]), (part(new[at]) or "(nothing)") + more
+
+
+def part(line: str) -> str:
+    """Returns a line as a part of a row, whose parts have ` | ` between them."""
+    return line.strip().replace(" | ", "|")
 
 
 class Place(NamedTuple):
@@ -89,7 +96,8 @@ class Finder:
             yield self.mutant(begin, end, new, node, place)
         skipped = [getattr(node, name, None) for name in ("annotation", "returns")]
         for child in ast.iter_child_nodes(node):
-            if not isinstance(child, IN_TEXT) and not any(child is one for one in skipped):
+            is_cache = isinstance(child, ast.Call) and name_of(child.func) == CACHE
+            if not is_cache and not isinstance(child, IN_TEXT) and not any(child is one for one in skipped):
                 yield from self.below(child, place)
 
     def mutant(self, begin: int, end: int, new: bytes, node: ast.AST, place: Place) -> Mutant:
@@ -106,6 +114,11 @@ class Finder:
             yield from self.turned([node.left, *node.comparators], [SIGNS[type(sign)] for sign in node.ops])
         elif isinstance(node, ast.BoolOp):
             yield from self.turned(node.values, [SIGNS[type(node.op)]] * (len(node.values) - 1))
+        elif isinstance(node, ast.BinOp) and type(node.op) in SIGNS and not is_text(node.left) and not is_text(node.right):
+            yield from self.turned([node.left, node.right], [SIGNS[type(node.op)]])
+        elif isinstance(node, ast.arguments):
+            yield from ((self.begin(value), self.end(value), b'""') for value in (*node.defaults, *node.kw_defaults)
+                        if isinstance(value, ast.Constant) and isinstance(value.value, str) and value.value)
         elif isinstance(node, ast.Constant):
             yield from self.other_constants(node)
         elif isinstance(node, ast.UnaryOp) and isinstance(node.op, ast.Not):
@@ -120,7 +133,8 @@ class Finder:
     def turned(self, values: list[ast.expr], signs: list[str]) -> Iterator[tuple[int, int, bytes]]:
         for left, right, sign in zip(values, values[1:], signs):
             begin, end = self.end(left), self.begin(right)
-            found = re.search(rb"(?<![<>=!\w])" + sign.replace(" ", r"\s+").encode() + rb"(?![=\w])", self.data[begin:end])
+            pattern = re.escape(sign).replace(r"\ ", r"\s+").encode()
+            found = re.search(rb"(?<![<>=!\w])" + pattern + rb"(?![=\w])", self.data[begin:end])
             if found:
                 yield begin + found.start(), begin + found.end(), TURNED[sign].encode()
 
@@ -133,7 +147,7 @@ class Finder:
                 yield begin, end, str(value).encode()
 
     def exchanged(self, node: ast.Call) -> Iterator[tuple[int, int, bytes]]:
-        if getattr(node.func, "id", getattr(node.func, "attr", "")) in NOT_EXCHANGED:
+        if name_of(node.func) in NOT_EXCHANGED:
             return
         for one, other in zip(node.args, node.args[1:]):
             texts = self.text(one), self.text(other)
@@ -144,9 +158,10 @@ class Finder:
     def other_statements(self, node: ast.AST) -> Iterator[tuple[int, int, bytes]]:
         if isinstance(node, ast.Raise) or isinstance(node, ast.Expr) and isinstance(node.value, ast.Call):
             yield self.begin(node), self.end(node), b"pass"
-        elif isinstance(node, (ast.If, ast.While, ast.IfExp)) and isinstance(node.test, PLAIN):
+        elif isinstance(node, (ast.If, ast.While, ast.IfExp)) and isinstance(node.test, PLAIN) \
+                and self.text(node.test) != b"TYPE_CHECKING":
             yield self.begin(node.test), self.end(node.test), b"not (%s)" % self.text(node.test)
-        elif isinstance(node, ast.Return) and node.value and self.text(node.value) != b"None":
+        elif isinstance(node, ast.Return) and node.value and self.text(node.value) not in (b"None", b"False"):
             yield self.begin(node.value), self.end(node.value), b"None"
         elif isinstance(node, ast.ExceptHandler) and not isinstance(node.body[0], ast.Raise):
             yield self.begin(node.body[0]), self.end(node.body[-1]), b"raise"
@@ -159,6 +174,14 @@ class Finder:
         indent = self.data[self.starts[last.lineno - 1]:self.begin(last)]
         if not indent.strip():
             yield self.end(last), self.end(last), b"\n" + indent + b"break"
+
+
+def name_of(function: ast.expr) -> str:
+    return str(getattr(function, "id", getattr(function, "attr", "")))
+
+
+def is_text(node: "ast.expr | None") -> bool:
+    return isinstance(node, ast.JoinedStr) or isinstance(node, ast.Constant) and isinstance(node.value, (str, bytes))
 
 
 def names_set(statement: ast.stmt) -> Iterator[str]:
