@@ -53,7 +53,9 @@ class Comparison:
         """Compares both readers on these bytes. Returns the fault without its number, or `read`."""
         put(self.file, data)
         status, out, err = self.program.run(["info", self.file])
-        same("the bytes afterwards", self.file.read_bytes(), reader.settled(data))
+        same("the bytes afterwards", self.file.read_bytes(), data)
+        self.program.run(["update", self.file, "0:1"])  # is refused, and repairs the file
+        same("the bytes after a repair", self.file.read_bytes(), reader.settled(data))
         try:
             database = reader.read(data)
         except reader.Fault as fault:
@@ -93,7 +95,8 @@ class Comparison:
             self.check.count("reverts")
             before = after
         told = self.program.run(["revert", self.file])
-        same("one revert more than changes", told, (1, "", "ERROR: nothing to revert\n"))
+        none_left = f"rrdi: no change is left in the journal, which keeps the newest {before['journal_depth']}\n"
+        same("one revert more than changes", told, (1, "", f"ERROR: nothing to revert\n{none_left}"))
 
 
 def reverted(before: dict[str, Any]) -> dict[str, Any]:

@@ -76,6 +76,17 @@ def test_a_step_that_fails(name: str, whole: Whole, capsys: pytest.CaptureFixtur
     assert any(line.startswith("pytest: ") for line in lines) == (name == "python")
 
 
+def test_what_failed_stands_at_the_end(whole: Whole, capsys: pytest.CaptureFixture[str]) -> None:
+    lines_of_pytest = ("FAILED tests/test_it.py::test_that - assert 1 == 2\n9.50s call     tests/test_it.py::test_that\n"
+                       "tests.test_it tried 3 files, but must try at least 4\n1 failed, 1999 passed in 9.00s\n")
+    whole.answer("python", lines_of_pytest, 1)
+    status, lines = whole.run(capsys)
+    assert status == 1 and lines[-4:-1] == [
+        "slow: pytest: 9.50s call     tests/test_it.py::test_that",
+        "failed: pytest: FAILED tests/test_it.py::test_that - assert 1 == 2",
+        "failed: pytest: tests.test_it tried 3 files, but must try at least 4"], lines
+
+
 @pytest.mark.parametrize("name, text", [(name, text) for name in ("rt", full.BUGS, "python")
                                         for text in ("", "0 passed, 0 failed\n", "15 passed, 0 failed\n")])
 def test_a_step_that_does_too_little(name: str, text: str, whole: Whole, capsys: pytest.CaptureFixture[str]) -> None:

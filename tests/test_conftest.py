@@ -85,7 +85,8 @@ def test_the_list_of_modules() -> None:
 def test_recorded_counts() -> None:
     counts = "- `a.py` (`01`, day): 1 run,\n  2 kills\n- `b.py` (`01`, day): 1 run\n"
     page = f"# Results\n\n## Counts\n\n{counts}\n## Proofs\n\n- `a`\n"
-    told = with_counts(page, {"a.py": {"runs": 1_200}, "a.py --long": {"runs": 5}}, "02")
+    told = with_counts(page, {"a.py": {"runs": 1_200}, "a.py --long": {"runs": 5, "kills": 3, "files": 4}}, "02")
     assert [line.split(" (")[0] for line in told.splitlines()] == [
         "# Results", "", "## Counts", "", "- `a.py`", "- `a.py --long`", "- `b.py`", "", "## Proofs", "", "- `a`"]
-    assert re.search(r"- `a\.py` \(`02`, \d{4}-\d\d-\d\d\): 1,200 runs\n", told) and "kills" not in told
+    assert re.search(r"- `a\.py` \(`02`, \d{4}-\d\d-\d\d\): 1,200 runs\n", told)
+    assert ": 5 runs, 3 kills\n" in told and "files" not in told

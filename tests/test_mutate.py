@@ -14,6 +14,7 @@ import pytest
 from support.program import TOP
 
 sys.path.insert(0, str(TOP / "scripts"))
+import covering
 from mutants import mutants_of
 
 LISTED = TOP / "scripts/survivors"
@@ -30,10 +31,12 @@ def planted(text: str, name: str = "a.py") -> list[str]:
     ("a and (b or c)", ["a or (b or c)", "a and (b and c)"]), ("x = not a", ["x =  a"]), ("x[0]", ["x[1]"]), ("x[5]", ["x[4]", "x[6]"]),
     ("x = True", ["x = False"]), ("y = f(a, *b)", []), ("y = f(a, b, c)", ["y = f(b, a, c)", "y = f(a, c, b)"]),
     ("y = max(a, b)", []), ("f(a)", ["pass"]), ("raise a", ["pass"]), ("y = a if b < c else d", ["y = d if b < c else a", "y = a if b <= c else d"]),
-    ("if a: b", ["if not (a): b"]), ("x: Literal[1] = a", []), ("y = f'{1}'", []), ("a = 'ü'; b = c < d", ["a = 'ü'; b = c <= d"]),
+    ("if a: b", ["if not (a): b"]), ("x = a + (b - c)", ["x = a - (b - c)", "x = a + (b + c)"]), ("x = a + 'b' + f'{c}'", []),
+    ("def f(a, b='c', *, d='', e):\n    return None", ["def f(a, b=\"\", *, d='', e):\n    return None"]), ("x: Literal[1] = a", []), ("y = f'{1}'", []), ("a = 'ü'; b = c < d", ["a = 'ü'; b = c <= d"]),
     ("for a in b:\n    c = a", ["for a in b:\n    c = a\n    break"]), ("for a in b:\n    continue", []),
     ("def f():\n    a = b\n    c = d", ["def f():\n    a = b\n    return"]), ("def f():\n    return a", ["def f():\n    return None"]),
-    ("def f():\n    return None", []), ("try:\n    a = b\nexcept E:\n    c = d", ["try:\n    a = b\nexcept E:\n    raise"])])
+    ("def f():\n    return None", []), ("def f():\n    return False", ["def f():\n    return True"]), ("if TYPE_CHECKING: a = b", []),
+    ("@lru_cache(maxsize=5)\ndef f():\n    pass", []), ("try:\n    a = b\nexcept E:\n    c = d", ["try:\n    a = b\nexcept E:\n    raise"])])
 def test_mutants_of_python(text: str, wanted: list[str]) -> None:
     found = planted(text)
     assert sorted(found) == sorted(wanted)
@@ -43,8 +46,10 @@ def test_mutants_of_python(text: str, wanted: list[str]) -> None:
 
 @pytest.mark.parametrize("text, wanted", [
     ("if (a < b && c->d >= 2) x(y);", ["if (a <= b && c->d >= 2) x(y);", "if (a < b || c->d >= 2) x(y);", "if (a < b && c->d > 2) x(y);",
-                                       "if (a < b && c->d >= 3) x(y);"]),
-    ("    free(a);\n", ["    ;\n"]), ("return a + b;", ["return 0;"]), ("return 0;", ["return 1;"]), ("if (!a) b;", ["if (a) b;"]),
+                                       "if (a < b && c->d >= 3) x(y);",
+                                       "if (a < b && c->d >= 1) x(y);"]),
+    ("    free(a);\n", ["    ;\n"]), ("    *a->b[c] += d;\n", ["    ;\n"]), ("    int a = b;\n", []), ("    continue;\n", ["    ;\n"]),
+    ("return a + b;", ["return 0;", "return a - b;"]), ("return 0;", ["return 1;"]), ("return false;", []), ("if (!a) b;", ["if (a) b;"]),
     ('x = "a < b"; /* 5\n 6 */ // 7', []), ("#if X > 5\n#define A 3 \\\n 4\n", []), ("x = '\"' == a;", ["x = '\"' != a;"])])
 def test_mutants_of_c(text: str, wanted: list[str]) -> None:
     assert sorted(planted(text, "a.c")) == sorted(wanted)
@@ -57,6 +62,8 @@ def test_rows() -> None:
     later = b"\n\n" + data
     assert rows == {mutant.row(later) for mutant in mutants_of("f.py", later)}
     assert ("f.py", "d(b)", "d(b) break") in rows and ("f.py", "a = 1", "a = 2") in rows
+    data = b"a = b | c - d;"
+    assert [mutant.row(data) for mutant in mutants_of("f.c", data)] == [("f.c", "a = b|c - d;", "a = b|c + d;")]
 
 
 def test_the_list_of_survivors() -> None:
@@ -96,41 +103,86 @@ class Large(unittest.TestCase):
     def test_wrong(self):
         self.assertTrue(rrdi.parts.is_large(1))
 """
+MAKEFILE = """made: out/limit
+out/limit: library/limit.c
+\t$(CC) -o $@ $<
+"""
+# The status is whether 5 is the limit.
+IN_C = """int main(void) {
+    int limit = 5;
+    if (limit < 7 && limit == 5) return 0;
+    return limit;
+}
+"""
+OF_C = """import subprocess
+def test_limit():
+    assert subprocess.run(["out/limit"]).returncode == 0
+"""
+CONFTEST = """def pytest_addoption(parser):
+    for name in ("--lacking", "--program", "--library"):
+        parser.addoption(name, nargs="?")
+"""
+FILES = {"python/rrdi/__init__.py": "from __future__ import annotations\n", "python/rrdi/parts.py": SOURCE, "Makefile": MAKEFILE,
+         "tests/python/test_parts.py": TESTS, "tests/test_limit.py": OF_C, "tests/conftest.py": CONFTEST, "library/limit.c": IN_C,
+         "scripts/covered.py": (TOP / "scripts/covered.py").read_text()}
 
 
 @pytest.fixture
 def mutate(folder: Path, monkeypatch: pytest.MonkeyPatch) -> Any:
-    """The script, for a repository of one module and one test module."""
+    """The script, for a repository of one module, one program in C, and a test module of each."""
     loader = importlib.machinery.SourceFileLoader("mutate", str(TOP / "scripts/mutate"))
     spec = importlib.util.spec_from_loader("mutate", loader)
     assert spec
     module = importlib.util.module_from_spec(spec)
     loader.exec_module(module)
-    for name, text in (("python/rrdi/__init__.py", "from __future__ import annotations\n"), ("python/rrdi/parts.py", SOURCE),
-                       ("tests/python/test_parts.py", TESTS), ("out/kept", ""), ("scripts/covered.py", "")):
+    for name, text in FILES.items():
         (folder / name).parent.mkdir(parents=True, exist_ok=True)
         (folder / name).write_text(text)
-    (folder / "scripts/covered.py").write_bytes((TOP / "scripts/covered.py").read_bytes())
-    for name, value in (("TOP", folder), ("KEPT", folder / "out/covered.json"), ("LISTED", folder / "survivors"),
-                        ("PARTS", ("python", "tests"))):
-        monkeypatch.setattr(module, name, value)
+    for place, name, value in ((module, "TOP", folder), (module, "LISTED", folder / "survivors"), (covering, "TOP", folder),
+                               (covering, "KEPT", folder / "out/covered.json"),
+                               (covering, "PARTS", ("Makefile", "library", "python", "tests")),
+                               (module, "USES", {"library/limit.c": module.Use(("made",), (), ("tests/test_limit.py",))})):
+        monkeypatch.setattr(place, name, value)
     return module
 
 
 def test_a_small_repository(mutate: Any, capsys: pytest.CaptureFixture[str]) -> None:
     """A constant is tried by the tests of the function that uses it. A test that fails without a bug finds none."""
-    options = mutate.parser().parse_args([str(mutate.TOP / "python/rrdi/parts.py"), "-n1"])
+    options = mutate.parser().parse_args([str(mutate.TOP / "python/rrdi/parts.py"), "--jobs=1"])
     assert mutate.main(options) == 1
     said = capsys.readouterr().out
     assert "test_parts: 1 of 2 tests pass\n" in said
     assert "survives 3: python/rrdi/parts.py | LIMIT = 5 | LIMIT = 4\n" in said and "LIMIT = 6" not in said
     assert said.count("not reached 11: ") == 4
-    assert said.endswith("python/rrdi/parts.py: 3 of 8 killed (37.5 %); 3 killed, 4 not reached, 1 survives\n")
+    assert said.endswith("".join(f"{name}: 3/8 killed (37.5 %); 3 killed, 4 not reached, 1 survives\n"
+                                 for name in ("python/rrdi/parts.py", "all")))
     lines = [line.partition(": ")[2] + " | it is only here" for line in said.splitlines() if "surv" in line[:9] or "not r" in line]
     mutate.LISTED.write_text("# list\n" + "\n".join(lines) + "\n")
     assert mutate.main(options) == 0  # and nothing is covered anew
     assert "tests pass" not in capsys.readouterr().out
     assert mutate.TOP.joinpath("python/rrdi/parts.py").read_text() == SOURCE
+
+
+def test_a_program_in_c(mutate: Any, capsys: pytest.CaptureFixture[str]) -> None:
+    """It is made anew for each mutant, and its tests must pass without one."""
+    options = mutate.parser().parse_args([str(mutate.TOP / "library"), "--jobs=2"])
+    assert mutate.main(options) == 1
+    said = capsys.readouterr().out
+    found = [line.rpartition(" | ")[2] for line in said.splitlines() if line.startswith("survives")]
+    assert sorted(found) == ["if (limit < 6 && limit == 5) return 0;", "if (limit < 7 || limit == 5) return 0;",
+                             "if (limit < 8 && limit == 5) return 0;", "if (limit <= 7 && limit == 5) return 0;", "return 0;"]
+    (mutate.TOP / "tests/test_limit.py").write_text(OF_C.replace("== 0", "== 1"))
+    assert mutate.main(options) == 2
+
+
+def test_samples(mutate: Any, capsys: pytest.CaptureFixture[str]) -> None:
+    """A sample is that of its seed, and has no mutant twice."""
+    def listed(*words: str) -> list[str]:
+        assert mutate.main(mutate.parser().parse_args([str(mutate.TOP / "python"), "--list", *words])) == 0
+        return capsys.readouterr().out.splitlines()
+    of_all, samples = listed(), [listed("--sample=4", f"--seed={seed}") for seed in (1, 2, 1)]
+    assert samples[0] == samples[2] != samples[1] and {len(set(sample)) for sample in samples} == {4}
+    assert set(samples[0] + samples[1]) <= set(of_all) and sorted(listed("--sample=99")) == sorted(of_all)
 
 
 def test_how_tests_end(mutate: Any) -> None:

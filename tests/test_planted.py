@@ -66,9 +66,9 @@ CALLS = {
     "stays-marked": LONGER,
     "saves-again": MANY, "reads-marked": MARKED, "settles-unlocked": MARKED, "needs-stderr": REFUSED,
     "ignores-holder": LAST,
-    "spoils-unlocked": MARKED, "reads-and-cuts": LONGER,
+    "spoils-unlocked": MARKED, "reads-and-cuts": LAST,
 }
-KILLS = {"no-tail": LARGER, "marks-late": LARGER, "commits-early": LARGER, "cuts-early": SMALLER,
+KILLS = {"no-tail": LARGER, "changes-share": LARGER, "marks-late": LARGER, "commits-early": LARGER, "cuts-early": SMALLER,
          "takes-head-first": LARGER,
          "stays-marked": LARGER, "recovers-shared": LARGER, "forgets-change": LONGER, "fails-to-read": LONGER}
 # Faults that only a power failure finds: a lack of syncs, a length that is trusted without its bytes, a page that is
@@ -171,6 +171,22 @@ int main(void) {
     return 2;
 }
 """
+# A program that allocates for what it says of a refusal before it reports the refusal, and what it does then.
+SAYING = """
+#include <stdio.h>
+#include <stdlib.h>
+int main(void) {
+    void *own = malloc(10), *block = malloc(20), *more = malloc(30);
+    if (own) {
+        FAULT;
+    } else
+        fputs("ERROR: out of memory\\n", stderr);
+    free(own);
+    free(block);
+    free(more);
+    return 1;
+}
+"""
 # A program that holds more memory for each byte of its input.
 GREEDY = """
 #include <stdlib.h>
@@ -225,8 +241,13 @@ SMALL_FAULTS = {f"{TOLD}; return 1": True, f"{TOLD}; return 0": False, "return 1
 ADVICE = {f"if (block) {SAYS}": True, f"if (block) {SAYS}; else return 1": False,
           'if (!block) fputs("other\\n", stderr)': False,
           'if (!block) puts("other")': False}
+REFUSES = 'fputs("ERROR: no sample\\n", stderr)'
+SAID = {f"{REFUSES}; if (block && more) {SAYS}": True, f"if (more) {REFUSES}; else {TOLD}; if (block && more) {SAYS}": False,
+        f'{REFUSES}; if (block && more) {SAYS}; else fputs("rrdi: other\\n", stderr)': False,
+        f"if (block) {REFUSES}; else puts(\"0\"); if (block && more) {SAYS}": False}
 SOURCES = [*((SMALL, fault, is_right) for fault, is_right in SMALL_FAULTS.items()),
-           *((ADVISING, fault, is_right) for fault, is_right in ADVICE.items())]
+           *((ADVISING, fault, is_right) for fault, is_right in ADVICE.items()),
+           *((SAYING, fault, is_right) for fault, is_right in SAID.items())]
 TWO_LINES = Growing("two lines", ["batch"], "last\nlast\n", text="10\n10\n")
 LINES_FAULTS = {"": TWO_LINES, "prints more": TWO_LINES, "allocates late": TWO_LINES, "allocates otherwise": TWO_LINES,
                 "prints otherwise": TWO_LINES, "says no memory": TWO_LINES,
@@ -321,7 +342,7 @@ LOST: dict[str, Sequence[list[Any]]] = {
     "never-waits": [WAITING, PAUSES, LONG],
     "never-sleeps": [WAITING, PAUSES], "sleeps-long": [PAUSES], "no-tail,reads-anything": [LIMITS],
     "writes-devices": [ODD],
-    "loses-updates": [CROWD], "refuses-some": [CROWD], "refuses-all": [CROWD], "fails-to-read": [CROWD],
+    "loses-updates": [CROWD], "loses-tunes": [CROWD], "refuses-some": [CROWD], "refuses-all": [CROWD], "fails-to-read": [CROWD],
     "prints-more": [EXCLUSION],
     "touches-file": [EXCLUSION], "keeps-other-bytes": [FULL, LIMITS], "forgets-change": [EXCLUSION, LIMITS],
     "opens-to-write": [READ_ONLY],
@@ -462,7 +483,8 @@ def test_the_memory_of_a_long_file() -> None:
 ONLY_UPDATES = '[ "$1" = update ] || exec "{0}" "$@"; '
 WRITES = {"": "", "writes-all": "", "fails": ONLY_UPDATES + '"{0}" "$@"; exit 1',
           "is not created": '[ "$1" != batch ] || exit 1; exec "{0}" "$@"',
-          "is idle": ONLY_UPDATES + "exit 0"}
+          "is idle": ONLY_UPDATES + "exit 0",
+          "reverts twice": '[ "$1" != revert ] || "{0}" "$@"; exec "{0}" "$@"'}
 
 
 @pytest.mark.parametrize("bug", WRITES)

@@ -50,6 +50,8 @@ int main(void) {
     struct timespec one = {1, 5}, other = {3600, 0};
     int first = nanosleep(&one, NULL), second = clock_nanosleep(CLOCK_MONOTONIC, 0, &other, NULL);
     fprintf(stderr, "%d %d %d", first, second, usleep(2500000));
+    clock_gettime(CLOCK_MONOTONIC, &one);
+    fprintf(stderr, " %ld.%09ld", one.tv_sec, one.tv_nsec);
     return 0;
 }
 """
@@ -80,7 +82,7 @@ def test_pauses_take_no_time(between_all: str, folder: Path) -> None:
     env = between.settings(between_all, LOG=log, NO_PAUSES=1)
     answer = compiled(folder / "pauses", PAUSES).run([], env=env)
     events = between.events_of(log)
-    assert (answer.status, answer.err) == (0, "0 0 0")
+    assert (answer.status, answer.err) == (0, "0 0 0 3603.500000005")
     assert between.pauses_of(events) == [1_000_000_005, 3_600 * 10**9, 2_500_000_000]
     assert "pause" not in [call.kind for call in between.calls_of(events)]
 
@@ -199,6 +201,7 @@ def events(*lines: str) -> list[Event]:
 
 
 OPENED, SHARED, OWN, FREE = f"open -1 0 4 2 {FILE}", "flock 4 5 0 0", "flock 4 6 0 0", "flock 4 8 0 0"
+REFUSED_LOCK = "flock 4 6 -1 0"  # a try that failed
 MEASURED, NAMED, READ, WRITTEN = "statx 4 0 0 0", "statx -100 0 0 0", "pread 4 10 10 0", "pwrite 4 10 10 0"
 RIGHT = (NAMED, OPENED, OWN, MEASURED, NAMED, READ, WRITTEN)
 
@@ -206,7 +209,7 @@ RIGHT = (NAMED, OPENED, OWN, MEASURED, NAMED, READ, WRITTEN)
 @pytest.mark.parametrize("calls, is_change, count", (
     ((OPENED, OWN, READ, WRITTEN), True, 0), ((OPENED, SHARED, READ), False, 0), ((OPENED, READ), False, 1),
     ((OPENED, SHARED, READ, WRITTEN), True, 2), ((OPENED, SHARED, READ, WRITTEN), False, 1),
-    ((OPENED, OWN, "fcntl 4 1030 5 0", "read 5 10 10 0"), True, 0), ((OPENED, "flock 4 6 -1 0", READ), False, 1)))
+    ((OPENED, OWN, "fcntl 4 1030 5 0", "read 5 10 10 0"), True, 0), ((OPENED, REFUSED_LOCK, READ), False, 1)))
 def test_locks(calls: tuple[str, ...], is_change: bool, count: int) -> None:
     assert len(locks_of(events(*calls), FILE, is_change)) == count
 
@@ -214,16 +217,17 @@ def test_locks(calls: tuple[str, ...], is_change: bool, count: int) -> None:
 @pytest.mark.parametrize("calls", (
     RIGHT, (*RIGHT, FREE), (*RIGHT, "fdatasync 4 0 0 0", "ftruncate 4 9 0 0", FREE),
     (OPENED, SHARED, NAMED, MEASURED, READ), ("open -1 0 5 2 other", "read 5 9 9 0"), (f"open -1 0 -1 2 {FILE}",),
-    (*RIGHT[:4], "fcntl 4 1030 10 0", NAMED, "pread 10 1 1 0")))
+    (*RIGHT[:4], "fcntl 4 1030 10 0", NAMED, "pread 10 1 1 0"), (*RIGHT, SHARED, READ, OWN, WRITTEN)))
 def test_calls_in_order(calls: tuple[str, ...]) -> None:
     assert faults_of(events(*calls), FILE) == []
 
 
 @pytest.mark.parametrize("calls, what", (
-    ((OPENED, READ), "no lock"), ((OPENED, "flock 4 6 -1 0", READ), "no lock"),
+    ((OPENED, READ), "no lock"), ((OPENED, REFUSED_LOCK, READ), "no lock"),
     ((OPENED, MEASURED, NAMED, READ), "no lock"), ((*RIGHT, OPENED, READ), "no lock"),
     ((*RIGHT, FREE, WRITTEN), "no lock"), ((*RIGHT, FREE, "fdatasync 4 0 0 0"), "no lock"),
-    ((OPENED, SHARED, MEASURED, NAMED, WRITTEN), "a shared lock"),
+    ((OPENED, SHARED, MEASURED, NAMED, WRITTEN), "a shared lock"), ((*RIGHT, SHARED, WRITTEN), "a shared lock"),
+    ((*RIGHT, SHARED, REFUSED_LOCK, READ), "no lock"),
     ((OPENED, MEASURED, OWN, NAMED, READ), "an old length"), ((*RIGHT, FREE, OWN, READ), "an old length"),
     ((OPENED, NAMED, OWN, MEASURED, READ), "an old name"),
     ((OPENED, OWN, MEASURED, "statx -100 0 -1 0", READ), "an old name")))
@@ -232,10 +236,13 @@ def test_calls_out_of_order(calls: tuple[str, ...], what: str) -> None:
 
 
 def test_an_open_file() -> None:
-    begin, end = ("grow 8 given", *RIGHT, "pause 1"), (FREE, "pause 3")
-    assert [len(part) for part in parts_of(events(*begin, READ, "pause 2", *end))] == [7, 1, 1]
-    for calls, count in (((READ, WRITTEN), 0), ((FREE, OWN), 2), ((OPENED,), 1), (("open -1 0 5 2 other",), 0)):
+    opening, end = ("grow 8 given", *RIGHT), (FREE, "pause 3")
+    begin = (*opening, SHARED, "pause 1")
+    assert [len(part) for part in parts_of(events(*begin, READ, "pause 2", *end))] == [8, 1, 1]
+    for calls, count in (((READ,), 0), ((OWN, WRITTEN, SHARED), 0), ((OWN, WRITTEN), 1), ((FREE, SHARED), 1), ((FREE, OWN), 2),
+                         ((REFUSED_LOCK, SHARED), 1), ((OPENED,), 1), (("open -1 0 5 2 other",), 0)):
         assert len(faults_of_open(events(*begin, *calls, "pause 2", *end), FILE)) == count, calls
+    assert len(faults_of_open(events(*opening, "pause 1", READ, "pause 2", *end), FILE)) == 1
 
 
 def test_calls_on_streams() -> None:

@@ -89,11 +89,22 @@ rrdi 0.2.0
 """
 PAGE = """x
 
+## create: makes one
+
     rrdi create FILE [-s|--step SECONDS] D..
+
+more
+
+    rrdi other FILE
+
+## tune: changes it
+
     rrdi tune FILE [--a B]
               [-c|--d E]
 
-more
+## batch: runs many
+
+    rrdi batch [FILE]
 """
 
 

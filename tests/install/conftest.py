@@ -13,15 +13,15 @@ import pytest
 from support.library import as_built
 from support.program import TOP, Program
 
-PARTS = ("Makefile", "VERSION", "*.md", "LICENSE*", "debian", "docs", "examples", "include", "librrd", "perl", "python",
-         "tools")
+PARTS = ("Makefile", "VERSION", "*.md", "LICENSE*", "debian", "docs", "examples", "include", "library/c", "librrd", "perl",
+         "python", "tools")
 
 
 def copied(folder: Path) -> Path:
     """Copies the parts of the repository."""
     for path in (path for part in PARTS for path in TOP.glob(part)):
         if path.is_dir():
-            shutil.copytree(path, folder / path.name, ignore=shutil.ignore_patterns("__pycache__", "tests"))
+            shutil.copytree(path, folder / path.relative_to(TOP), ignore=shutil.ignore_patterns("__pycache__", "tests"))
         else:
             shutil.copy(path, folder / path.name)
     return folder
@@ -51,7 +51,7 @@ def stand_in(folder: Path, needs: Callable[..., None]) -> list[str]:
     (folder / "nothing.c").write_text("typedef int nothing;\n")
     for words in ("cc -fPIC -c nothing.c", "ar rcs nothing.a nothing.o"):
         subprocess.run(words.split(), cwd=folder, check=True)
-    return [f"ARCHIVE={folder}/nothing.a", "OF_KIT="]
+    return [f"ARCHIVE={folder}/nothing.a", f"PLAIN={folder}/nothing.c", "OF_KIT="]
 
 
 @pytest.fixture(scope="session")

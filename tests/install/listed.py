@@ -5,6 +5,7 @@ from __future__ import annotations
 import io
 import re
 import subprocess
+import sysconfig
 import tarfile
 from pathlib import Path
 from typing import Iterator
@@ -12,6 +13,8 @@ from typing import Iterator
 from support.program import TOP
 
 LIST = Path(__file__).with_name("installed.txt")
+# What is not there without Python's headers.
+EXTENSION, HEADER = "_rrdi.abi3.so", Path(sysconfig.get_path("include"), "Python.h")
 FUNCTION = re.compile(r"^(?:static inline )?\w[\w ]*[ *](rrdi_\w*[a-z])\(", re.MULTILINE)
 
 
@@ -37,7 +40,7 @@ def listed(*sections: str, LIBDIR: str = "lib", ZSHDIR: str = "share/zsh/site-fu
     """Returns the files of some sections of the list, with their modes."""
     found = dict(re.findall(r"^\[(.*)\]\n((?:.+\n)*)", LIST.read_text(), re.MULTILINE))
     return {" ".join(one.split()) for section in sections for line in found[section].splitlines()
-            for one in filled(line, LIBDIR=LIBDIR, ZSHDIR=ZSHDIR)}
+            for one in filled(line, LIBDIR=LIBDIR, ZSHDIR=ZSHDIR) if EXTENSION not in one or HEADER.is_file()}
 
 
 def in_folder(folder: Path) -> set[str]:

@@ -30,7 +30,35 @@ line=$2; words=(${(s: :)line}); [[ $line != *' ' ]] || words+=('')
 CURRENT=${#words}; PREFIX=$words[CURRENT]
 _rrdi
 """
-PATIENCE, LEAST = 600, {"lines": 11}
+# Lines in which bash is asked for completions at each position; a word has no space and none of bash's other separators.
+WHOLE = ("rrdi-show room.rrdi LAST --json --start 5", "rrdi-plot room.rrdi p.svg MAX --start 5 --dark", "rrdi-import --into rooms room.rrdi",
+         "rrdi-check room.rrdi g --changes room.rrdi", "rrdi-feed --graphite rooms --rules room.rrdi", "rrdi-rrdtool --exact lastupdate room.rrdi",
+         "rrdi-carbon-cache --debug start", "rrdi-fix room.rrdi 5 --source g", "rrdi lastupdate room.rrdi", "rrdi fetch room.rrdi MAX --resolution 5",
+         "rrdi resize room.rrdi 0 GROW 5")
+# Prints what is offered at each position of a line, beside what is offered for the text before it.
+EACH = r"""
+. {top}/examples/rrdi.bash && . {top}/examples/rrdi-tools.bash
+compopt() {{ :; }}
+offered() {{ # LINE POINT
+    local before=${{1:0:$2}} function=_rrdi_tool
+    COMP_LINE=$1 COMP_POINT=$2 COMP_WORDBREAKS=$' \t\n' COMPREPLY=()
+    read -ra COMP_WORDS <<<"$before"
+    COMP_CWORD=${{#COMP_WORDS[@]}}
+    case $before in *' ') ;; *) COMP_CWORD=$((COMP_CWORD - 1)) ;; esac
+    read -ra COMP_WORDS <<<"$1"
+    ((COMP_CWORD < ${{#COMP_WORDS[@]}})) || COMP_WORDS+=('')
+    case $1 in 'rrdi '*) function=_rrdi ;; esac
+    "$function"
+    printf '%s ' "${{COMPREPLY[@]}}"
+}}
+for line; do
+    name=${{line%% *}}
+    for ((point = ${{#name}} + 1; point <= ${{#line}}; point++)); do
+        printf '%s|%s\n%s\n%s\n' "${{line:0:point}}" "${{line:point}}" "$(offered "$line" "$point")" "$(offered "${{line:0:point}}" "$point")"
+    done
+done
+"""
+PATIENCE, LEAST = 600, {"lines": 11, "positions": 300}
 SHELLS: dict[str, Callable[[Path], list[str]]] = {
     "bash": lambda place: [f"{place}/share/rrdi/tools/completion/offers"],
     "zsh": lambda place: ["zsh", "-f", "-c", ZSH, "zsh", f"{place}/share/zsh/site-functions"],
@@ -78,6 +106,17 @@ def test_offers(shell: str, place: Path, rooms: Path, needs: Callable[..., None]
 def test_wrong_offers(folder: Path, planted: Check) -> None:
     check_offers(["sh", "-c", "touch run; echo last"], folder, os.environ, planted)
     assert len(planted.faults) == len(LINES) + 1
+
+
+def test_each_position(rooms: Path, check: Check) -> None:
+    """Bash offers what fits before the cursor, whatever follows it."""
+    ran = subprocess.run(["bash", "--norc", "-c", EACH.format(top=TOP), "bash", *WHOLE], cwd=rooms, capture_output=True, text=True, check=True,
+                         timeout=PATIENCE, env={**os.environ, "RRDI": "true"})
+    lines = ran.stdout.splitlines()
+    for line, found, wanted in zip(lines[::3], lines[1::3], lines[2::3]):
+        check.count("positions")
+        check.same(found, wanted, line)
+    assert ran.stderr == "" and {line.split("|")[0] for line in lines[::3]} > set(WHOLE)
 
 
 def test_bash_knows_each_tool(place: Path) -> None:

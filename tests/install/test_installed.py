@@ -56,6 +56,15 @@ def test_no_program(folder: Path, needs: Callable[..., None]) -> None:
         assert "nowhere not found; run make first" in told(folder, *words, status=2)
 
 
+def test_no_kit(folder: Path, needs: Callable[..., None]) -> None:
+    """An archive that was built elsewhere is linked with the kit, which is found by its rt."""
+    needs("make")
+    (folder / "built.a").touch()
+    words = ("make", "-s", "-C", TOP, "link-library", f"ARCHIVE={folder}/built.a", f"BUILD={folder}/out", "KIT=/nowhere")
+    assert "/nowhere/c/libos_c.a not found; the library is linked with the Rattle kit" in told(folder, *words, status=2)
+    assert not (folder / "out").exists()
+
+
 @pytest.mark.xdist_group("packages")
 def test_packages(packages: dict[str, Path], needs: Callable[..., None], folder: Path) -> None:
     needs("perl")

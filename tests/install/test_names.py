@@ -66,7 +66,9 @@ def test_units(make: Callable[..., None], folder: Path, needs: Callable[..., Non
         assert all(os.access(program, os.X_OK) for program in re.findall(r"^ExecStart=(\S+)", text, re.MULTILINE)), name
     assert " RRDI_SYNC=1 " in units["rrdi-feed.service"].read_text()
     ran = subprocess.run(["systemd-analyze", "verify", "--man=no", *units.values()], capture_output=True, text=True)
-    assert (ran.returncode, ran.stderr) == (0, "")
+    # It says what it thinks of other packages' units too.
+    of_ours = [line for line in ran.stderr.splitlines() if "rrdi" in line or not line.startswith(("/lib/", "/usr/lib/"))]
+    assert (ran.returncode, of_ours) == (0, [])
     services = [path for name, path in units.items() if name.endswith(".service")]
     rated = [subprocess.run(["systemd-analyze", "security", "--offline=true", "--no-pager", f"--threshold={MOST_EXPOSED}", path],
                             capture_output=True, text=True) for path in services]

@@ -3,6 +3,7 @@
 from __future__ import annotations
 
 import re
+import subprocess
 from pathlib import Path
 from typing import Iterator, NamedTuple
 
@@ -10,7 +11,7 @@ import pytest
 
 from support.program import TOP
 
-PAGES = [TOP / "README.md", TOP / "CONTRIBUTING.md", *sorted((TOP / "docs").glob("*.md"))]
+PAGES = [*sorted(TOP.glob("*.md")), TOP / "tests/README.md", *sorted((TOP / "docs").glob("*.md"))]
 LINK = re.compile(r"(!?)\[((?:[^][]|\[[^]]*\])*)\]\(([^()\s]*)\)")
 ITEM, HEADING, RULE = re.compile(r"\s*(?:[-*]|\d+\.)\s+"), re.compile(r"(#+)\s+(.*)"), re.compile(r"\|[-:| ]+\|$")
 # A link text that is the name of a file, not a phrase.
@@ -84,7 +85,7 @@ def faults(path: Path) -> list[str]:
             *(f"a long cell: {cell}" for cell in long if len(long) > MOST.get(path.name, 1))]
 
 
-@pytest.mark.parametrize("path", PAGES, ids=[path.name for path in PAGES])
+@pytest.mark.parametrize("path", PAGES, ids=[str(path.relative_to(TOP)) for path in PAGES])
 def test_a_page(path: Path) -> None:
     assert faults(path) == []
 
@@ -160,11 +161,15 @@ def test_trust() -> None:
 
 
 def test_definitions() -> None:
-    """The page definitions.md names each module that one has to believe."""
-    page = (TOP / "docs/definitions.md").read_text().split("You have to believe that these modules")[1]
-    table = re.findall(r"^\| `(\w+)` \| (.*) \|$", page.split("These modules are not")[0], re.M)
-    listed = {(crate, name) for crate, names in table for name in re.findall(r"\b[A-Z]\w+", names)}
-    heads = {(path.relative_to(TOP).parts[1], path.name.split(".")[0]): path.read_text().split("\n", 1)[0]
-             for folder in ("crates", "library") for path in (TOP / folder).glob("*/specs/**/*.antt*")}
-    defining = {module for module, head in heads.items() if head.startswith("-- Definition")}
-    assert defining <= listed <= set(heads) and len(defining) > 80
+    """The command on the page definitions.md prints each module that one has to believe, and the page names its crate."""
+    page = (TOP / "docs/definitions.md").read_text()
+    shown = re.search(r"^    (grep .*\bspecs)$", page, re.MULTILINE)
+    assert shown
+    printed = subprocess.run(shown[1], shell=True, cwd=TOP, capture_output=True, text=True, check=True).stdout
+    heads = {str(path.relative_to(TOP)): path.read_text().split("\n", 1)[0] for folder in ("crates", "library")
+             for path in (TOP / folder).glob("*/specs/**/*.antt*")}
+    defining = {path: head for path, head in heads.items() if head.startswith("-- Definition")}
+    assert sorted(printed.splitlines()) == sorted(f"{path}:{head}" for path, head in defining.items()) and len(defining) > 80
+    assert {path.split("/")[1] for path in defining} <= set(re.findall(r"`(\w+)(?:/\w+)*`", page))
+    kinds = re.compile(r"-- (Definition|Glue|Laws?|Example)\b")
+    assert all(kinds.match(head) or head.startswith("pub mod ") for head in heads.values())

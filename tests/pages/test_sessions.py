@@ -17,7 +17,7 @@ from support.check import Check
 from support.program import TOP
 from support.sessions import Command, sessions
 
-LEAST = {"commands": 190, "plots": 3}
+LEAST = {"commands": 115, "plots": 3}
 SESSIONS = sessions(TOP)
 # The pages whose sessions need the C library: installed, or for the Python package.
 OF_C, OF_PYTHON = ("docs/embedding.md", "docs/rrdi.3"), "docs/python.md"
@@ -108,4 +108,4 @@ def test_each_plot_is_drawn() -> None:
 
 def test_the_pages() -> None:
     assert {"README.md", "docs/tutorial.md", *OF_C, OF_PYTHON, PLOTTING} <= set(SESSIONS)
-    assert sum(map(len, SESSIONS.values())) > 180
+    assert sum(map(len, SESSIONS.values())) > 115

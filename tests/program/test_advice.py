@@ -11,7 +11,8 @@ import pytest
 
 from support import layout
 from support.program import error
-from support.runs import CREATE, FILE, RUNS, Runs
+from support.refusals import Row, rows
+from support.runs import FILE, RUNS, Runs
 
 LEAST = {RUNS: 245}
 # What the program says of times, and of other words, that RRDtool takes.
@@ -19,11 +20,16 @@ TIMES = "rrdi-rrdtool --rrdi takes RRDtool's times"
 TOOL = "or run rrdi-rrdtool --rrdi"
 # Arguments that are not a command, what the program says of them, and the command whose usage follows; without one, the
 # whole usage.
-MISTAKES = [
-    ([], "", ""), (["--help"], "", ""), (["-h"], "", ""), (["create"], "", "create"), (["last"], "", "last"),
-    (["batch", FILE, "last"], "", "batch"),
-    (["last", FILE, "more"], "", "last"), (["last", FILE, "--help"], "", "last"), (["tune", FILE, "-h"], "", "tune"),
-    (["fetch", FILE], "", "fetch"),
+MISTAKES: list[tuple[list[Any], str, str]] = [
+    ([], "", ""), (["--help"], "", ""), (["-h"], "", ""), (["-h", FILE], "", ""),
+    (["create"], "FILE is missing", "create"), (["last"], "FILE is missing", "last"),
+    (["batch", FILE, "last"], "'last' is a word too many; batch takes only FILE, and commands on standard input", "batch"),
+    (["last", FILE, "more"], "'more' is a word too many; last takes none", "last"),
+    (["last", FILE, "--help"], "", "last"), (["tune", FILE, "-h"], "", "tune"),
+    (["fetch", FILE], "give a function: AVERAGE, MIN, MAX, LAST", "fetch"),
+    (["fetch", "MAX"], "MAX is in the place of FILE, which comes first", "fetch"),
+    (["-last", FILE], "there is no command -last; did you mean last?", "last"),
+    (["--version"], "there is no command --version; rrdi --help prints the version too", ""),
     (["last", "-"], "- is in the place of FILE, which does not begin with a dash", "last"),
     (["update", "--template", "g", FILE], "--template is in the place of FILE, which does not begin with a dash",
      "update"),
@@ -33,12 +39,12 @@ MISTAKES = [
     (["upadte", FILE, "10:1"], "there is no command upadte; did you mean update?", "update"),
     (["batsh"], "there is no command batsh; did you mean batch?", "batch"),
     (["x" * 50, FILE], f"there is no command {'x' * 20}", ""),
-    (["a\tb\x1b[1m", FILE], "there is no command a\\tb\\u{1b}[1m", ""), (["", FILE], "there is no command ", ""),
+    (["a\tb\x1b[1m", FILE], "there is no command a\\tb\\u{1b}[1m", ""), (["", FILE], "the name of the command is empty", ""),
     (["create", FILE, "--stpe", "5"], "there is no option --stpe; did you mean --step?", "create"),
     (["fetch", FILE, "LAST", "--strat=5"], "there is no option --strat; did you mean --start?", "fetch"),
-    (["last", FILE, "--start", "5"], "there is no option --start", "last"),
-    (["info", FILE, "-x"], "there is no option -x", "info"),
-    (["update", FILE, "10:1", "-T", "g"], "there is no option -T", "update"),
+    (["last", FILE, "--start", "5"], "there is no option --start; last takes none", "last"),
+    (["info", FILE, "-x"], "there is no option -x; info takes none", "info"),
+    (["update", FILE, "10:1", "-T", "g"], "there is no option -T; update takes --template", "update"),
     (["fetch", FILE, "LAST", "--start", "-1x"], f"--start has no value; '-1x' begins with a dash; {TIMES}", "fetch"),
     (["tune", FILE, "--minimum", "-5"], "--minimum has no value; '-5' begins with a dash", "tune"),
     (["graph", "a.png"], "there is no command graph; rrdi-graph draws with RRDtool's grapher, rrdi-plot with gnuplot", ""),
@@ -49,125 +55,8 @@ MISTAKES = [
     (["-"], "- is no command; rrdi-rrdtool - reads commands as RRDtool does, and rrdi batch its own", ""),
     (["fetch", FILE, "LAST", "-s"], "--start has no value", "fetch"),
     (["create", FILE, "--step", "10", "-s5"], "--step is given twice", "create"),
-    (["first", FILE, "--rraindex=0", "--", "-x"], "", "first")]
-# What the program says if something is missing.
-NO_SAMPLE, NO_OPTION = "a sample is missing, such as N:21.5", "an option, or RRA: or DELRRA:, is missing"
-NO_SOURCE = "a data source is missing, such as DS:temp:GAUGE:600:U:U"
-NO_ARCHIVE = "an archive is missing, such as RRA:AVERAGE:0.5:1:1440"
-TOO_LONG = "it would be over 1000000 rows; raise --start or --resolution"
-A_NAME = "a name has 1 to 19 characters of a-z A-Z 0-9 _"
-A_COUNTER = "of type COUNTER, which takes whole numbers without a point from 0 to 2^64 - 1"
-A, LAST = "DS:a:GAUGE:60:U:U", "RRA:LAST:0.5:1:4"
-# Arguments of refused commands on a file with the gauge a, the counter b and an archive of LAST with 4 rows, the
-# fault, and what the program says of them.
-LONG_TEXT = "9" * 50
-ADVICE = [
-    (["update", "10"], "unreadable sample 1", "'10' has no value; write TIME:VALUE"),
-    (["update", "10:1:2", "x:1:2"], "unreadable sample 2", "its time is 'x', not whole seconds since 1970 or N"),
-    (["update", "-t", "a:b", "10:1,5:2"], "unreadable sample 1", "its value 1 is '1,5'; write '1.5', with a point"),
-    (["update", "10:1:-0,123456"], "unreadable sample 1",
-     "its value 2 is '-0,123456'; write '-0.123456', with a point"),
-    *((["update", f"10:1:{text}"], "unreadable sample 1",
-       f"its value 2 is '{text}'; a value is a number, such as 21.5 or -3, or U for unknown")
-      for text in ("-,5", "1,", "+1,5", "1,1234567", f"{'1' * 21},5", "1,5,6", "1,5e3")),
-    (["update", "10:U:1e3"], "unreadable sample 1",
-     "its value 2 is '1e3', with an exponent; a value has at most six decimals and no exponent; write 1000, " + TOOL),
-    (["update", "--template=a", "--", "10:-.5E-3"], "unreadable sample 1",
-     "its value 1 is '-.5E-3', with an exponent; a value has at most six decimals and no exponent"),
-    (["update", "10:1:0.1234567"], "unreadable sample 1",
-     "its value 2 is '0.1234567', with more than six decimals; a value has at most six decimals and no exponent"),
-    (["update", "10::2"], "unreadable sample 1", "its value 1 is empty; U is unknown"),
-    (["update", "10:1:NaN"], "unreadable sample 1", "its value 2 is 'NaN'; U is unknown"),
-    (["update", "10:1:+5"], "unreadable sample 1",
-     "its value 2 is '+5'; a value is a number, such as 21.5 or -3, or U for unknown"),
-    (["update", "10:5.:2"], "unreadable sample 1",
-     "its value 1 is '5.'; a value is a number, such as 21.5 or -3, or U for unknown"),
-    (["update", f"10:1:{LONG_TEXT}"], "unreadable sample 1",
-     f"its value 2 is '{LONG_TEXT[:20]}'.. (50 characters), with more than 20 digits"),
-    (["update", "1700000000000:1:2"], "bad time",
-     "sample 1 has the time 1700000000000; if these are milliseconds, write 1700000000"),
-    (["update", "10:1:2", "1700000000123456:1:2"], "bad time",
-     "sample 2 has the time 1700000000123456; if these are microseconds, write 1700000000"),
-    (["update", "18446744073709551615:1:2"], "bad time",
-     "sample 1 has the time 18446744073709551615, which is over 9999999999"),
-    (["fetch", "LAST", "-s", "0", "-e", "1700000000000"], "bad time",
-     "--end is 1700000000000; if these are milliseconds, write 1700000000"),
-    (["create", "-b1700000000000", *CREATE[4:]], "bad start",
-     "--start is 1700000000000; if these are milliseconds, write 1700000000"),
-    (["update", "10:1:2:3"], "wrong number of values", "sample 1 has 3 values, 2 are wanted: a, b"),
-    (["update", "10:1:2", "20:1"], "wrong number of values", "sample 2 has 1 value, 2 are wanted: a, b"),
-    (["update", "-tb:a", "10:1"], "wrong number of values", "sample 1 has 1 value, 2 are wanted: b, a"),
-    (["update", "--template", "a", "10:1:2"], "wrong number of values", "sample 1 has 2 values, 1 is wanted: a"),
-    (["fetch", "AVG"], "unreadable function", "it is 'AVG', not AVERAGE, MIN, MAX or LAST"),
-    (["fetch", "-s", "noon", "LAST"], "unreadable start", f"it is 'noon', not whole seconds since 1970; {TIMES}"),
-    (["fetch", "LAST", "-r=5m"], "unreadable resolution", f"it is '5m', not a whole number of seconds; write 300, {TOOL}"),
-    (["tune", "--heartbeat", "a:15m"], "unreadable heartbeat", f"it is 'a:15m', not NAME:SECONDS; write a:900, {TOOL}"),
-    (["update", "now:1:2"], "unreadable sample 1",
-     f"its time is 'now', not whole seconds since 1970 or N; write N, {TOOL}"),
-    (["update", "10:1:\x1b[2J\u202e\u200b\u2028"], "unreadable sample 1",
-     "its value 2 is '\\u{1b}[2J\\u{202e}\\u{200b}\\u{2028}'; a value is a number, such as 21.5 or -3, or U for unknown"),
-    (["create", "DS:a:GAUGE:60:U:U", "RRA:AVG:0.5:1:1"], "unreadable definition 2",
-     "it is 'RRA:AVG:0.5:1:1', not DS:name:GAUGE|COUNTER|DERIVE|ABSOLUTE:heartbeat:min:max "
-     "or RRA:AVERAGE|MIN|MAX|LAST:xff:steps:rows"),
-    (["tune", "-i", "g"], "unreadable minimum", "it is 'g', not NAME:MIN"),
-    (["tune", "RRA:LAST"], "unreadable definition 1",
-     "it is 'RRA:LAST', not RRA:AVERAGE|MIN|MAX|LAST:xff:steps:rows or DELRRA:ARCHIVE"),
-    (["resize", "0", "UP", "1"], "unreadable change", "it is 'UP', not GROW or SHRINK"),
-    (["first", "--rraindex", "last"], "unreadable archive", "it is 'last', not the number of an archive, such as 0"),
-    (["update", "5:1:2", "4:1:2"], "not later than 5", "sample 2 has the time 4"),
-    (["update", "0:1:2"], "not later than 0", ""),
-    (["update", "5:1:2", "7:1:2", "0:1:2"], "not later than 7", "sample 3 has the time 0"),
-    (["update"], "no sample", NO_SAMPLE), (["tune"], "nothing to tune", NO_OPTION),
-    (["create"], "no data source", NO_SOURCE), (["create", A], "no archive", NO_ARCHIVE),
-    (["create", "-s0", A, LAST], "bad step", "--step is '0', not 1 to 1000000 seconds"),
-    (["create", A, "--journal", "100001", LAST], "bad journal depth", "--journal is '100001', not 1 to 100000 changes"),
-    (["create", A, LAST, "DS:my-temp:GAUGE:60:U:U"], "bad name", f"definition 3 has the name 'my-temp'; {A_NAME}"),
-    (["create", "DS::GAUGE:60:U:U", LAST], "bad name", f"definition 1 has the name ''; {A_NAME}"),
-    (["create", A, LAST, A], "double name", "two data sources would have the name a"),
-    (["create", A, "DS:b:GAUGE:0:U:U", LAST], "bad heartbeat",
-     "the heartbeat of b is '0', not 1 to 9999999999 seconds"),
-    (["create", "DS:a:GAUGE:60:100:0", LAST], "bad bounds", "the minimum of a is '100', above its maximum, '0'"),
-    (["create", "DS:a:GAUGE:60:U:18446744073709551616", LAST], "bad bounds",
-     "the maximum of a is '18446744073709551616', not at most 2^64 - 1 in size"),
-    (["create", A, "RRA:LAST:1:1:4"], "bad xff", "the xff of definition 2 is '1', not 0 to 0.999999"),
-    (["create", LAST, A, "RRA:LAST:0.5:0:4"], "bad steps",
-     "the number of steps of definition 3 is '0', not 1 to 1000000"),
-    (["create", A, "RRA:LAST:0.5:1:1000001"], "bad rows",
-     "the number of rows of definition 2 is '1000001', not 1 to 1000000"),
-    (["create", *(f"DS:s{number}:GAUGE:60:U:U" for number in range(65)), LAST], "too large",
-     "there are 65 data sources, and at most 64 are allowed"),
-    (["create", A, *([LAST] * 129)], "too large", "there are 129 archives, and at most 128 are allowed"),
-    (["create", *(f"DS:s{number}:GAUGE:60:U:U" for number in range(9)), "RRA:LAST:0:1:900000"], "too large",
-     "data sources times rows are 9 times 900000, and at most 8000000"),
-    (["update", "-t", "a:c", "10:1:2"], "no such data source", "there is no data source c; the file has a, b"),
-    (["update", "-t", "a:a", "10:1:2"], "double name", "--template has a twice"),
-    (["update", "10:1:5.0"], "bad value", f"value 2 of sample 1 is 5.0; b is {A_COUNTER}"),
-    (["update", "10:1:5", "20:1:-5"], "bad value", f"value 2 of sample 2 is -5; b is {A_COUNTER}"),
-    (["update", "--template=b:a", "10:0.5:1"], "bad value", f"value 1 of sample 1 is 0.5; b is {A_COUNTER}"),
-    (["update", "10:1000000000000000000:1"], "bad value",
-     "value 1 of sample 1 is 1000000000000000000; a is of type GAUGE, which takes numbers below 10^18"),
-    (["tune", "--heartbeat", "c:5"], "no such data source", "there is no data source c; the file has a, b"),
-    (["tune", "--heartbeat", "a:0"], "bad heartbeat", "the heartbeat of a is '0', not 1 to 9999999999 seconds"),
-    (["tune", "-a", "a:18446744073709551616"], "bad bounds",
-     "the maximum of a is '18446744073709551616', not at most 2^64 - 1 in size"),
-    (["tune", "-i", "a:5", "-a", "a:4"], "bad bounds",
-     "a minimum would be above its maximum; rrdi info has the present ones"),
-    (["tune", "-r", "a:b"], "double name", "two data sources would have the name b"),
-    (["tune", "-r", "a:b-c"], "bad name", f"the new name is 'b-c'; {A_NAME}"),
-    (["tune", "-i", "a:0", LAST], "mixed tune", "run it twice: with the options, and with the archive"),
-    (["tune", "RRA:LAST:1:1:4"], "bad xff", "the xff of definition 1 is '1', not 0 to 0.999999"),
-    (["tune", "DELRRA:1"], "no such archive", "the file has one archive, 0"),
-    (["tune", "DELRRA:0"], "no archive", "it is the only archive; add another one first"),
-    (["resize", "1", "GROW", "1"], "no such archive", "the file has one archive, 0"),
-    (["resize", "0", "GROW", "0"], "bad rows", "the number of rows is '0', not 1 to 1000000"),
-    (["resize", "0", "GROW", "1000000"], "bad rows", "the archive would have over 1000000 rows"),
-    (["resize", "0", "SHRINK", "4"], "shrinks too far", "archive 0 has 4 rows, of which one has to be left"),
-    (["first", "--rraindex", "1"], "no such archive", "the file has one archive, 0"),
-    (["fetch", "MAX"], "no archive for this function", "the archives have LAST"),
-    (["fetch", "LAST", "-s", "9", "-e", "8"], "bad span", "--start is 9, after --end, which is 8"),
-    (["fetch", "LAST", "-s", "9999999999"], "bad span",
-     "--start is 9999999999, after now, where it ends without --end"),
-    (["fetch", "LAST", "-s0", "-e", "9999999999"], "span too long", TOO_LONG)]
+    ([b"last", b"\xff"], "an argument is not in UTF-8", ""),
+    (["first", FILE, "--rraindex=0", "--", "-x"], "'-x' is a word too many; first takes only the option --rraindex", "first")]
 # The first bytes of files of other programs, the names of the files, and the program that is named.
 OTHERS = [(b"RRD\x000003", "old", "RRDtool"), (b"\0\0\0\1" + bytes(100), "old.wsp", "whisper"),
           (b"\0\0\0\1" + bytes(100), "old", ""),
@@ -189,19 +78,61 @@ def line(says: str) -> str:
 
 
 def ids(table: Sequence[tuple[Any, ...]]) -> list[str]:
-    return [" ".join(row[0])[:60] for row in table]
+    return [" ".join(map(str, row[0]))[:60] for row in table]
 
 
 @pytest.mark.parametrize("words, says, command", MISTAKES, ids=ids(MISTAKES))
-def test_misuse(t: Runs, words: list[str], says: str, command: str) -> None:
+def test_misuse(t: Runs, words: list[Any], says: str, command: str) -> None:
     usage = t.told([]).err.partition("\n")[2]
     t.same(words, 2, error("usage") + line(says) + usage_of(usage, command))
 
 
-@pytest.mark.parametrize("words, fault, says", ADVICE, ids=ids(ADVICE))
-def test_advice(t: Runs, words: list[str], fault: str, says: str) -> None:
-    t.run(["create", FILE, *"--step 10 --start 0 DS:a:GAUGE:100:U:U DS:b:COUNTER:100:U:U RRA:LAST:0.5:1:4".split()])
-    t.same([words[0], FILE, *words[1:]], 1, error(fault) + line(says))
+def told_of(err: str) -> str:
+    """Returns what is said of a refused command, in the line after that of the fault."""
+    lines = err.split("\n")
+    return lines[1].removeprefix("rrdi: ") if lines[0].startswith("ERROR: ") and lines[1].startswith("rrdi: ") else ""
+
+
+def test_refusals(t: Runs) -> None:
+    """Runs the table of refusals."""
+    made: list[str] = []
+    for row in rows():
+        if row.has_clock:
+            continue
+        if row.create != made:
+            t.run(["create", FILE, *row.create[1:]])
+            made = row.create
+        status, out, err = t.told([row.words[0], FILE, *row.words[1:]])
+        t.check.same((status in (1, 2), out, told_of(err)), (True, "", row.says), " ".join(row.words)[:80])
+
+
+def test_refused_lines(t: Runs) -> None:
+    """Runs the rows of the table that a line may have as lines of one batch, with one that is accepted after each of them."""
+    table = [row for row in rows() if not row.has_clock and is_line(row)]
+    for create in {tuple(row.create): None for row in table}:
+        of_one = [row for row in table if tuple(row.create) == create][:40]
+        t.run(["create", FILE, *create[1:]])
+        lines = "".join(f"{' '.join(row.words)}\nlast\n" for row in of_one)
+        ran = t.told(["batch", FILE], lines, explains=True)
+        says = "".join(f"rrdi: line {2 * at + 1}: {row.says}\n" for at, row in enumerate(of_one) if row.says)
+        t.check.same((ran.status, ran.err), (1, says), "what is said of refused lines")
+        t.check.same(ran.out.count("ERROR: "), len(of_one), "refused lines")
+
+
+def is_line(row: Row) -> bool:
+    """Checks whether the words are those of a line: without an empty word, and of printable ASCII."""
+    return all(re.fullmatch("[!-~]+", word) for word in row.words)
+
+
+def test_a_long_batch(t: Runs) -> None:
+    """Of very many refused lines the first ones are explained."""
+    t.run(["create", FILE, *"--step 10 --start 0 DS:a:GAUGE:100:U:U RRA:LAST:0.5:1:4".split()])
+    ran = t.told(["batch", FILE], "update 10:1:2\n" * 5_000, explains=True)
+    said = ran.err.splitlines()
+    t.check.same((ran.status, ran.out.count("ERROR")), (1, 5_000), "refused lines")
+    t.check.same(said, [f"rrdi: line {at}: sample 1 has 2 values, 1 is wanted: a" for at in range(1, len(said) + 1)],
+                 "explained lines")
+    t.check.same(50 < len(said) < 500, True, f"{len(said)} explained lines")
 
 
 @pytest.mark.parametrize("words, before", [(["-s", "now"], 0), (["-s-1h"], 3_600), (["-e", "now-5m"], 300),
@@ -244,7 +175,7 @@ def test_advice_on_other_files(t: Runs) -> None:
            + "rrdi: sample 1 has 2 values, 1 is wanted: g\n")
     t.same(["resize", FILE, "1", "GROW", "5"], 1, error("no such archive") + "rrdi: the file has one archive, 0\n")
     last = int(time.time()) + 3_600
-    t.run(["create", FILE, "--start", str(last), A, LAST])
+    t.run(["create", FILE, "--start", str(last), "DS:a:GAUGE:60:U:U", "RRA:LAST:0.5:1:4"])
     status, out, err = t.told(["update", FILE, "N:1"])
     says = (f"rrdi: {last} is 3600 seconds ahead of the clock; if a sample has this wrong time, "
             "rrdi revert takes it back\n")

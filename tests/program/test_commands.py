@@ -15,6 +15,7 @@ LEAST = {RUNS: 950}
 NO_SAMPLE, NO_OPTION = "a sample is missing, such as N:21.5", "an option, or RRA: or DELRRA:, is missing"
 NO_SOURCE = "a data source is missing, such as DS:temp:GAUGE:600:U:U"
 TOO_LONG = "it would be over 1000000 rows; raise --start or --resolution"
+LATER = "5 is not later than the last update, 10; the next sample may be at 11 or later"
 MISSING = "no such file or directory"
 
 
@@ -29,7 +30,7 @@ def test_words_and_files(t: Runs) -> None:
     t.check.same(t.held(), None, "no file is made")
     t.run(["last", "."], 1, err=refused("cannot open", ".", "is a directory"))
     t.run(["create", ".", *CREATE], 1, err=refused("cannot write", ".", "is a directory"))
-    t.run(["last", ""], 1, err=refused("cannot open", "", MISSING))
+    t.run(["last", ""], 1, err=error("cannot open") + f"rrdi: {MISSING}\n")
     t.run(["create", "nowhere/file", *CREATE], 1, err=refused("cannot write", "nowhere/file", MISSING))
     t.run(["last", "/dev/null/file"], 1, err=refused("cannot open", "/dev/null/file", "not a directory"))
     long = "long" * 100
@@ -46,18 +47,19 @@ def test_one_file(t: Runs) -> None:
     t.check.same(len(t.held()), 309, "its bytes with an entry")
     t.run(["last", FILE], out="10\n")
     t.run(["fetch", FILE, "LAST", "-s", "0", "-e", "19"], out="time: g\n10: 1.000000\n20: nan\n")
-    for words, text, says in [(["update", "5:1"], "not later than 10", ""), (["update"], "no sample", NO_SAMPLE),
+    for words, text, says in [(["update", "5:1"], "not later than 10", LATER), (["update"], "no sample", NO_SAMPLE),
                               (["tune"], "nothing to tune", NO_OPTION), (["create"], "no data source", NO_SOURCE),
                               (["resize", "0", "SHRINK", "4"], "shrinks too far",
                                "archive 0 has 4 rows, of which one has to be left"),
                               (["fetch", "MIN"], "no archive for this function", "the archives have LAST")]:
-        t.same([words[0], FILE, *words[1:]], 1, error(text) + (f"rrdi: {says}\n" if says else ""))
+        t.same([words[0], FILE, *words[1:]], 1, error(text) + f"rrdi: {says}\n")
     t.run(["tune", FILE, "-i", "g:5"])
     t.run(["resize", FILE, "0", "GROW", "1"])
     for _ in range(3):
         t.run(["revert", FILE])
     t.check.same(t.held(), new, "the file after all changes are reverted")
-    t.same(["revert", FILE], 1, error("nothing to revert"))
+    t.same(["revert", FILE], 1, error("nothing to revert")
+           + "rrdi: no change is left in the journal, which keeps the newest 16\n")
     t.run(["update", FILE, "N:1"])
     t.run(["create", FILE, *CREATE])
     t.check.same(t.held(), new, "the file that a create replaced")
@@ -93,7 +95,7 @@ def test_batches(net: Runs) -> None:
     t.run(["batch"], 0, "0\n", lines="create " + " ".join(CREATE) + "\nlast\n")
     t.run(["batch", "nowhere/file"], 1, "", refused("cannot open", "nowhere/file", MISSING),
           "create " + " ".join(CREATE) + "\nlast\n")
-    t.run(["batch", ""], 1, "", refused("cannot open", "", MISSING), "create " + " ".join(CREATE) + "\nlast\n")
+    t.run(["batch", ""], 1, "", error("cannot open") + f"rrdi: {MISSING}\n", "create " + " ".join(CREATE) + "\nlast\n")
     t.run(["batch", "./one"], 0, "0\n", "", "create " + " ".join(CREATE) + "\nlast\n")
     os.symlink("nowhere/file", f"{t.folder}/leads-nowhere")
     t.run(["batch", "leads-nowhere"], 1, "0\n", refused("cannot write", "leads-nowhere", MISSING),
@@ -136,8 +138,9 @@ def test_files_of_others(t: Runs) -> None:
 
 
 def test_interrupted(t: Runs) -> None:
-    """Checks that each form of a file whose change was interrupted is read as the database that it stands for, and that
-    the file then has that database's bytes. Without a log the database is the one with which the file begins."""
+    """Checks that each form of a file whose change was interrupted is read as the database that it stands for. A command that
+    may change the file gives it that database's bytes, and one that reads leaves it alone. Without a log the database is
+    the one with which the file begins."""
     t.run(["create", FILE, *CREATE])
     new = t.held()
     t.run(["update", FILE, "10:1"])
@@ -152,11 +155,11 @@ def test_interrupted(t: Runs) -> None:
                        "two changes": marks.with_change(marks.logged(held, new), len(held), (0, held[:150]),
                                                         (99, held[99:])),
                        "a change that is not cut": marks.uncut(new, held)}.items():
-        for words, wanted in ((["last"], held), (["batch"], held), (["update", "5:1"], held), (["revert"], new)):
+        for words, wanted in ((["last"], left), (["batch"], held), (["update", "5:1"], held), (["revert"], new)):
             t.put(left)
             status, out, err = t.told([words[0], FILE, *words[1:]], "last\n" if words[0] == "batch" else "")
             is_refused = words[0] == "update"
-            told = (1, "", error("not later than 10")) if is_refused else (0, "" if words[0] == "revert" else "10\n",
+            told = (1, "", error("not later than 10") + f"rrdi: {LATER}\n") if is_refused else (0, "" if words[0] == "revert" else "10\n",
                                                                            "")
             t.check.same((status, out, err), told, f"{words} on a file with {name}")
             t.check.same(t.held() == wanted, True,

@@ -31,7 +31,7 @@ from typing import Any
 import pytest
 
 from support import between as calls_between
-from support.changes import (FILE, LOCK_SH, LOCK_UN, SYNCS, Place, Ran, Task, changes, is_refused, locks_of,
+from support.changes import (FILE, LOCK_UN, SYNCS, Place, Ran, Task, changes, is_refused, locks_of,
                              over_interrupted,
                              readings)
 from support.check import Check
@@ -39,8 +39,8 @@ from support.program import KILLED, WITH_REASON, Answer, Program, error, parted,
 
 FAILED = "calls that failed"
 # The least numbers of tries, in the short mode and with --long.
-LEAST = {FAILED: 1_080, "runs": 10_600, "short calls": 1_900, "interrupted calls": 680, "writes cut for good": 440}
-LEAST_LONG = {FAILED: 5_500, "runs": 50_000}
+LEAST = {FAILED: 1_010, "runs": 10_100, "short calls": 1_800, "interrupted calls": 640, "writes cut for good": 440}
+LEAST_LONG = {FAILED: 5_200, "runs": 47_500}
 # The faults that may be reported if a call of this kind fails.
 FAULTS = {
     "open": {"cannot open", "cannot write"}, "fcntl": {"cannot open", "cannot write"},
@@ -106,7 +106,8 @@ class Faults:
         faults = [*self.task.faults(self.plain.answer, self.old, self.new),
                   *locks_of(self.plain.calls, FILE, not self.task.reads)]
         self.check(not faults, f"{self.task.name}: {'; '.join(faults[:3])}")
-        self.check(self.new == self.plain.held, f"{self.task.name}: the next command makes another file")
+        wanted = self.place.begun(self.task, self.old) if self.task.reads else self.new
+        self.check(self.plain.held == wanted, f"{self.task.name}: it leaves another file than the next command finds")
         self.try_forks()
 
     def files_of_fronts(self) -> set[bytes | None]:
@@ -139,6 +140,8 @@ class Faults:
         ran = self.place.run(self.task, self.old, **self.always, **settings)
         answer, now = self.place.after_next()
         what = f"{self.task.name}, {what}: {ran.answer}, then {answer}, a file of {len(now or b'')} bytes"
+        is_kept = not self.task.reads or ran.held == self.place.begun(self.task, self.old)
+        self.check(is_kept, f"{what}: a command that reads changes the file")
         if ran.answer == self.plain.answer:
             is_right = now == self.new or may_be_either and now == self.old or may_be_refused and is_refused(answer)
             self.check(is_right, f"{what}, not as without a fault")
@@ -179,6 +182,8 @@ class Faults:
             return
         if call.kind == "flock" and call.size & LOCK_UN:
             self.run(f"{what} fails", set(), must_be_whole=True, CALL=number)
+        elif call.kind == "flock" and self.place.stays_open and self.has_lock(number):
+            self.try_turn(number, what)
         elif call.kind == "flock":
             self.try_lock(number, what)
             self.try_without_locks(number, what)
@@ -203,14 +208,19 @@ class Faults:
                 self.check(ran.answer != self.plain.answer, f"{self.task.name}, {what} fails: not reported")
 
     def try_error_stream(self, number: int, what: str) -> None:
-        """Lets the report of a refusal fail, which nothing can report: the status and FILE must be as without a
-        fault."""
-        settings: list[dict[str, Any]] = [{}, {"MOVES": [1, -1]}, {"INTERRUPTS": 1_001}]
+        """Lets the report of a refusal fail, which nothing can report: the status, the output and FILE must be as without
+        a fault, and so must the report after a short write."""
+        plain = self.place.run(self.task, self.old, True, **self.always).answer
+        # The second line is written although the first one could not be.
+        first, _, second = plain.err.partition("\n")
+        fronts = {plain.err[:end] for end in range(len(plain.err))} | {first[:end] + second for end in range(len(first))}
+        settings: list[dict[str, Any]] = [{}, {"MOVES": [1]}, {"MOVES": [1, -1]}, {"INTERRUPTS": 1_001}]
         for more in settings:
-            ran = self.place.run(self.task, self.old, **self.always, CALL=number, **more)
+            ran = self.place.run(self.task, self.old, True, **self.always, CALL=number, **more)
             _, now = self.place.after_next()
-            plain = self.plain.answer
-            is_right = ran.answer.status == plain.status and plain.err.startswith(ran.answer.err)
+            is_whole = ran.answer.err == plain.err
+            is_front = more != {"MOVES": [1]} and ran.answer.err in fronts
+            is_right = ran.answer[:2] == plain[:2] and (is_whole or is_front)
             self.check(is_right and now == self.new,
                        f"{self.task.name}, {what} fails {more}: {ran.answer}, {self.same(now)}")
             self.check.count(FAILED)
@@ -237,34 +247,30 @@ class Faults:
             self.check.count(FAILED)
         self.check.count(FAILED)
 
+    def has_lock(self, number: int) -> bool:
+        """Checks whether the run has a lock before a call, and only turns it into another one then."""
+        return any(call.kind == "flock" and not call.size & LOCK_UN for call in self.plain.calls[:number - 1])
+
+    def try_turn(self, number: int, what: str) -> None:
+        """Checks that an open file whose lock cannot be turned at once is let go, and opened again or not at all."""
+        lock = {"cannot open", "cannot write"}
+        for why in (errno.EAGAIN, errno.EINTR):
+            self.run(f"{what} is not turned, error {why}", lock, CALL=number, WHY=why, MOVES=[-1])
+            self.check.count(FAILED)
+        for why in LOCK_FAILS:
+            self.run(f"{what} is not turned, error {why}", lock, why=why, CALL=number)
+            self.check.count(FAILED)
+
     def try_without_locks(self, number: int, what: str) -> None:
-        """Checks that a run goes on only if the system has no locks. Without locks a run that only reads FILE leaves an
-        interrupted change alone, since another program may be making it."""
+        """Checks that a run goes on only if the system has no locks."""
         for why in NO_LOCKS:
-            if self.task.form and self.task.reads:
-                self.leave_alone(f"{what} finds no locks, error {why}", number, why)
-            else:
-                self.run(f"{what} finds no locks, error {why}", set(), must_be_whole=True, CALL=number, WHY=why)
+            self.run(f"{what} finds no locks, error {why}", set(), must_be_whole=True, CALL=number, WHY=why)
         for why in LOCK_FAILS:
             ran = self.run(f"{what} fails with error {why}", {"cannot open", "cannot write"}, why=why, CALL=number)
             self.check(ran.answer != self.plain.answer,
                        f"{self.task.name}, {what} fails with error {why}: {ran.answer}")
             self.check.count(FAILED)
         self.check.count(FAILED, len(NO_LOCKS))
-
-    def leave_alone(self, what: str, number: int, why: int) -> None:
-        """Checks a run that only reads a file whose change was interrupted. If its shared lock finds no locks, it
-        leaves the file as it is, and finds the database in it or refuses the file. If it has read the mark under a
-        lock, and then finds none for its own lock, it repairs the file as another run would."""
-        ran = self.place.run(self.task, self.old, **self.always, CALL=number, WHY=why)
-        answer, now = self.place.after_next()
-        if self.plain.calls[number - 1].size & LOCK_SH:
-            is_answered = ran.answer == self.plain.answer or is_refused(ran.answer)
-            is_right = is_answered and ran.held == self.place.begun(self.task, self.old)
-        else:
-            is_right = ran.answer == self.plain.answer and ran.held == self.old
-        self.check(is_right, f"{self.task.name}, {what}: {ran.answer}, {self.same(ran.held)}")
-        self.check(answer.status == 0 and now == self.old, f"{self.task.name}, {what}, then {answer}, {self.same(now)}")
 
     def try_forks(self) -> None:
         """Forks the process after each lock that it takes: the next command must find no lock."""

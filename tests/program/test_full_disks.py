@@ -15,7 +15,7 @@ import pytest
 
 from support import losses as support_losses
 from support.losses import CANNOT_OPEN, CANNOT_WRITE, CREATE, FEW, OTHER_BYTES, TRIED, Losses
-from support.program import error, held, parted, put
+from support.program import Answer, error, held, parted, put
 
 LEAST = {TRIED: 760}
 # So many bytes at the start of a new file are written last.
@@ -23,6 +23,12 @@ FIRST = 16
 # The reasons on a full disk, and under a limit on the size of files.
 PARTLY = "no space left, or a limit on the size of files"
 NO_SPACE, TOO_LARGE = ("no space left on device", PARTLY), ("file too large", PARTLY)
+
+
+def repaired(losses: Losses, file: Path) -> Answer:
+    """Has the file repaired by a command that may change it, but is refused; returns the answer of one that reads."""
+    losses.run(["update", file, "0:1"])
+    return losses.run(["last", file])
 
 
 def unwritable(losses: Losses, file: Path, words: Sequence[object], lines: str = "", limit: int | None = None,
@@ -37,7 +43,7 @@ def unwritable(losses: Losses, file: Path, words: Sequence[object], lines: str =
 
     before = held(file)
     status, _, err = losses.run(words, lines, before=limited)
-    read = losses.run(["last", file])
+    read = repaired(losses, file)
     after = held(file)
     put(file, before)
     losses.check.count(TRIED)
@@ -79,10 +85,10 @@ def on_full(losses: Losses, file: Path, words: Sequence[object], lines: str, fil
     again."""
     before = file.read_bytes()
     status, _, err = losses.run(words, lines)
-    read = [losses.run(["last", file])]
+    read = [repaired(losses, file)]
     full = file.read_bytes()
     filler.unlink(missing_ok=True)
-    read.append(losses.run(["last", file]))
+    read.append(repaired(losses, file))
     losses.check.count(TRIED)
     is_told = status == 1 and parted(err)[0] == CANNOT_WRITE and parted(err)[1] in NO_SPACE
     is_right = is_told and full == before == file.read_bytes() and all(answer.status == 0 for answer in read)
@@ -153,7 +159,7 @@ def try_read_only(losses: Losses, file: Path) -> None:
         losses.check(answer.status == 1 and is_told, f"a read-only mount: {words}: {answer}")
     told = losses.run(["last", file])
     losses.check(told == (0, "0\n", "") and file.read_bytes() == before, f"rrdi does not read a read-only file: {told}")
-    is_checked = losses.run(["update", file, "0:1"]).err == error("not later than 0")
+    is_checked = losses.run(["update", file, "0:1"]).err.startswith(error("not later than 0"))
     losses.check(is_checked, "rrdi does not check a change of a read-only file")
 
 

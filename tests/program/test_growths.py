@@ -9,19 +9,22 @@
   `ERROR: out of memory` is the output of that line, and the status is 1. For random batches the definitions say the
   expected output; for others the program runs without the line.
 - The program tries a refused allocation again, with success: everything is as without a refusal.
-- An allocation after the line of a fault is refused: the line that says more may be missing, and after a usage fault
-  the usage may be that of all commands. Everything else is as without a refusal.
+- An allocation for what is said of a fault is refused: the line that says more may be missing, and after a usage fault
+  the usage may be that of all commands. Everything else is as without a refusal. These allocations are the last ones of
+  a command, and may come before the line of the fault.
 - An allocation for the bytes that replace those of the file is refused: the program reports `ERROR: cannot write` and
   the reason, and ends with status 1. The next command finds the file unchanged. If there was no file, there is none or
   an empty one.
 - In every run the program frees as many blocks as without a refusal. After the last line it allocates only for the
-  bytes of the file. The lines first, last, lastupdate, info, revert, fetch, and a tune that adds no archive, allocate
-  only to be parsed, with and without a database.
+  bytes of the file, and for what is said of refused lines. The lines first, last, lastupdate, info, revert, fetch, and a
+  tune that adds no archive, allocate only to be parsed, and for what is said of them. Nothing is said of a line behind
+  many refused ones: there they allocate as much with a database as without one.
 
 The memory that a run holds at a time is at most that of a small run, and what the manual states for cells and journal
 entries. In batches with thousands of samples or entries only some allocations are refused."""
 from __future__ import annotations
 
+from collections import Counter
 from functools import cached_property, partial
 from pathlib import Path
 from typing import Any, Callable
@@ -43,6 +46,9 @@ NOT_STORED = f"ERROR: cannot write\nrrdi: {FILE}: out of memory\n"
 WITH_REASON = {text.splitlines(keepends=True)[0]: text for text in (NOT_OPENED, NOT_STORED)}
 # The commands that allocate only to be parsed, except a tune that adds an archive.
 FREE = {"first", "last", "lastupdate", "info", "tune", "revert", "fetch"}
+# So many refused lines that nothing is said of the lines behind them: each takes at least 28 of the 8,192 bytes that
+# there are for what is said.
+SILENCE = "nothing\n" * 300
 # Which growths a run refuses, and whether a block that is made smaller counts as one. The first way is the short
 # mode's.
 WAYS = {"one": ("REFUSE", False), "one and all after it": ("REFUSE_FROM", False),
@@ -195,12 +201,29 @@ class Growths:
             self.places[number] = STORE
         if FILE in self.task.words:
             self.places = [STORE if place == END else place for place in self.places]
+        elif status == 1:
+            self.places = [REPORT if place == END else place for place in self.places]
         self.want(END not in self.places, f"{self.places.count(END)} growths behind the last line")
-        for number, line in enumerate(self.task.rows):
-            if line.split() and line.split()[0] in FREE and " RRA:" not in line:
-                read = self.runner.run(Task(self.task.name, ["batch"], line))
-                alone = [place for place in read.places(Task("", [], line))[0] if place == 0]
-                self.want(self.places.count(number) == len(alone), f"growths over a database of {line!r}")
+        self.try_free()
+
+    def try_free(self) -> None:
+        """Checks that lines of the commands that allocate only to be parsed do so, where nothing is said of them."""
+        free = {number: line for number, line in enumerate(self.task.rows)
+                if line.split() and line.split()[0] in FREE and " RRA:" not in line}
+        if free and self.task.is_batch:
+            over_database = self.in_silence(self.task.words, self.task.lines, self.task.made)
+            for number, line in free.items():
+                alone = self.in_silence(["batch"], line)[0]
+                self.want(over_database[number] == alone, f"growths over a database of {line!r}: "
+                          f"{over_database[number]}, alone {alone}")
+
+    def in_silence(self, words: list[str], lines: str, made: str | None = None) -> Counter[Where]:
+        """Returns the number of growths of each line of a batch of which nothing is said."""
+        ended = lines if lines.endswith("\n") else f"{lines}\n"
+        task = Task(self.task.name, words, SILENCE + ended, made)
+        first = SILENCE.count("\n")
+        return Counter(place - first if isinstance(place, int) else place
+                       for place in self.runner.run(task).places(task)[0])
 
     def refuse_each(self, setting: str) -> None:
         wanted: dict[Where, Any] = {}
@@ -210,6 +233,8 @@ class Growths:
             if not end.has_refusal:
                 self.want(end.told == self.plain.told, f"with no refusal, {setting} {number}: {end.told}")
                 break
+            if self.is_left_out(end):
+                self.places[number - 1:] = [REPORT if place == START else place for place in self.places[number - 1:]]
             place = self.places[number - 1] if number <= len(self.places) else END
             if place not in wanted:
                 wanted[place] = self.wanted(place, setting == "REFUSE_FROM")
@@ -255,6 +280,12 @@ class Growths:
         plain, lines = self.plain.told, end.told.err.splitlines()
         first, whole = plain.err.splitlines()[:1] or [""], {*plain.err.splitlines(), *self.usage}
         return end.told == plain._replace(err=end.told.err) and lines[:1] == first and set(lines) <= whole
+
+    def is_left_out(self, end: End) -> bool:
+        """Checks whether a refused command only lacks what is said of the refusal, which is made behind all else."""
+        fault, *said = self.plain.told.err.splitlines(keepends=True) or [""]
+        is_refused = not self.task.is_batch and self.plain.told.status == 1 and fault not in WITH_REASON
+        return is_refused and said != [] and end.told == self.plain.told._replace(err=fault)
 
     def look(self, end: End, wanted: Told | str | None, what: str) -> None:
         is_made_good = end.told == self.plain.told

@@ -13,15 +13,15 @@ from pathlib import Path
 import pytest
 
 from support import between as calls_between
-from support.changes import FILE, Place, Task, changes, create, is_refused, locks_of
+from support.changes import FILE, REPAIR, Place, Task, changes, create, is_refused, locks_of
 from support.check import Check
 from support.cuts import AFTER_KILL, AFTER_SYNC, CUTS, LONG, SECOND, SHORT, Cuts, told
 from support.program import KILLED, Answer, Program, held, put
 
 KILLS, NEXT_KILLS = "kills", "kills and failing calls of the next command"
-LEAST = {KILLS: 600, NEXT_KILLS: 9_300, CUTS: 3_000, SECOND: 320, AFTER_KILL: 850, AFTER_SYNC: 3_300}
-LEAST_LONG = {NEXT_KILLS: 11_000, CUTS: 4_500, SECOND: 1_800, AFTER_KILL: 5_500, AFTER_SYNC: 40_000}
-# The commands of which one follows a kill, beside `last`.
+LEAST = {KILLS: 600, NEXT_KILLS: 9_300, CUTS: 2_270, SECOND: 320, AFTER_KILL: 850, AFTER_SYNC: 3_300}
+LEAST_LONG = {NEXT_KILLS: 11_000, CUTS: 3_400, SECOND: 1_800, AFTER_KILL: 5_500, AFTER_SYNC: 40_000}
+# The commands of which one follows a kill, beside the one that repairs the file.
 NEXT = [("update", FILE, "1000000:7"), ("create", FILE, *create(3).split()[1:]), ("tune", FILE, "-a", "g:1000"),
         ("batch", FILE), ("revert", FILE)]
 # The number of parts in which the kills of a task are tried: each part has one call in this number of calls.
@@ -66,7 +66,12 @@ class Kills:
             return
         self.check(ran.answer.status == KILLED, f"{what}: {ran.answer}")
         self.check.count(KILLS)
+        read = self.place.plain(("last", FILE))
+        # A command that reads changes nothing; but what opens a file and closes it repairs the file.
+        is_kept = self.place.stays_open or held(self.place.file) == ran.held
+        self.check(is_kept, f"{what}: a command that reads changes the file")
         answer, now = self.place.after_next()
+        self.check(read == answer or not self.task.over_database, f"{what}: {read} is read, and {answer} after the repair")
         is_right = self.check(self.is_right(answer, now), f"{what}: {answer}, {told(now, self.old, self.new)}")
         self.check.count("files as after the change" if now == self.new else "files as before the change"
                          if now == self.old
@@ -84,23 +89,25 @@ class Kills:
         results = []
         for begun in (left, now):
             put(self.place.file, begun)
-            results.append(self.place.after_next(words, "last\n" if words[0] == "batch" else ""))
+            answer, _ = self.place.after_next(words, "last\n" if words[0] == "batch" else "")
+            results.append((answer, self.place.after_next()[1]))
         self.check.count("other next commands")
         self.check(results[0] == results[1], f"{what}, then {words}: {results[0][0]}, not {results[1][0]}")
 
     def kill_next(self, left: bytes | None, now: bytes | None, what: str, has_create: bool) -> None:
-        """Kills before each call of the command that recovers the file: of `last`, and perhaps of a `create`."""
-        for words, settings in ((("last", FILE), ("KILL", "CALL")), (NEXT[1], ("KILL",)))[:1 + has_create]:
+        """Kills before each call of the command that recovers the file, and perhaps of a `create`."""
+        for words, lines, settings in ((REPAIR.words, REPAIR.lines, ("KILL", "CALL")),
+                                       (NEXT[1], "", ("KILL",)))[:1 + has_create]:
             put(self.place.file, left)
             self.place.log.unlink(missing_ok=True)
-            self.place.plain(words, LOG=self.place.log)
+            self.place.plain(words, lines, LOG=self.place.log)
             made, calls = held(self.place.file), calls_between.calls_of(calls_between.events_of(self.place.log))
-            unlocked = locks_of(calls, FILE, words[0] != "last")
+            unlocked = locks_of(calls, FILE, True)
             self.check(not unlocked, f"{what}, then `{words[0]}`: {'; '.join(unlocked[:3])}")
             for number in range(1, len(calls) + 1):
                 for setting in settings:
                     put(self.place.file, left)
-                    self.place.plain(words, "", **{setting: number})
+                    self.place.plain(words, lines, **{setting: number})
                     answer, found = self.place.after_next()
                     self.check.count(NEXT_KILLS)
                     self.check(answer.status == 0 and found in (now, made),

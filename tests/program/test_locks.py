@@ -4,13 +4,15 @@ from __future__ import annotations
 
 import errno
 import fcntl
+import itertools
 import os
+import re
 import subprocess
 import threading
 import time
 from collections import Counter
 from pathlib import Path
-from typing import Sequence
+from typing import NamedTuple, Sequence
 
 import pytest
 
@@ -143,38 +145,51 @@ def test_waiting(losses: Losses) -> None:
 # ---- many at once
 
 
-def at_once(losses: Losses, file: Path, times: range) -> list[tuple[int, int, str]]:
-    """Starts updates at one time: they wait until the pipe is closed. Returns their times, statuses and faults. They
-    wait for the lock for as long as it takes, so that no load of the machine refuses one."""
-    read, write = os.pipe()
-    script = 'read go; exec "$0" update "$1" "$2:1"'
+class Write(NamedTuple):
+    """A run of an update or a tune: its words, its status and its fault."""
+
+    words: list[str]
+    status: int
+    err: str
+
+    @property
+    def number(self) -> int:
+        """The time of an update, or the minimum of a tune."""
+        return int(re.findall(r"\d+", self.words[-1])[0])
+
+
+def at_once(losses: Losses, file: Path, commands: Sequence[list[str]]) -> list[Write]:
+    """Starts commands at one time: each says when it is ready, and waits until a pipe is closed. They wait for the lock for as
+    long as it takes, so that no load of the machine refuses one."""
+    (read, write), (ready, says) = os.pipe(), os.pipe()
+    script = 'echo; read go; exec "$@" >/dev/null'
     env = environment({"RRDI_WAIT": "3600"})
-    children = [subprocess.Popen(["sh", "-c", script, losses.program.path, str(file), str(time)], stdin=read,
-                                 stdout=subprocess.PIPE, stderr=subprocess.PIPE, text=True, env=env) for time in times]
-    time.sleep(0.3)  # most of them are ready then
-    os.close(read)
-    os.close(write)
+    children = [subprocess.Popen(["sh", "-c", script, "sh", losses.program.path, *on(file, words)], stdin=read, stdout=says,
+                                 stderr=subprocess.PIPE, text=True, env=env) for words in commands]
+    os.close(says)
+    begun = 0
+    while begun < len(children):
+        begun += len(os.read(ready, len(children))) or len(children)
+    for number in (ready, read, write):
+        os.close(number)
     errors = [child.communicate(timeout=support_losses.HANG)[1] for child in children]
-    return [(time, child.returncode, err) for time, child, err in zip(times, children, errors)]
+    return [Write(words, child.returncode, err) for words, child, err in zip(commands, children, errors)]
 
 
-def taken_back(losses: Losses, file: Path, writers: int) -> list[int]:
-    """Returns the last times of a file, the newest first, as reverts restore them; if the next command refuses the
-    file, the times before."""
-    times = []
-    for _ in range(writers + 1):
-        status, last, _ = losses.run(["last", file])
-        if status == 0:
-            times.append(int(last))
-        if status != 0 or losses.run(["revert", file]).status != 0:
-            break
-    return times
+STATE = re.compile(r"^last_update = (\d+)\n(?:.*\n)*?ds\[0\]\.min = ([\w.]+)$", re.MULTILINE)
+
+
+def taken_back(losses: Losses, file: Path, writers: int) -> list[tuple[str, ...]]:
+    """Returns the last times of a file and the minimums of its source, the newest first, as reverts restore them."""
+    told = losses.run(["batch", file], "info\nrevert\n" * (writers + 1)).out
+    return [state for state, _ in itertools.groupby(STATE.findall(told))]
 
 
 def crowd(losses: Losses, has_reader: bool, writers: int = WRITERS) -> None:
-    """Runs many updates at once, and perhaps a reader beside them: the file has exactly the updates that ended well."""
+    """Runs many updates and tunes at once, and perhaps a reader beside them: the file has exactly those that ended well. Most of
+    the updates are refused, as a later one came first; no tune is."""
     file = losses.folder / "crowd.rrdi"
-    losses.run(["create", file, "--journal", "1000", *FEW])
+    losses.run(["create", file, "--journal", "1000", *(word.replace(":U:U", ":0:U") for word in FEW)])
     read: Counter[object] = Counter()
     is_over = threading.Event()
 
@@ -186,19 +201,29 @@ def crowd(losses: Losses, has_reader: bool, writers: int = WRITERS) -> None:
     beside = threading.Thread(target=reader)
     if has_reader:
         beside.start()
-    answers = at_once(losses, file, range(10, 10 * writers + 1, 10))
+    answers = at_once(losses, file, [["update", f"{10 * at}:1"] if at % 2 == 0 else ["tune", "--minimum", f"g:{at}"]
+                                     for at in range(1, writers + 1)])
     is_over.set()
     if has_reader:
         beside.join()
     losses.check.count(TRIED, len(answers))
-    accepted = sorted((time for time, status, _ in answers if status == 0), reverse=True)
-    for _, status, err in answers:
-        losses.check(status == 0 or err.startswith("ERROR: not later than "), f"an update ended with {status}, {err!r}")
-    losses.check(taken_back(losses, file, writers) == accepted + [0],
-                 "the file does not have exactly the updates that ended with 0")
-    losses.check(bool(accepted), "no update was accepted")
+    for words, status, err in answers:
+        losses.check(status == 0 or words[0] == "update" and err.startswith("ERROR: not later than "),
+                     f"{words} ended with {status}, {err!r}")
+    check_all_there(losses, taken_back(losses, file, writers), [answer for answer in answers if answer.status == 0])
     for answer in read:
         losses.check(answer in (0, CANNOT_OPEN), f"the reader failed with {answer!r}")
+
+
+def check_all_there(losses: Losses, states: list[tuple[str, ...]], accepted: list[Write]) -> None:
+    """Checks that the states through which a file has gone are those of the changes that were accepted, and no other ones."""
+    times, tuned = ([answer.number for answer in accepted if answer.words[0] == name] for name in ("update", "tune"))
+    losses.check(len(states) == len(accepted) + 1, f"{len(accepted)} changes ended with 0, and the file had {len(states) - 1}")
+    found = [int(time) for time, _ in itertools.groupby(time for time, _ in states)]
+    losses.check(found == sorted(times, reverse=True) + [0], "the file does not have exactly the updates that ended with 0")
+    minimums = [int(float(least)) for least, _ in itertools.groupby(least for _, least in states)]
+    losses.check(sorted(minimums) == [0, *sorted(tuned)], "the file does not have exactly the tunes that ended with 0")
+    losses.check(bool(times), "no update was accepted")
 
 
 @pytest.mark.xdist_group("locks")

@@ -10,6 +10,7 @@ from pathlib import Path
 
 import pytest
 
+from support.changes import REPAIR
 from support.losses import TRIED, Losses
 from support.program import KILLED, environment
 
@@ -64,10 +65,11 @@ def kill(losses: Losses, rows: int, updates: int, change: list[str], count: int)
                 whole = lifetime(losses, file, old, words)  # the machine may be less busy now
             continue
         killed += 1
-        answer = losses.run(["last", file])
+        read = losses.run(["last", file])
+        answer = losses.run([REPAIR.words[0], file], REPAIR.lines)
         now = file.read_bytes()
         losses.check.count(TRIED)
-        losses.check(answer.status == 0 and now in (old, new),
+        losses.check(answer.status == 0 and read == answer and now in (old, new),
                      f"{change[:2]}: {answer}, {len(now)} bytes, {now[:16]!r}")
     losses.check(killed == count, f"{change[:2]}: only {killed} of {runs} runs were killed in time")
 

@@ -67,7 +67,9 @@ def test_closed_streams(t: Runs) -> None:
     begun = {"a file": held, "a file with a cut mark": marks.uncommitted(held, later),
              "a file with a log mark": marks.logged(later, held)}
     for name, left in begun.items():
-        for words, given, wanted in runs:
+        for words, given, repaired in runs:
+            # A command that reads repairs nothing.
+            stays, wanted = (left, left) if words[0] in ("last", "fetch") else (held, repaired)
             t.put(left)
             told = t.told(words, given)
             t.check.same(t.held() == wanted, True, f"{name} after {words}")
@@ -76,7 +78,7 @@ def test_closed_streams(t: Runs) -> None:
                 answer = without(t, closed, words, given)
                 t.check.count(RUNS)
                 what = f"{words} on {name}, without the streams {closed}: {answer}"
-                t.check.same(is_left_right(closed, words, t.held(), held, wanted), True,
+                t.check.same(is_left_right(closed, words, t.held(), stays, wanted), True,
                              f"{what}: {len(t.held())} bytes, {t.held()[:25]!r}")
                 t.check.same(told_without(closed, words, told), tuple(answer), what)
     t.put(new)

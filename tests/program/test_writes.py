@@ -1,6 +1,7 @@
 # SPDX-License-Identifier: MIT OR Apache-2.0
 """One update writes few bytes, however large the file is (docs/performance.md): for a file of up to 4 MB at most 4 KB,
-for 64 MB at most 8 KB. They have the new bytes twice, in the log and in their place."""
+for 64 MB at most 8 KB. They have the new bytes twice, in the log and in their place. A tune of a setting and a revert
+write at most 8 KB."""
 from __future__ import annotations
 
 import re
@@ -16,7 +17,10 @@ from support.sizes import FILES, SizedFile
 
 MEASURED = "updates measured"
 UPDATES = 5
-LEAST = {MEASURED: UPDATES * len(FILES)}
+OTHERS = "other changes measured"
+CHANGES = [["tune", "--heartbeat", "g:200"], ["revert"]]
+OF_CHANGE = 8_192
+LEAST = {MEASURED: UPDATES * len(FILES), OTHERS: len(CHANGES) * len(FILES)}
 # A call that writes a file, or creates a second file: the name of the call, its arguments, and its result.
 CALL = re.compile(r"(?:\d+ +)?(\w+)\((.*)\) += (-?\d+)")
 WRITING = "trace=write,pwrite64,pwritev,writev,copy_file_range,sendfile"
@@ -28,19 +32,34 @@ def written(trace: str) -> int:
     return sum(max(int(call[3]), 0) for call in calls if call[2].split(",")[0] not in ("0", "1", "2"))
 
 
+def measure_one(program: Program, path: Path, words: list[str], file: SizedFile, most: int, check: Check) -> None:
+    trace = path.with_name("trace")
+    traced = ["strace", "-f", "-qq", "-e", WRITING, "-o", str(trace), program.path, words[0], str(path), *words[1:]]
+    ran = subprocess.run(traced, capture_output=True, text=True, env=environment(None))
+    check(ran.returncode == 0, f"{file.name}: {words}: {ran.returncode}, {ran.stderr!r}")
+    count = written(trace.read_text())
+    check(0 < count <= most, f"{file.name}: {words} writes {count:,} bytes, at most {most:,}")
+
+
+def settings(program: Program, path: Path) -> list[str]:
+    """Returns what `info` prints but for the changes that can be reverted: the oldest is forgotten where there is no room."""
+    return [line for line in program.run(["info", path]).out.splitlines() if not line.startswith("undoable")]
+
+
 def measure(program: Program, folder: Path, file: SizedFile, check: Check) -> None:
-    path, trace = folder / "net.rrdi", folder / "trace"
+    path = folder / "net.rrdi"
     check.same(file.create(program, path), Answer(0), f"the creation of {file.name}")
     for number in range(UPDATES):
         sample = file.sample(number)
-        words = ["strace", "-f", "-qq", "-e", WRITING, "-o", str(trace), program.path, "update", str(path), sample]
-        ran = subprocess.run(words, capture_output=True, text=True, env=environment(None))
-        check(ran.returncode == 0, f"{file.name}: {ran.returncode}, {ran.stderr!r}")
-        count = written(trace.read_text())
+        measure_one(program, path, ["update", sample], file, file.most, check)
         check.count(MEASURED)
-        check(0 < count <= file.most, f"{file.name}: an update writes {count:,} bytes, at most {file.most:,}")
     last = program.run(["last", path]).out
     check(last == sample.split(":")[0] + "\n", f"{file.name}: the update is not in the file: {last!r}")
+    before = settings(program, path)
+    for words in CHANGES:
+        measure_one(program, path, words, file, OF_CHANGE, check)
+        check.count(OTHERS)
+    check(settings(program, path) == before, f"{file.name}: after {CHANGES}: {settings(program, path)}, not {before}")
 
 
 @pytest.mark.parametrize("file", FILES, ids=lambda file: file.name)

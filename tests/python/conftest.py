@@ -21,3 +21,8 @@ def pytest_configure(config: pytest.Config) -> None:
     for variable, path in (("RRDI", program), ("RRDI_LIBRARY", library), ("RRDI_RECORD", recorder)):
         if os.path.isfile(path):
             os.environ[variable] = os.path.abspath(path)
+    # The extension of this tree calls the library; without a compiler, or Python's headers, ctypes does. The processes of xdist
+    # have that of the first one.
+    if "RRDI_EXTENSION" not in os.environ:
+        from building import extension_path
+        os.environ["RRDI_EXTENSION"] = str(extension_path() or "none")

@@ -20,7 +20,7 @@ sys.dont_write_bytecode = True
 from rrdi import errors  # noqa: E402
 from rrdi.by_program import ByProgram  # noqa: E402
 from rrdi.library import library_path  # noqa: E402
-from rrdi.protocol import Answer, OpenedFile  # noqa: E402
+from rrdi.protocol import Answer, ByWords, OpenedFile  # noqa: E402
 
 
 def find_program() -> Optional[str]:
@@ -37,7 +37,7 @@ def has_library() -> bool:
     return library_path() is not None
 
 
-class NothingStaysOpen:
+class NothingStaysOpen(ByWords):
     """A library on a file system without locks, where no file can stay open."""
 
     def open(self, path: bytes, wait: int, syncs: bool) -> Tuple[Answer, Optional[OpenedFile]]:

@@ -37,13 +37,13 @@ static void keep(const uint8_t *bytes, size_t count, uint8_t *output, size_t out
     *answer = given_answer;
 }
 
-void rrdi_run_file(const uint8_t *path, size_t path_length, const uint8_t *words, size_t words_length, uint64_t now,
+void rrdi_run_file(const char *path, size_t path_length, const uint8_t *words, size_t words_length, uint64_t now,
                    uint64_t wait, bool syncs, uint8_t *output, size_t output_length, struct rrdi_answer *answer) {
     (void)path, (void)path_length, (void)now, (void)wait, (void)syncs;
     keep(words, words_length, output, output_length, answer);
 }
 
-void rrdi_batch_file(const uint8_t *path, size_t path_length, const uint8_t *lines, size_t lines_length, uint64_t now,
+void rrdi_batch_file(const char *path, size_t path_length, const uint8_t *lines, size_t lines_length, uint64_t now,
                      uint64_t wait, bool syncs, uint8_t *output, size_t output_length, uint64_t *refused,
                      size_t refused_length, struct rrdi_answer *answer) {
     (void)path, (void)path_length, (void)now, (void)wait, (void)syncs;

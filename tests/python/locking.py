@@ -7,12 +7,14 @@ import errno
 import fcntl
 import os
 from types import SimpleNamespace
-from typing import Any, Callable, Dict, List, Optional
+from typing import Any, Callable, Dict, List, Optional, Tuple
 
-from rrdi import library
+from building import chosen, stub_of
+from rrdi import by_ctypes
+from rrdi.by_ctypes import CLibrary
+from rrdi.calls import calls
 from rrdi.errors import CANNOT_OPEN
-from rrdi.library import CLibrary
-from rrdi.protocol import CLOSED, DONE, Answer
+from rrdi.protocol import CLOSED, DONE, Answer, Library
 
 POINTER, LENGTH, NUMBER = ctypes.c_void_p, ctypes.c_size_t, ctypes.c_uint64
 IN_MEMORY = [ctypes.c_bool, POINTER, LENGTH, POINTER, LENGTH, NUMBER, POINTER, LENGTH, POINTER, LENGTH]
@@ -27,21 +29,31 @@ PROTOTYPES: Dict[str, List[Any]] = {
     "rrdi_run": [*IN_MEMORY, POINTER], "rrdi_batch": [*IN_MEMORY, *REFUSED, POINTER],
     "rrdi_run_file": [*AT_PATH, POINTER], "rrdi_batch_file": [*AT_PATH, *REFUSED, POINTER],
     "rrdi_open": OPENING, "rrdi_close": [POINTER], "rrdi_run_open": [*ON_OPEN, POINTER],
-    "rrdi_batch_open": [*ON_OPEN, *REFUSED, POINTER]}
+    "rrdi_batch_open": [*ON_OPEN, *REFUSED, POINTER],
+    "rrdi_update_open": [POINTER, NUMBER, POINTER, LENGTH, POINTER, LENGTH, POINTER],
+    "rrdi_update_many": [POINTER, POINTER, POINTER, LENGTH, LENGTH, POINTER, POINTER, LENGTH, POINTER],
+    "rrdi_fetch_open": [POINTER, ctypes.c_uint32, NUMBER, NUMBER, NUMBER, POINTER, POINTER, LENGTH, POINTER, LENGTH, POINTER]}
+_kept: List[Any] = []  # functions that a library of the extension may call
 
 
-def c_library(functions: Dict[str, Callable[..., None]]) -> CLibrary:
+def c_library(functions: Dict[str, Callable[..., None]]) -> Library:
     """Returns the package's library with functions of Python in the place of those in C."""
     made = {name: ctypes.CFUNCTYPE(None, *PROTOTYPES[name])(function) for name, function in functions.items()}
-    return CLibrary(SimpleNamespace(**made))  # type: ignore[arg-type]
+    if chosen.extension is None:
+        return CLibrary(SimpleNamespace(**made))  # type: ignore[arg-type]
+    _kept.append(made)
+    return chosen.extension.load(stub_of(made), Answer, DONE, calls.wait)
 
 
 def put(answer_at: int, answer: Answer, output_at: int) -> None:
     """Stores an answer as the library does. There is room for its output."""
-    found = library._Answer.from_address(answer_at)
+    found = by_ctypes._Answer.from_address(answer_at)
     found.fault, found.system_error, found.at, found.is_cut = answer.fault, answer.system_error, answer.at, False
-    found.output_length, found.refused, found.is_changed = len(answer.output), len(answer.refused), False
+    found.output_length = len(answer.output)
+    found.refused, found.is_changed = len(answer.refused), False
     ctypes.memmove(output_at, answer.output, len(answer.output))
+    found.explanation_length = len(answer.explanation)
+    ctypes.memmove(answer_at + by_ctypes._Answer.explanation.offset, answer.explanation, len(answer.explanation))
 
 
 class Locking:
@@ -50,6 +62,8 @@ class Locking:
 
     def __init__(self) -> None:
         self.said: List[str] = []
+        self.numbers: List[int] = []  # of the files that were opened
+        self.asked: List[Tuple[int, bool]] = []  # the milliseconds of each call at a path, and whether it flushes
         self.answers: List[Answer] = []
         self.at_open: Callable[[bytes], Optional[Answer]] = lambda path: None
         self.at_call: Callable[[], None] = lambda: None
@@ -64,10 +78,11 @@ class Locking:
         self.said.append("memory")
 
     def _at_path(self, *words: int) -> None:
+        self.asked.append((words[5], bool(words[6])))
         put(words[-1], self._answered("path", ctypes.string_at(words[2], words[3]), words), words[7])
 
     def _on_open(self, *words: int) -> None:
-        file = library._File.from_address(words[0])
+        file = by_ctypes._File.from_address(words[0])
         if not file.is_open:
             self.said.append("closed")
             put(words[-1], CLOSED, words[4])
@@ -86,13 +101,13 @@ class Locking:
     def _open(self, path: int, length: int, wait: int, syncs: bool, file_at: int, output: int, room: int,
               answer_at: int) -> None:
         self.said.append(f"open {wait} {syncs}")
-        name, file = ctypes.string_at(path, length), library._File.from_address(file_at)
+        name, file = ctypes.string_at(path, length), by_ctypes._File.from_address(file_at)
         fault = self.at_open(name)
         if fault is None:
             fault = self._locked(self.renamed.get(name, name), file)
         put(answer_at, fault or DONE, output)
 
-    def _locked(self, name: bytes, file: library._File) -> Optional[Answer]:
+    def _locked(self, name: bytes, file: by_ctypes._File) -> Optional[Answer]:
         number = os.open(name, os.O_RDWR | os.O_CLOEXEC)
         try:
             fcntl.flock(number, fcntl.LOCK_EX | fcntl.LOCK_NB)
@@ -100,10 +115,11 @@ class Locking:
             os.close(number)
             return BUSY
         file.is_open, file.reserved = True, number
+        self.numbers.append(number)
         return None
 
     def _close(self, file_at: int) -> None:
-        file = library._File.from_address(file_at)
+        file = by_ctypes._File.from_address(file_at)
         if file.is_open:
             self.said.append("close")
             fcntl.flock(file.reserved, fcntl.LOCK_UN)

@@ -11,7 +11,7 @@ from typing import Any, Callable, Iterator, Optional
 import rrdi
 
 PACKAGE = str(Path(rrdi.__file__).parent)
-MOST_STEPS = 100_000
+MOST_STEPS = 5_000
 
 
 class Interrupt(BaseException):

@@ -83,6 +83,25 @@ class Building(unittest.TestCase):
             self.assertEqual(others, {"rrdi/py.typed", "rrdi/librrdi.so.0"})
             self.assertEqual(modules - set(archive.namelist()), set())
 
+    def test_a_wheel_with_the_extension(self) -> None:
+        """The tag is of both, and of any Python. An extension without a library, or for another processor, is left out."""
+        self.put_library(library(62, "2.17"))
+        for data, glibc in ((library(62, "2.34"), 34), (library(62), 17)):
+            (self.tree / "out/_rrdi.abi3.so").write_bytes(data)
+            wheel = self.build("build_wheel")
+            self.assertEqual(wheel.name, f"rrdi-{VERSION}-py3-none-manylinux_2_{glibc}_x86_64.whl")
+            with zipfile.ZipFile(wheel) as archive:
+                self.assertEqual(archive.read("rrdi/_rrdi.abi3.so"), data)
+        again = self.build("build_wheel", self.unpack(self.build("build_sdist")))
+        self.assertEqual(again.read_bytes(), wheel.read_bytes())
+        for lacking in ("_rrdi.abi3.so", "librrdi.so.0"):
+            (self.tree / "out" / lacking).write_bytes(library(183))
+            with zipfile.ZipFile(self.build("build_wheel")) as archive:
+                self.assertNotIn("rrdi/_rrdi.abi3.so", archive.namelist())
+            self.assertIn("so the wheel has the slower ctypes; ", self.run_hook("build_wheel").stderr)
+            (self.tree / "out" / lacking).unlink()
+            (self.tree / "out/_rrdi.abi3.so").write_bytes(library(62))
+
     def test_a_wheel_of_the_source_archive(self) -> None:
         self.put_library(library(183, "2.17"))
         wheel = self.build("build_wheel").read_bytes()
@@ -126,8 +145,8 @@ class Building(unittest.TestCase):
         backend = self.backend()
         for data in (library(3, "2.17"), b"!<arch>\n" + bytes(20), b""):
             with self.subTest(data=data), self.assertRaises(ValueError):
-                backend.tag_of(data)
-        self.assertEqual(backend.tag_of(library(62)), "py3-none-manylinux_2_17_x86_64")
+                backend.tag_of({backend.LIBRARY: data})
+        self.assertEqual(backend.tag_of({backend.LIBRARY: library(62)}), "py3-none-manylinux_2_17_x86_64")
 
     @unittest.skipIf(sys.version_info < (3, 11), "Python before 3.11 has no reader of TOML")
     def test_the_project_is_read_as_toml(self) -> None:

@@ -16,6 +16,7 @@ import unittest
 from typing import Any, Callable, Dict, List, Optional
 from unittest import mock
 
+from building import ByExtension, chosen
 from cases import HANG, DataCase, run_in_threads, sleeping_child, use_library
 from doubles import TOP
 from locking import Locking, c_library, put
@@ -23,9 +24,11 @@ from opcodes import between_all, raised_at_each
 from test_kept import is_locked
 
 from rrdi import calls as running
-from rrdi import library
+import rrdi
+from rrdi import by_ctypes
 from rrdi.errors import REFUSED
 from rrdi.kept import KeptFile
+from rrdi.locks import keepers
 from rrdi.protocol import Answer
 
 Call = Callable[[bytes], Answer]
@@ -54,11 +57,11 @@ class Echo:
         return called
 
     def open(self, *words: int) -> None:
-        library._File.from_address(words[4]).is_open = True
+        by_ctypes._File.from_address(words[4]).is_open = True
         put(words[-1], Answer(0, 0, 0, b""), words[5])
 
     def close(self, file: int) -> None:
-        library._File.from_address(file).is_open = False
+        by_ctypes._File.from_address(file).is_open = False
 
     def calls(self) -> Dict[str, Call]:
         """Returns a call of each function, which takes its words."""
@@ -79,6 +82,8 @@ def told(words: bytes) -> Answer:
 class Meeting(unittest.TestCase):
     """The answer of a call is its own, whatever is called meanwhile."""
 
+    least_steps = 50  # of Python, at which something may come between
+
     def setUp(self) -> None:
         self.echo = Echo()
         self.calls = self.echo.calls()
@@ -89,7 +94,7 @@ class Meeting(unittest.TestCase):
                 inner: List[Answer] = []
                 found = between_all(lambda: inner.append(other(b"of the handler")), lambda: call(b"of the program"))
                 self.assertEqual(found, told(b"of the program"), name)
-                self.assertEqual(set(inner), {told(b"of the handler")}, name)
+                self.assertEqual(set(inner), {told(b"of the handler")} if self.least_steps else set(), name)
 
     def test_calls_in_a_handler_of_a_signal(self) -> None:
         """A handler runs between the call and the reading of its answer, if the signal came during the call."""
@@ -120,7 +125,8 @@ class Meeting(unittest.TestCase):
             Cycle()
             gc.collect()
         found = between_all(collect, lambda: call(b"of the program"))
-        self.assertEqual((found, set(inner)), (told(b"of the program"), {told(b"of the collector")}))
+        by_collector = {told(b"of the collector")} if self.least_steps else set()
+        self.assertEqual((found, set(inner)), (told(b"of the program"), by_collector))
 
     def test_calls_of_threads(self) -> None:
         def work(number: int) -> None:
@@ -139,11 +145,19 @@ class Meeting(unittest.TestCase):
             def check(number: int) -> None:
                 self.assertEqual(call(b"of the next call"), told(b"of the next call"), (name, number))
                 self.assertEqual(running.calls._running(), [], (name, number))
-            self.assertGreater(raised_at_each(lambda: call(b"of the program"), check), 50)
+            self.assertGreaterEqual(raised_at_each(lambda: call(b"of the program"), check), self.least_steps)
+
+
+class MeetingByExtension(ByExtension, Meeting):
+    """A call is one step of Python's."""
+
+    least_steps = 0
 
 
 class Interrupted(DataCase):
     """After an exception at any step no lock is held, and no file is open."""
+
+    least_steps = 200
 
     def setUp(self) -> None:
         super().setUp()
@@ -170,9 +184,10 @@ class Interrupted(DataCase):
         def check(number: int) -> None:
             self.assertEqual((is_locked(self.path), open_numbers()), (False, numbers), number)
             self.assertEqual(running.calls._running(), [], number)
+            keepers.clear()  # an interrupted object waits for the collector, and each one adds steps to the next run
         for work in (closing, forgetful):
             with mock.patch("sys.unraisablehook", lambda of_del: None):
-                self.assertGreater(raised_at_each(work, check), 200)
+                self.assertGreater(raised_at_each(work, check), self.least_steps)
 
     def test_a_file_that_is_kept(self) -> None:
         """The object of a command that was interrupted closes the file, and runs the next command."""
@@ -184,6 +199,10 @@ class Interrupted(DataCase):
             self.assertEqual(kept.run(["last"]), "", number)
         with mock.patch("sys.unraisablehook", lambda of_del: None):
             raised_at_each(lambda: kept.run(["update"]), check)
+
+
+class InterruptedByExtension(ByExtension, Interrupted):
+    least_steps = 100
 
 
 class Forks(DataCase):
@@ -231,9 +250,48 @@ class Forks(DataCase):
         opened = self.opened()
 
         def close_as_a_kill_does() -> None:
-            os.close(opened.file.reserved)
+            os.close(self.library.numbers[-1])
             opened.forget()
         self.check_long_call(lambda: opened.run(b"update", 0), close_as_a_kill_does)
+
+    def test_a_child_that_uses_the_file_of_a_long_call(self) -> None:
+        """It hears that the file is locked: it does not wait for the thread of the call, which it does not have."""
+        use_library(self, self.library.library)
+        kept, self.library.at_call = KeptFile(self.path, 0), lambda: None
+        kept.run(["last"])
+        self.library.at_call = self.in_a_call
+        self.start(lambda: kept.run(["update"]))
+        with mock.patch.object(running, "LONGEST_WAIT", 0.05):
+            child = os.fork()
+        if child == 0:
+            signal.alarm(HANG)
+            self.library.at_call = lambda: None
+            try:
+                kept.run(["last"])
+            except rrdi.Busy:
+                os._exit(7)
+            os._exit(1)
+        self.assertEqual(os.waitpid(child, 0)[1], 7 << 8)
+        self.may_end.set()
+        assert self.thread is not None
+        self.thread.join()
+
+    def test_a_child_that_forks(self) -> None:
+        """It does not wait for a call that its parent was in."""
+        path = os.fsencode(self.path)
+        self.start(lambda: self.library.library.run_file(path, b"update", 0, 0, False))
+        with mock.patch.object(running, "LONGEST_WAIT", 0.05):
+            child = os.fork()
+        if child == 0:
+            signal.alarm(HANG)
+            with mock.patch.object(running, "LONGEST_WAIT", 2 * HANG):
+                if os.fork() == 0:
+                    os._exit(0)
+            os._exit(7)
+        self.assertEqual(os.waitpid(child, 0)[1], 7 << 8)
+        self.may_end.set()
+        assert self.thread is not None
+        self.thread.join()
 
     def check_long_call(self, call: Callable[[], object], close: Callable[[], None]) -> None:
         self.start(call)
@@ -258,7 +316,7 @@ class Forks(DataCase):
         with mock.patch.object(running.calls, "stop", side_effect=KeyboardInterrupt), \
                 mock.patch("sys.unraisablehook", lambda of_fork: None):
             sleeping_child(self)
-        os.close(opened.file.reserved)
+        os.close(self.library.numbers[-1])
         opened.forget()
         self.assert_not_locked()
 
@@ -335,11 +393,16 @@ class Forks(DataCase):
         self.assertEqual((set(done), self.library.said.count("open update")), ({0, 1, 2, 3}, len(done)))
 
 
+class ForksByExtension(ByExtension, Forks):
+    pass
+
+
 SCRIPT = """import sys, threading, time
 sys.path[:0] = {path!r}
-import locking
+import building, locking
 from rrdi import calls
 calls.LONGEST_WAIT = 60
+building.chosen.extension = building.the_extension() if {by_extension} else None
 library = locking.Locking()
 begun = threading.Event()
 
@@ -356,6 +419,11 @@ begun.wait()
 class End(unittest.TestCase):
     def test_a_call_at_the_end_of_the_process(self) -> None:
         path = [str(TOP / "tests/python"), str(TOP / "python")]
-        ran = subprocess.run([sys.executable, "-B", "-c", SCRIPT.format(path=path)], stdout=subprocess.PIPE,
+        script = SCRIPT.format(path=path, by_extension=chosen.extension is not None)
+        ran = subprocess.run([sys.executable, "-B", "-c", script], stdout=subprocess.PIPE,
                              stderr=subprocess.PIPE, universal_newlines=True, timeout=HANG)
         self.assertEqual((ran.returncode, ran.stdout, ran.stderr), (0, "the call has ended\n", ""))
+
+
+class EndByExtension(ByExtension, End):
+    pass

@@ -5,6 +5,7 @@ from __future__ import annotations
 
 import importlib
 import math
+import os
 import sys
 import threading
 import types
@@ -14,6 +15,7 @@ from unittest import mock
 
 import graphite_doubles as graphite
 from cases import HANG, DataCase, run_in_threads, use_any_library, use_library
+from doubles import Program
 from rrdi import collectd, commands, library
 from rrdi.library import Answer
 from rrdi.reader import read_file
@@ -105,6 +107,14 @@ class Definitions(WriterCase):
             "rrdi: RRARows is out of range: 0.0", "rrdi: Journal is out of range: -3.0",
             "rrdi: XFF is out of range: 1.5", "rrdi: StepSize must be a number, not inf"])
         self.assertEqual((options.rrarows, options.journal, options.xff), (1200, 16, 0.1))
+
+    def test_options_of_open_files(self) -> None:
+        """They count from the start on."""
+        for name, value in (("OpenFiles", 0.0), ("OpenSeconds", 90.0), ("OpenMemory", 5.0)):
+            self.writer.options.set(name, value)
+        with mock.patch.object(collectd, "load_library"):
+            self.writer.start()
+        self.assertEqual(self.writer._files.bounds, (0, 90, 5))
 
 
 class Writing(WriterCase):
@@ -312,6 +322,18 @@ class Rows(WriterCase):
         self.assertEqual(self.rows("here/load/load.rrdi"),
                          {10 * at: [1.0 + at, 2.0, None] for at in range(1, 4)})
         self.assertEqual(self.rows("here/load/derive.rrdi"), {10 * at: [10.0] for at in range(1, 4)})
+
+    def test_files_that_stay_open(self) -> None:
+        """From the third batch on, until the end."""
+        for at in range(4):
+            self.writer.write(values(NOW + 10 * at, float(at), type="gauge"))
+            self.writer.flush(0)
+        paths = self.writer._files.open_paths()
+        self.assertEqual(paths, [] if isinstance(library.the_library(), Program) else
+                         [os.fsencode(self.folder / "here/load/gauge.rrdi")])
+        self.writer.end()
+        self.assertEqual((self.rows("here/load/gauge.rrdi"), self.writer._files.open_paths()),
+                         ({10 * at: [float(at)] for at in range(1, 4)}, []))
 
     def test_a_file_that_another_program_is_making(self) -> None:
         """A file that is there, and not yet locked by its maker, is not damaged: the samples wait."""

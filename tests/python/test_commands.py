@@ -23,6 +23,8 @@ from rrdi import environment
 from rrdi.errors import OK
 from rrdi.library import Answer
 
+NONE_LEFT = "no change is left in the journal, which keeps the newest 16"
+
 
 class Commands(OfFiles):
     def test_fetch(self: Any) -> None:
@@ -140,7 +142,7 @@ class Commands(OfFiles):
         self.refuses(rrdi.Refused, "no archive", rrdi.create, file, "DS:g:GAUGE:9:U:U", overwrite=True)
         rrdi.revert(file)
         error = self.refuses(rrdi.Refused, "nothing to revert", rrdi.revert, file)
-        self.assertEqual((error.fault, error.at, str(error)), (13, None, f"{file}: nothing to revert"))
+        self.assertEqual((error.fault, error.at, str(error)), (13, None, f"{file}: nothing to revert: {NONE_LEFT}"))
 
     def test_words_that_are_wrong(self: Any) -> None:
         file = self.fill()
@@ -212,7 +214,8 @@ class Commands(OfFiles):
             (self.folder / name).write_bytes(data)
             with self.assertRaises(rrdi.Damaged) as raised:
                 rrdi.last(self.folder / name)
-            self.assertEqual(raised.exception.detail, f"a file of {whose}; convert it with rrdi-import")
+            path = self.folder / name
+            self.assertEqual(raised.exception.detail, f"{path} is a file of {whose}; convert it: rrdi-import {path} NEW.rrdi")
 
     def refuses_without_reading_folder(self: Any) -> None:
         with self.assertRaises((rrdi.CannotRead, rrdi.CannotOpen)):
@@ -249,7 +252,7 @@ class Commands(OfFiles):
         self.assertEqual(rrdi.last(file), 1_600_000_040)
 
     def test_a_reading_function_flushes_as_the_environment_says(self: Any) -> None:
-        """A reading function may repair a file."""
+        """A reading function writes nothing, but passes the setting on."""
         library = mock.Mock()
         library.run_file.return_value = Answer(OK, 0, 0, b"10\n")
         for sync in (False, True):
@@ -301,8 +304,8 @@ class Batches(OfFiles):
         lines = ["update 1600000010:1", "update 1600000010:2", "", "last", "wrong", "update 1600000020:3",
                  "fetch AVERAGE -s 1600000000 -e 1600000019"]
         ran = rrdi.batch(file, lines)
-        self.assertEqual(ran.refused, (rrdi.RefusedLine(2, "update 1600000010:2", "not later than 1600000010"),
-                                       rrdi.RefusedLine(5, "wrong", "usage")))
+        self.assertEqual([line[:3] for line in ran.refused], [(2, "update 1600000010:2", "not later than 1600000010"),
+                                                              (5, "wrong", "usage")])
         wanted = "ERROR: not later than 1600000010\n1600000010\nERROR: usage\n" \
                  "time: g\n1600000010: 1.000000\n1600000020: 3.000000\n"
         self.assertEqual(ran.output, wanted)
@@ -387,9 +390,10 @@ class Collecting(OfFiles):
                 database.update("1600000020:1:2")
                 database.update("x")
         error = raised.exception
-        self.assertEqual(error.lines, (rrdi.RefusedLine(2, "update 1600000010:1:2", "not later than 1600000010"),
-                                       rrdi.RefusedLine(4, "update x", "unreadable sample 1")))
-        self.assertEqual(str(error), f"{file}: line 2, update 1600000010:1:2: not later than 1600000010 (and 1 more)")
+        self.assertEqual([line[:3] for line in error.lines], [(2, "update 1600000010:1:2", "not later than 1600000010"),
+                                                              (4, "update x", "unreadable sample 1")])
+        self.assertEqual(str(error), f"{file}: line 2, update 1600000010:1:2: not later than 1600000010: 1600000010 is not later "
+                                     "than the last update, 1600000010; the next sample may be at 1600000011 or later (and 1 more)")
         again = pickle.loads(pickle.dumps(error))
         self.assertEqual((again.lines, str(again), again.fault), (error.lines, str(error), 13))
         self.assertEqual(rrdi.last(file), 1_600_000_020)
@@ -476,10 +480,11 @@ class InMemory(OfFiles):
     def test_faults(self: Any) -> None:
         data = rrdi.run(None, "create", "--step", "10", "--start", "0", "DS:g:GAUGE:99:U:U", "RRA:LAST:0:1:3").data
         faults: List[Any] = [(None, rrdi.NoDatabase, ["last"], "cannot open"),
-                             (data, rrdi.Refused, ["revert"], "nothing to revert"),
+                             (data, rrdi.Refused, ["revert"], f"nothing to revert: {NONE_LEFT}"),
                              (data, rrdi.Unreadable, ["update", "x"],
                               "unreadable sample 1: 'x' has no value; write TIME:VALUE"),
-                             (data, rrdi.Usage, ["graph"], "usage"), (data, rrdi.Usage, [], "usage"),
+                             (data, rrdi.Usage, ["last", "x"], "usage: 'x' is a word too many; last takes none"),
+                             (data, rrdi.Usage, [], "usage: the name of the command is empty"),
                              (data[:9], rrdi.Damaged, ["last"], "file: truncated at 9"),
                              (b"", rrdi.Damaged, ["last"], "file: truncated at 0")]
         for given, kind, words, text in faults:

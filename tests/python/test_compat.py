@@ -67,11 +67,25 @@ class Translations(unittest.TestCase):
             self.assertEqual(str(refused.exception), f"this time is relative to itself: {text}")
         self.assertEqual(Moment("end-1h", NOW).seconds(end=NOW), NOW - 3_600)
         self.assertEqual(Moment("start+1h", NOW).seconds(start=NOW), NOW + 3_600)
-        for text in ("", "32:00", "x", "12:00 13:00", "now-", "1970-01-01"):
+        # The day has no 24:00, and the hour no minute 60; years have two digits, or are those of 1900 and later.
+        for text in ("", "32:00", "x", "12:00 13:00", "now-", "1970-01-01", "24:00", "23:60", "01/02/0139"):
             with self.assertRaisesRegex(Untranslatable, "cannot parse time: "):
                 Moment(text, NOW).seconds()
         with self.assertRaisesRegex(Untranslatable, "relative to itself"):
             Moment("end-1h", NOW).seconds()
+
+    def test_days_and_hours(self) -> None:
+        """What `rrdtool fetch` 1.7.2 takes these times for in UTC."""
+        with mock.patch.dict(os.environ, {"TZ": "UTC"}):
+            time.tzset()
+            for text, wanted in (("20240203", 1_706_918_400), ("12am 20240203", 1_706_918_400), ("12pm 20240203", 1_706_961_600),
+                                 ("1pm 20240203", 1_706_965_200), ("8:30am 02/03/2024", 1_706_949_000),
+                                 ("noon 03.02.2024", 1_706_961_600), ("03.02.24", 1_706_918_400), ("02/03/95", 791_769_600),
+                                 ("teatime 20240203", 1_706_976_000), ("20240203 6pm", 1_706_983_200)):
+                self.assertEqual(Moment(text, NOW).seconds(), wanted, text)
+        time.tzset()
+        with self.assertRaisesRegex(Untranslatable, "cannot parse time: "):
+            Moment("13pm 20240203", NOW).seconds()
 
     def test_months_and_minutes(self) -> None:
         """An m alone is a month up to 5, and a minute from 6 on; after hours it is a minute, and after days a month, whatever
@@ -203,11 +217,13 @@ class Module:
         self.fill()
         nothing = "none.rrd: cannot open: No such file or directory"
         faults: List[Any] = [
-            (lambda: rrdtool.update("f.rrd", "1600000030:1:2"), "f.rrd: not later than 1600000030"),
+            (lambda: rrdtool.update("f.rrd", "1600000030:1:2"),
+             "f.rrd: not later than 1600000030: 1600000030 is not later than the last update, 1600000030; the next sample may be "
+             "at 1600000031 or later"),
             (lambda: rrdtool.update("f.rrd", "x"), "f.rrd: unreadable sample 1: its time is 'x', not whole seconds since 1970 or N"),
             (lambda: rrdtool.update("f.rrd", "1600000040:1,5:2"),
              "f.rrd: unreadable sample 1: its value 1 is '1,5'; write '1.5', with a point"),
-            (lambda: rrdtool.resize("f.rrd"), "resize.rrd: usage"),
+            (lambda: rrdtool.resize("f.rrd"), "resize.rrd: usage: give the number of an archive, such as 0"),
             (lambda: rrdtool.fetch("f.rrd", "AVERAGE", "-s", "32:00"), "cannot parse time: 32:00"),
             (lambda: rrdtool.fetch("f.rrd"), "f.rrd: fetch needs a FUNCTION"),
             (lambda: rrdtool.last("none.rrd"), nothing), (lambda: rrdtool.last(), "last needs a FILE"),

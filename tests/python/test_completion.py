@@ -64,8 +64,8 @@ class Completion(ToolCase):
         self.write("some.rrd", "")
         self.write("complete", "")
         for line, words in (
-                ("rrdi-import so", "some.rrd some.rrdi"), ("rrdi-import --j", "--journal"), ("rrdi-import --journal ", ""),
-                ("rrdi-import --in", "--into --in-place"), ("rrdi-import --into comp", ""),
+                ("rrdi-import so", "some.rrd some.rrdi"), ("rrdi-import --j", "--journal --jobs"), ("rrdi-import --journal ", ""),
+                ("rrdi-import --jobs ", ""), ("rrdi-import --in", "--into --in-place"), ("rrdi-import --into comp", ""),
                 ("rrdi-export some", "some.rrdi some.rrd"), ("rrdi-export --in", "--into --in-place"), ("rrdi-export --jobs ", ""),
                 ("rrdi-export --into comp", ""), ("rrdi-compare some.rrd --h", "--help"),
                 ("rrdi-check so", "some.rrdi"), ("rrdi-check some.rrdi g --c", "--critical --changes"), ("rrdi-check f g --for ", ""),

@@ -15,13 +15,17 @@ import sys
 import unittest
 from decimal import Decimal
 from pathlib import Path
-from typing import Any, Callable, List
+from typing import Any, Callable, List, Optional
+from unittest import mock
 
 from cases import WithLibrary, WithProgram, sleeping_child
 from doubles import TOP
 from file_case import BOTH, LAST, OfFiles
 
 import rrdi
+from rrdi.kept import KeptFile
+from rrdi.locks import Identity
+from rrdi.reader import settled
 
 ONE = ("DS:g:GAUGE:9:U:U", "RRA:MAX:0:1:3")
 Change = Callable[[Any], object]
@@ -65,15 +69,12 @@ def outcome(command: Change, to: Any) -> object:
 
 class Blocks(OfFiles):
     def bytes_of(self: Any) -> bytes:
-        """Returns the bytes that the file stands for: those of a copy after a command, since the file may be locked."""
-        self.last_in_file()
-        found: bytes = (self.folder / "copy").read_bytes()
-        return found
+        """Returns the bytes that the file stands for."""
+        return settled(self.file.read_bytes())
 
     def last_in_file(self: Any) -> int:
-        """Returns the last time in the file, from a copy: the file may be locked."""
-        shutil.copyfile(self.file, self.folder / "copy")
-        return rrdi.last(self.folder / "copy")
+        """Returns the last time in the file, which may be open."""
+        return rrdi.last(self.file)
 
     def test_each_change_is_in_the_file(self: Any) -> None:
         """After each change the file has the bytes that the functions of the package would have left."""
@@ -105,15 +106,17 @@ class Blocks(OfFiles):
     def test_an_error_at_the_call(self: Any) -> None:
         with rrdi.Database(self.fill()) as database:
             wrong: List[Any] = [
-                (rrdi.Refused, f"not later than {LAST}", lambda: database.update("5:1:2")),
+                (rrdi.Refused, f"not later than {LAST}: 5 is not later than the last update, {LAST}; the next sample may be at "
+                 f"{LAST + 1} or later", lambda: database.update("5:1:2")),
                 (rrdi.Refused, "wrong number of values: sample 1 has 1 value, 2 are wanted: g, c",
                  lambda: database.update((LAST + 10, 1))),
                 (rrdi.Unreadable, "unreadable sample 1: its value 1 is '1,5'; write '1.5', with a point",
                  lambda: database.update("N:1,5:2")),
                 (rrdi.BadSample, "bad time: sample 1 has the time -5, which is before 1970",
                  lambda: database.update((-5, 1, 2))),
-                (rrdi.Refused, "no such archive", lambda: database.first(9)),
-                (rrdi.Usage, "usage", lambda: database.resize(0, "GROW"))]
+                (rrdi.Refused, "no such archive: the file has 2 archives, 0 to 1", lambda: database.first(9)),
+                (rrdi.Usage, "usage: give the number of rows after GROW or SHRINK, such as 100",
+                 lambda: database.resize(0, "GROW"))]
             for kind, text, call in wrong:
                 before = self.bytes_of()
                 with self.assertRaises(kind) as raised:
@@ -130,7 +133,8 @@ class Blocks(OfFiles):
             database.update((LAST + 5, 1, 20))
             ran = database.batch(lines)
             self.assertEqual(ran, rrdi.Batch(f"{LAST + 10}\nERROR: not later than {LAST + 10}\n", (
-                rrdi.RefusedLine(3, "update 5:1:2", f"not later than {LAST + 10}"),)))
+                rrdi.RefusedLine(3, "update 5:1:2", f"not later than {LAST + 10}", f"5 is not later than the last update, {LAST + 10}; "
+                                 f"the next sample may be at {LAST + 11} or later"),)))
             self.assertEqual((database.last(), self.last_in_file()), (LAST + 10, LAST + 10))
         self.assertEqual(database.batch("last").output, f"{LAST + 10}\n")
 
@@ -227,10 +231,10 @@ with rrdi.Database(sys.argv[2]) as database:
 
 
 class BlocksByLibrary(WithLibrary, Blocks, unittest.TestCase):
-    def is_locked(self) -> bool:
+    def is_locked(self, kind: int = fcntl.LOCK_EX) -> bool:
         with open(self.file, "rb") as other:
             try:
-                fcntl.flock(other, fcntl.LOCK_SH | fcntl.LOCK_NB)
+                fcntl.flock(other, kind | fcntl.LOCK_NB)
             except BlockingIOError:
                 return True
         return False
@@ -250,24 +254,52 @@ class BlocksByLibrary(WithLibrary, Blocks, unittest.TestCase):
                     self.assertEqual(self.bytes_of(), other.read_bytes(), seed)
 
     def test_the_lock(self) -> None:
-        """From the first command to the end of the block nobody else gets in."""
+        """From the first command to the end of the block nobody else gets in to change the file, and everybody to read it.
+        What this program itself keeps out does not wait for it."""
         with rrdi.Database(self.fill()) as database:
             self.assertFalse(self.is_locked())
             asked: List[Change] = [lambda of: of.last(), lambda of: of.update((LAST + 10, 1, 20)),
                                    lambda of: of.first()]
             for ask in asked:
                 ask(database)
-                self.assertTrue(self.is_locked())
-            with self.assertRaisesRegex(rrdi.Busy, "this program has it open by rrdi.Database"):
-                rrdi.last(self.file, busy_timeout=0)
-            with rrdi.Database(self.file, busy_timeout=0) as other, self.assertRaises(rrdi.Busy):
-                other.update((LAST + 20, 1, 20))
+                self.assertEqual((self.is_locked(), self.is_locked(fcntl.LOCK_SH)), (True, False))
+                self.assertEqual(rrdi.last(self.file, busy_timeout=0), database.last())
+            changes: List[Callable[[], object]] = [
+                lambda: rrdi.update(self.file, (LAST + 20, 1, 20), busy_timeout=3_600),
+                lambda: rrdi.batch(self.file, ["last"], busy_timeout=3_600), lambda: another.last()]
+            with rrdi.Database(self.file, busy_timeout=3_600) as another:
+                for change in changes:
+                    with self.assertRaisesRegex(rrdi.Busy, "this program has it open by rrdi.Database"):
+                        change()
         self.assertFalse(self.is_locked())
         with self.assertRaises(ZeroDivisionError):
             with rrdi.Database(self.file) as database:
                 database.last()
                 raise ZeroDivisionError
         self.assertFalse(self.is_locked())
+
+    def test_many_open_files(self) -> None:
+        """A change by path asks at most the one object that may have its file open, and not each of a thousand."""
+        paths = [shutil.copyfile(self.fill() if number == 0 else self.file, self.folder / str(number)) for number in range(9)]
+        files = [rrdi.Database(path) for path in paths]
+        asked: List[int] = []
+
+        def has(kept: KeptFile, identity: Optional[Identity]) -> bool:
+            asked.append(0)
+            return was(kept, identity)
+        was = KeptFile.has
+        for file in files:
+            file.open().last()
+        with mock.patch.object(KeptFile, "has", has):
+            rrdi.update(self.file, (LAST + 10, 1, 20))
+            self.assertEqual(len(asked), 0)
+            for path in paths:
+                with self.assertRaises(rrdi.Busy):
+                    rrdi.update(path, (LAST + 10, 1, 20), busy_timeout=3_600)
+        self.assertLessEqual(len(asked), 2 * len(paths))
+        for file in files:
+            file.close()
+        rrdi.update(paths[0], (LAST + 10, 1, 20), busy_timeout=0)
 
     def test_a_file_that_another_program_has(self) -> None:
         with open(self.fill(), "rb") as other:

@@ -12,7 +12,9 @@ import doubles as doubles
 
 import rrdi
 from rrdi import errors
+from rrdi.commands import failed
 from rrdi.errors import error_of
+from rrdi.library import Answer
 
 
 class Errors(unittest.TestCase):
@@ -43,6 +45,25 @@ class Errors(unittest.TestCase):
         self.assertIs(type(again), type(error))
         self.assertEqual((str(again), again.fault, again.system_error, again.path),
                          (str(error), error.fault, error.system_error, error.path))
+
+    def test_names_that_command_a_terminal(self) -> None:
+        """The text of an exception is one line, whatever a file is called; `path` is as the caller gave it."""
+        name = "a\n\x1b[2J\u202e\udcff.rrdi"
+        error = error_of(errors.REFUSED, "reason", name)
+        self.assertEqual((str(error), error.path), ("a\\n\\u{1b}[2J\\u{202e}\\xff.rrdi: reason", name))
+
+    def test_more_than_the_system_said(self) -> None:
+        """Where the system's number says less than the program does, the program's text follows."""
+        cases = [(errors.CANNOT_OPEN, errno.EINVAL, "not a regular file", "Invalid argument; not a regular file"),
+                 (errors.CANNOT_WRITE, errno.ENOSPC, "no space left, or a limit on the size of files",
+                  "No space left on device; no space left, or a limit on the size of files"),
+                 (errors.CANNOT_OPEN, errno.ENOENT, "no such file or directory", "No such file or directory"),
+                 (errors.CANNOT_OPEN, errno.ELOOP, f"{os.strerror(errno.ELOOP)} (os error 40)", os.strerror(errno.ELOOP))]
+        for fault, number, told, shown in cases:
+            reason = errors.reason_of(fault, b"")
+            answer = Answer(fault, number, 0, reason.encode(), explanation=f"a\\nb: {told}".encode())
+            error = failed(answer, "a\nb")
+            self.assertEqual((str(error), error.detail), (f"a\\nb: {reason}: {shown}", told if told in shown else ""))
 
     def test_what_the_system_said(self) -> None:
         """An exception of the system has the attributes of an `OSError`, and the text of the package."""

@@ -65,17 +65,61 @@ class Children(unittest.TestCase):
 
 
     def test_few_processes(self) -> None:
-        """If the system has no further process, the next one waits for one that runs; all that was done has an answer."""
-        real, calls = os.fork, iter([True, True, False, True, False, False, False])
+        """If the system has no further process, those that run do it all; if it has none for the next thing, nothing is left
+        undone that was answered."""
+        def work(number: int) -> ChildAnswer:
+            if number == 3:
+                os.kill(os.getpid(), 9)
+            return ChildAnswer(True, f"{number} {os.getpid()}")
+        real = os.fork
+        for forks, pids in (([True, False, False, False, True], 2), ([True, True, False, False], 2)):
+            left = iter(forks)
 
-        def fork() -> int:
-            if not next(calls):
-                raise BlockingIOError
-            return real()
+            def fork() -> int:
+                if not next(left, False):
+                    raise BlockingIOError
+                return real()
+            with mock.patch.object(os, "fork", fork):
+                found = list(answers(range(3), work, 3))
+                self.assertEqual([answer.text.split()[0] for _, answer in found], ["0", "1", "2"])
+                self.assertLessEqual(len({answer.text.split()[1] for _, answer in found}), pids)
+        left = iter([True])
         with mock.patch.object(os, "fork", fork):
-            found = answers(range(5), lambda number: ChildAnswer(True, str(number)), 3)
-            self.assertEqual([next(found)[0], next(found)[0], next(found)[0]], [0, 1, 2])
-            self.assertRaises(BlockingIOError, next, found)
+            one = answers(range(5), work, 1)
+            self.assertEqual([next(one)[1].is_done for _ in range(4)], [True, True, True, False])
+            self.assertRaises(BlockingIOError, next, one)
+        self.assertRaises(ChildProcessError, os.waitpid, -1, os.WNOHANG)
+
+    def test_no_pipe_is_left_open(self) -> None:
+        """If the system has no second pipe, or no process, the pipes that were opened are closed."""
+        open_before, pipe = os.listdir("/proc/self/fd"), os.pipe
+        for count in (0, 1, 2):
+            left = iter(range(count))
+
+            def next_pipe() -> Tuple[int, int]:
+                if next(left, None) is None:
+                    raise BlockingIOError
+                return pipe()
+            with mock.patch.object(os, "pipe", next_pipe), mock.patch.object(os, "fork", side_effect=BlockingIOError):
+                with self.assertRaises(BlockingIOError):
+                    list(answers([1], lambda number: ChildAnswer(True, ""), 1))
+            self.assertEqual(os.listdir("/proc/self/fd"), open_before)
+
+    def test_one_process_for_many(self) -> None:
+        """There are no more processes than were asked for, each with many things, whichever take long; and none is left if the
+        caller gives up, nor an open pipe."""
+        def work(number: int) -> ChildAnswer:
+            time.sleep(0.3 if number == 0 else 0.001)
+            return ChildAnswer(True, str(os.getpid()))
+        open_before = os.listdir("/proc/self/fd")
+        found = [answer.text for _, answer in answers(range(100), work, 3)]
+        self.assertEqual((len(set(found)), found.count(found[0])), (3, 1))
+        given_up = answers(range(100), work, 3)
+        next(given_up)
+        given_up.close()  # type: ignore[attr-defined]
+        self.assertRaises(ChildProcessError, os.waitpid, -1, os.WNOHANG)
+        self.assertEqual(os.listdir("/proc/self/fd"), open_before)
+        self.assertEqual(list(answers([], work, 3)), [])
 
 
 class OfTree(ToolCase):
@@ -167,12 +211,31 @@ class Trees(OfTree):
                 f"tree/sub/b.rrd: {new}/sub/b.rrd (2 data sources, 2 archives)",
                 "2 files: 2 converted; 1 link passed over"], []))
             self.same_rows(f"{new}/a.rrd", self.rows("wanted/a.rrd"))
-        before = self.read("new1/a.rrd")
-        self.assertEqual(self.export("--into", "new1", "tree/a.rrdi"), (1, ["1 file: 0 converted; 1 not converted"], [
-            "rrdi-export: tree/a.rrdi: not converted: new1/a.rrd already exists"]))
-        self.assertEqual(self.read("new1/a.rrd"), before)
         self.assertEqual(self.tool("rrdi-export", "tree/a.rrdi", "one.rrd"), Ran(0, "", ""))
         self.same_rows("one.rrd", self.rows("wanted/a.rrd"))
+
+    def test_again(self) -> None:
+        """What is there already stays, and so does what is not equal: the line says by what."""
+        for name in ("a", "b"):
+            self.create(f"tree/{name}.rrdi", *DEFINITIONS, start=START, step=STEP)
+            self.rrdi("update", f"tree/{name}.rrdi", f"{START + 900}:2.125:7")
+        self.assertEqual(self.export("--into", "new", "tree")[1][-1], "4 files: 3 converted; 1 not converted")
+        (self.folder / "new/b.rrd").unlink()
+        self.rrdtool("update", "new/sub/b.rrd", f"{START + 9_300}:25:30000")
+        before = {name: (self.read(name), os.stat(self.folder / name)) for name in ("new/a.rrd", "new/sub/b.rrd")}
+        for jobs, counts in (("1", "1 converted; 1 there already"), ("3", "0 converted; 2 there already")):
+            status, lines, errors = self.export("--jobs", jobs, "--into", "new", "tree")
+            self.assertEqual((status, lines[-1]), (1, f"4 files: {counts}; 2 not converted"))
+            self.assertEqual(errors, ["rrdi-export: tree/a.rrdi: not converted: new/a.rrd is made of tree/a.rrd",
+                                      "rrdi-export: tree/sub/b.rrd: not converted: new/sub/b.rrd already exists, and is not equal: "
+                                      "the step or the last time"])
+            self.assertEqual(lines[0], "tree/a.rrd: new/a.rrd is there already (2 data sources, 2 archives)")
+        self.assertEqual({name: (self.read(name), os.stat(self.folder / name)) for name in before}, before)
+        self.write("new/b.rrd", "")
+        self.assertEqual(self.export("--into", "new", "tree/b.rrdi"), (1, ["1 file: 0 converted; 1 not converted"], [
+            "rrdi-export: tree/b.rrdi: not converted: new/b.rrd already exists, and is not equal: "
+            + self.run_command([str(RRDTOOL), "dump", "new/b.rrd"]).err.strip()]))
+        self.assertEqual((self.export("--into", "new", "tree/a.rrd")[0], self.unfinished()), (0, []))
 
     def test_two_exporters(self) -> None:
         """One is stopped between its two steps, and the other one can't put its file there meanwhile."""
@@ -220,10 +283,18 @@ class Trees(OfTree):
         self.assertEqual({path: path.read_bytes() for path in before}, before)
         self.assertEqual(self.unfinished(), [])
 
+    def test_a_link_of_the_other_name(self) -> None:
+        """It would soon lead to the new file, and the database would have no name."""
+        before = self.read("tree/a.rrd")
+        (self.folder / "tree/a.rrd.rrdi").symlink_to("a.rrd")
+        self.assertEqual(self.export("--in-place", "tree/a.rrd"), (1, ["1 file: 0 converted; 1 not converted"], [
+            f"rrdi-export: tree/a.rrd: not converted: {self.folder}/tree/a.rrd.rrdi already exists"]))
+        self.assertEqual(self.read("tree/a.rrd"), before)
+
     def test_a_sample_that_comes_meanwhile(self) -> None:
         """rrdi waits for the lock, and then finds RRDtool's file: the sample is refused, and gets into no other file."""
         before, wanted = self.read("tree/a.rrd"), self.rows("wanted/a.rrd")
-        self.stub("rrdtool", f'if [ $1 = dump ]; then touch reading; sleep 1; fi; exec {RRDTOOL} "$@"')
+        self.stub("rrdtool", f'touch reading; sleep 1; exec {RRDTOOL} "$@"')
         with subprocess.Popen([str(TOP / "tools/rrdi-export"), "--in-place", "tree/a.rrd"], cwd=self.folder, env=self.env,
                               stdout=subprocess.DEVNULL) as running:
             while not (self.folder / "reading").exists() and running.poll() is None:
@@ -239,19 +310,20 @@ class Trees(OfTree):
         for case, why in (
                 ("restore) echo 'ERROR: no space' >&2; exit 1", "ERROR: no space"),
                 ("restore) kill -9 $PPID", "the process was ended by signal 9"),
-                ("dump) exit 1", "what rrdtool restored cannot be read back: rrdtool did not read the file to its end"),
-                ("dump) $real dump $2 | sed 's/<step>300/<step>301/'", f"{unequal}the step or the last time"),
-                ("dump) $real dump $2 | sed 's/2.1[0-9]*e+01/2.1e+01/'", f"{unequal}archive 0"),
-                ("dump) $real dump $2 | sed 's/<xff>2.5/<xff>5.0/'", f"{unequal}archive 1"),
-                ("dump) $real dump $2 | sed 's/<type> GAUGE/<type> COUNTER/'", f"{unequal}the data source g"),
-                ("dump) $real dump $2 | sed 's/<last_ds>29000/<last_ds>2900/'", f"{unequal}the data source c"),
-                ("dump) touch -d 2001-01-01 tree/a.rrd; $real dump $2",
+                ("restore) echo text >$3", "what rrdtool restored cannot be read back: ERROR: "),
+                ("restore) sed 's/<step>300/<step>301/' | $real restore - $3", f"{unequal}the step or the last time"),
+                ("restore) sed 's/<v>21.[0-9]*/<v>21.1/' | $real restore - $3", f"{unequal}archive 0"),
+                ("restore) sed 's/<xff>0.25/<xff>0.5/' | $real restore - $3", f"{unequal}archive 1"),
+                ("restore) sed 's/<type>GAUGE/<type>COUNTER/' | $real restore - $3", f"{unequal}the data source g"),
+                ("restore) sed 's/<last_ds>29000/<last_ds>2900/' | $real restore - $3", f"{unequal}the data source c"),
+                ("restore) touch -d 2001-01-01 tree/a.rrd; $real restore - $3",
                  "it changed while it was converted; first stop what records into it"),
-                ("dump) echo x >>tree/a.rrd.rrdi; $real dump $2", "{}/tree/a.rrd.rrdi already exists")):
+                ("restore) echo x >>tree/a.rrd.rrdi; $real restore - $3", "{}/tree/a.rrd.rrdi already exists")):
             self.stub("rrdtool", f'real={RRDTOOL}; case $1 in {case} ;; *) exec $real "$@" ;; esac')
             ran = self.export("--in-place", "tree/a.rrd")
             if "already" not in why:
-                self.assertEqual(ran[2], [f"rrdi-export: tree/a.rrd: not converted: {why}"])
+                said = f"rrdi-export: tree/a.rrd: not converted: {why}"
+                self.assertEqual([line[:len(said)] for line in ran[2]], [said])
                 self.assertEqual(sorted(os.listdir(self.folder / "tree")), ["a.rrd", "sub"] if "signal" not in why else
                                  sorted(["a.rrd", "sub", *self.unfinished()]))
             self.assertEqual(self.read("tree/a.rrd"), before)

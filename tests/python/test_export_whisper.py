@@ -111,6 +111,17 @@ class BesideWhisper(ToolCase):
         self.assertEqual(ran, Ran(
             1, "tree/web/hits.rrdi: new/web/hits.wsp (1 data source, 2 archives)\n2 files: 1 converted; 1 not converted\n",
             "rrdi-export: tree/two.rrdi: not converted: a file of whisper has one metric, and there are the sources a, b\n"))
+        again = "tree/web/hits.rrdi: new/web/hits.wsp is there already (1 data source, 2 archives)\n1 file: 0 converted; 1 there already\n"
+        words = ["--whisper", "--into", "new", "tree/web/hits.rrdi"]
+        (self.folder / "new/hits.wsp").write_bytes(self.read("new/web/hits.wsp"))
+        self.assertEqual(self.tool("rrdi-export", *words), Ran(0, again.replace("new/web", "new"), ""))
+        (self.folder / "new/hits.wsp").write_bytes(self.read("new/web/hits.wsp")[:-1] + b"x")
+        self.assertEqual(self.tool("rrdi-export", *words), Ran(1, "1 file: 0 converted; 1 not converted\n", "rrdi-export: "
+                         "tree/web/hits.rrdi: not converted: new/hits.wsp already exists, and is not equal\n"))
+        ran = self.tool("rrdi-import", "--into", "back", "new/web")
+        self.assertEqual((ran.status, ran.out.splitlines()[-1]), (0, "1 file: 1 converted"))
+        ran = self.tool("rrdi-import", "--into", "back", "new/web")
+        self.assertEqual((ran.status, ran.out.splitlines()[-1]), (0, "1 file: 0 converted; 1 there already"))
         (self.folder / "new/web/hits.wsp").rename(self.folder / "new.wsp")
         self.assertGreater(self.same("many", NOW + 290), 30)
 

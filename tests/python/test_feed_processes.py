@@ -71,10 +71,13 @@ class Lines(FeedCase):
         self.same("refused samples", self.ran(feed, given="a.rrdi 40:1\na.rrdi 30:9 25:8\na.rrdi x\na.rrdi 50:2\n"),
                    Ran(1, "", "rrdi-feed: a.rrdi x: unreadable sample 1\n"
                               "rrdi-feed: 'x' has no value; write TIME:VALUE\n"
-                              "rrdi-feed: a.rrdi 25:8: not later than 30\nrrdi-feed: a.rrdi 30:9: not later than 30\n"))
+                              "rrdi-feed: a.rrdi 25:8: not later than 30\n"
+                              "rrdi-feed: a.rrdi 30:9: not later than 30\n"
+                              "rrdi-feed: 25 is not later than the last update, 30; the next sample may be at 31 or later\n"))
         self.same("the others", self.asked("last", "a.rrdi"), "50\n")
         self.same("no database", self.ran(feed, given="none.rrdi 10:1 20:2\n"),
-                   Ran(1, "", "rrdi-feed: none.rrdi 10:1: no database\nrrdi-feed: none.rrdi 20:2: no database\n"))
+                   Ran(1, "", "rrdi-feed: none.rrdi 10:1: no database\nrrdi-feed: none.rrdi 20:2: no database\n"
+                              "rrdi-feed: there is none yet: begin with a create, or check the path of FILE\n"))
         self.same("no sample", self.ran(feed, given="a.rrdi\n"),
                    Ran(1, "", "rrdi-feed: expected FILE SAMPLE.., got: a.rrdi\nrrdi-feed: bad lines: 1\n"))
         (self.folder / "cut").write_bytes(self.read("a.rrdi")[:9])
@@ -222,3 +225,26 @@ class InProcess(FeedCase):
         lines = "".join(f"{file} {10 * at}:{at}\n" for at in range(1, 40) for file in many)
         self.same("many files", self.ran(path_of("rrdi-feed"), given=lines), Ran(0, "", ""))
         self.same("all their samples", {self.asked("last", file) for file in many}, {"390\n"})
+
+    def test_open_files(self) -> None:
+        """A file that comes back soon stays open: others read it, and change it after the end, or a kill, of feed."""
+        self.made("f.rrdi")
+        for first, end in ((10, signal.SIGTERM), (70, signal.SIGKILL)):
+            fed = self.feeder("--seconds", "1", "--open-seconds", "600")
+            for at in range(first, first + 30, 10):
+                give(fed, f"f.rrdi {at}:{at}\n")
+                self.until("the sample", lambda: self.asked("last", "f.rrdi") == f"{at}\n")
+            assert PROGRAM
+            update = [PROGRAM, "update", "f.rrdi", f"{first + 50}:{first + 50}"]
+            self.same("nobody changes it", self.ran(*update, env={"RRDI_WAIT": "0"}).status, 1)
+            tune = [PROGRAM, "tune", "f.rrdi", "--heartbeat", "g:100"]
+            fed.send_signal(signal.SIGUSR1)
+            self.until("feed lets go of it", lambda: self.ran(*tune, env={"RRDI_WAIT": "0"}).status == 0)
+            for at in (first + 30, first + 40):
+                give(fed, f"f.rrdi {at}:{at}\n")
+                self.until("the sample", lambda: self.asked("last", "f.rrdi") == f"{at}\n")
+            fed.send_signal(end)
+            fed.wait(HANG)
+            self.same("then others do", self.ran(*update), Ran(0, "", ""))
+        rows = "".join(f"{at}: {at}.000000\n" for at in range(10, 130, 10))
+        self.same("all samples", self.asked("fetch", "f.rrdi", "AVERAGE", "-s", "0", "-e", "119"), f"time: g\n{rows}")

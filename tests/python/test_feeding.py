@@ -5,6 +5,7 @@ from __future__ import annotations
 import contextlib
 import errno
 import io
+import itertools
 import os
 import time
 import unittest
@@ -20,7 +21,7 @@ from rrdi import choice, library
 from rrdi.errors import CANNOT_OPEN, CANNOT_WRITE, NO_MEMORY, NoLibrary
 from rrdi.feeding.feeder import Feeder, FeedOptions, line_text
 from rrdi.by_program import ByProgram
-from rrdi.feeding.writers import BatchWriter, Outcome
+from rrdi.feeding.writers import BatchWriter, Outcome, Reason
 from rrdi.library import Answer
 
 
@@ -80,8 +81,8 @@ class Lines(unittest.TestCase):
         self.assertEqual((feeder.has_failed, feeder.bad_lines), (True, 4))
 
     def test_how_a_bad_line_is_shown(self) -> None:
-        for line, text in ((b"a\r", "a"), (b"\x1b[2Ja", "\\x1b[2Ja"), (b"a\0b", "a\\x00b"), (b"\xff", "\ufffd"),
-                           ("\u202eü".encode(), "\\u202eü"), (b"a" * 4_096, "a" * 4_096), (b"a" * 4_097, "a" * 4_096 + "..")):
+        for line, text in ((b"a\r", "a"), (b"\x1b[2Ja", "\\u{1b}[2Ja"), (b"a\0b", "a\\u{0}b"), (b"\xff", "\ufffd"),
+                           ("\u202eü".encode(), "\\u{202e}ü"), (b"a" * 4_096, "a" * 4_096), (b"a" * 4_097, "a" * 4_096 + "..")):
             self.assertEqual(line_text(line), text)
 
     def test_nobody_reads_the_messages(self) -> None:
@@ -132,6 +133,36 @@ class Batches(unittest.TestCase):
         said = taken(feeder, text) + finished(feeder)
         return writer, feeder, said
 
+    def test_many_refused_samples(self) -> None:
+        """Those of one file with one reason share lines, from which they can be fed again; a reason is explained once a minute,
+        whichever numbers it has; and at the end comes the count."""
+        late = [(b"%d:1" % at, Reason("not later than 300", f"{at} is late")) for at in range(1, 251)]
+        others = (late[0], (b"x", Reason("unreadable sample 1", "'x' has no value")), (b"2:1", "another"), *late[:11])
+        outcomes = {b"a": [Outcome(refused=tuple(late))], b"b": [Outcome(refused=others)],
+                    b"c": [Outcome(refused=((b"5:1", Reason("not later than 7", "5 is late")),))]}
+        said = self.fed(b"a 1:1\nb 1:1\nc 5:1", outcomes, jobs=1)[2]
+        lines = [" ".join(sample.decode() for sample, _ in late[at:at + 100]) for at in (0, 100, 200)]
+        self.assertEqual(said, "".join(f"rrdi-feed: {line}\n" for line in (
+            *(f"a {line}: not later than 300" for line in lines), "1 is late", "b 1:1: not later than 300",
+            "b x: unreadable sample 1", "'x' has no value", "b 2:1: another",
+            f"b {' '.join(sample.decode() for sample, _ in late[:11])}: not later than 300", "c 5:1: not later than 7",
+            "samples refused: 265")))
+
+    def test_few_refused_samples(self) -> None:
+        """Each has a line of its own; a minute later a reason is explained again."""
+        late = tuple((b"%d:1" % at, Reason("not later than 300", f"{at} is late")) for at in range(1, 11))
+        with mock.patch.object(time, "monotonic", mock.Mock(side_effect=itertools.count(0, 0.001))) as clock:
+            said = self.fed(b"a 1:1", {b"a": [Outcome(refused=late[:2])]}, jobs=1)[2]
+            self.assertEqual(said, "rrdi-feed: a 1:1: not later than 300\nrrdi-feed: a 2:1: not later than 300\n"
+                                   "rrdi-feed: 1 is late\n")
+            feeder = Feeder(FeedOptions(), Stub())
+            self.addCleanup(feeder.threads.shutdown)
+            for seconds, explained in ((0, 1), (59, 0), (60.1, 1), (60.2, 0), (500, 1)):
+                clock.side_effect = itertools.count(seconds, 0.001)
+                with contextlib.redirect_stderr(io.StringIO()) as lines:
+                    feeder.say_refused(b"a", late)
+                self.assertEqual(len(lines.getvalue().splitlines()), 10 + explained, seconds)
+
     def test_one_batch_a_file(self) -> None:
         writer, feeder, said = self.fed(b"a 10:1\nb 10:2\na 20:3", {}, jobs=1)
         self.assertEqual(writer.batches, [(b"a", [b"10:1", b"20:3"]), (b"b", [b"10:2"])])
@@ -171,11 +202,23 @@ class Batches(unittest.TestCase):
                 feeder.end_batches(HANG)
             self.assertEqual(sorted(cast(Stub, feeder.writer).batches), [(b"a", [b"10:1"]), (b"b", [b"10:1"])], name)
 
+    def test_a_hurry_closes_files(self) -> None:
+        """Before it has the held samples written, so that no file is open afterwards."""
+        feeder, said = Feeder(FeedOptions(), Stub()), []  # type: Feeder, List[str]
+        self.addCleanup(feeder.threads.shutdown)
+        feeder.let_go = lambda: said.append("let go")
+        feeder.take_all([b"a 10:1"])
+        feeder.start_due()
+        feeder.hurry()
+        with mock.patch.object(feeder, "start", lambda file: said.append("start")):
+            feeder.start_due()
+        self.assertEqual(said, ["let go", "start"])
+
     def test_refused_samples(self) -> None:
         _, feeder, said = self.fed(b"a 10:1\na 20:3", {b"a": [Outcome(refused=((b"20:3", "bad value"),))]})
         self.assertEqual((said, feeder.has_failed), ("rrdi-feed: a 20:3: bad value\n", True))
         _, _, said = self.fed(b"\x07 \x1b[2J:1", {b"\x07": [Outcome(refused=((b"\x1b[2J:1", "unreadable sample 1"),))]})
-        self.assertEqual(said, "rrdi-feed: \\x07 \\x1b[2J:1: unreadable sample 1\n")
+        self.assertEqual(said, "rrdi-feed: \\u{7} \\u{1b}[2J:1: unreadable sample 1\n")
 
     def test_again(self) -> None:
         again = Outcome(again="cannot open")

@@ -19,6 +19,7 @@ from process_case import ProcessCase, locked
 from tool_case import ToolCase, finished, taken
 
 from rrdi import choice
+from rrdi.by_ctypes import FileByWords
 from rrdi.by_program import ByProgram
 from rrdi.feeding.feeder import Feeder, FeedOptions
 from rrdi.feeding.grouped import GroupWriter
@@ -420,7 +421,7 @@ class Tool(ProcessCase, BackfillCase):
 
 # ---- carbon
 
-class LockedFile:
+class LockedFile(FileByWords):
     """A file that is locked, except while the program runs a command on it."""
 
     def __init__(self, path: bytes, library: Program):
@@ -477,6 +478,8 @@ class CarbonStore(DataCase):
             late.write("m", points[:1])
             for arrival in arrivals(chance, [str(number).encode() for number in range(1, len(points))], 8, 7):
                 late.write("m", [points[int(one)] for one in arrival.samples])
+            for store in (in_turn, late):
+                store.close()
             files = [(self.folder / f"{seed} {name}" / "m.rrdi").read_bytes() for name in ("in turn", "late")]
             self.assertEqual(files[0], files[1], seed)
             found = late.losses.take()

@@ -15,7 +15,7 @@ from typing import Any, Callable, Dict, Iterator, List, Optional, Tuple
 from unittest import mock
 
 from cases import HANG, assert_ends, new_folder
-from rrdi.damaged import LONGEST_MAKING
+from rrdi.damaged import LONGEST_CREATION
 from rrdi.errors import TRUNCATED
 from rrdi.feeding import feeder as feeders
 from rrdi.feeding import metrics, workers
@@ -268,8 +268,6 @@ class NoMemory(FaultCase):
             self.writer.outcomes = {b"1.rrdi": [Outcome(lost="cannot write")]}
             self.assertEqual(self.fed(b"1.rrdi 1:1\n2.rrdi 1:1\n", b""), 1)
         self.assertEqual(self.said, "rrdi-feed: samples may be lost that there is no memory to show\n")
-        self.feeder.explain = mock.Mock(side_effect=MemoryError)
-        self.assertEqual(self.feeder.explained(b"a", b"1:1", "bad value"), "")
 
 
 class Threads(FaultCase):
@@ -354,7 +352,7 @@ class CannotLook(unittest.TestCase):
         library = mock.Mock(batch_file=lambda *words: Answer(TRUNCATED, 0, 0, b"file: truncated at 0"))
         again = Outcome(again="file: truncated at 0")
         self.assertEqual(BatchWriter(library).write(file, [b"10:1"]), again)
-        os.utime(file, (time.time() - LONGEST_MAKING - 9,) * 2)
+        os.utime(file, (time.time() - LONGEST_CREATION - 9,) * 2)
         self.assertEqual(BatchWriter(library).write(file, [b"10:1"]), Outcome(lost="file: truncated at 0"))
         with mock.patch("os.stat", side_effect=OSError(errno.ESTALE, "Stale file handle")):
             self.assertEqual(BatchWriter(library).write(file, [b"10:1"]), again)

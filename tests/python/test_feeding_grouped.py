@@ -17,6 +17,7 @@ from rrdi.errors import BAD_WORD, CANNOT_OPEN, CANNOT_WRITE, NO_MEMORY, OK
 from rrdi.feeding.grouped import MANY, GroupWriter
 from rrdi.feeding.writers import BatchWriter, Outcome
 from rrdi.library import the_library
+from rrdi.open_files import OpenBounds, OpenFiles
 from rrdi.protocol import Answer
 
 SAMPLES = [b"%d:1" % (10 * number) for number in range(1, MANY + 1)]
@@ -38,6 +39,9 @@ class FakeFile:
     def batch(self, lines: bytes, now: int) -> Answer:
         self.calls.append(lines)
         return self.answers.pop(0)
+
+    def is_current(self) -> bool:
+        return not self.is_closed
 
     def close(self) -> None:
         self.is_closed = True
@@ -122,6 +126,52 @@ class Groups(unittest.TestCase):
         self.assertEqual((GroupWriter(library).write(b"a", SAMPLES[1:]), library.batches), (Outcome(), 1))
 
 
+class Open(unittest.TestCase):
+    """The file stays open from its second batch on."""
+
+    def write(self, samples: List[bytes], *answers: Answer) -> Tuple[Outcome, FakeFile, int]:
+        """Writes samples in three batches, of which the first two have one sample."""
+        file = FakeFile([DONE, *answers], 4)
+        library: Any = FakeLibrary(file)
+        use_library(self, library)
+        writer = GroupWriter(library, OpenFiles(OpenBounds(seconds=1_000)))
+        self.addCleanup(writer.files.close_all)
+        for sample in (b"1:1", b"2:1"):
+            self.assertEqual(writer.write(b".", [sample]), Outcome())
+        self.assertFalse(file.is_closed)
+        return writer.write(b".", samples), file, library.batches
+
+    def test_few_and_many(self) -> None:
+        for samples, answers in ((SAMPLES[1:], [DONE]), (SAMPLES, [DONE, DONE])):
+            outcome, file, batches = self.write(samples, *answers)
+            self.assertEqual((outcome, file.answers, file.is_closed, batches), (Outcome(), [], False, 1))
+
+    def test_without_bounds_no_file_stays_open(self) -> None:
+        library: Any = FakeLibrary(FakeFile([], 4))
+        use_library(self, library)
+        writer = GroupWriter(library)
+        self.addCleanup(writer.files.close_all)
+        for number in range(1, 4):
+            self.assertEqual((writer.write(b".", SAMPLES[:1]), library.batches), (Outcome(), number))
+
+    def test_refusals(self) -> None:
+        outcome, file, _ = self.write(SAMPLES[:2], Answer(OK, 0, 0, b"ERROR: bad value\n", (2,)))
+        self.assertEqual((outcome.refused, file.is_closed), (((SAMPLES[1], "bad value"),), False))
+
+    def test_faults(self) -> None:
+        full, busy = Answer(CANNOT_WRITE, errno.ENOSPC, 0, b"cannot write"), Answer(CANNOT_OPEN, errno.EAGAIN, 0, b"cannot open")
+        for answer, wanted in ((full, Outcome(lost="cannot write")), (busy, Outcome(again="cannot open"))):
+            outcome, file, _ = self.write(SAMPLES[:2], answer)
+            self.assertEqual((outcome, file.is_closed), (wanted, True))
+
+    def test_a_file_that_is_locked(self) -> None:
+        library: Any = FakeLibrary(None, Answer(CANNOT_OPEN, errno.EAGAIN, 0, b"cannot open"))
+        use_library(self, library)
+        writer = GroupWriter(library, OpenFiles(OpenBounds(seconds=1_000)))
+        self.assertEqual([writer.write(b".", SAMPLES[:2]).again for _ in range(2)], ["", "cannot open"])
+        self.assertEqual(library.batches, 1)
+
+
 class OnProgram:
     """A file that the program opens anew for each call. A library that opens such files."""
 
@@ -161,10 +211,13 @@ class SameFiles:
                             step=10, start=0, journal=depth)
                 rrdi.batch(file, before)
             samples = self.samples(random_, count, bad)
-            outcomes = [writer.write(file, samples) for file, writer in zip(files, writers)]
+            outcomes = [self.write(writer, file, samples) for file, writer in zip(files, writers)]
             one, group = (Path(os.fsdecode(file)).read_bytes() for file in files)
             self.assertEqual(outcomes[0], outcomes[1])
             self.assertEqual(one, group, f"{number}: {count} samples, a journal of {depth}")
+
+    def write(self, writer: BatchWriter, file: bytes, samples: List[bytes]) -> Outcome:
+        return writer.write(file, samples)
 
     def samples(self, random_: random.Random, count: int, bad: float) -> List[bytes]:
         time, first_bad = 40, random_.choice((0, count - 30))
@@ -182,6 +235,26 @@ class SameByLibrary(SameFiles, unittest.TestCase):
     def writers(self) -> Tuple[BatchWriter, BatchWriter]:
         use_library(self, None)
         return BatchWriter(the_library()), GroupWriter(the_library())
+
+
+@needs_library
+class SameByOpenFiles(SameFiles, unittest.TestCase):
+    """In several batches, of which the later ones find the file open."""
+
+    def writers(self) -> Tuple[BatchWriter, BatchWriter]:
+        use_library(self, None)
+        return BatchWriter(the_library()), GroupWriter(the_library(), OpenFiles(OpenBounds(seconds=1_000)))
+
+    def write(self, writer: BatchWriter, file: bytes, samples: List[bytes]) -> Outcome:
+        refused: List[Tuple[bytes, str]] = []
+        for begin, end in ((0, 5), (5, 9), (9, 70), (70, 72), (72, len(samples))):
+            outcome = writer.write(file, samples[begin:end]) if samples[begin:end] else Outcome()
+            refused += outcome.refused
+            self.assertEqual(outcome._replace(refused=()), Outcome())
+        if isinstance(writer, GroupWriter):
+            self.assertEqual(writer.files.open_paths(), [file])
+            writer.files.close_all()
+        return Outcome(refused=tuple(refused))
 
 
 @needs_program

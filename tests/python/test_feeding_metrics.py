@@ -135,15 +135,16 @@ class Lines(unittest.TestCase):
         for value, moment, sample in ((b"1", b"10", b"10:1"), (b"-0.5", b"10.9", b"10:-0.5"), (b"1e3", b"10.", b"10:1000"),
                                       (b"1.23456789", b"10", b"10:1.234568"), (b"2.5E-05", b"007", b"7:0.000025"),
                                       (b"nan", b"1", b"1:U"), (b"-NaN", b"1", b"1:U"), (b"U", b"1", b"1:U"),
-                                      (b"+5", b"1", b"1:5"), (b".5", b"1", b"1:0.5"), (b"5.", b"1", b"1:5")):
+                                      (b"+5", b"1", b"1:5"), (b".5", b"1", b"1:0.5"), (b"5.", b"1", b"1:5"),
+                                      (b"0." + b"1" * 1_022, b"0" * 1_023 + b"7", b"7:0.111111")):
             self.assertEqual(as_sample(value, moment), sample)
         for value, moment, reason in (
                 (b"x", b"1", "the value must be a number"), (b"inf", b"1", "the value must be a number"),
-                (b"1:2", b"1", "the value must be a number"), (b"1" * 1_025, b"1", "the value must be a number"),
+                (b"1:2", b"1", "the value must be a number"), (b"0." + b"1" * 1_023, b"1", "the value must be a number"),
                 ("٣".encode(), b"1", "the value must be a number"), (b"0x10", b"1", "the value must be a number"),
                 (b"1e9999", b"1", "the value must be a number"),
                 *((b"1", moment, "the time must be seconds since 1970")
-                  for moment in (b"-2", b"x", b"1e9", b"1:2", b"+1", "٣".encode(), b"1" * 1_025)),
+                  for moment in (b"-2", b"x", b"1e9", b"1:2", b"+1", "٣".encode(), b"0" * 1_024 + b"7")),
                 (b"1", b"%d" % (time.time() + 90_000), "the time is over a day ahead"),
                 (b"1", b"1700000000000", "the time is over a day ahead")):
             with self.assertRaises(BadLine) as found:
@@ -260,13 +261,15 @@ class New(EachWriter, unittest.TestCase):
         """Both writers create and fill the same files."""
         _, said = self.fed(b"a.b 1.5 20\na.b 2.5 30\na.b 9 30\nc 1 20", f"a.* */b.rrdi {ARGUMENTS}\nc c {ARGUMENTS}", writer)
         file = os.path.join(self.folder, b"b/b.rrdi")
-        self.assertEqual(said, f"rrdi-feed: {os.fsdecode(file)} 30:9: not later than 30\n")
+        self.assertEqual(said, f"rrdi-feed: {os.fsdecode(file)} 30:9: not later than 30\n"
+                               "rrdi-feed: 30 is not later than the last update, 30; the next sample may be at 31 or later\n")
         self.assertEqual(self.names(), ["b/b.rrdi", "c"])
         self.assertEqual(writer.write(file, [b"30:1", b"40:1"]), Outcome(refused=((b"30:1", "not later than 30"),)))
         self.assertEqual(writer.create(os.path.join(self.folder, b"none/f"), ARGUMENTS.split()), "cannot write")
         self.assertEqual(writer.create(os.path.join(self.folder, b"g"), ["DS:a:GAUGE:x:U:U"]), "unreadable definition 1")
         _, said = self.fed(b"none 1 20", EACH_NAME, writer)
-        self.assertEqual(said, f"rrdi-feed: {os.fsdecode(self.folder)}/none.rrdi 20:1: no database\n")
+        self.assertEqual(said, f"rrdi-feed: {os.fsdecode(self.folder)}/none.rrdi 20:1: no database\n"
+                               "rrdi-feed: there is none yet: begin with a create, or check the path of FILE\n")
         self.being_made(writer)
 
     def being_made(self, writer: Writer) -> None:

@@ -13,7 +13,7 @@ from unittest import mock
 
 import graphite_doubles as graphite
 from cases import DataCase, use_any_library
-from doubles import TOP
+from doubles import NothingStaysOpen, TOP
 from rrdi import errors, library
 from rrdi.graphite import carbon, store
 from rrdi.library import Answer, Library
@@ -157,12 +157,13 @@ class Asked(CarbonCase):
         database.validateArchiveList([(10, 60)])
 
     def test_settings(self) -> None:
-        for name, value in (("RRDI_JOURNAL", 0), ("RRDI_JOURNAL", "many"), ("RRDI_MAX_FUTURE", -1), ("RRDI_JOURNAL", 10**6)):
+        for name, value in (("RRDI_JOURNAL", 0), ("RRDI_JOURNAL", "many"), ("RRDI_MAX_FUTURE", -1), ("RRDI_JOURNAL", 10**6),
+                            ("RRDI_OPEN_FILES", -1), ("RRDI_OPEN_SECONDS", 0), ("RRDI_OPEN_MEMORY", "2M")):
             with self.assertRaises(SystemExit) as ended:
                 self.database(graphite.KeepingLibrary(), **{name: value})
             self.assertIn(name, str(ended.exception))
-        database = self.database(graphite.KeepingLibrary(), RRDI_JOURNAL=100)
-        self.assertEqual(database.journal, 100)
+        database = self.database(graphite.KeepingLibrary(), RRDI_JOURNAL=100, RRDI_OPEN_FILES=0, RRDI_OPEN_MEMORY=5)
+        self.assertEqual((database.journal, database.store.options.open), (100, (0, 2, 5)))
 
     def test_no_library(self) -> None:
         with self.assertRaises(SystemExit) as ended:
@@ -180,10 +181,10 @@ class Asked(CarbonCase):
         self.assertEqual(given["rrdi.name"], 0)
 
     def test_reports_are_started_by_the_reactor(self) -> None:
-        with mock.patch.object(carbon, "every") as every:
-            database = self.database(graphite.KeepingLibrary(), CARBON_METRIC_INTERVAL=10)
-        every.assert_called_once_with(10, database.report)
-
+        for interval in (10, 1):
+            with mock.patch.object(carbon, "every") as every:
+                database = self.database(graphite.KeepingLibrary(), CARBON_METRIC_INTERVAL=interval)
+            every.assert_called_once_with(interval, database.report)
 
     def test_every(self) -> None:
         """The first report comes an interval after carbon's start."""
@@ -250,10 +251,25 @@ class Rows(CarbonCase):
         with OpenFile(str(self.folder / "m.rrdi")) as file:
             self.assertEqual(late, file.rows(file.outline().archives[1], 0, file.front.last))
 
+    def test_files_that_stay_open(self) -> None:
+        """From the third write on; late points, which look and change under one lock, close the file first."""
+        database = self.made(RRDI_OPEN_SECONDS=1_000)
+        store = database.store
+        for n in (0, 1, 2, 3, 5, 6):
+            database.write("m", [(NOW + 10 * n, float(n))])
+        if isinstance(self.chosen, NothingStaysOpen):
+            self.assertEqual(store._files.open_paths(), [])
+        else:
+            self.assertEqual(store._files.open_paths(), [os.fsencode(self.folder / "m.rrdi")])
+        database.write("m", [(NOW + 40, 4.0), (NOW + 70, 7.0)])
+        self.assertEqual(store._files.open_paths(), [])
+        self.assertEqual((self.rows(), self.counts(database)), ({10 * n: float(n) for n in range(8)}, {"rewritten": 1}))
+
     def test_too_late(self) -> None:
         database = self.made(RRDI_JOURNAL=4)
         for n in range(10):
             database.write("m", [(NOW + 10 * n, float(n))])
+        database.store.close()
         before = (self.folder / "m.rrdi").read_bytes()
         database.write("m", [(NOW + 20, 9.0)])
         self.assertEqual((self.folder / "m.rrdi").read_bytes(), before)
@@ -406,7 +422,7 @@ class Rows(CarbonCase):
         database = self.made()
         database.write("m", [(NOW, 1.0)])
         full = errors.CannotWrite("cannot write", "m.rrdi", errors.CANNOT_WRITE, None, errno.ENOSPC)
-        with mock.patch.object(store, "batch", side_effect=full):
+        with mock.patch.object(database.store._files, "batch", side_effect=full):
             database.write("m", [(NOW + 10, 2.0), (NOW + 10, math.inf)])
             database.write("m", [(NOW + 20, 3.0)])
         self.assertEqual((database.store.waiting, self.counts(database)), (3, {}))

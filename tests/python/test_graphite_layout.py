@@ -221,6 +221,9 @@ class Parts(unittest.TestCase):
         outline = file.outline()
         self.assertEqual(method_of(outline), "max")
         self.assertEqual([archive.steps for archive in archives_of(outline, "max")], [1, 6])
+        # Sums need the source of zeros beside them.
+        alone = self.open(graphite.file_bytes(130, ("sum",), [(1, 6, {})], function=2))
+        self.assertEqual(method_of(alone.outline()), "max")
 
 
 class Counting(unittest.TestCase):
@@ -231,7 +234,7 @@ class Counting(unittest.TestCase):
         losses.add("a", {"rewritten": 1})
         losses.add("b\nc", {"late": 1, "value": 4}, "why")
         losses.add("d", {"late": 0})
-        self.assertEqual(lines, ["rrdi: a: points lost: 2 late", "rrdi: b?c: points lost: 1 late, 4 value (why)"])
+        self.assertEqual(lines, ["rrdi: a: points lost: 2 late", "rrdi: b\\nc: points lost: 1 late, 4 value (why)"])
         self.assertEqual(losses.take(), {**dict.fromkeys(KINDS, 0), "late": 3, "rewritten": 4, "value": 4})
         self.assertEqual(set(losses.take().values()), {0})
 

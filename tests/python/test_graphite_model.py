@@ -17,7 +17,6 @@ from unittest import mock
 from cases import DataCase, use_any_library
 from graphite_model import Metric
 from rrdi import commands, environment
-from rrdi.graphite import store
 from rrdi.graphite.layout import METHODS, template
 from rrdi.graphite.losses import Losses
 from rrdi.graphite.series import read_series
@@ -111,6 +110,7 @@ class Round:
         end = self.next_end()
         if end is None or self.waiting:
             return
+        self.store.close()  # it would wait until the time of the file is over
         if self.chance.random() < 0.3:
             commands.batch(self.path, [f"tune --heartbeat {self.method}:{self.step}"])
             self.model.other_tune()
@@ -125,10 +125,11 @@ class Round:
             return self.write_points()
         def later(path: str, lines: List[str]) -> object:
             patched.stop()
+            self.store.close()
             commands.batch(path, [self.words(end or 0)])
             return commands.batch(path, lines)
         slots = [(float(end - self.step), 8.0), (float(end), 9.0)]
-        patched = mock.patch.object(store, "batch", later)
+        patched = mock.patch.object(self.store._files, "batch", later)
         patched.start()
         self.store.write(self.name, slots)
         # The first of the two slots was refused, and came again as a late one.
@@ -140,6 +141,7 @@ class Round:
         """Another program holds the lock of the file."""
         if not self.path.exists():
             return
+        self.store.close()
         with open(self.path, "r+b") as held, mock.patch.object(environment, "WAIT", 0):
             fcntl.flock(held, fcntl.LOCK_EX)
             self.write(self.points(), is_failing=True)
@@ -150,6 +152,7 @@ class Round:
         """The file is cut, so it is set aside, and a new one begins with the points that waited."""
         if not self.path.exists():
             return
+        self.store.close()
         os.truncate(self.path, 40)
         self.write(self.points(), is_failing=True)
         self.case.assertFalse(self.path.exists(), self.what)

@@ -3,6 +3,7 @@
 from __future__ import annotations
 
 import os
+import types
 import unittest
 from pathlib import Path
 from typing import Any, Dict, List, Optional, Sequence, Tuple
@@ -46,6 +47,14 @@ class Finding(FolderCase):
         paths = [node.path for node in nodes]
         self.assertEqual(len(set((node.path, node.is_leaf) for node in nodes)), len(paths), pattern)
         return (sorted(node.path for node in nodes if node.is_leaf), sorted(node.path for node in nodes if not node.is_leaf))
+
+    def test_the_folder(self) -> None:
+        """It is RRDI_DIR of the settings, or where whisper has its files."""
+        settings = types.SimpleNamespace(WHISPER_DIR="/whisper")
+        with mock.patch.object(web, "settings", settings):
+            self.assertEqual(web.RrdiFinder().folders, ["/whisper"])
+            settings.RRDI_DIR = "/own"
+            self.assertEqual(web.RrdiFinder().folders, ["/own"])
 
     def test_patterns(self) -> None:
         for pattern, metrics, folders in (

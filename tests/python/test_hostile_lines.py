@@ -19,6 +19,7 @@ from doubles import NothingStaysOpen
 from hostile import HOSTILE, LONG, is_one_line
 from rrdi import collectd, commands, errors
 from rrdi.by_program import ByProgram
+from rrdi.escaping import escaped
 from rrdi.feeding.feeder import Feeder, FeedOptions
 from rrdi.feeding.metrics import MetricFeeder
 from rrdi.feeding.rules import BadRule, Names, read_rules
@@ -250,7 +251,7 @@ class Collectd(LineCase):
                 self.collectd.lines.clear()
                 begin, lines = self.written(self.values(**{name: word}))
                 self.writer.write(self.values(**{name: word, "time": -1.0}))  # a message has the name
-                self.assertTrue(all(text.isprintable() for text in self.collectd.lines), ascii(word[:60]))
+                self.assertTrue(all(escaped(text) == text for text in self.collectd.lines), ascii(word[:60]))
                 self.only("update", 1, lines, word)
                 for line in begin:
                     self.assertRegex(line, rf"^create --step 10 --start {NOW - 1} --journal 16 DS:value:DERIVE:20:0.000000:U RRA:")
@@ -310,4 +311,4 @@ class Importing(unittest.TestCase):
             conversion = Conversion("old.rrd", None)
             conversion.note(f"skipped data source {word}")
             note, = conversion.notes
-            self.assertTrue(note.isprintable() and len(note) < len(LONG), ascii(word[:60]))
+            self.assertTrue(escaped(note) == note and len(note) < len(LONG), ascii(word[:60]))

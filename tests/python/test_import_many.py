@@ -4,6 +4,7 @@ from __future__ import annotations
 
 import os
 import re
+import signal
 import subprocess
 import sys
 import tempfile
@@ -20,7 +21,7 @@ from tool_case import NO_RRDTOOL, RRDTOOL, Ran, ToolCase
 from rrdi.importing.dump import Refusal
 from rrdi.tools import importer
 from rrdi.tools.command_line import Failure
-from rrdi.tools.import_many import Bar, OldFile
+from rrdi.tools.many_files import Bar, OldFile
 
 WHOLE = DUMP.replace("COMPUTE", "GAUGE")
 SKIPPED = "skipped data source double: type COMPUTE is not supported; its formula is g,2,*"
@@ -51,7 +52,7 @@ class Refusals(unittest.TestCase):
         with patch.object(importer, "import_one", side_effect=Refusal("unknown function 'M\n\x1b[2J'")):
             with self.assertRaises(Failure) as raised:
                 importer.convert(["a\nb.rrd"])
-        self.assertEqual(str(raised.exception), "a?b.rrd: unknown function 'M??[2J'")
+        self.assertEqual(str(raised.exception), "a\\nb.rrd: unknown function 'M\\n\\u{1b}[2J'")
 
 
 class Many(ToolCase):
@@ -103,16 +104,111 @@ class Many(ToolCase):
         (self.folder / "new").mkdir()
         self.write("new/a.rrdi", "mine")
         status, out, err = self.run_import("--into", "new", "tree")
-        self.assertEqual((status, err), (1, "rrdi-import: tree/a.rrd: not converted: new/a.rrdi already exists\n"))
+        self.assertEqual((status, err), (1, "rrdi-import: tree/a.rrd: not converted: new/a.rrdi already exists, and is no "
+                                            "database\n"))
         self.assertEqual(out.splitlines()[-1], "2 files: 1 converted; 1 not converted")
         self.assertEqual(self.read("new/a.rrdi"), b"mine")
+
+    def test_several_at_a_time(self) -> None:
+        """The lines come in the order of the files, whichever is converted first, and one that is not stops none."""
+        self.stub("rrdtool", 'case $1 in dump) case $2 in *a.rrd) sleep .3 ;; esac; tail -c +5 "$2" ;; last) echo 1600000030 ;; esac')
+        self.old("tree/a.rrd")
+        self.old("tree/b.rrd", WHOLE[:200])
+        self.old("tree/c.rrd", DUMP)
+        self.old("tree/sub/d.rrd")
+        for jobs in ("1", "3"):
+            new = f"new{jobs}"
+            self.assertEqual(self.run_import("--jobs", jobs, "--into", new, "tree"), (
+                1, f"tree/a.rrd: {new}/a.rrdi (2 data sources, 1 archive)\n"
+                f"tree/c.rrd: {new}/c.rrdi (1 data source, 1 archive); {SKIPPED}\n"
+                f"tree/sub/d.rrd: {new}/sub/d.rrdi (2 data sources, 1 archive)\n"
+                "4 files: 3 converted, 1 of them without all data sources; 1 not converted\n",
+                "rrdi-import: tree/b.rrd: not converted: rrdtool did not read the file to its end\n"))
+        (self.folder / "tree/c.rrd").unlink()
+        self.run_import("--jobs", "2", "--in-place", "tree")
+        self.assertEqual(self.run_import("--jobs", "2", "--in-place", "tree")[1].splitlines()[-1],
+                         "3 files: 0 converted; 2 already of rrdi; 1 not converted")
+
+    def test_jobs_are_for_many(self) -> None:
+        for words in (["--jobs", "0", "--into", "new", "a"], ["--jobs", "2", "a.rrd"], ["--jobs"],
+                      ["--jobs", "1", "--jobs", "2", "--into", "new", "a"], ["--jobs", "x", "--in-place", "a"]):
+            self.assertEqual(self.run_import(*words)[0], 2, words)
 
     def test_two_files_of_one_name(self) -> None:
         self.old("tree/a.rrd")
         self.old("tree/sub/a.rrd", DUMP)
-        status, _, err = self.run_import("--into", "new", "tree/a.rrd", "tree/sub/a.rrd")
-        self.assertEqual((status, err), (1, "rrdi-import: tree/sub/a.rrd: not converted: new/a.rrdi already exists\n"))
-        self.assertIn("ds[1].name = double\n", self.rrdi("info", "new/a.rrdi"))
+        refused = (1, "rrdi-import: tree/sub/a.rrd: not converted: new/a.rrdi is made of tree/a.rrd\n")
+        for jobs in ("1", "2"):
+            status, _, err = self.run_import("--jobs", jobs, "--into", "new", "tree/a.rrd", "tree/sub/a.rrd")
+            self.assertEqual((status, err), refused)
+            self.assertIn("ds[1].name = double\n", self.rrdi("info", "new/a.rrdi"))
+        # Even two equal ones: they are two files all the same, and a new database is for one of them.
+        self.old("tree/sub/a.rrd")
+        status, out, err = self.run_import("--into", "new", "tree/a.rrd", "tree/sub/a.rrd")
+        self.assertEqual((status, err, out.splitlines()[-1]), (*refused, "2 files: 0 converted; 1 there already; 1 not converted"))
+        self.assertEqual(self.run_import("--into", "new", "tree/a.rrd", "tree/../tree/a.rrd")[0], 0)
+
+    def test_again(self) -> None:
+        """What is there already stays, byte for byte and with its time, and so does what differs: the line says by what."""
+        names = ("a", "b", "c", "d", "e", "f")
+        for name in names:
+            self.old(f"tree/{name}.rrd", DUMP if name == "b" else WHOLE)
+        self.assertEqual(self.run_import("--into", "new", "tree")[0], 1)
+        (self.folder / "new/a.rrdi").unlink()
+        self.rrdi("update", "new/c.rrdi", "1600000040:1:1")
+        self.rrdi("tune", "new/d.rrdi", "--heartbeat", "g:99")
+        self.write("new/e.rrdi", "")
+        (self.folder / "new/f.rrdi").unlink()
+        (self.folder / "new/f.rrdi").symlink_to("nowhere")
+        there = ("b", "c", "d", "e")
+        before = {name: (self.read(f"new/{name}.rrdi"), os.stat(self.folder / f"new/{name}.rrdi")) for name in there}
+        begin = "rrdi-import: tree/{0}.rrd: not converted: new/{0}.rrdi already exists, "
+        for jobs, became in (("1", "new/a.rrdi"), ("3", "new/a.rrdi is there already")):
+            counts = "0 converted; 2 there already" if " " in became else "1 converted; 1 there already"
+            self.assertEqual(self.run_import("--jobs", jobs, "--into", "new", "tree"), (
+                1, f"tree/a.rrd: {became} (2 data sources, 1 archive)\n"
+                f"tree/b.rrd: new/b.rrdi is there already (1 data source, 1 archive); {SKIPPED}\n"
+                f"6 files: {counts}, 1 of them without all data sources; 4 not converted\n",
+                begin.format("c") + "with samples up to 1600000040 and not 1600000030\n"
+                + begin.format("d") + "with other settings or rows\n" + begin.format("e") + "and is no database\n"
+                + begin.format("f") + "and cannot be read: No such file or directory\n"))
+        self.assertEqual({name: (self.read(f"new/{name}.rrdi"), os.stat(self.folder / f"new/{name}.rrdi")) for name in there},
+                         before)
+        for name, status, incomplete in (("a", 0, ""), ("b", 1, ", 1 of them without all data sources")):
+            ran = self.tool("rrdi-import", "--into", "new", f"tree/{name}.rrd")
+            self.assertEqual((ran.status, ran.out.splitlines()[-1], ran.err),
+                             (status, f"1 file: 0 converted; 1 there already{incomplete}", ""))
+        status, _, err = self.run_import("--journal", "9", "--into", "new", "tree/a.rrd")
+        self.assertEqual((status, err), (1, begin.format("a") + "with other settings or rows\n"))
+        self.assertEqual(sorted(path.name for path in (self.folder / "new").iterdir()), [f"{name}.rrdi" for name in names])
+
+    def test_killed_runs(self) -> None:
+        """A run that is ended at any time leaves nothing that a repeat has to be told: it makes what is missing."""
+        self.stub("rrdtool", 'case $1 in dump) sleep .1; tail -c +5 "$2" ;; last) echo 1600000030 ;; esac')
+        for number in range(12):
+            self.old(f"tree/{number:02}.rrd")
+        for number in (signal.SIGINT, signal.SIGTERM, signal.SIGKILL):
+            for jobs in ("1", "2"):
+                new = self.folder / f"new-{number}-{jobs}"
+                words = [sys.executable, str(TOP / "tools/rrdi-import"), "--jobs", jobs, "--into", str(new), "tree"]
+                with subprocess.Popen(words, cwd=self.folder, env=self.env, stdout=subprocess.PIPE, stderr=subprocess.PIPE,
+                                      start_new_session=True) as running:
+                    assert running.stdout
+                    done = [running.stdout.readline() for _ in range(3)]
+                    os.killpg(running.pid, number)
+                    err = running.communicate()[1].decode()
+                is_key = number == signal.SIGINT
+                self.assertEqual(running.returncode, 130 if is_key else -number)
+                self.assertRegex(err, "^rrdi-import: stopped after [3-9] of 12 files; to go on, repeat the command\n$" if is_key
+                                 else "^$")
+                made = {path.name: path.read_bytes() for path in new.glob("*.rrdi")}
+                self.assertGreaterEqual(len(made), len(done))
+                self.assertLess(len(made), 12)
+                status, out, err = self.run_import("--into", str(new), "tree")
+                self.assertEqual((status, err, out.splitlines()[-1]), (
+                    0, "", f"12 files: {12 - len(made)} converted; {len(made)} there already"))
+                self.assertEqual({name: self.read(f"{new}/{name}") for name in made}, made)
+                self.assertEqual(len({path.read_bytes() for path in new.glob("*.rrdi")}), 1)
 
     def test_in_place(self) -> None:
         """The new file has the name, the mode and the owner; the old bytes stay. A second run changes nothing."""
@@ -130,6 +226,20 @@ class Many(ToolCase):
             0, "tree/a.rrd: is a database of rrdi already\n1 file: 0 converted; 1 already of rrdi\n", ""))
         self.assertEqual((self.read("tree/a.rrd"), self.read("tree/a.rrd.old")), (now, before))
         self.assertEqual(sorted(path.name for path in (self.folder / "tree").glob(".*")), [])
+
+    def test_in_place_after_a_kill(self) -> None:
+        """A run that was killed between its two names has left the old file with both; a link to it is another file, which
+        would soon lead to the new one."""
+        before = self.old("tree/a.rrd")
+        os.link(self.folder / "tree/a.rrd", self.folder / "tree/a.rrd.old")
+        self.old("tree/b.rrd")
+        (self.folder / "tree/b.rrd.old").symlink_to("b.rrd")
+        status, out, err = self.run_import("--in-place", "tree")
+        self.assertEqual((status, out.splitlines()[-1]), (1, "2 files: 1 converted; 1 not converted"))
+        self.assertEqual(err, "rrdi-import: tree/b.rrd: not converted: "
+                              f"{os.path.realpath(self.folder)}/tree/b.rrd.old already exists\n")
+        self.assertEqual(self.cells("tree/a.rrd"), "1600000010: 1.000000 2.000000")
+        self.assertEqual((self.read("tree/a.rrd.old"), self.read("tree/b.rrd")), (before, before))
 
     @unittest.skipUnless(os.geteuid() == 0, "only root gives files to others")
     def test_in_place_keeps_the_owner(self) -> None:
@@ -169,7 +279,8 @@ class Many(ToolCase):
             1, "", "rrdi-import: tree: no file below it has a name that ends in .rrd or .wsp\n"))
         self.old("a.rrd")
         self.assertEqual(self.tool("rrdi-import", "--in-place", "a.rrd", env=self.without_rrdtool()),
-                         Ran(1, "", "rrdi-import: rrdtool is not installed (Debian: apt install rrdtool)\n"))
+                         Ran(1, "1 file: 0 converted; 1 not converted\n", "rrdi-import: a.rrd: not converted: rrdtool is not "
+                             "installed (Debian: apt install rrdtool)\n"))
 
     def without_rrdtool(self) -> "dict[str, str]":
         (self.bin / "rrdtool").unlink()
@@ -181,7 +292,8 @@ class Many(ToolCase):
         self.old(name)
         status, out, err = self.run_import("--into", "new", "tree")
         self.assertEqual((status, err), (0, ""))
-        self.assertEqual(out, "tree/a?b?[2J?.rrd: new/a?b?[2J?.rrdi (2 data sources, 1 archive)\n1 file: 1 converted\n")
+        self.assertEqual(out, "tree/a\\nb\\u{1b}[2J\\xff.rrd: new/a\\nb\\u{1b}[2J\\xff.rrdi (2 data sources, 1 archive)\n"
+                              "1 file: 1 converted\n")
 
     def test_the_bar(self) -> None:
         """The bar is of all files, and each line of a file replaces it."""
@@ -191,7 +303,7 @@ class Many(ToolCase):
         for name in ("a", "b"):
             self.old(f"{name}.rrd", begin + rows)
         self.stub("rrdtool", 'case $1 in last) echo 1600000030 ;; dump) tail -c +5 "$2"; sleep 1.2; cat end ;; esac')
-        words = [sys.executable, str(TOP / "tools/rrdi-import"), "--into", "new", "a.rrd", "b.rrd"]
+        words = [sys.executable, str(TOP / "tools/rrdi-import"), "--jobs", "1", "--into", "new", "a.rrd", "b.rrd"]
         status, seen = self.on_terminal(words)
         self.assertEqual(status, 0, seen)
         self.assertRegex(seen, r"^((\rconverting: \[#* *\] \d+ %\x1b\[K)+\r\x1b\[K)+$")

@@ -4,18 +4,21 @@ from __future__ import annotations
 
 import io
 import math
+import random
 import unittest
 import xml.etree.ElementTree as ElementTree
 from array import array
-from typing import Any, Dict, List, Optional, Tuple
+from typing import Any, Callable, Dict, List, Optional, Tuple
 
 import doubles  # noqa: F401
 from rrdi.importing.rounding import Converter, as_text, millionths, raw_value
 from rrdi.importing.batch import RrdBatch, batch_of, merge, share_of
 from rrdi.amounts import Millionths
+from rrdi.limits import LONGEST_LINE
 from rrdi.importing.differing import DifferingCell, differing_archives, differing_cells, reason
 from rrdi.importing.dump import RrdArchive, RrdFile, Refusal, RrdSource, read_dump
-from rrdi.importing.plan import plan
+from rrdi.importing.plan import Span, note_made_up_rows, plan
+from rrdi.importing.rates import SourceRates
 from rrdi.importing.steps import Rest, Wanted, lay, sum_of_rest
 
 NAN = math.nan
@@ -117,6 +120,13 @@ class Plans(unittest.TestCase):
         self.assertEqual(sorted(spans[1].beside), ["AVERAGE", "MAX"])
         self.assertEqual(spans[1].above, archives[3])
 
+    def test_steps_are_the_best_of_any_function(self) -> None:
+        archives = [archive(0, "AVERAGE", 2, [0.0] * 5), archive(1, "MAX", 1, [0.0] * 5)]
+        for each in archives:
+            each.place(10, 1200)
+        self.assertEqual([(span.begin, span.end, span.archive.number) for span in plan(archives, 1200)],
+                         [(1100, 1150, 0), (1150, 1200, 1)])
+
     def test_two_archives_of_one_function(self) -> None:
         """Of two that have rows of the same length, the one that reaches back farthest is beside the span, in any order."""
         for counts in ((4, 9), (9, 4), (4, 9, 6)):
@@ -127,6 +137,40 @@ class Plans(unittest.TestCase):
             farthest = archives[1 + counts.index(9)]
             for span in plan(archives, 1200):
                 self.assertEqual(span.beside["MAX"], farthest, counts)
+
+    def test_equal_archives_have_one_span(self) -> None:
+        """A second span would cut the coarser rows at its begin, though no rows are better there."""
+        for counts in ((4, 9), (9, 4)):
+            archives = [archive(number, "AVERAGE", 3, [0.0] * count) for number, count in enumerate(counts)]
+            for each in archives:
+                each.place(10, 1200)
+            self.assertEqual([(span.begin, span.end) for span in plan(archives, 1200)], [(930, 1200)], counts)
+
+    def test_how_many_steps_may_be_unknown_or_hidden(self) -> None:
+        """A row is known with so many unknown steps, and unknown with one more: as all archives with such rows have it."""
+        for steps, shares, dropped, hidden in ((10, [0.3], 3, 6), (10, [0.3, 0.5], 3, 4), (10, [0.0], 0, 9), (3, [0.5], 1, 1),
+                                               (2, [0.5], 1, 0), (100, [0.29], 28, 71)):
+            archives = [archive(number, "MAX", steps, [0.0] * 3, share) for number, share in enumerate(shares)]
+            archives.append(archive(9, "AVERAGE", 7, [0.0] * 3, 0.9))
+            span = Span(0, 10, archives[0], archives)
+            self.assertEqual((span.most_dropped, span.most_hidden), (dropped, hidden), (steps, shares))
+
+    def test_rows_of_other_functions(self) -> None:
+        """Rows of the steps themselves, and those of the same function, are none of these."""
+        cases: List[Tuple[List[Tuple[str, int, int]], Dict[int, int]]] = [
+            ([("AVERAGE", 1, 20), ("MAX", 6, 3)], {}), ([("AVERAGE", 2, 20), ("MAX", 6, 3)], {1: 1200}),
+            ([("AVERAGE", 6, 20), ("MAX", 1, 30)], {}),
+            ([("AVERAGE", 12, 10), ("MAX", 12, 10), ("AVERAGE", 3, 10), ("MAX", 3, 10)], {}),
+            ([("AVERAGE", 12, 10), ("AVERAGE", 3, 10), ("MAX", 6, 10)], {2: 1200}),
+            ([("AVERAGE", 3, 40), ("MAX", 3, 10), ("MAX", 6, 20)], {2: 900})]
+        for kinds, until in cases:
+            archives = [archive(at, function, steps, [0.0] * rows) for at, (function, steps, rows) in enumerate(kinds)]
+            for each in archives:
+                each.place(10, 1200)
+            notes: List[str] = []
+            note_made_up_rows(archives, plan(archives, 1200), notes.append)
+            self.assertEqual(notes, [f"archive {at}, {kinds[at][0]} of {10 * kinds[at][1]} s: rows up to {time} come from "
+                                     "rows of other functions" for at, time in until.items()], kinds)
 
     def test_no_time_no_span(self) -> None:
         each = archive(0, "MAX", 1, [NAN])
@@ -314,9 +358,77 @@ class Batches(unittest.TestCase):
         self.assertEqual(list(merge([[(10, 1), (30, 2)], [(10, 5), (20, 6), (30, 6)]])), [(10, (1, 5)), (30, (2, 6))])
 
     def test_long_lines_are_cut(self) -> None:
-        cells = [float(at) for at in range(450)]
-        lines, _ = self.lines(RrdFile(10, 10_000, [source()], [archive(0, "AVERAGE", 1, cells)]))
-        self.assertEqual([len(line.split()) - 1 for line in lines if line.startswith("update")], [200, 200, 50])
+        """A line has as many samples as it may have, because each line is a change of its own in the journal."""
+        cells = [float(at) for at in range(9_000)]
+        lines, _ = self.lines(RrdFile(10, 100_000, [source()], [archive(0, "AVERAGE", 1, cells)]))
+        sizes = [len(line) for line in lines if line.startswith("update")]
+        self.assertEqual(len(update_words(lines)), 9_000)
+        self.assertEqual([65_000 < size <= LONGEST_LINE for size in sizes], [True, False])
+
+
+class Overlaps(unittest.TestCase):
+    """Archives of which no row consists of whole rows of another one: 7 steps below 50, as collectd makes them."""
+
+    SUMMARIES: Dict[str, Callable[[List[float]], float]] = {"AVERAGE": lambda cells: math.fsum(cells) / len(cells), "MIN": min, "MAX": max}
+
+    def folded(self, cells: List[float], function: str, steps: int) -> List[float]:
+        """Returns the rows of an archive that allows a tenth of its steps to be unknown. The first cell is that of time 0."""
+        found = []
+        for at in range(0, len(cells) - steps + 1, steps):
+            known = [cell for cell in cells[at:at + steps] if not math.isnan(cell)]
+            found.append(self.SUMMARIES[function](known) if steps - len(known) <= steps // 10 else NAN)
+        return found
+
+    def file(self, cells: List[float]) -> List[RrdArchive]:
+        """Returns archives of 3,500 steps. The single steps reach back for 70 of them, rows of 7 steps for 2,100."""
+        archives = [archive(0, "AVERAGE", 1, cells[-70:], 0.1)]
+        for steps, count in ((7, 300), (50, 70)):
+            for function in self.SUMMARIES:
+                rows = self.folded(cells, function, steps)[-count:]
+                archives.append(archive(len(archives), function, steps, rows, 0.1))
+        for each in archives:
+            each.place(10, 35_000)
+        return archives
+
+    def moved(self, archives: List[RrdArchive]) -> List[float]:
+        """Returns the steps that are sent."""
+        spans, found = plan(archives, 35_000), [NAN] * 3_500
+        begin = spans[0].begin
+        for end, rate in SourceRates(0, 10, 35_000, Converter()).all_rates(spans):
+            found[begin // 10:end // 10] = [NAN if rate is None else rate / 1_000_000] * ((end - begin) // 10)
+            begin = end
+        return found
+
+    def differing(self, cells: List[float], moved: List[float], function: str, steps: int) -> "tuple[int, int, int]":
+        """Returns how many rows from step 1,400 on have another value, are unknown now, and are known now."""
+        pairs = list(zip(self.folded(cells, function, steps), self.folded(moved, function, steps)))[1_400 // steps:]
+        known = [pair for pair in pairs if not any(map(math.isnan, pair))]
+        return (sum(abs(one - other) > 3e-6 for one, other in known), sum(math.isnan(other) > math.isnan(one) for one, other in pairs),
+                sum(math.isnan(one) > math.isnan(other) for one, other in pairs))
+
+    def test_all_known(self) -> None:
+        chance = random.Random(3)
+        cells = [round(chance.gauss(50, 9), 3) for _ in range(3_500)]
+        moved = self.moved(self.file(cells))
+        for function in self.SUMMARIES:
+            self.assertEqual(self.differing(cells, moved, function, 7), (0, 0, 0), function)
+        self.assertEqual(self.differing(cells, moved, "AVERAGE", 50), (0, 0, 0))
+        for function in ("MIN", "MAX"):
+            self.assertEqual(self.differing(cells, moved, function, 50), (0, 0, 0), function)
+
+    def test_gaps(self) -> None:
+        """Of rows that were known in spite of a gap none gets unknown, nor the other way round, and most get their value."""
+        chance = random.Random(4)
+        cells = [round(chance.gauss(50, 9), 3) for _ in range(3_500)]
+        for at in range(0, 3_400, 170):
+            count = chance.choice((1, 2, 5, 60))
+            cells[at:at + count] = [NAN] * count
+        moved = self.moved(self.file(cells))
+        self.assertEqual([self.differing(cells, moved, function, 7) for function in self.SUMMARIES], [(0, 0, 0)] * 3)
+        for function in self.SUMMARIES:
+            apart, lost, made_up = self.differing(cells, moved, function, 50)
+            self.assertEqual((lost, made_up), (0, 0), function)
+            self.assertLess(apart, 15, function)
 
 
 def new_rows(cells: Dict[int, Optional[float]]) -> Dict[int, List[Optional[Millionths]]]:
@@ -367,6 +479,16 @@ class DifferingRows(unittest.TestCase):
         fine = archive(0, "LAST", 1, [1.0, 2.0])
         fine.place(10, 1200)
         self.assertEqual(reason(fine, plan([fine], 1200), DifferingCell(1200, 1.0, 2.0)), "the row is computed again, by the rules of rrdi")
+
+    def test_the_reason_of_an_extreme(self) -> None:
+        """An archive of maxima can be made of its own rows, of those of another function, or of shorter ones."""
+        own, mean, short = archive(0, "MAX", 6, [5.0, 6.0]), archive(1, "AVERAGE", 6, [5.0, 6.0]), archive(2, "MAX", 3, [5.0] * 4)
+        for one in (own, mean, short):
+            one.place(10, 1200)
+        for source, why in ((own, "which steps of a gap were unknown is a guess"), (mean, "the row comes from rows of AVERAGE of 60 s"),
+                            (short, "the row comes from rows of MAX of 30 s")):
+            with self.subTest(why=why):
+                self.assertEqual(reason(own, plan([source], 1200), DifferingCell(1200, 6.0, 5.0)), why)
 
     def test_a_line_for_each_archive(self) -> None:
         rows = [new_rows({1110: 2.0, 1140: 3.0, 1170: 5.0}), new_rows({1140: 5.0, 1200: 6.0})]

@@ -13,6 +13,7 @@ from pathlib import Path
 from typing import Callable, List, Optional
 from unittest import mock
 
+from building import ByExtension
 from cases import HANG, DataCase, run_in_threads, sleeping_child, use_library
 from locking import BUSY, Locking
 from opcodes import between_all, between_each
@@ -62,11 +63,12 @@ class Files(KeptCase):
         self.assertEqual(self.said(), ["open 2000 True", "open last"])
 
     def test_refusals_close_nothing(self) -> None:
-        self.library.answers = [Answer(REFUSED, 0, 0, b"bad value"), DONE, Answer(REFUSED, 0, 0, b"nothing to revert")]
-        for words, asked in ((["update", "10:1"], ["open info"]), (["revert"], [])):
-            with self.assertRaises(rrdi.Refused):
+        self.library.answers = [Answer(REFUSED, 0, 0, b"bad value", explanation=b"why"),
+                                Answer(REFUSED, 0, 0, b"nothing to revert")]
+        for words, detail in ((["update", "10:1"], "why"), (["revert"], "")):
+            with self.assertRaises(rrdi.Refused) as raised:
                 self.kept.run(words)
-            self.assertEqual([said for said in self.said() if "info" in said], asked)
+            self.assertEqual(raised.exception.detail, detail)
         self.assertTrue(is_locked(self.path))
         self.library.answers = [DONE._replace(output=b"ERROR: bad value\n", refused=(2,))]
         ran = self.kept.batch(["last", "update 1:x"])
@@ -96,9 +98,15 @@ class Files(KeptCase):
             self.kept.run(["last"])
             self.kept.batch(["last"])
             self.assertEqual(self.said(), ["open 2000 True", "path last"] * 2)
+        self.assertEqual(self.library.asked, [(2_000, True)] * 6)
         self.library.answers = [Answer(22, 0, 9, b"file: truncated at 9")]
         with self.assertRaisesRegex(rrdi.Damaged, "truncated at 9"):
             self.kept.run(["last"])
+
+    def test_samples_before_the_file_is_open(self) -> None:
+        """`run` has to add them."""
+        self.assertEqual((self.kept.add(((10, 1.5),)), self.kept.add_many(((10, 1.5), (20, 2.5)), 0)), (False, 0))
+        self.assertEqual(self.said(), [])
 
     def test_a_file_of_another_program(self) -> None:
         """Who has waited for the lock does not wait again."""
@@ -113,6 +121,10 @@ class Files(KeptCase):
         with self.assertRaises(rrdi.Busy) as raised:
             rrdi.last(self.path)
         self.assertEqual(str(raised.exception), f"{self.path}: cannot open: this program has it open by rrdi.Database")
+        self.said()
+        with self.assertRaisesRegex(rrdi.Busy, "this program has it open"):
+            KeptFile(self.path, 2, True).run(["last"])
+        self.assertEqual(self.said(), ["open 0 True"])
         self.kept.close()
         with self.assertRaisesRegex(rrdi.Busy, "another program holds its lock"):
             rrdi.last(self.path)
@@ -148,6 +160,10 @@ class Files(KeptCase):
                 self.kept.run(["update"])
             self.assertEqual(self.said(), ["open 2000 True", "close", "path update"] * 2)
             self.assertFalse(is_locked(self.path))
+
+
+class FilesByExtension(ByExtension, Files):
+    pass
 
 
 class Handlers(KeptCase):
@@ -231,10 +247,18 @@ class Handlers(KeptCase):
         self.assertEqual(self.said()[1:], ["path update 40:1\nupdate 50:1"])
 
 
+class HandlersByExtension(ByExtension, Handlers):
+    pass
+
+
 class Threads(KeptCase):
     def test_one_call_at_a_time(self) -> None:
         run_in_threads(8, lambda number: [self.kept.run(["update"]) for _ in range(50)])
         self.assertEqual(self.said().count("open update"), 400)
+
+
+class ThreadsByExtension(ByExtension, Threads):
+    pass
 
 
 class Forks(KeptCase):
@@ -280,6 +304,10 @@ class Forks(KeptCase):
         self.assertEqual(os.waitpid(child, 0)[1], 0)
         may_end.set()
         thread.join()
+
+
+class ForksByExtension(ByExtension, Forks):
+    pass
 
 
 Opening = Callable[[], Optional[OpenedFile]]

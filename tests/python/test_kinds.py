@@ -6,7 +6,7 @@ import os
 import unittest
 
 from cases import DataCase
-from rrdi.kinds import first_bytes, is_of_rrdi, owner_of
+from rrdi.kinds import first_bytes, is_of_rrdi, owner_of, why_not_ours
 from rrdi.printed import Archive, PrintedRows, Source, printed_rows, settings_of
 
 INFO = """step = 10
@@ -50,6 +50,15 @@ class Kinds(DataCase):
                 file.rename(file.with_suffix(".rrd"))  # the name counts for whisper
                 wanted = "" if other == "whisper" else other
                 self.assertEqual(owner_of(str(file.with_suffix(".rrd"))), wanted)
+
+    def test_how_to_convert(self) -> None:
+        """A line for a file of another program, whatever its name has in it; nothing for others."""
+        for name, data, said in (("a.rrd", b"RRD\0003", "{0} is a file of RRDtool; convert it: rrdi-import {0} NEW.rrdi"),
+                                 ("b\n.wsp", b"\0\0\0\1", "{0} is a file of whisper; convert it: rrdi-import {0} NEW.rrdi"),
+                                 ("c.rrdi", b"RRDI\0\2", ""), ("d", b"text", "")):
+            file = self.folder / name
+            file.write_bytes(data)
+            self.assertEqual(why_not_ours(str(file)), said.format(str(file).replace("\n", "\\n")))
 
     def test_no_file(self) -> None:
         os.mkfifo(self.folder / "f")

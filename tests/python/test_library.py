@@ -14,8 +14,10 @@ from doubles import has_library
 from locking import c_library
 
 import rrdi
-from rrdi import library
-from rrdi.library import FIRST_ROOM, load_library
+from rrdi import by_ctypes, library, places
+from rrdi.by_ctypes import FIRST_ROOM
+from rrdi.errors import CANNOT_WRITE
+from rrdi.library import load_library
 from rrdi.protocol import OpenedFile
 
 class Called:
@@ -27,11 +29,11 @@ class Called:
         functions = {name: self.function(name, name in ("rrdi_run", "rrdi_batch"))
                      for name in ("rrdi_run", "rrdi_batch", "rrdi_run_file", "rrdi_batch_file")}
         on_open = {name: self.on_open(name) for name in ("rrdi_run_open", "rrdi_batch_open")}
-        self.library = c_library({**functions, **on_open, "rrdi_open": self.open, "rrdi_close": self.close})
+        self.library: Any = c_library({**functions, **on_open, "rrdi_open": self.open, "rrdi_close": self.close})
 
     def function(self, name: str, is_in_memory: bool) -> Callable[..., None]:
         def called(*words: Any) -> None:
-            answer = library._Answer.from_address(words[-1])
+            answer = by_ctypes._Answer.from_address(words[-1])
             if is_in_memory:
                 has_file, data, data_length, text, length, now, file_at, file_room, output_at, room = words[:10]
                 self.given.append((name, ctypes.string_at(data, data_length) if has_file else None,
@@ -47,36 +49,37 @@ class Called:
     def open(self, path: int, length: int, wait: int, syncs: bool, file: int, output: int, room: int,
              answer_at: int) -> None:
         self.given.append(("rrdi_open", ctypes.string_at(path, length), wait, syncs))
-        answer, opened = library._Answer.from_address(answer_at), library._File.from_address(file)
-        answer.fault, answer.system_error, answer.is_cut, answer.output_length = self.fault, 11, False, len(self.output)
+        answer, opened = by_ctypes._Answer.from_address(answer_at), by_ctypes._File.from_address(file)
+        answer.fault, answer.system_error, answer.output_length = self.fault, 11, len(self.output)
         opened.is_open, opened.reserved = not self.fault, 4711
         ctypes.memmove(output, self.output, len(self.output))
 
     def close(self, file: int) -> None:
-        opened = library._File.from_address(file)
+        opened = by_ctypes._File.from_address(file)
         self.given.append(("rrdi_close", opened.is_open, opened.reserved))
         opened.is_open = False
 
     def on_open(self, name: str) -> Callable[..., None]:
         def called(*words: Any) -> None:
             file, text, length, now, output_at, room = words[:6]
-            self.given.append((name, library._File.from_address(file).reserved, ctypes.string_at(text, length), now))
-            self.answer(library._Answer.from_address(words[-1]), name, 0, 0, output_at, room, words)
+            self.given.append((name, by_ctypes._File.from_address(file).reserved, ctypes.string_at(text, length), now))
+            self.answer(by_ctypes._Answer.from_address(words[-1]), name, 0, 0, output_at, room, words)
         return called
 
     def answer(self, answer: Any, name: str, file_at: int, file_room: int, output_at: int, room: int,
                words: Any) -> None:
         answer.fault, answer.system_error, answer.at, answer.is_changed = self.fault, 11, 7, False
-        answer.output_length, answer.file_length, answer.refused = len(self.output), len(self.file), len(self.refused)
+        answer.output_needed, answer.file_length, answer.refused = len(self.output), len(self.file), len(self.refused)
         answer.is_cut = len(self.output) > room
+        answer.output_length = 0 if answer.is_cut else len(self.output)
         if name in ("rrdi_run", "rrdi_batch") and self.file:
             if len(self.file) > file_room:
                 answer.fault = 1
                 return
-            answer.is_changed = True
+            answer.is_changed = not answer.is_cut
             ctypes.memmove(file_at, self.file, len(self.file))
         if answer.is_cut:
-            answer.fault = 1 if name in ("rrdi_batch_file", "rrdi_batch_open") else self.fault
+            answer.fault = self.fault or 1
             return
         ctypes.memmove(output_at, self.output, len(self.output))
         if "batch" in name:
@@ -105,6 +108,16 @@ class Rooms(unittest.TestCase):
         answer = Called(file=b"new", refused=(2,)).library.batch(b"old", b"1\n2", 0)
         self.assertEqual((answer.refused, answer.data), ((2,), b"new"))
         self.assertIsNone(Called().library.run(b"old", b"last", 0).data)
+
+    def test_a_batch_that_may_have_changed_the_file(self) -> None:
+        """It is not run again, although there was no room for its output."""
+        def put_cut(answer: Any, *others: Any) -> None:
+            answer.fault, answer.is_cut = CANNOT_WRITE, len(called.given) < 2
+            answer.output_length, answer.output_needed = 0, FIRST_ROOM + 1 if answer.is_cut else 0
+        called: Any = Called()
+        called.answer = put_cut
+        answer = called.library.batch_file(b"f", b"last", 0, 0, False)
+        self.assertEqual((answer.fault, answer.output, len(called.given)), (CANNOT_WRITE, b"", 1))
 
     def test_rooms_that_grow(self) -> None:
         long, data = b"o" * (FIRST_ROOM + 1), b"f" * (3 * FIRST_ROOM)
@@ -143,7 +156,8 @@ class Opened(unittest.TestCase):
         answer, opened = called.library.open(b"f", 5_000, True)
         self.assertEqual((answer.fault, called.given.pop()), (0, ("rrdi_open", b"f", 5_000, True)))
         assert opened is not None
-        return opened
+        found: OpenedFile = opened
+        return found
 
     def test_words_of_a_call(self) -> None:
         called = Called()
@@ -160,7 +174,7 @@ class Opened(unittest.TestCase):
 
     def test_an_exception_while_it_is_made(self) -> None:
         called = Called()
-        with mock.patch.object(library, "_OwnFile", side_effect=MemoryError), mock.patch("sys.unraisablehook") as told:
+        with mock.patch.object(by_ctypes, "_OwnFile", side_effect=MemoryError), mock.patch("sys.unraisablehook") as told:
             self.assertRaises(MemoryError, called.library.open, b"f", 5_000, True)
         told.assert_not_called()
 
@@ -194,8 +208,8 @@ class Opened(unittest.TestCase):
 
 class Places(unittest.TestCase):
     def test_the_structures(self) -> None:
-        self.assertEqual((ctypes.sizeof(library._Answer), ctypes.alignment(library._Answer)), (304, 8))
-        self.assertEqual((ctypes.sizeof(library._File), ctypes.alignment(library._File)), (16, 8))
+        self.assertEqual((ctypes.sizeof(by_ctypes._Answer), ctypes.alignment(by_ctypes._Answer)), (8504, 8))
+        self.assertEqual((ctypes.sizeof(by_ctypes._File), ctypes.alignment(by_ctypes._File)), (16, 8))
 
     def test_places(self) -> None:
         folder = new_folder(self)
@@ -206,7 +220,7 @@ class Places(unittest.TestCase):
                 (folder / place).mkdir(parents=True)
                 (folder / found).mkdir(exist_ok=True, parents=True)
                 (folder / found / "librrdi.so.0").touch()
-                with mock.patch.object(library, "__file__", str(folder / place / "library.py")):
+                with mock.patch.object(places, "__file__", str(folder / place / "places.py")):
                     self.assertEqual(rrdi.library_path(), str(folder.resolve() / found / "librrdi.so.0"))
                     os.environ["RRDI_LIBRARY"] = "/x/librrdi.so"
                     self.assertEqual(rrdi.library_path(), "/x/librrdi.so")

@@ -36,14 +36,18 @@ class Making(DataCase):
         self.assertEqual((self.files(), self.path.read_text()), (["data/f.rrdi"], "new"))
 
     def test_what_a_kill_has_left(self) -> None:
-        """Files of such names that are older than a day go; no others, and no folder."""
+        """Files of such names that are older than a day go; no others, and no folder or link."""
         old, other, young = (self.folder / f".rrdi-{name}.new" for name in ("0123456789abcdef", "mine", "00000000deadbeef"))
         for path in (old, other, young):
             path.write_text("")
         (self.folder / ".rrdi-ffffffffffffffff.new").mkdir()
-        for path in (old, other, self.folder / ".rrdi-ffffffffffffffff.new"):
-            os.utime(path, (time.time() - 90_000,) * 2)
+        link = self.folder / ".rrdi-eeeeeeeeeeeeeeee.new"
+        link.symlink_to(other)
+        for path in (old, other, link, self.folder / ".rrdi-ffffffffffffffff.new"):
+            os.utime(path, (time.time() - 90_000,) * 2, follow_symlinks=False)
         self.assertEqual(remove_left_over(str(self.folder)), [str(old)])
+        self.assertTrue(link.is_symlink())
+        link.unlink()
         self.assertEqual(self.files(), ["data/.rrdi-00000000deadbeef.new", "data/.rrdi-mine.new"])
         self.assertEqual(remove_left_over(str(self.folder / "none")), [])
 
@@ -317,7 +321,7 @@ class SetAside(DataCase):
     def test_how_long_a_file_may_be_empty(self: Any) -> None:
         """By the clock and the file's time alone, on both sides."""
         self.write(b"")
-        now, most = 1_700_000_000.0, damaged.LONGEST_MAKING
+        now, most = 1_700_000_000.0, damaged.LONGEST_CREATION
         with mock.patch("time.time", return_value=now):
             for age, is_new in ((0, True), (most - 1, True), (1 - most, True), (most + 1, False), (-most - 1, False), (1e7, False), (-1e7, False)):
                 os.utime(self.file, (now - age, now - age))

@@ -15,7 +15,9 @@ from support.check import Check
 from support.program import TOP, Program
 
 PACKAGE = TOP / "python"
-LEAST = {"tests of tools by the library": 28, "typed files": 160}
+LEAST = {"tests of tools by the library": 28, "tests by ctypes": 100, "typed files": 160}
+# The tests that run by ctypes too: all others run by the extension, where there is a compiler.
+BY_CTYPES = ("test_commands", "test_database", "test_choices", "test_samples", "test_creating", "test_tools_program::InProcess")
 # The tests of tools that run by the library too.
 OF_TOOLS = ("test_feed_processes::Lines", "test_feed_processes::InProcess", "test_tools_feed::Files",
             "test_feeding_metrics::New", "test_tools_rrdtool::RRDtoolOutput", "test_tools_rrdtool::PipeMode",
@@ -26,15 +28,24 @@ def test_tools_by_the_library(program: Program, library: Path, check: Check) -> 
     check_tools(program.path, str(library), OF_TOOLS, check)
 
 
+def test_by_ctypes(program: Program, library: Path, check: Check) -> None:
+    check_tests(program.path, str(library), BY_CTYPES, {"RRDI_EXTENSION": "none"}, check, "tests by ctypes")
+
+
 def check_tools(program: str, library: str, names: tuple[str, ...], check: Check) -> None:
+    check_tests(program, library, names, {"RRDI_TOOLS_BY": library}, check, "tests of tools by the library")
+
+
+def check_tests(program: str, library: str, names: tuple[str, ...], variables: dict[str, str], check: Check,
+                counted: str) -> None:
     """Runs tests by the library, in a process that does not take itself for one of xdist."""
-    tests = [f"tests/python/{name.replace('::', '.py::')}" for name in names]
+    tests = ["tests/python/" + (name.replace("::", ".py::") if "::" in name else f"{name}.py") for name in names]
     env = {name: value for name, value in os.environ.items() if not name.startswith("PYTEST_")}
     ran = subprocess.run([sys.executable, "-m", "pytest", "-q", "--lacking", f"--program={program}",
-                          f"--library={library}", *tests], cwd=TOP, env={**env, "RRDI_TOOLS_BY": library},
+                          f"--library={library}", *tests], cwd=TOP, env={**env, **variables},
                          stdin=subprocess.DEVNULL, capture_output=True, text=True)
     passed = re.search(r"^(\d+) passed", ran.stdout, re.MULTILINE)
-    check.count("tests of tools by the library", int(passed[1]) if passed else 0)
+    check.count(counted, int(passed[1]) if passed else 0)
     check(ran.returncode == 0, f"{ran.stdout[-3_500:]}{ran.stderr[-500:]}")
 
 

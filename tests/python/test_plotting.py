@@ -7,7 +7,8 @@ import os
 import time
 import xml.etree.ElementTree as ElementTree
 import unittest
-from typing import Dict, List, Optional, Tuple
+from contextlib import contextmanager
+from typing import Dict, Iterator, List, Optional, Tuple
 from unittest import mock
 
 import cases  # noqa: F401  (finds the package)
@@ -16,11 +17,11 @@ from rrdi.tools.command_line import WrongArguments
 from rrdi.tools.plotting.asked import Bounds, read_bounds, read_size
 from rrdi.tools.plotting.columns import Columns, Curve, group_size, grouped, series_of
 from rrdi.tools.plotting.gnuplot import Picture
-from rrdi.tools.plotting.labels import Label, labels
+from rrdi.tools.plotting.labels import DISTANCES, Label, distance_of, label_days, labels
 from rrdi.tools.plotting.legend import legend_of
 from rrdi.tools.plotting.look import LEAST_PLOT_HEIGHT, LIGHT, UNTITLED, plot_height, size_of, title_room
-from rrdi.tools.plotting.numbers import axis
-from rrdi.tools.plotting.spikes import CutMark, cut, cut_curve, cut_marks, range_of
+from rrdi.tools.plotting.numbers import axis, number_text
+from rrdi.tools.plotting.spikes import CutMark, cut, cut_curve, cut_marks, range_of, runs
 from rrdi.tools.plotting.svg import STYLES, path_of, svg_of
 
 DAY = 86_400
@@ -55,12 +56,16 @@ class Legends(unittest.TestCase):
                 self.assertLessEqual(places[-1].left + legend.table_width, width)
         self.assertEqual((legend_of(900, curves(names[:8]), "").tables, legend_of(900, curves(names[:9]), "").lines), (1, 5))
 
+    def test_sources_wider_than_the_picture(self) -> None:
+        legend = legend_of(200, curves(["a_name_of_" + 4 * "characters", "b"]), "")
+        self.assertEqual((legend.tables, [place.line for place in legend.places()]), (1, [1, 2]))
+
 
 class Groups(unittest.TestCase):
     def test_sizes(self) -> None:
-        """A row covers a part of a day, or whole days."""
+        """A row covers a part of a day, or whole days, if so few do: of seven hours, 24 rows are the first whole days."""
         for seconds, count, most, size in ((60, 1_440, 514, 3), (10_800, 2_920, 514, 8), (10_800, 2_920, 343, 16), (60, 10, 20, 1),
-                                           (7, 1_000, 500, 2)):
+                                           (7, 1_000, 500, 2), (25_200, 600, 100, 24), (25_200, 600, 120, 5)):
             with self.subTest(seconds=seconds, count=count, most=most):
                 rows = Columns(["g"], seconds, [seconds * at for at in range(1, count + 1)], [[1.0] * count])
                 self.assertEqual(group_size(rows, most), size)
@@ -76,21 +81,97 @@ class Groups(unittest.TestCase):
                 self.assertTrue(math.isnan(found.columns[0][2]))
 
 
+@contextmanager
+def in_zone(zone: str) -> Iterator[None]:
+    with mock.patch.dict(os.environ, {"TZ": zone}):
+        time.tzset()
+        yield
+    time.tzset()
+
+
 class Marks(unittest.TestCase):
     def test_low_plots_have_fewer_marks(self) -> None:
         for height, values in ((250, [0, 1, 2, 3, 4, 5, 6]), (180, [0, 1, 2, 3, 4, 5, 6]), (97, [0, 2, 4, 6]), (74, [0, 5, 10]), (10, [0, 10])):
             with self.subTest(height=height):
                 self.assertEqual(axis(0, 6, "", height).values, values)
 
+    def test_the_texts_of_marks(self) -> None:
+        """They have as many digits as tell the marks apart, up to the millionths that rrdi has."""
+        for low, high, unit, texts in (
+                (1e6, 1e6 + 0.5, "", [f"1.000000{digit} M" for digit in range(6)]),
+                (1e9, 1e9 + 1, "B/s", [f"1.0000000{digit:03} GB/s" for digit in range(0, 11, 2)]),
+                (100, 100.00001, "", [f"100.0000{digit:02}" for digit in range(0, 13, 2)]),
+                (7, 7.0000001, "", ["7.000000"] * 6), (1e6, 1e6 + 3.9e-7, "", ["1.000000000000 M"] * 5),
+                (1e6, 1e6 + 4.9e-6, "", [f"1.00000000000{digit} M" for digit in range(6)]),
+                (0, 1_000, "", ["0", "0.2 k", "0.4 k", "0.6 k", "0.8 k", "1.0 k"]),
+                (0, 3e18, "", ["0", "0.5 E", "1.0 E", "1.5 E", "2.0 E", "2.5 E", "3.0 E"]),
+                (-1_000, 0, "", ["-1.0 k", "-0.8 k", "-0.6 k", "-0.4 k", "-0.2 k", "0"]),
+                # In floating point, 0.9 - 0.3 is more than 0.6, and 0.3 / 0.1 less than 3.
+                (0.3, 0.9, "", ["0.3", "0.4", "0.5", "0.6", "0.7", "0.8", "0.9"]),
+                (-1e-6, 0, "", [*(f"-{digits} \u00b5" for digits in ("1.0", "0.8", "0.6", "0.4", "0.2")), "0"]),
+                (5e6, 5e6 + 0.5, "%", [f"5000000.{digit} %" for digit in range(6)])):
+            with self.subTest(low=low, high=high):
+                self.assertEqual(axis(low, high, unit).texts, texts)
+
+    def test_numbers(self) -> None:
+        """Three digits, up to the millionths that rrdi has, with the prefix of which there is the most."""
+        for value, unit, text in (
+                (0.01, "", "0.0100"), (0.0099, "", "9.90 m"), (1e12, "", "1.00 T"), (2e15, "", "2.00 P"),
+                (1e-9, "", "0.00100 \u00b5"), (1e-10, "", "0.000100 \u00b5"), (999_400, "", "999 k"),
+                (999_600, "", "1.00 M"), (0.0001, "%", "0.000100 %"), (0.000012, "%", "0.000012 %"),
+                (999.4, "B", "999 B"), (1_000, "B", "1.00 kB")):
+            self.assertEqual(number_text(value, unit), text)
+
+    def test_distances_of_labels(self) -> None:
+        """The shortest with which so many fit; beyond a year it is doubled."""
+        year = DISTANCES[-1]
+        for seconds, most, distance in ((7, 7, 1), (8, 7, 2), (7 * DAY, 7, DAY), (7 * DAY + 1, 7, 2 * DAY), (DAY, 1, DAY),
+                                        (7 * year, 7, year), (7 * year + 1, 7, 2 * year), (14 * year, 7, 2 * year),
+                                        (14 * year + 1, 7, 4 * year), (28 * year, 7, 4 * year)):
+            with self.subTest(seconds=seconds, most=most):
+                self.assertEqual(distance_of(seconds, most), distance)
+
+    def test_round_distances(self) -> None:
+        """Each divides a minute, an hour or a day, has whole days or weeks, or months that divide a year."""
+        distances = [distance_of(1, 1)]
+        while distances[-1] < DISTANCES[-1]:
+            distances.append(distance_of(distances[-1] + 1, 1))
+        self.assertEqual(len(distances), len(DISTANCES))
+        for distance in distances:
+            if distance < DAY:
+                self.assertEqual(next(one for one in (60, 3_600, DAY) if distance <= one) % distance, 0, distance)
+            elif distance < 31 * DAY:
+                self.assertEqual(distance % (DAY if distance < 7 * DAY else 7 * DAY), 0, distance)
+            else:
+                self.assertEqual((distance % (31 * DAY), 12 * 31 * DAY % distance), (0, 0), distance)
+
     def test_narrow_plots_have_fewer_labels(self) -> None:
         start = 1_700_006_400  # midnight, UTC
-        with mock.patch.dict(os.environ, {"TZ": "UTC"}):
-            time.tzset()
-            for width, distance in ((822, 21_600), (300, 21_600), (206, 43_200), (100, DAY)):
+        with in_zone("UTC"):
+            for width, distance in ((822, 21_600), (300, 21_600), (206, 43_200), (100, DAY), (10, DAY)):
                 with self.subTest(width=width):
                     found: List[Label] = labels(start, start + DAY, width)
                     self.assertEqual([at for _, at in found], list(range(start, start + DAY + 1, distance)))
-        time.tzset()
+
+    def test_seconds_and_months(self) -> None:
+        """Seconds are told if there are some between two labels; months apart, labels are at the first days."""
+        start = 1_704_067_200  # 1 January 2024, UTC
+        with in_zone("UTC"):
+            self.assertEqual([text for text, _ in labels(start, start + 180, 822)],
+                             ["00:00:00\\n01 Jan", *(f"00:0{at // 2}:{at % 2 * 3}0" for at in range(1, 7))])
+            self.assertEqual([text for text, _ in labels(start, start + 420, 822)],
+                             ["00:00\\n01 Jan", *(f"00:0{at}" for at in range(1, 8))])
+            self.assertEqual([text for text, _ in labels(start, start + 150 * DAY, 822)],
+                             [f"{month}\\n2024" for month in ("Jan", "Feb", "Mar", "Apr", "May")])
+
+    def test_days_when_clocks_change(self) -> None:
+        """A midnight at the end has its label, though a day was an hour shorter, or two hours, as in Troll."""
+        begin, end = 1_679_785_199, 1_679_868_000  # 25 March 2023, 23:59:59, to 27 March, 0:00
+        with in_zone("Europe/Berlin"):
+            self.assertEqual([text for text, _ in label_days(begin, end, DAY)], ["26 Mar\\n2023", "27 Mar\\n2023"])
+        with in_zone("Antarctica/Troll"):
+            self.assertEqual([text for text, _ in label_days(end - 2 * DAY, end + DAY, DAY)],
+                             [f"{day} Mar\\n2023" for day in (25, 26, 27, 28)])
 
     def test_sizes(self) -> None:
         """A picture without a height gets the room that its parts need."""
@@ -150,6 +231,7 @@ class Ranges(unittest.TestCase):
                 ([math.nan, 90.0, 1.0, 90.0, 90.0], True, (0, 90))):
             with self.subTest(others=others, has_zero=has_zero):
                 self.assertEqual(range_of([curve_of(usual + others)], False, has_zero, cuts), found)
+        self.assertEqual(range_of([curve_of(usual[1:] + [90.0, 90.0])], False, True, cuts), (0, 90))  # two of 99 rows
         self.assertEqual(range_of([curve_of(usual + [90.0, 1.5])], False, True, ALL), (0, 90))
         self.assertEqual(range_of([curve_of(usual + [90.0, 1.5])], False, True, cuts._replace(greatest=8.0)), (0, 8))
         self.assertEqual(range_of([curve_of([0.0] * 99 + [5.0])], False, True, cuts), (0, 5))  # all others are equal
@@ -178,7 +260,36 @@ class Ranges(unittest.TestCase):
         series = series_of(rows, None, None, False)
         self.assertEqual(cut_marks(rows, series, False, 0, 4), [CutMark(0, 20, True), CutMark(0, 45, False)])
         self.assertEqual(cut_marks(rows, series, False, -9, 9), [])
+        # The axis ends at 10^15, and no value is seen to be beyond it.
+        large = axis(0, 1e15 + 1)
+        others = series_of(rows._replace(columns=[[1e15, 1e15 + 1, 1e15, 1e15 - 1, -1.0]]), None, None, False)
+        self.assertEqual((large.high, cut_marks(rows, others, False, 0, large.high)), (1e15, []))
+        # How far beyond it is, is measured by the length of the axis, wherever its ends are.
+        for low, high, value, is_seen in ((-9.0, 9.0, 9.00000001, False), (-9.0, 9.0, 9.0000001, True),
+                                          (1e6, 1e6 + 1, 1e6 + 1.001, True)):
+            middle = (low + high) / 2
+            near = series_of(rows._replace(columns=[[middle, middle, value, middle, middle]]), None, None, False)
+            self.assertEqual(cut_marks(rows, near, False, low, high), [CutMark(0, 25, True)] if is_seen else [], value)
         self.assertEqual(cut_curve(series[0], 0, 4).values, [1, 4, 4, 1, 0])
+        band = cut_curve(curve_of([1.0, 2.0], [-3.0, 1.5], [3.0, 9.0]), 0, 4)
+        self.assertEqual((band.values, band.lows, band.highs), ([1, 2], [0, 1.5], [3, 4]))
+
+    def test_places_that_follow_each_other(self) -> None:
+        """Each run of rows has a mark in its middle, also if a later row is as far from an earlier one."""
+        tries: List[Tuple[List[int], List[Tuple[int, int]]]] = [
+            ([], []), ([20], [(20, 20)]), ([10, 20, 30], [(10, 30)]), ([10, 30], [(10, 10), (30, 30)]),
+            ([10, 20, 40, 50, 60, 80], [(10, 20), (40, 60), (80, 80)])]
+        for times, found in tries:
+            self.assertEqual(runs(times, 10), found)
+
+    def test_a_band_within_the_axis(self) -> None:
+        """Without a limit, the axis has the band if there is one, and else the values only."""
+        curve = curve_of([20.0, 30.0], [5.0, 25.0], [25.0, 70.0])
+        for has_band, found in ((True, (5, 70)), (False, (20, 30))):
+            self.assertEqual(range_of([curve], has_band, False, ALL), found)
+        self.assertEqual(range_of([curve_of([0.0, 0.0])], False, False, ALL), (0, 1))
+        self.assertEqual(range_of([curve_of([30.0, 30.0])], False, False, ALL), (30, 33))
+        self.assertEqual(range_of([curve_of([30.0, 30.0])], False, False, Bounds(None, 30.0, True, False)), (27, 30))
 
 
 class SvgPictures(unittest.TestCase):
@@ -204,6 +315,15 @@ class SvgPictures(unittest.TestCase):
         self.assertEqual(found["line c0"], "M29 197.5H113.3V135H197.6M281.9 10H366.2H450.5")
         self.assertEqual(found["cut c0"], "M408.4 10l-4 6h8z")
         self.assertIn("M29 260H872", found["grid"])
+
+    def test_one_value_alone(self) -> None:
+        """A row that is narrower than what can be seen is drawn wider."""
+        values = [math.nan] * 500 + [1.0] + [math.nan] * 499
+        rows = Columns(["g"], 1, list(range(1, 1001)), [values])
+        picture = self.picture([1.0, 1.0])._replace(rows=rows, series=series_of(rows, None, None, False))
+        root = ElementTree.fromstring(svg_of(picture, 0, 1_000, ""))
+        self.assertEqual([path.attrib["d"] for path in root.iter("path") if path.attrib["class"] == "line c0"],
+                         ["M449.4 197.5H450.5H451.3H452.4"])
 
     def test_areas(self) -> None:
         self.assertEqual(self.drawn(self.picture([1.0, 2.0], "area"))["area c0"],

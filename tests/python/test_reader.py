@@ -116,6 +116,15 @@ class Reading(unittest.TestCase):
         change, = reader.read(one_entry + b"\5" + head + old)["journal"]
         self.assertEqual((change["change"], change["archive"], change["function"], change["rows"]), ("removal", 1, "MAX", rows))
 
+    def test_rows_that_an_update_replaced(self) -> None:
+        """An update from 20 to 40 wrote two rows in the places of those that ended at 10 and 20."""
+        data = file_bytes().replace(struct.pack(">IQ", 10, 20), struct.pack(">IQ", 10, 40))
+        parts = amount(7_000_000) + struct.pack(">I", 0) + amount(0) + struct.pack(">I", 0) + amount(0)
+        entry = b"\1" + struct.pack(">Q", 20) + parts + struct.pack(">I", 2) + amount(1_000_000) + amount(2_000_000)
+        change, = reader.read(data[:26] + struct.pack(">I", 1) + data[30:] + entry)["journal"]
+        self.assertEqual((change["change"], change["last_time"]), ("update", 20))
+        self.assertEqual(change["archives"][0]["rows"], [{"time": 10, "cells": [1_000_000]}, {"time": 20, "cells": [2_000_000]}])
+
     def test_a_name_in_openmetrics(self) -> None:
         """A quote, a backslash and a line feed are escaped, as OpenMetrics has it."""
         text = "\n".join(as_openmetrics(reader.read(file_bytes()), 'a"b\\c\nd'))

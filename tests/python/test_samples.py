@@ -37,6 +37,20 @@ class Index:
         return 7
 
 
+class Frame(List[str]):
+    """A table that gives the names of its columns, as a DataFrame of pandas does."""
+
+    def itertuples(self) -> List[Tuple[int, float]]:
+        return [(10, 1.5)]
+
+
+class Timestamp(datetime.datetime):
+    """A time that takes its zone in another way, as that of pandas does."""
+
+    def tz_localize(self, zone: str) -> datetime.datetime:
+        return self.replace(tzinfo={"UTC": UTC}[zone])
+
+
 class Values(unittest.TestCase):
     def check(self, wanted: List[Tuple[Any, str]]) -> None:
         for value, text in wanted:
@@ -86,7 +100,7 @@ class Values(unittest.TestCase):
         wanted: List[Tuple[Any, List[str]]] = [
             (["1:2", "3:4"], ["1:2", "3:4"]), ([["1:2", "3:4"]], ["1:2", "3:4"]), ([(1, 2), (3, 4)], ["1:2", "3:4"]),
             ([[(1, 2), [3, 4]], "5:6"], ["1:2", "3:4", "5:6"]), ([("N", 0.5, None)], ["N:0.5:U"]), ([], []), ([[]], []),
-            ([("10", "0.5")], ["10:0.5"]), ([(1.9, 1)], ["1:1"]), ([5], ["5"]), (["N:1:N"], ["N:1:N"])]
+            ([("10", "0.5")], ["10:0.5"]), ([(1.9, 1)], ["1:1"]), (["N:1:N"], ["N:1:N"])]
         for given, words in wanted:
             self.assertEqual(sample_words(given), words)
         self.assertEqual(sample_words([("N", 1), "N:2"], None, 70), ["70:1", "70:2"])
@@ -102,6 +116,12 @@ class Values(unittest.TestCase):
         for value in wrong:
             with self.assertRaises(TypeError):
                 seconds_of(value)
+        stamp = Timestamp(2020, 9, 13, 12, 26, 40)
+        with self.assertRaisesRegex(ValueError, r"write time\.tz_localize\('UTC'\)"):
+            seconds_of(stamp)
+        self.assertEqual(seconds_of(stamp.tz_localize("UTC")), 1_600_000_000)
+        with self.assertRaisesRegex(TypeError, r"not datetime64; write pandas\.Timestamp\(time\)\.tz_localize\('UTC'\)"):
+            seconds_of(cast(Any, type("datetime64", (), {})()))
         others: List[Any] = [math.nan, math.inf, datetime.datetime(2020, 1, 1)]
         for value in others:
             with self.assertRaises(ValueError):
@@ -137,6 +157,15 @@ class Forms(unittest.TestCase):
                             [iter([10, 1, 2.5]), (part for part in (20, None, 3))], [(str(10), (1, 2.5)), "20:U:3"]]
         for form in given:
             self.assertEqual(sample_words(form), wanted)
+
+    def test_no_samples(self) -> None:
+        wrong: List[Tuple[Any, str]] = [
+            ([10, [1.5]], r"not int; write \(10, VALUE\)"), ([True], "not bool$"), ([Frame(["g"])], "itertuples"),
+            ([[Frame(["g"])]], "not Frame; pass its itertuples")]
+        for samples, text in wrong:
+            with self.assertRaisesRegex(TypeError, text):
+                sample_words(samples)
+        self.assertEqual(sample_words(Frame().itertuples()), ["10:1.5"])
 
     def test_values_by_name(self) -> None:
         self.assertEqual(sample_words([(10, {"g": 1, "c": 2.5})]), ["--template=g:c", "10:1:2.5"])
@@ -281,7 +310,8 @@ class Updates(OfFiles):
             ((-5, 1, 2), "bad time: sample 2 has the time -5, which is before 1970"),
             ((10**40, 1, 2), f"bad time: sample 2 has the time {10**40}, which is over 9999999999"),
             ((math.nan, 1, 2), "bad time: sample 2: nan is no time")]
-        with mock.patch("rrdi.commands.the_library"), mock.patch("rrdi.memory.the_library"):
+        by_words = mock.Mock(update_file=None)
+        with mock.patch("rrdi.commands.the_library", return_value=by_words), mock.patch("rrdi.memory.the_library"):
             for sample, text in wanted:
                 error = self.refuses(rrdi.BadSample, text.partition(":")[0], rrdi.update, self.file, "1600000039:1:2",
                                      sample)
@@ -291,10 +321,13 @@ class Updates(OfFiles):
                 self.refuses(rrdi.BadSample, error.reason, rrdi.run, b"", "update", "1600000039:1:2", sample)
             with self.assertRaisesRegex(TypeError, "value 2 of sample 1 is True, which is no number; write 1 or 0"):
                 rrdi.update(self.file, (1_600_000_040, 1, True))
-            wrong: List[Any] = [(None, 1), (True, 1), (1_600_000_040, b"1"), (1_600_000_040, {}), {"g": 1}, 1.5, None]
+            wrong: List[Any] = [(None, 1), (True, 1), (1_600_000_040, b"1"), (1_600_000_040, {}), {"g": 1}, 1.5, None,
+                                1_600_000_040, Frame(["g"])]
             for sample in wrong:
                 with self.assertRaises(TypeError):
                     rrdi.update(self.file, sample)
+            with rrdi.Database(self.file) as database, self.assertRaisesRegex(TypeError, "pass its itertuples"):
+                database.update_many(cast(Any, Frame(["g"])))
 
     def test_in_blocks_and_in_memory(self: Any) -> None:
         self.create()
@@ -320,20 +353,21 @@ class Errors(OfFiles):
 
     def test_unreadable(self: Any) -> None:
         self.fill()
-        numbers = "update also takes (time, value, ..) tuples of numbers, which it rounds"
+        numbers, tool = "a value has at most six decimals and no exponent", "or run rrdi-rrdtool --rrdi"
         for sample, text in (
                 ("1,5", "its value 2 is '1,5'; write '1.5', with a point"),
-                ("1e3", f"its value 2 is '1e3', with an exponent; {numbers}"),
-                ("-1.5E+3", f"its value 2 is '-1.5E+3', with an exponent; {numbers}"),
+                ("1e3", f"its value 2 is '1e3', with an exponent; {numbers}; write 1000, {tool}"),
+                ("-1.5E+3", f"its value 2 is '-1.5E+3', with an exponent; {numbers}; write -1500, {tool}"),
                 ("1e-07", f"its value 2 is '1e-07', with an exponent; {numbers}"),
                 ("0.3333333", f"its value 2 is '0.3333333', with more than six decimals; {numbers}"),
                 ("", "its value 2 is empty; U is unknown"), ("nan", "its value 2 is 'nan'; U is unknown"),
                 ("None", "its value 2 is 'None'; U is unknown"),
                 ("1" * 21, f"its value 2 is '{'1' * 21}', with more than 20 digits"),
                 ("1" * 60, f"its value 2 is '{'1' * 20}'.. (60 characters), with more than 20 digits"),
+                ("+5", f"its value 2 is '+5'; a value is a number, such as 21.5 or -3, or U for unknown; write 5, {tool}"),
                 ("inf", "its value 2 is 'inf'; a value is a number, such as 21.5 or -3, or U for unknown"),
                 *((wrong, f"its value 2 is {wrong!r}; a value is a number, such as 21.5 or -3, or U for unknown")
-                  for wrong in ("+5", "-,5", "1,", "+1,5", "1,1234567", f"{'1' * 21},5", "1,5,6", "1,5e3", "\u0663,\u0665"))):
+                  for wrong in ("-,5", "1,", "+1,5", "1,1234567", f"{'1' * 21},5", "1,5,6", "1,5e3", "\u0663,\u0665"))):
             self.says(rrdi.Unreadable, f"unreadable sample 2: {text}", "1600000040:1:2", f"1600000050:1:{sample}")
         self.says(rrdi.Unreadable, "unreadable sample 1: 'x' has no value; write TIME:VALUE", "x")
         self.says(rrdi.Unreadable, "unreadable sample 1: '5' has no value; write TIME:VALUE", "5", template="g")
@@ -341,10 +375,12 @@ class Errors(OfFiles):
             sample = f"{moment}:1:2"
             if moment != "-5":
                 self.says(rrdi.Unreadable, f"unreadable sample 1: its time is {moment!r}, not whole seconds since 1970 "
-                                           "or N", sample)
+                                           f"or N{f'; write N, {tool}' if moment == 'now' else ''}", sample)
         self.says(rrdi.Unreadable, "unreadable sample 1: its value 1 is '1,5'; write '1.5', with a point",
                   (1_600_000_040, "1,5", 2))
-        self.says(rrdi.Unreadable, "unreadable template", "1600000040:1", template="x" * 20)
+        self.says(rrdi.Unreadable, f"unreadable template: it is '{'x' * 20}', not names of at most 19 characters with "
+                                "colons between them",
+                  "1600000040:1", template="x" * 20)
 
     def test_refused(self: Any) -> None:
         self.fill()
@@ -359,9 +395,10 @@ class Errors(OfFiles):
                   template="c")
         self.says(rrdi.Refused, "wrong number of values: sample 1 has 2 values, 1 is wanted: c", "-t", "c",
                   "1600000040:1:2")
-        self.says(rrdi.Refused, "not later than 1600000030", "1600000030:1:2")
-        self.says(rrdi.Refused, "not later than 1600000040: sample 3 has the time 1600000039", "1600000031:1:2",
-                  "1600000040:1:2", "1600000039:1:2")
+        self.says(rrdi.Refused, "not later than 1600000030: 1600000030 is not later than the last update, 1600000030; "
+                                "the next sample may be at 1600000031 or later", "1600000030:1:2")
+        self.says(rrdi.Refused, "not later than 1600000040: sample 3 has the time 1600000039, before that of sample 2, "
+                                "1600000040; sort them by time", "1600000031:1:2", "1600000040:1:2", "1600000039:1:2")
         self.says(rrdi.Refused, "no such data source: there is no data source x; the file has g, c", "1600000040:1", template="x")
 
     def test_words_of_other_commands(self: Any) -> None:
@@ -371,8 +408,10 @@ class Errors(OfFiles):
         definition = "not DS:name:GAUGE|COUNTER|DERIVE|ABSOLUTE:heartbeat:min:max or RRA:AVERAGE|MIN|MAX|LAST:xff:steps:rows"
         calls: List[Tuple[str, Any]] = [
             ("unreadable function: it is 'mean', not AVERAGE, MIN, MAX or LAST", lambda: fetch(file, "mean", "-s", "5")),
-            ("unreadable start: it is '-1h', not whole seconds since 1970", lambda: fetch(file, "MAX", start="-1h")),
-            ("unreadable resolution: it is '5m', not a whole number of seconds", lambda: fetch(file, "MAX", resolution="5m")),
+            ("unreadable start: it is 'x', not whole seconds since 1970; rrdi-rrdtool --rrdi takes RRDtool's times",
+             lambda: fetch(file, "MAX", start="x")),
+            ("unreadable resolution: it is '5m', not a whole number of seconds; write 300, or run rrdi-rrdtool --rrdi",
+             lambda: fetch(file, "MAX", resolution="5m")),
             (f"unreadable definition 2: it is 'RRA:x', {definition}",
              lambda: rrdi.create(file, "-s", 9, "DS:g:GAUGE:9:U:U", "RRA:x", start=5, overwrite=True)),
             ("unreadable journal: it is 'x', not a whole number", lambda: rrdi.create(file, "--journal", "x", archive, overwrite=True)),
@@ -447,20 +486,11 @@ class Errors(OfFiles):
         self.assertEqual(raised.exception.lines[0].reason, "unreadable sample 1")
         data = rrdi.run(None, "create", "--start", "0", "DS:g:GAUGE:99:U:U", "RRA:LAST:0:1:3").data
         for sample, text in (("10:1:2", "wrong number of values: sample 1 has 2 values, 1 is wanted: g"),
-                             ("10:1e3", "unreadable sample 1: its value 1 is '1e3', with an exponent; update also takes "
-                                        "(time, value, ..) tuples of numbers, which it rounds")):
+                             ("10:1e3", "unreadable sample 1: its value 1 is '1e3', with an exponent; a value has at most six "
+                                        "decimals and no exponent; write 1000, or run rrdi-rrdtool --rrdi")):
             with self.assertRaises(rrdi.Error) as failed:
                 rrdi.run(data, "update", sample)
             self.assertEqual(str(failed.exception), text)
-
-    def test_the_sources_are_not_known(self: Any) -> None:
-        """The second question fails: the error is that of the update."""
-        self.fill()
-        for reason in ("wrong number of values", "bad value", "not later than 5"):
-            faults = [rrdi.Refused(reason, str(self.file)), rrdi.Busy("cannot open")]
-            with mock.patch("rrdi.commands.run_on", side_effect=faults) as run_on:
-                self.says(rrdi.Refused, reason, "1600000040:1", "1600000050:1")
-            self.assertEqual(run_on.call_count, 2)
 
 
 class UpdatesByProgram(WithProgram, Updates, unittest.TestCase):

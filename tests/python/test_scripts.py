@@ -102,10 +102,12 @@ class Safely(ProcessCase):
         self.same("permissions", file.stat().st_mode & 0o777, 0o666)
         before = self.read("f.rrdi")
         self.same("a refused update", self.ran(safely, "update", "f.rrdi", "10:2"),
-                   Ran(1, "", "ERROR: not later than 10\n"))
+                   Ran(1, "", "ERROR: not later than 10\n"
+                       "rrdi: 10 is not later than the last update, 10; the next sample may be at 11 or later\n"))
         self.same("the file after it", self.read("f.rrdi"), before)
         self.same("a batch with a refused line", self.ran(safely, "batch", "f.rrdi", given="update 5:1\nupdate 20:2\n"),
-                   Ran(1, "ERROR: not later than 10\n", ""))
+                   Ran(1, "ERROR: not later than 10\n",
+                       "rrdi: line 1: 5 is not later than the last update, 10; the next sample may be at 11 or later\n"))
         (self.folder / "link.rrdi").symlink_to("f.rrdi")
         self.same("by a link", self.ran(safely, "update", "link.rrdi", "30:3").status, 0)
         self.same("a link stays one", (self.folder / "link.rrdi").is_symlink(), True)

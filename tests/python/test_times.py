@@ -3,6 +3,7 @@
 from __future__ import annotations
 
 import os
+import re
 import subprocess
 import time
 import unittest
@@ -13,7 +14,7 @@ from tool_case import NO_RRDTOOL, RRDTOOL, ToolCase
 from rrdi.tools.command_line import WrongArguments
 from rrdi.tools.fix import times_of
 from rrdi.tools.graph import with_times
-from rrdi.tools.spans import as_of_rrdtool, span_of
+from rrdi.tools.spans import as_of_rrdtool, length_text, span_of
 
 NOON = 1_704_106_800  # 2024-01-01 11:00 UTC, and 12:00 in Berlin
 
@@ -42,10 +43,21 @@ class Times(unittest.TestCase):
         with mock.patch.object(time, "time", lambda: NOON + 0.5):
             self.assertEqual(span_of("-5min", "now", 5), (NOON - 300, NOON))
 
+    def test_an_hour_that_there_is_twice(self) -> None:
+        """A start in it is the earlier one, and an end the later one."""
+        twice = "2023-10-29 02:30"
+        self.assertEqual(span_of(twice, twice, 5), (1_698_539_400, 1_698_543_000))
+
+    def test_lengths(self) -> None:
+        """In the longest unit of which there are whole ones."""
+        for seconds, text in ((0, "0 s"), (59, "59 s"), (60, "1 min"), (61, "61 s"), (5_400, "90 min"), (7_200, "2 h"),
+                              (86_400, "1 day"), (172_800, "2 days"), (604_800, "1 week"), (1_209_600, "2 weeks")):
+            self.assertEqual(length_text(seconds), text)
+
     def test_no_times(self) -> None:
         for text in ("2024-02-30", "2024-13-01", "2024-01-00", "2023-02-29 12:00", "2024-01-01 24:00", "2024-01-01T10:60Z",
-                     "2024-01-01T10:00:60Z"):
-            with self.assertRaisesRegex(WrongArguments, f"there is no time '{text}'"):
+                     "2024-01-01T10:00:60Z", "0000-01-01T00:00Z", "0000-02-29T00:00+01:00", "0000-01-01"):
+            with self.assertRaisesRegex(WrongArguments, re.escape(f"there is no time '{text}'")):
                 as_of_rrdtool(text)
 
     def test_rrdi_fix(self) -> None:

@@ -38,6 +38,8 @@ class Words(ToolCase):
                            ("--above 0.0000001", "--above must be a number with at most six decimals, not '0.0000001'"),
                            ("-w @", "--warning must be a range such as 10, 5:10, 10:, ~:10 or @5:10, not '@'"),
                            ("-c :", "--critical must be a range such as 10, 5:10, 10:, ~:10 or @5:10, not ':'"),
+                           ("-c /root:30", "--critical must be a range such as 10, 5:10, 10:, ~:10 or @5:10, not '/root:30'; "
+                            "bash needs quotes around '~:10'"),
                            ("-c 7:5", "the range '7:5' of --critical ends below its start"),
                            ("-c -5", "the range '-5' of --critical ends below its start"),
                            ("-c 5 --above 3", "give --critical, or --above and --below"),
@@ -178,7 +180,7 @@ class Files(ToolCase):
                          r"^CRITICAL - room.rrdi: temp has no known value after 2023-11-14 22:19:00, for .* \| temp=U$")
         (self.folder / "room.rrdi").rename(self.folder / "a|b\n.rrdi")
         self.assertEqual(self.tool("rrdi-check", "a|b\n.rrdi", "temp", "--stale", "9999d").out,
-                         "OK - a?b?.rrdi: temp is 32, at 2023-11-14 22:19:00 | temp=32\n")
+                         "OK - a?b\\n.rrdi: temp is 32, at 2023-11-14 22:19:00 | temp=32\n")
 
     def test_a_locked_file(self) -> None:
         with open(self.folder / "room.rrdi", "rb") as file:

@@ -2,16 +2,22 @@
 """Tests of what all tools share: the exit status and the message for each way in which a tool can end."""
 from __future__ import annotations
 
+import errno
+import io
 import re
 import signal
 import subprocess
 import sys
 import time
 import unittest
+from unittest import mock
 
 from cases import HANG
 from doubles import TOP
 from tool_case import Ran, ToolCase
+
+from rrdi.tools import command_line
+from rrdi.tools.command_line import complain, give_up_output
 
 TOOL = """import errno, sys
 sys.path.insert(0, {python!r})
@@ -49,6 +55,33 @@ class Versions(ToolCase):
                 # rrdi-rrdtool answers as RRDtool does.
                 wanted = "RRDtool 1.7.2 (rrdi-rrdtool, on rrdi's files)" if name == "rrdi-rrdtool" else f"{name} {version}"
                 self.assertEqual(self.tool(name, "--version"), Ran(0, f"{wanted}\n", ""))
+
+
+class Unheard(unittest.TestCase):
+    """What a tool does if nobody can read what it says."""
+
+    def test_no_standard_error(self) -> None:
+        """Nothing is said where it is closed; where it is full, the rest of it is given up."""
+        with mock.patch.object(sys, "stderr", None):
+            complain("why")
+        full, read = mock.Mock(), io.StringIO()
+        full.write.side_effect = OSError(errno.ENOSPC, "No space left on device")
+        for stderr, given_up in ((full, [mock.call(2)]), (read, [])):
+            with mock.patch.object(sys, "stderr", stderr), \
+                    mock.patch.object(command_line, "give_up_output") as give_up:
+                complain("why")
+            self.assertEqual(give_up.mock_calls, given_up)
+        self.assertEqual(read.getvalue(), "why\n")
+
+    def test_no_place_to_give_output_up(self) -> None:
+        """A tool that cannot open another file ends with its status all the same."""
+        refused = OSError(errno.EMFILE, "Too many open files")
+        with mock.patch("os.open", side_effect=refused), mock.patch("os.dup2") as dup2:
+            give_up_output()
+        self.assertEqual(dup2.mock_calls, [])
+        with mock.patch("os.open", return_value=7), mock.patch("os.dup2") as dup2:
+            give_up_output(2)
+        self.assertEqual(dup2.mock_calls, [mock.call(7, 2)])
 
 
 class Ends(ToolCase):

@@ -35,13 +35,16 @@ esac"""
 class WrongOnes(ToolCase):
     def test_usage(self) -> None:
         wrong = ("--jobs", "--jobs 0", "--seconds 0", "--held 0", "--wrong 1", "jobs 1", "--jobs x", "-jobs 1", "--jobs ٣",
-                 "--jobs 1 2", "--graphite", "--rules r", "--jobs -1", "--__class__ 1", f"--jobs {'1' * 13}", "a.rrdi")
+                 "--jobs 1 2", "--graphite", "--rules r", "--jobs -1", "--__class__ 1", f"--jobs {'1' * 13}", "a.rrdi",
+                 "--open_files 1", "--open-seconds 0", "--open-files x")
         self.check_usage("rrdi-feed", USAGE, [*(words.split() for words in wrong), ["--graphite", ""]])
 
     def test_arguments(self) -> None:
         self.assertEqual(read_arguments([]), FeedArguments(FeedOptions(60, 4, 1_000_000, 30), None, None, False))
         self.assertEqual(read_arguments("--jobs 2 --seconds 5 --held 7 --patience 0".split()),
                          FeedArguments(FeedOptions(5, 2, 7, 0), None, None, False))
+        self.assertEqual(read_arguments("--open-files 0 --open-seconds 5 --open-memory 7".split()).options,
+                         FeedOptions(open_files=0, open_seconds=5, open_memory=7))
         self.assertEqual(read_arguments("--graphite d --backfill --rules r --jobs 3".split()),
                          FeedArguments(FeedOptions(jobs=3), "d", "r", True))
         with self.assertRaises(WrongArguments):
@@ -241,7 +244,9 @@ class Files(ToolCase):
         given = "room.temp 20.5 1600000010\nroom.temp 21.25 1600000020\nroom.temp 9 1600000020\nroom.temp nan 1600000030\n"
         ran = self.tool("rrdi-feed", "--graphite", "data", "--rules", "rules", given=given)
         file = f"{os.path.realpath(self.folder)}/data/room/temp.rrdi"
-        self.assertEqual(ran, Ran(1, "", f"rrdi-feed: {file} 1600000020:9: not later than 1600000020\n"))
+        self.assertEqual(ran, Ran(1, "", f"rrdi-feed: {file} 1600000020:9: not later than 1600000020\n"
+                                         "rrdi-feed: 1600000020 is not later than the last update, 1600000020; the next sample "
+                                         "may be at 1600000021 or later\n"))
         self.assertEqual(self.rrdi("fetch", file, "AVERAGE", "-s", "1600000010", "-e", "1600000029"),
                          "time: v\n1600000020: 21.250000\n1600000030: nan\n")
 

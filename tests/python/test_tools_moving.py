@@ -45,7 +45,7 @@ class Import(ToolCase):
 
     def test_usage(self) -> None:
         self.check_usage("rrdi-import", "[--journal DEPTH] OLD.rrd|OLD.wsp [NEW.rrdi]\n"
-                         "       rrdi-import [--journal DEPTH] --into DIRECTORY|--in-place OLD|TREE..",
+                         "       rrdi-import [--journal DEPTH] [--jobs N] --into DIRECTORY|--in-place OLD|TREE..",
                          [[], ["--journal", "x", "a.rrd"], ["--journal"], ["a", "b", "c"], ["-x"], [""], ["a", "-b"],
                           ["--journal", "-1", "a"], ["a", ""], ["--in-place"], ["--into", "d"], ["--into", "", "a"],
                           ["--into", "d", "--in-place", "a"], ["--in-place", "--in-place", "a"], ["--in-place", "a", ""]])
@@ -184,6 +184,15 @@ class Shown(unittest.TestCase):
         self.assertEqual(self.shown(True, [0.1, 0.5, 0.9]), "")
         self.assertEqual(self.shown(True, [2, 2.1]), "\rmoving: 0\x1b[K\r\x1b[K")
         self.assertEqual(self.shown(True, [0.5, 2, 4]), "\rmoving: 12 %\x1b[K\rmoving: 20\x1b[K\r\x1b[K")
+
+    def test_a_bar(self) -> None:
+        """It is as long as the share that is done, and no more than all is done."""
+        for done, bar, share in ((0, "", 0), (50, "#" * 15, 50), (99, "#" * 29, 99), (100, "#" * 30, 100), (150, "#" * 30, 100)):
+            output = io.StringIO()
+            with mock.patch.object(sys, "stderr", output), mock.patch.object(output, "isatty", lambda: True), \
+                    mock.patch.object(Progress, "FIRST", 0.0):
+                Progress("drawing", lambda: 0.0, has_bar=True).show(done, 100)
+            self.assertEqual(output.getvalue(), f"\rdrawing: [{bar.ljust(30)}] {share} %\x1b[K")
 
     def test_a_terminal(self) -> None:
         """A long move on a terminal: the text on standard error, which is then cleared."""

@@ -31,7 +31,7 @@ def in_zone(zone: str, begin: int, end: int) -> List[labels.Label]:
     """The labels of a span in a time zone."""
     with mock.patch.dict(os.environ, {"TZ": zone}):
         time.tzset()
-        found = labels.labels(begin, end)
+        found = labels.labels(begin, end, 900)
     time.tzset()
     return found
 
@@ -71,13 +71,34 @@ class Labels(unittest.TestCase):
         self.assertTrue(3 <= len(found) <= 8, found)
         self.assertTrue(all(text.startswith("Jan") for text, _ in found), found)
 
+    def test_round_distances(self) -> None:
+        """Spans up to half a year have three to eight labels, at distances that divide a day, or are days."""
+        seconds, new_year = 10, 1_704_067_200
+        while seconds < 180 * 86_400:
+            times = [at for _, at in in_zone("UTC", new_year, new_year + seconds)]
+            distance = times[1] - times[0]
+            with self.subTest(seconds=seconds):
+                self.assertTrue(86_400 % distance == 0 or distance % 86_400 == 0, distance)
+                if distance <= 14 * 86_400:  # months are not equally long
+                    self.assertEqual(times, [new_year + at * distance for at in range(seconds // distance + 1)])
+                self.assertTrue(3 <= len(times) <= 8, times)
+            seconds += max(seconds // 7, 1)
+
+    def test_both_ends(self) -> None:
+        """A round time at an end of the plot has a label: of an hour, of a week, and of a year."""
+        new_year, texts = 1_704_067_200, [f"{month}\\n2024" for month in ("Jan", "Mar", "May", "Jul", "Sep", "Nov")]
+        self.assertEqual([text for text, _ in in_zone("UTC", new_year, new_year + 366 * 86_400)], [*texts, "Jan\\n2025"])
+        for seconds in (3_600, 7 * 86_400):
+            found = [at for _, at in in_zone("UTC", new_year, new_year + seconds)]
+            self.assertEqual((found[0], found[-1]), (new_year, new_year + seconds))
+
 
 class Numbers(unittest.TestCase):
     """Numbers with SI prefixes, and axes. What is expected was written by hand."""
 
     def test_prefixes(self) -> None:
         for value, text in ((0, "0"), (2.98, "2.98"), (124.4, "124"), (999.4, "999"), (999.6, "1.00 k"), (12_345, "12.3 k"),
-                            (-1_500, "-1.50 k"), (3.04e6, "3.04 M"), (7e9, "7.00 G"), (1.5e18, "1.50 E"), (0.25, "0.250"),
+                            (-1_500, "-1.50 k"), (3.04e6, "3.04 M"), (7e9, "7.00 G"), (1.5e18, "1.50 E"), (999.6e15, "1.00 E"), (1.5e21, "1500 E"), (0.25, "0.250"),
                             (0.0123, "0.0123"), (0.0042, "4.20 m"), (0.000007, "7.00 \u00b5"), (math.nan, "-")):
             with self.subTest(value=value):
                 self.assertEqual(numbers.number_text(value), text)
@@ -98,6 +119,11 @@ class Numbers(unittest.TestCase):
                 self.assertEqual([round(value, 9) for value in found.values], values)
                 self.assertEqual(" ".join(text.replace(" ", "_") for text in found.texts), texts)
         self.assertEqual(numbers.axis(0, 900, "%").texts, ["0", "200 %", "400 %", "600 %", "800 %", "1000 %"])
+
+    def test_axes_that_end_at_marks(self) -> None:
+        """Three steps of 0.1 are not quite 0.3 for a computer; the marks at both ends stay."""
+        found = numbers.axis(-0.3, 0.3).ending_at(-0.3, 0.3)
+        self.assertEqual((found.texts, found.low, found.high), (["-0.3", "-0.2", "-0.1", "0", "0.1", "0.2", "0.3"], -0.3, 0.3))
 
 
 class Rows(unittest.TestCase):
@@ -396,7 +422,7 @@ class Record(ToolCase):
         self.assertFalse((self.folder / "n.rrdi").exists())
 
     def test_it_flushes_to_the_disk(self) -> None:
-        """Each command flushes: also `create`, and `last`, which may repair the file."""
+        """Each command has the setting, also `create`."""
         self.make("a.rrdi", self.now - 120)
         shown = self.stub("shown", f'echo "${{RRDI_SYNC-}} $1 $2" >>{self.folder}/seen\nexec {PROGRAM} "$@"')
         self.assertEqual(self.record("a.rrdi", RRDI=shown), Ran(0, "", ""))
@@ -469,7 +495,10 @@ class Record(ToolCase):
 
     def test_what_is_not_recorded(self) -> None:
         self.make("a.rrdi", self.now + 500)
-        self.assertEqual(self.record("a.rrdi"), Ran(1, "", f"rrdi-record: not later than {self.now + 500}\n"))
+        ran = self.record("a.rrdi")
+        self.assertEqual((ran.status, ran.out), (1, ""))
+        self.assertRegex(ran.err, f"^rrdi-record: not later than {self.now + 500}\nrrdi-record: {self.now + 500} is [45]\\d\\d seconds "
+                                  "ahead of the clock; if a sample has this wrong time, rrdi revert takes it back\n$")
         for text in ("", "1 2", "x y z"):
             self.assertEqual(self.record("n.rrdi", LOADAVG=self.write("l", text)),
                              Ran(1, "", f"rrdi-record: {self.folder}/l has no three load averages\n"))

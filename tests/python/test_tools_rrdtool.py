@@ -194,7 +194,7 @@ class RRDtoolOutput(ToolCase):
         self.assertEqual(self.tool(TOOL, "resize", "x.rrdi", "0", "GROW", "5"), Ran(0, "", ""))
         self.assertIn("rra[0].rows = 10", self.rrdi("info", "resize.rrd"))
         self.assertEqual(self.read("x.rrdi"), before)
-        self.assertEqual(self.tool(TOOL, "resize", "x.rrdi", "0", "SHRINK", "9").err, "ERROR: x.rrdi: shrinks too far\n")
+        self.assertEqual(self.tool(TOOL, "resize", "x.rrdi", "0", "SHRINK", "9").err, "ERROR: x.rrdi: shrinks too far: archive 0 has 5 rows, of which one has to be left\n")
         self.assertFalse((self.folder / "resize.rrd").exists())
         self.assertEqual(self.tool(TOOL, "tune", "x.rrdi", "DELRRA:1"), Ran(0, "", ""))
         self.assertNotIn("rra[1]", self.rrdi("info", "x.rrdi"))
@@ -220,19 +220,20 @@ class RRDtoolOutput(ToolCase):
                 ("update x.rrdi 1000000030:1", "x.rrdi: wrong number of values: sample 1 has 1 value, 2 are wanted: g, count_of_packets"),
                 ("update x.rrdi 1000000030:1,5:1",
                  "x.rrdi: unreadable sample 1: its value 1 is '1,5'; write '1.5', with a point"),
-                ("update x.rrdi", "x.rrdi: no sample"),
-                ("tune x.rrdi -h none:5", "x.rrdi: no such data source"),
+                ("update x.rrdi", "x.rrdi: no sample: a sample is missing, such as N:21.5"),
+                ("tune x.rrdi -h none:5", "x.rrdi: no such data source: there is no data source none; the file has g, count_of_packets"),
                 ("fetch x.rrdi FOO", "unknown consolidation function 'FOO'"),
                 ("fetch x.rrdi", "Usage: rrdtool fetch <file> <CF> [options]"),
                 ("fetch x.rrdi MIN -r 30 -s 400000020 -e 400000010", "start (400000020) should be less than end (400000010)"),
                 ("fetch x.rrdi MAX -s 32:00", "cannot parse time: 32:00"),
                 ("last x.rrdi y", "Usage: rrdtool last <file>"),
-                ("first x.rrdi --rraindex 9", "x.rrdi: no such archive"),
+                ("first x.rrdi --rraindex 9", "x.rrdi: no such archive: the file has 2 archives, 0 to 1"),
                 ("dump x.rrdi", "dump is not supported: rrdi-export prints the XML"),
                 ("frobnicate x", "unknown function 'frobnicate'"),
                 ("update --daemon a x.rrdi N:1", "update --daemon is not supported"),
                 ("create y.rrdi DS:g:COMPUTE:a RRA:MAX:0.5:1:4", "rrdi has no type COMPUTE: DS:g:COMPUTE:a"),
-                ("create y.rrdi DS:g:GAUGE:9:U:U", "creating 'y.rrdi': no archive"),
+                ("create y.rrdi DS:g:GAUGE:9:U:U",
+                 "creating 'y.rrdi': no archive: an archive is missing, such as RRA:AVERAGE:0.5:1:1440"),
                 ("create y.rrdi DS:g=a:GAUGE:9:U:U RRA:MAX:0.5:1:4",
                  "a source cannot be filled from another file: DS:g=a:GAUGE:9:U:U"),
                 ("times 5", "Usage: times <start> <end>"),

@@ -14,6 +14,7 @@ import doubles  # noqa: F401 -- it puts the package on the path
 import rrdi
 from rrdi import errors, times, words
 from rrdi.amounts import LARGEST, gauge_text, shortened
+from rrdi.escaping import escaped
 from rrdi.limits import LONGEST_LINE
 
 
@@ -107,7 +108,29 @@ class Words(unittest.TestCase):
 
     def test_texts(self) -> None:
         self.assertEqual((words.as_text(b"a\xff"), words.as_bytes("a\udcff")), ("a\udcff", b"a\xff"))
-        self.assertEqual(words.in_one_line("a\nb\x1b ä\u2028"), "a?b? ä?")
+
+    def test_what_no_call_takes(self) -> None:
+        """What is refused before the library sees it is explained too; a command without a word is left to the library."""
+        for given, detail in ((["last", "\udcff"], "an argument is not in UTF-8"), (["last\0", "x"], "a word has a zero byte")):
+            with self.assertRaises(errors.Usage) as raised:
+                words.encoded(given)
+            self.assertEqual((raised.exception.reason, raised.exception.detail), ("usage", detail))
+        self.assertEqual((words.encoded([]), words.encoded([""]), words.encoded(["", "a"])), (b"", b"", b"\0a"))
+
+    def test_escaped(self) -> None:
+        """The program escapes the same characters, in the same way."""
+        for text, shown in (("", ""), ("plain 'text' ~ größer \U0001f600", "plain 'text' ~ größer \U0001f600"),
+                            ("a\nb\rc\td", "a\\nb\\rc\\td"), ("\0\x1b[2J\x7f", "\\u{0}\\u{1b}[2J\\u{7f}"),
+                            ("\x80\x9f\xa0\xad", "\\u{80}\\u{9f}\xa0\\u{ad}"),
+                            ("\u200b\u200f\u2010", "\\u{200b}\\u{200f}\u2010"),
+                            ("\u2027\u2028\u2029\u202a\u202e\u202f", "\u2027\\u{2028}\\u{2029}\\u{202a}\\u{202e}\u202f"),
+                            ("\u2066\u2069\u061c\ufeff", "\\u{2066}\\u{2069}\\u{61c}\\u{feff}"),
+                            ("\u034f\u115e\u115f\u1161\u17b5\u180b\u3164", "\\u{34f}\u115e\\u{115f}\u1161\\u{17b5}\\u{180b}\\u{3164}"),
+                            ("\ufe0f\ufe10\uffa0\ufff0\ufffc\U0001d173", "\\u{fe0f}\ufe10\\u{ffa0}\\u{fff0}\ufffc\\u{1d173}"),
+                            ("\U000e0041\U0010ffff", "\\u{e0041}\U0010ffff"), ("\udcff\udc80", "\\xff\\x80"),
+                            # Other surrogates stand for no byte.
+                            ("\ud800\udc7f\udd00\udfff", "\\u{d800}\\u{dc7f}\\u{dd00}\\u{dfff}")):
+            self.assertEqual(escaped(text), shown)
 
 
 class Amounts(unittest.TestCase):

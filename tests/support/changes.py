@@ -90,6 +90,10 @@ def single(name: str, line: str, **more: Any) -> Task:
     return Task(name, (command, FILE, *rest), **more)
 
 
+# What repairs a file, and changes no database. A command that only reads repairs nothing.
+REPAIR = Task("a repair", ("batch", FILE), "last\n")
+
+
 def changes() -> list[Task]:
     """Returns changes of every kind."""
     tasks = []
@@ -171,10 +175,10 @@ class Place:
         self.count = 0
         self.interrupted: dict[Task, bytes] = {}
 
-    def plain(self, words: tuple[str, ...], lines: str = "", **settings: object) -> Answer:
+    def plain(self, words: tuple[str, ...], lines: str = "", explains: bool = False, **settings: object) -> Answer:
         self.count += 1
         env = between.settings(self.library, **settings) if settings else {}
-        return self.program.run(words, lines, cwd=self.folder, env=env)
+        return self.program.run(words, lines, cwd=self.folder, env=env, explains=explains)
 
     def old(self, task: Task) -> bytes | None:
         """Returns the bytes on which a task runs: the database, if an earlier change was interrupted."""
@@ -207,16 +211,19 @@ class Place:
         """Returns the bytes of a file that stands for the database on which a task runs."""
         return self.interrupted[task] if task.form else old
 
-    def run(self, task: Task, old: bytes | None, **settings: object) -> Ran:
-        """Runs a task on the file of its database."""
+    def run(self, task: Task, old: bytes | None, explains: bool = False, **settings: object) -> Ran:
+        """Runs a task on the file of its database. If `explains`, the answer has what is said of refused lines."""
         put(self.file, self.begun(task, old))
         self.log.unlink(missing_ok=True)
-        answer = self.plain(task.words, task.lines, LOG=self.log, **settings)
+        answer = self.plain(task.words, task.lines, explains, LOG=self.log, **settings)
         return Ran(answer, held(self.file), between.events_of(self.log))
 
-    def after_next(self, words: tuple[str, ...] = ("last", FILE), lines: str = "", **settings: object
+    def after_next(self, words: tuple[str, ...] = (), lines: str = "", **settings: object
                    ) -> tuple[Answer, bytes | None]:
-        """Returns the answer of the next command, and the file afterwards."""
+        """Returns the answer of the next command, and the file afterwards. Without words it is one that repairs the file, and
+        changes no database."""
+        if not words:
+            words, lines = (REPAIR.words, REPAIR.lines) if self.file.exists() else (("last", FILE), "")
         answer = self.plain(words, lines, **settings)
         return answer, held(self.file)
 

@@ -9,14 +9,13 @@ from typing import Iterable, NamedTuple, Sequence
 
 from support import between
 from support.between import Change
-from support.changes import FILE, SYNCS, Place, Task, is_refused
+from support.changes import REPAIR, SYNCS, Place, Task, is_refused
 from support.check import Check
 from support.power import WHOLE, Disk, Left
 from support.program import KILLED, Answer, put
 
 CUTS, SECOND = "files after a power cut", "files after a second power cut"
 AFTER_KILL, AFTER_SYNC = "files after a kill and a power cut", "files after a failed sync and a power cut"
-NEXT = Task("last", ("last", FILE))
 # The number of failing calls of the same kind that follow a failed sync, if each later sync fails too.
 FOR_GOOD = 16
 
@@ -149,7 +148,7 @@ class Cuts:
         marked = [left for left in self.files_between(changes) if (found := self.find(left)).answer.status == 0
                   and found.held != left]
         for left in self.chance.sample(marked, min(self.effort.seconds, len(marked))):
-            _, changes = self.run(NEXT, left)
+            _, changes = self.run(REPAIR, left)
             self.want_one(SECOND, self.disk(left), changes, self.find(left).held, "a power cut in the next command")
 
     def files_between(self, changes: list[Change]) -> list[bytes]:
@@ -192,7 +191,7 @@ class Cuts:
     def recover(self, name: str, disk: Disk, what: str, is_sure: bool) -> None:
         """Cuts the power while the next command recovers the file that the cache has. If all syncs worked, the database
         that the command found stays after the command's end."""
-        answer, changes = self.run(NEXT, disk.cache)
+        answer, changes = self.run(REPAIR, disk.cache)
         found = self.find(disk.cache)
         is_right = answer.status == 0 and found.held in (self.old, self.new)
         self.check(is_right, f"{self.task.name}, {what}: {answer}, {told(found.held, self.old, self.new)}")

@@ -6,8 +6,8 @@
 
    A file has a header of 64 bytes (mark, state, length, position of the tail, last time, checksum, rows, entries), rows of
    16 bytes and at most 16 entries of 96 bytes. A change writes the old bytes after the longer one of the old and the new
-   database, marks the header, writes the new rows, and then the new header. If the next run opens a file with such a mark,
-   that run takes the change back. */
+   database, marks the header, writes the new rows, and then the new header. If the next run that may change a file finds
+   such a mark, it takes the change back. A run that only reads finds the old database in the bytes, and repairs nothing. */
 #define _GNU_SOURCE
 #include <errno.h>
 #include <fcntl.h>
@@ -196,7 +196,7 @@ static int lock(int file, int how) {
         if (!has("never-sleeps"))
             usleep(pause * 1000);
         left -= pause;
-        next = next * 2 > 50 ? 50 : next * 2;
+        next = next * 2 > 5 ? 5 : next * 2;
     }
     locked_file = file;
     return 0;
@@ -315,6 +315,15 @@ static struct base settled_in_memory(struct base base) {
     return base;
 }
 
+/* With a fault, a run that only reads changes a file with a mark: it repairs the file under its shared lock, or without one,
+   or spoils it. */
+static void spoil(const char *path) {
+    if (has("recovers-shared") || (lacks_locks && has("settles-unlocked")))
+        settle(open(path, O_RDWR));
+    if (lacks_locks && has("spoils-unlocked"))
+        truncate(path, HEAD);
+}
+
 /* ---- commands, on bytes in memory */
 
 static struct base grown(struct base base, size_t length) {
@@ -414,8 +423,9 @@ static int execute(struct base *base, char **words, int count) {
         return -1;
     }
     if (!strcmp(words[0], "tune")) {
+        const char *value = strchr(words[count - 1], ':');
         *base = entered(*base, 0);
-        head_of(*base)->tuned++;
+        head_of(*base)->tuned = value ? (uint64_t)atol(value + 1) : head_of(*base)->tuned + 1;
         return -1;
     }
     if (!strcmp(words[0], "resize")) {
@@ -424,7 +434,10 @@ static int execute(struct base *base, char **words, int count) {
     }
     if (has("fails-to-read") && !strcmp(words[0], "last"))
         return tell("no database");
-    printf("%lu\n", head_of(*base)->last + has("prints-more"));
+    if (!strcmp(words[0], "info"))
+        printf("last_update = %lu\nds[0].min = %lu\n", head_of(*base)->last, head_of(*base)->tuned);
+    else
+        printf("%lu\n", head_of(*base)->last + has("prints-more"));
     return !has("prints-late") && fflush(stdout) ? tell("write failed") : 0;
 }
 
@@ -547,22 +560,13 @@ static int over_file(char **words, int count, const char *path) {
         if (makes && !is_regular(file))
             return has("writes-devices") ? 0 : tell_why("cannot write", path, errno ? reason_of(errno) : "not a regular file");
         old = read_whole(file);
-        if (reads && old.bytes && !is_settled(old)) {
-            /* Without locks another program may be making the change. */
-            if (lacks_locks && has("spoils-unlocked"))
-                truncate(path, HEAD);
-            if (lacks_locks && !has("settles-unlocked"))
-                return tell("file: not ours");
-            int again = open(path, O_RDWR);
-            if (again < 0)
-                return tell_why("cannot open", path, reason_of(errno));
-            unlock();
-            close(file);
-            file = again;
-            if (lock(file, has("recovers-shared") ? LOCK_SH : LOCK_EX))
-                return tell_why("cannot open", path, in_use());
+        int is_marked = old.bytes && !is_settled(old);
+        if (is_marked && reads) {
+            spoil(path);
+            old = settled_in_memory(old);
+            is_marked = 0;
         }
-        int is_marked = old.bytes && !is_settled(old), is_failed = is_marked && (is_kept || settle(file));
+        int is_failed = is_marked && (is_kept || settle(file));
         if (is_failed && makes)
             return tell_why("cannot write", path, reason_of(errno));
         if (is_failed) {
@@ -592,7 +596,8 @@ static int over_file(char **words, int count, const char *path) {
         return ended;
     if (is_database && has("forgets-change"))
         return ended == -2;
-    if (has("loses-updates") && !strcmp(words[0], "update") && atol(words[1]) % 40 == 0)
+    if ((has("loses-updates") && !strcmp(words[0], "update") && atol(words[1]) % 40 == 0) ||
+        (has("loses-tunes") && !strcmp(words[0], "tune")))
         return 0;
     if (file < 0)
         file = open(path, O_RDWR | O_CREAT | (has("overwrites-new") ? 0 : O_EXCL), 0666);

@@ -145,5 +145,5 @@ class Runner:
             answer = self.program.run(task.words, task.lines, cwd=folder, env=env, name="rrdi")
             self.count += 1
             if (held(file) or b"").startswith(CUT):
-                self.program.run(["last", FILE], cwd=folder)
+                self.program.run(["batch", FILE], "last\n", cwd=folder)
             return End(Told(*answer, held(file)), between.events_of(log))

@@ -16,7 +16,12 @@ from support.program import TOP
 SOURCES = TOP / "tests/library/c"
 USAGE = TOP / "crates/rrd_store/src/usage.rt"
 EXPORTS = frozenset({"rrdi_run", "rrdi_batch", "rrdi_run_file", "rrdi_batch_file", "rrdi_open", "rrdi_run_open",
-                     "rrdi_batch_open", "rrdi_update_open", "rrdi_fetch_open", "rrdi_close"})
+                     "rrdi_batch_open", "rrdi_update_open", "rrdi_fetch_open", "rrdi_close", "rrdi_create_new",
+                     "rrdi_update_many", "rrdi_strerror", "rrdi_libversion", "rrdi_db_open", "rrdi_db_update",
+                     "rrdi_db_update_many", "rrdi_db_fetch", "rrdi_db_last", "rrdi_db_error", "rrdi_db_close"})
+# The proved functions, below those in plain C.
+PROVED = tuple(f"rrdi_c_{name}" for name in ("run", "batch", "run_file", "batch_file", "open", "run_open", "batch_open",
+                                             "update_open", "fetch_open", "close"))
 COMPILE = ("cc", "-Wall", "-Wextra", "-Werror", "-O1", "-g")
 # What precedes the name of a system call that may have a bug.
 PLANTED = "planted_"
@@ -45,6 +50,17 @@ class Library:
         path = self.folder / f"{Path(source).stem}{'-static' * static}"
         linked = [str(self.static)] if static else [str(self.shared), f"-Wl,-rpath,{self.shared.parent}"]
         subprocess.run([*COMPILE, f"-DUSAGE={usage_text()}", f"-I{TOP / 'include'}", str(SOURCES / source), *linked,
+                        "-lpthread", "-o", str(path)], check=True)
+        return path
+
+    def sanitized(self, source: str, folder: Path) -> Path:
+        """Builds a program, with the part of the library that is plain C, by the compiler's sanitizers of addresses and of
+        undefined behaviour. The proved part is that of the static library, as it is."""
+        path = folder / f"{Path(source).stem}-sanitized"
+        subprocess.run(["objcopy", *(f"--globalize-symbol={name}" for name in PROVED),
+                        *(f"--weaken-symbol={name}" for name in EXPORTS), str(self.static), str(folder / "proved.a")], check=True)
+        subprocess.run([*COMPILE, "-fsanitize=address,undefined", "-fno-sanitize-recover=all", f"-I{TOP / 'include'}",
+                        str(SOURCES / source), *map(str, (TOP / "library/c").glob("*.c")), str(folder / "proved.a"),
                         "-lpthread", "-o", str(path)], check=True)
         return path
 

@@ -26,7 +26,9 @@ class Opened:
     is_named: bool = False
 
     def take(self, lock: int) -> None:
-        self.lock, self.is_measured, self.is_named = lock, False, False
+        """Notes a lock. What is known of the file stays known while the lock is only turned into another one."""
+        is_kept = self.lock != 0 and lock != 0
+        self.lock, self.is_measured, self.is_named = lock, is_kept and self.is_measured, is_kept and self.is_named
 
     def lacks(self, kind: str) -> str:
         """Returns what a call on the bytes lacks."""
@@ -51,8 +53,8 @@ def faults_of(calls: Iterable[Event], file: str) -> list[str]:
                 it.is_named = it.is_named or it.lock != 0
         elif opened and call.kind == "fcntl" and call.got > 2:
             handles[call.got] = opened
-        elif opened and call.kind == "flock" and call.got == 0:
-            opened.take(call.size & (LOCK_SH | LOCK_EX) if not call.size & LOCK_UN else 0)
+        elif opened and call.kind == "flock":  # one that fails takes the lock away that the file had
+            opened.take(call.size & (LOCK_SH | LOCK_EX) if call.got == 0 and not call.size & LOCK_UN else 0)
         elif opened and call.kind in ("statx", "fstat"):
             opened.is_measured = opened.lock != 0
         elif opened and call.kind in READS | WRITES and opened.lacks(call.kind):
@@ -72,9 +74,16 @@ def parts_of(events: Iterable[Event]) -> Iterator[list[Event]]:
 
 
 def faults_of_open(events: Iterable[Event], file: str) -> list[str]:
-    """Returns the calls that open the file again, or touch its lock, while the file stays open; the first part opens
-    the file, and the last one closes it."""
+    """Returns what is wrong with the calls of the library while a file stays open; the first part opens the file, and the
+    last one closes it. None opens the file again, or gives up its lock; and each leaves a shared lock, so that others can
+    read the file."""
     parts = list(parts_of(events))
-    return [f"call {number} of the open file: {call.kind} {' '.join(call.words)}" for number,
-            part in enumerate(parts[1:-1], 1)
-            for call in part if call.kind == "flock" or call.kind == "open" and call.words[4:] == [file]]
+    faults = [f"call {number} of the open file: {call.kind} {' '.join(call.words)}" for number,
+              part in enumerate(parts[1:-1], 1) for call in part
+              if call.kind == "flock" and (call.got != 0 or call.size & LOCK_UN)
+              or call.kind == "open" and call.words[4:] == [file]]
+    for number, part in enumerate(parts[:-1]):
+        locks = [call.size & (LOCK_SH | LOCK_EX) for call in part if call.kind == "flock"]
+        if locks and locks[-1] != LOCK_SH:
+            faults.append(f"call {number} of the open file leaves its lock to nobody else")
+    return faults

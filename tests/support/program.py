@@ -3,6 +3,7 @@
 from __future__ import annotations
 
 import os
+import re
 import signal
 import subprocess
 from contextlib import contextmanager
@@ -50,6 +51,14 @@ def parted(err: str) -> tuple[str, str]:
     return "".join(lines), said.rpartition(": ")[2] if lines[-1] in WITH_REASON else said[len(MORE):]
 
 
+OF_A_LINE = re.compile(r"^rrdi: line \d+: .*\n", re.MULTILINE)
+
+
+def specified(err: str) -> str:
+    """Returns standard error without the explanations of refused lines of a batch, which are not specified."""
+    return OF_A_LINE.sub("", err)
+
+
 def waited(seconds: int) -> str:
     """Returns the reason of a run that waited for a lock."""
     return f"in use by another program (waited {seconds} second{'' if seconds == 1 else 's'})"
@@ -75,8 +84,9 @@ class Program:
 
     def run(self, words: Sequence[object], lines: str = "", *, cwd: str | Path | None = None,
             env: Mapping[str, str] | None = None, before: Callable[[], None] | None = None,
-            seconds: float = PATIENCE, name: str | None = None) -> Answer:
-        """Runs the program with arguments and standard input. If a run does not end in time, its answer says so."""
+            seconds: float = PATIENCE, name: str | None = None, explains: bool = False) -> Answer:
+        """Runs the program with arguments and standard input. If a run does not end in time, its answer says so. If
+        `explains`, the answer has what is said of refused lines of a batch."""
         told: list[Any] = [name or self.path,
                                    *(word if isinstance(word, bytes) else str(word) for word in words)]
         with lines_in_memory(lines) as source:
@@ -85,7 +95,8 @@ class Program:
                                      cwd=cwd, env=environment(env), preexec_fn=before)
             except subprocess.TimeoutExpired:
                 return Answer(f"no end in {seconds:g} seconds")
-        return Answer(ran.returncode, ran.stdout.decode(errors="replace"), ran.stderr.decode(errors="replace"))
+        err = ran.stderr.decode(errors="replace")
+        return Answer(ran.returncode, ran.stdout.decode(errors="replace"), err if explains else specified(err))
 
 
 def environment(more: Mapping[str, str] | None) -> dict[str, str]:

@@ -1,5 +1,6 @@
 # SPDX-License-Identifier: MIT OR Apache-2.0
-"""The counts in docs/results.md: for each module of tests what its last whole run has tried, on which commit and day."""
+"""The counts in docs/results.md: for each module of tests the first two things that its last whole run has tried, on which
+commit and day."""
 from __future__ import annotations
 
 import re
@@ -11,7 +12,8 @@ from typing import Mapping
 
 from support.program import TOP
 
-# The section of the page that has the counts, and an item of it.
+# How many counts of a module the page has; the section of the page that has them, and an item of it.
+SHOWN = 2
 HEAD, ITEM = "## Counts\n\n", re.compile(r"- `([^`]+)`.*\n(?:  .*\n)*")
 
 
@@ -24,7 +26,7 @@ def commit() -> str:
 
 
 def item(name: str, tried: Mapping[str, int], at: str) -> str:
-    counts = ", ".join(f"{number:,} {what}" for what, number in tried.items())
+    counts = ", ".join(f"{number:,} {what}" for what, number in list(tried.items())[:SHOWN])
     text = f"- `{name}` (`{at}`, {time.strftime('%Y-%m-%d', time.gmtime())}): {counts}"
     return textwrap.fill(text, 120, subsequent_indent="  ", break_long_words=False, break_on_hyphens=False) + "\n"
 

@@ -9,7 +9,7 @@ from typing import Any, Sequence
 
 from support import program as programs
 from support.check import Check
-from support.program import PATIENCE, Answer, Program, environment, error, lines_in_memory
+from support.program import PATIENCE, Answer, Program, environment, error, lines_in_memory, specified
 
 RUNS = "runs"
 CREATE = "--step 10 --start 0 DS:g:GAUGE:100:U:U RRA:LAST:0.5:1:4".split()
@@ -45,8 +45,9 @@ class Runs:
         self.check.same(told, Answer(status, out, err), words)
 
     def told(self, words: Sequence[Any], lines: str = "", to: str | None = None, stdin: int | None = None,
-             **env: str) -> Answer:
-        """Returns the answer of a run, whose output may go to a file, and whose lines may come from an open one."""
+             explains: bool = False, **env: str) -> Answer:
+        """Returns the answer of a run, whose output may go to a file, and whose lines may come from an open one. If
+        `explains`, the answer has what is said of refused lines of a batch."""
         self.check.count(RUNS)
         with ExitStack() as streams:
             source = stdin if stdin is not None else streams.enter_context(lines_in_memory(lines)).fileno()
@@ -57,7 +58,8 @@ class Runs:
                                      stdin=source, stdout=sink, stderr=subprocess.PIPE)
             except subprocess.TimeoutExpired:
                 return Answer(f"no end in {PATIENCE} seconds")
-        return Answer(ran.returncode, (ran.stdout or b"").decode(), ran.stderr.decode())
+        err = ran.stderr.decode()
+        return Answer(ran.returncode, (ran.stdout or b"").decode(), err if explains else specified(err))
 
     def same(self, words: Sequence[Any], status: int, err: str, lines: str = "") -> None:
         """Checks that a run is refused and leaves the bytes of the file unchanged."""

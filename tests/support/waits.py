@@ -11,7 +11,7 @@ WAITS = {"0": 0, "1": 1_000, "2": 2_000, "18446744073709551616": 5_000, "x": 5_0
          "1.5": 5_000, " 1": 5_000}
 LONG_WAITS = {"60": 60_000, "3600": 3_600_000, "3601": 3_600_000, "18446744073709551615": 3_600_000}
 # The shortest and the longest pause in milliseconds, and the nanoseconds of a millisecond.
-SHORTEST, LONGEST, MILLION = 1, 50, 1_000_000
+SHORTEST, LONGEST, MILLION = 1, 5, 1_000_000
 
 
 def tries(events: list[Event]) -> int:

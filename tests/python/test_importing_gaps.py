@@ -1,0 +1,290 @@
+# SPDX-License-Identifier: MIT OR Apache-2.0
+"""Tests of rrdi.importing.rates: steps are laid so that they show the rows of an old file again, in spite of gaps.
+
+The rows are those that RRDtool makes of the steps of one source: a row is known unless more of its steps are unknown
+than its share allows, and is then the mean, the minimum, the maximum or the last one of the known steps. `rrdtool dump`
+prints eleven digits of it."""
+from __future__ import annotations
+
+import math
+import random
+import unittest
+from array import array
+from typing import Callable, Dict, Iterable, List, NamedTuple, Tuple
+
+import doubles  # noqa: F401
+from rrdi.importing.dump import RrdArchive, RrdSource
+from rrdi.importing.plan import Span, plan
+from rrdi.importing.rates import SourceRates, is_mean, unfinished_step
+from rrdi.importing.rounding import Converter
+from rrdi.importing.steps import Stretches
+
+NAN = math.nan
+Try = Tuple[int, int, int]
+LONG = (5, 6, 7, 8, 9, 11, 12, 17, 18, 19, 20, 21, 24, 25, 27, 30, 32)  # steps of gaps
+SUMMARIES: Dict[str, Callable[[List[float]], float]] = {
+    "AVERAGE": lambda cells: math.fsum(cells) / len(cells), "MIN": min, "MAX": max, "LAST": lambda cells: cells[-1]}
+
+
+class Kind(NamedTuple):
+    """An archive: its function, the steps and the number of its rows, and the share of them that may be unknown."""
+    function: str
+    steps: int
+    rows: int
+    share: float = 0.5
+
+
+def folded(cells: List[float], kind: Kind) -> List[float]:
+    """Returns the rows, the oldest first, of steps of which the first one ends one step after 1970 begins."""
+    found = []
+    for at in range(0, len(cells) - kind.steps + 1, kind.steps):
+        known = [cell for cell in cells[at:at + kind.steps] if not math.isnan(cell)]
+        is_known = kind.steps - len(known) <= int(kind.share * kind.steps)
+        found.append(printed(SUMMARIES[kind.function](known)) if known and is_known else NAN)
+    return found
+
+
+def printed(number: float) -> float:
+    return float(f"{number:.10e}")
+
+
+def unfinished(cells: List[float], kind: Kind) -> Tuple[int, float]:
+    """Returns how many steps of the unfinished row are unknown, and what RRDtool keeps of others: a sum for a mean."""
+    rest = cells[len(cells) - len(cells) % kind.steps:]
+    known = [cell for cell in rest if not math.isnan(cell)]
+    summary = math.fsum if kind.function == "AVERAGE" else SUMMARIES[kind.function]
+    return len(rest) - len(known), printed(summary(known)) if known else NAN
+
+
+def file_of(cells: List[float], kinds: List[Kind]) -> List[RrdArchive]:
+    """Returns the archives, each with what it knows of its unfinished row."""
+    archives = []
+    for number, kind in enumerate(kinds):
+        unknown, partial = unfinished(cells, kind)
+        archives.append(RrdArchive(number, kind.function, kind.steps, kind.share, [partial], [unknown],
+                                   array("d", folded(cells, kind)[-kind.rows:]), 1))
+        archives[-1].place(1, len(cells))
+    return archives
+
+
+def moved(cells: List[float], kinds: List[Kind]) -> List[float]:
+    """Returns the steps that are laid for such a file; what comes before is unknown."""
+    spans, found = plan(file_of(cells, kinds), len(cells)), [NAN] * len(cells)
+    begin = spans[0].begin
+    for end, rate in SourceRates(0, 1, len(cells), Converter()).all_rates(spans):
+        found[begin:end] = [NAN if rate is None else rate / 1_000_000] * (end - begin)
+        begin = end
+    return found
+
+
+def is_same(one: float, other: float) -> bool:
+    return math.isnan(one) and math.isnan(other) or abs(one - other) <= 2e-6 + abs(one) * 3e-9
+
+
+def differing_rows(cells: List[float], kinds: List[Kind], steps: List[float]) -> Dict[int, int]:
+    """Returns how many rows of which archives differ, if some do. Of an unfinished row, only the finest rows tell which
+    of its steps are unknown."""
+    found, finest = {}, min(kind.steps for kind in kinds)
+    for number, kind in enumerate(kinds):
+        pairs = list(zip(folded(cells, kind), folded(steps, kind)))[-kind.rows:]
+        if kind.steps == finest or not unfinished(cells, kind)[0]:
+            pairs += zip(unfinished(cells, kind), unfinished(steps, kind))
+        found[number] = sum(not is_same(one, other) for one, other in pairs)
+    return {number: count for number, count in found.items() if count}
+
+
+def with_extremes(*sizes: Tuple[int, int]) -> List[Kind]:
+    return [Kind(function, steps, rows) for steps, rows in sizes for function in ("AVERAGE", "MIN", "MAX")]
+
+
+class Gaps(unittest.TestCase):
+    """A gap of each length at each of some places, in the second of three coarser rows of 36 steps."""
+
+    PLACES: Tuple[int, ...] = (*range(36, 43), *range(67, 72))
+    STEPS, ROWS = Kind("AVERAGE", 1, 20), Kind("AVERAGE", 6, 18)
+    COARSER, COARSEST = Kind("AVERAGE", 36, 3), Kind("AVERAGE", 108, 1)
+
+    def setUp(self) -> None:
+        chance = random.Random(5)
+        self.cells = [round(chance.gauss(50, 9), 3) for _ in range(108)]
+
+    def differing(self, kinds: List[Kind], counts: Iterable[int],
+                  lengths: Tuple[int, ...] = (108, 106)) -> Dict[Try, Dict[int, int]]:
+        """Returns the tries of which rows differ: the steps of the file, those of the gap, and its place."""
+        found: Dict[Try, Dict[int, int]] = {}
+        for length in lengths:
+            for count in counts:
+                for at in self.PLACES:
+                    cells = [NAN if at <= step < at + count else self.cells[step] for step in range(length)]
+                    differing = differing_rows(cells, kinds, moved(cells, kinds))
+                    if differing:
+                        found[length, count, at] = differing
+        return found
+
+    def test_averages(self) -> None:
+        """The coarser row tells how many steps of a row were unknown, and how many of an unknown row were known."""
+        self.assertEqual(self.differing([self.ROWS, self.COARSER], (*range(8), 11, 12, 17)), {})
+
+    def test_the_order_of_archives(self) -> None:
+        self.assertEqual(self.differing([self.COARSER, self.ROWS], (2, 5, 9)), {})
+
+    def test_extremes(self) -> None:
+        self.assertEqual(self.differing(with_extremes((6, 18), (36, 3)), (*range(7), 8, 11, 12, 17)), {})
+
+    def test_last_rates(self) -> None:
+        self.assertEqual(self.differing([*with_extremes((6, 18), (36, 3)), Kind("LAST", 6, 18)], range(4)), {})
+
+    def test_steps_that_begin_inside_a_row(self) -> None:
+        """The newest steps are there themselves: what is left of the row is laid before them."""
+        for kinds in ([self.STEPS, self.ROWS, self.COARSER], [self.STEPS, *with_extremes((6, 18), (36, 3))],
+                      [Kind("MAX", 1, 20), *with_extremes((6, 14), (36, 3))]):
+            with self.subTest(kinds=kinds):
+                self.assertEqual(self.differing(kinds, (0, 1, 3, 4, 6, 9)), {})
+
+    def test_rows_that_begin_inside_a_coarser_row(self) -> None:
+        for rows in (10, 11):
+            for kinds in ([Kind("AVERAGE", 6, rows), self.COARSER], with_extremes((6, rows), (36, 3))):
+                with self.subTest(kinds=kinds):
+                    self.assertEqual(self.differing(kinds, (0, 1, 3, 4, 6, 9)), {})
+
+    def test_coarser_rows_that_get_unknown_sooner(self) -> None:
+        self.assertEqual(self.differing([self.ROWS, Kind("AVERAGE", 36, 3, 0.1)], (*range(8), 11, 12, 17)), {})
+        # A row with a minimum and a maximum has two known steps at least, whatever it allows.
+        kinds = [*(Kind(function, 6, 18, 0.9) for function in ("AVERAGE", "MIN", "MAX")), Kind("AVERAGE", 36, 3, 0.1)]
+        self.assertEqual(self.differing(kinds, (0, 2, 4, 5, 6, 8)), {})
+
+    def test_rows_that_allow_many_unknown_steps(self) -> None:
+        kinds = [Kind("AVERAGE", 6, 18, 0.9), Kind("AVERAGE", 36, 3, 0.9)]
+        self.assertEqual(self.differing(kinds, (*range(8), 11, 12, 17)), {})
+
+    def test_rows_that_allow_no_unknown_step(self) -> None:
+        """The coarser row tells how many steps of the unknown ones were known."""
+        for functions in (("AVERAGE",), ("AVERAGE", "MIN", "MAX")):
+            with self.subTest(functions=functions):
+                kinds = [Kind(function, *size) for size in ((6, 18, 0.0), (36, 3, 0.5)) for function in functions]
+                self.assertEqual(self.differing(kinds, (0, 1, 3, 5, 6, 8, 12)), {})
+
+    def test_a_gap_in_each_row(self) -> None:
+        """None of the rows below a known one is known, or few are."""
+        means = [Kind("AVERAGE", 6, 18, 0.0), self.COARSER]
+        extremes = [*(Kind(function, 6, 18, 0.0) for function in ("AVERAGE", "MIN", "MAX")), *with_extremes((36, 3))]
+        for kinds in (means, [*means, self.COARSEST], extremes):
+            for count, first, last in ((1, 36, 72), (2, 0, 108), (3, 36, 54), (3, 0, 108), (4, 36, 72)):
+                cells = [NAN if first <= at < last and at % 6 < count else cell for at, cell in enumerate(self.cells)]
+                self.assertEqual(differing_rows(cells, kinds, moved(cells, kinds)), {}, (kinds, count, first, last))
+
+    def test_gaps_where_steps_begin(self) -> None:
+        self.PLACES = tuple(range(78, 92))
+        for kinds in ([self.STEPS, self.ROWS, self.COARSER], [self.STEPS, *with_extremes((6, 18), (36, 3))],
+                      [self.STEPS, Kind("AVERAGE", 6, 18, 0.0)]):
+            with self.subTest(kinds=kinds):
+                self.assertEqual(self.differing(kinds, (1, 3, 4, 5, 9), (106,)), {})
+
+    def test_steps_inside_an_unfinished_row(self) -> None:
+        self.PLACES = tuple(range(97, 107))
+        for count in (2, 4):
+            steps = Kind("AVERAGE", 1, count)
+            for kinds in ([steps, self.ROWS, self.COARSER], [steps, *with_extremes((6, 18))]):
+                with self.subTest(kinds=kinds):
+                    self.assertEqual(self.differing(kinds, (0, 2, 3, 5), (101, 105, 107)), {})
+
+    def test_rows_of_two_steps(self) -> None:
+        for kinds in ([Kind("AVERAGE", 2, 54), self.COARSER], [self.STEPS, Kind("AVERAGE", 2, 54), self.COARSER]):
+            with self.subTest(kinds=kinds):
+                self.assertEqual(self.differing(kinds, (0, 1, 2, 4)), {})
+
+    def test_unfinished_rows(self) -> None:
+        self.PLACES = tuple(range(88, 106, 2))
+        for kinds in ([self.ROWS, self.COARSER], [Kind("MAX", 6, 18)],
+                      [*with_extremes((6, 18), (36, 3)), Kind("LAST", 6, 18)]):
+            with self.subTest(kinds=kinds):
+                self.assertEqual(self.differing(kinds, (0, 1, 3, 4, 6), (101, 103, 107)), {})
+
+    def test_large_numbers(self) -> None:
+        """Of which eleven digits are known."""
+        self.cells = [1e8 * cell for cell in self.cells]
+        for kinds in ([self.ROWS, self.COARSER], with_extremes((6, 18), (36, 3))):
+            with self.subTest(kinds=kinds):
+                self.assertEqual(self.differing(kinds, (0, 1, 2, 3, 4, 6), (108,)), {})
+
+    def test_maximums_alone(self) -> None:
+        """No average tells of a gap that is in a known row; rows of maximums of 36 steps come from those of 6."""
+        self.assertEqual(self.differing([Kind("MAX", 6, 18), Kind("MAX", 36, 3)], range(4)), {})
+
+    def test_three_lengths_of_rows(self) -> None:
+        for kinds in ([self.ROWS, self.COARSER, self.COARSEST], with_extremes((6, 18), (36, 3), (108, 1))):
+            with self.subTest(kinds=kinds):
+                self.assertEqual(self.differing(kinds, range(5)), {})
+
+    def test_long_gaps_below_three_lengths_of_rows(self) -> None:
+        """Which steps at the ends of a gap were unknown is a guess: the coarsest row may differ, but no other one."""
+        self.PLACES = (*range(36, 46), *range(65, 72))
+        tries = len(LONG) * len(self.PLACES)
+        for kinds, top, most in (([self.ROWS, self.COARSER, self.COARSEST], 2, 0.4 * tries),
+                                 (with_extremes((6, 18), (36, 3), (108, 1)), 6, 0.4 * tries),
+                                 ([self.ROWS, Kind("AVERAGE", 36, 3, 0.1), self.COARSEST], 2, 0.2 * tries)):
+            with self.subTest(kinds=kinds):
+                found = self.differing(kinds, LONG, (108,))
+                self.assertEqual({number for one in found.values() for number in one}, {top})
+                self.assertLess(len(found), most)
+
+
+def archive_of(number: int, kind: Kind, rows: List[float], last: int) -> RrdArchive:
+    """Returns an archive of averages with these rows, the last of which ends at `last`."""
+    archive = RrdArchive(number, kind.function, kind.steps, kind.share, [NAN], [0], array("d", rows), 1)
+    archive.place(1, last)
+    return archive
+
+
+class Parts(unittest.TestCase):
+    """The parts of which the rates are made."""
+
+    FINE, COARSE = Kind("AVERAGE", 6, 36), Kind("AVERAGE", 36, 6)
+
+    def test_means_as_they_are_printed(self) -> None:
+        """A tenth of a millionth is nothing, nor are two of the eleventh digit of the largest number."""
+        for wanted, mean, size, is_same_mean in (
+                (1.0, 1.0, 1.0, True), (1.0, 1.00000009, 1.0, True), (1.00000009, 1.0, 1.0, True),
+                (1.0, 1.0000002, 1.0, False), (2e9, 2e9 + 0.25, 2e9, True), (2e9 + 0.375, 2e9, 2e9, True),
+                (2e9, 2e9 + 0.5, 2e9, False), (1.0, 1.25, 2e9, True), (2e9, 2e9 + 0.25, 1.0, False),
+                (-1.0, 1.0, 1.0, False)):
+            with self.subTest(wanted=wanted, mean=mean, size=size):
+                self.assertEqual(is_mean(wanted, mean, size), is_same_mean)
+
+    def known_steps(self, rows: List[float], top: float, mean: float) -> int:
+        """Returns how many steps of the last row but one of 36 are known, by the last row of 108 steps."""
+        archives = [archive_of(0, self.FINE, [1.0] * 36, 216), archive_of(1, self.COARSE, rows, 216),
+                    archive_of(2, Kind("AVERAGE", 108, 2), [77.0, top], 216)]
+        return SourceRates(0, 1, 216, Converter()).known_steps(Span(0, 216, archives[0], archives), 180, mean)
+
+    def test_how_many_steps_are_known(self) -> None:
+        """The two other rows have the mean 15; with so many steps of 40 more, the mean of all is another one."""
+        before = [500.0, 600.0, 700.0]
+        for count, known in ((1, 1), (2, 2), (18, 18), (35, 35), (36, 36), (0, 0), (37, 0), (5.5, 0), (0.4, 0)):
+            with self.subTest(count=count):
+                mean = (72 * 15 + count * 40) / (72 + count)
+                self.assertEqual(self.known_steps([*before, 10.0, 40.0, 20.0], mean, 40.0), known)
+                mean = (36 * 20 + count * 40) / (36 + count)
+                self.assertEqual(self.known_steps([*before, NAN, 40.0, 20.0], mean, 40.0), known)
+        self.assertEqual(self.known_steps([*before, 10.0, 40.0, 20.0], NAN, 40.0), 0)
+        self.assertEqual(self.known_steps([*before, 40.0, 40.0, 40.0], 40.0, 40.0), 0)
+
+    def test_no_row_that_tells(self) -> None:
+        """There is no archive above, or its row is not finished."""
+        rates = SourceRates(0, 1, 216, Converter())
+        fine = archive_of(0, self.FINE, [1.0] * 36, 216)
+        coarse = archive_of(1, self.COARSE, [1.0, 2.0] * 3, 216)
+        self.assertEqual(rates.known_steps(Span(0, 216, fine, [fine]), 180, 1.0), 0)
+        self.assertEqual(rates.known_steps(Span(0, 216, fine, [fine, coarse]), 180, 1.0), 0)
+        top = archive_of(2, Kind("AVERAGE", 144, 1), [1.5], 216)
+        self.assertEqual(rates.known_steps(Span(0, 216, fine, [fine, coarse, top]), 180, 1.0), 0)
+
+    def test_the_unfinished_step(self) -> None:
+        """First its unknown seconds, then the mean of the others."""
+        tries: List[Tuple[int, int, float, Stretches]] = [
+            (1_000, 0, 0.0, []), (1_003, 0, 6.0, [(1_003, 2_000_000)]), (1_003, 3, 0.0, [(1_003, None)]),
+            (1_003, 1, 6.0, [(1_001, None), (1_003, 3_000_000)]), (1_003, 2, 6.0, [(1_002, None), (1_003, 6_000_000)])]
+        for last, unknown, total, found in tries:
+            with self.subTest(last=last, unknown=unknown):
+                source = RrdSource(0, "g", "GAUGE", 99, NAN, NAN, "U", total, unknown)
+                self.assertEqual(unfinished_step(source, 1_000, last, Converter()), found)
