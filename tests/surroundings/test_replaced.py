@@ -221,6 +221,9 @@ def test_open_files(way: str, replaced: Replaced, library: Path, check: Check, m
         if way == "one block":
             database.open()
         replaced.beside([use])
+        for _ in range(2):  # perhaps all uses came between the same two replacements
+            replaced.replace()
+            use()
         database.close()
     finally:
         library_module.use_library(None)
