@@ -1,5 +1,4 @@
 use Rattle.rrd_base.proofs.Common.{◌∙◌, ap, sym, err_from_is_err_and, archive_tune_checks, first_refusal, option_checks, present, settings, refused}
-use Rattle.rrd_base.proofs.Checks.{passed}
 use Rattle.rrd_base.proofs.tune.check_tune.Goals as goal
 
 pub returns-in_err-check_options : goal.returns-in_err-check_options
@@ -7,8 +6,3 @@ returns-in_err-check_options c =
     let tuning = c.args.tuning.now in
     let p = err_from_is_err_and c.from_residual.result c.from_residual.ensures.1 in
     rw (p.1, p.2) (refused (option_checks present c.args.sources.now tuning) (archive_tune_checks present (settings c.args.sources.now c.args.archives.now) tuning.archive) c.in_err-check_options.field-0.0 c.in_err-check_options.ensures)
-
-pub returns-in-Some : goal.returns-in-Some
-returns-in-Some c =
-    let tuning = c.args.tuning.now in
-    cc (c.check_archive.ensures, c.in-Some.is, passed (option_checks present c.args.sources.now tuning) (archive_tune_checks present (settings c.args.sources.now c.args.archives.now) tuning.archive) c.in_ok-check_options.ensures)

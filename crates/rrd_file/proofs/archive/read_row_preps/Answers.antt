@@ -1,4 +1,4 @@
-use Rattle.rrd_file.proofs.Common.{◌≡◌, ◌∙◌, ◌+◌, ◌-◌, ◌<◌, ◌≤◌, ◌++◌, ◌∷◌, [], List, sym, ap, arith, length-append, length, map, replicate, subst, rules, err_from_is_err_and, Consolidating, AllOf, parts_in, outline_left, OfPrep, Piece, DueInEntry, RowPrepDue, Comes, all_more, more_preps, none_less, one_less}
+use Rattle.rrd_file.proofs.Common.{◌≡◌, ◌∙◌, ◌+◌, ◌-◌, ◌<◌, ◌++◌, ◌∷◌, [], List, sym, ap, arith, length-append, length, map, replicate, subst, rules, err_from_is_err_and, Consolidating, AllOf, parts_in, outline_left, OfPrep, Piece, DueInEntry, RowPrepDue, Comes, all_more, more_preps, one_less}
 use Rattle.rrd_file.proofs.archive.read_row_preps.Goals as goal
 
 pub returns-in_err-prep-clause-brings : goal.returns-in_err-prep-clause-brings
@@ -25,9 +25,3 @@ loop-preserved g c =
           (c.in_ok-prep.ensures.brings bytes (pieces ++ map OfPrep (parts_in preps)) (replicate (wide - (i + 1)) (RowPrepDue c.args.last c.args.def.now) ++ later)
           (subst (λ (l : List DueInEntry). Comes bytes c.args.build.now (pieces ++ map OfPrep (parts_in preps)) l c.loop.input) (one_less (RowPrepDue c.args.last c.args.def.now) wide i later more) (c.loop.invariant.2 bytes pieces later st))),
     )
-
-pub returns-clause-brings : goal.returns-clause-brings
-returns-clause-brings g c = λ bytes pieces later st.
-    let wide = length (outline_left c.args.build.now).sources in
-    let past : wide ≤ c.loop.counter = search rules in
-    subst (λ (l : List DueInEntry). Comes bytes c.args.build.now (pieces ++ map OfPrep (parts_in c.loop.preps.items)) l c.loop.input) (none_less (RowPrepDue c.args.last c.args.def.now) wide c.loop.counter later past) (c.loop.invariant.2 bytes pieces later st)

@@ -1,39 +1,8 @@
-use Rattle.rrd_file.proofs.Common.{◌≡◌, ◌∙◌, ◌++◌, ◌+◌, ◌-◌, ◌*◌, ◌≤◌, arith, ap, drop, length, refl, take, drop-drop, mul-le, row_bytes, cells_bytes, cells_of_rows, many_cells, put_begins, put_ends, put_goes_on, put_within, before_part}
+use Rattle.rrd_file.proofs.Common.{◌≡◌, ◌∙◌, ◌++◌, ◌+◌, ◌-◌, ◌*◌, ◌≤◌, arith, ap, drop, length, refl, take, drop-drop, mul-le, row_bytes, cells_bytes, cells_of_rows, many_cells, put_begins, put_goes_on, put_within, before_part}
 use Rattle.rrd_file.proofs.encoded.put_rows.Goals as goal
 
 pub loop-index-init : goal.loop-index-init
 loop-index-init g c = grind (arith, put_begins c.args.into.now (g.T.Table.table c.args.rows.now) c.args.sources c.args.from c.args.to c.args.kept c.requires.order c.requires.there c.requires.wide c.min-index.result (omega (arith, c.min-index.ensures, c.max.ensures)) c.requires.held)
-
-pub overflow_mul-stays : goal.overflow_mul-stays
-overflow_mul-stays g c =
-    let few : c.min-index.result - c.args.from ≤ 1000000 = omega (arith, c.min-index.ensures, c.requires.few_rows) in
-    omega (arith, mul-le (c.min-index.result - c.args.from) c.args.sources 1000000 64 few c.requires.few_sources)
-
-pub overflow_mul-stays-2 : goal.overflow_mul-stays-2
-overflow_mul-stays-2 g c =
-    let few : c.min-index.result - c.args.from ≤ 1000000 = omega (arith, c.min-index.ensures, c.requires.few_rows) in
-    omega (arith, mul-le (c.min-index.result - c.args.from) c.args.sources 1000000 64 few c.requires.few_sources)
-
-pub overflow_mul-at : goal.overflow_mul-at
-overflow_mul-at g c =
-    let few : c.loop-index.index - c.args.from ≤ 1000000 = omega (arith, c.loop-index.invariant.put.high, c.requires.few_rows) in
-    omega (arith, mul-le (c.loop-index.index - c.args.from) c.args.sources 1000000 64 few c.requires.few_sources)
-
-pub overflow_mul-at-in-loop-index : goal.overflow_mul-at-in-loop-index
-overflow_mul-at-in-loop-index g c =
-    let few : c.loop-index.index - c.args.from ≤ 1000000 = omega (arith, c.loop-index.invariant.put.high, c.requires.few_rows) in
-    omega (arith, mul-le (c.loop-index.index - c.args.from) c.args.sources 1000000 64 few c.requires.few_sources)
-
-pub overflow_add-at : goal.overflow_add-at
-overflow_add-at g c =
-    let rows = g.T.Table.table c.args.rows.now in
-    let index = c.loop-index.index in
-    let count = c.together-count.result.0 in
-    let run : index + count ≤ c.args.to = omega (arith, c.together-count.ensures.few, c.loop-index-test.true) in
-    let many = many_cells rows c.args.sources index count c.together-count.result.1.now c.together-count.ensures.cells (omega (arith, run, c.requires.there)) c.requires.wide in
-    let few : index - c.args.from ≤ 1000000 = omega (arith, c.loop-index.invariant.put.high, c.requires.few_rows) in
-    let few_more : count ≤ 1000000 = omega (arith, run, c.requires.few_rows) in
-    omega (arith, many, mul-le (index - c.args.from) c.args.sources 1000000 64 few c.requires.few_sources, mul-le count c.args.sources 1000000 64 few_more c.requires.few_sources)
 
 pub slice_bounds-put_cells-end : goal.slice_bounds-put_cells-end
 slice_bounds-put_cells-end g c =
@@ -70,9 +39,6 @@ loop-index-preserved g c =
           ∙ c.loop-index.invariant.same k low;
       later = omega (arith, c.loop-index.invariant.later, further);
     }
-
-pub returns-clause-put : goal.returns-clause-put
-returns-clause-put g c = put_ends c.loop-index.into (g.T.Table.table c.args.rows.now) c.args.sources c.args.from c.args.to c.args.kept c.requires.order c.requires.there c.requires.wide c.loop-index.index (omega (arith, c.loop-index-test.false)) c.loop-index.invariant.put
 
 pub returns-clause-within : goal.returns-clause-within
 returns-clause-within g c =

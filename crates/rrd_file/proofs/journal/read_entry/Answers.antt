@@ -10,9 +10,6 @@ pub returns-in-Ok-clause-steps : goal.returns-in-Ok-clause-steps
 returns-in-Ok-clause-steps g c = λ bytes st.
     closed bytes c.args.build.now c.entry.new.self c.read_untaken.new.input (entry_of c.in_ok-entry.entry) (c.in_ok-entry.ensures.closes bytes st) c.in-Ok.ensures.ok
 
-pub returns-in-Ok-clause-one_more : goal.returns-in-Ok-clause-one_more
-returns-in-Ok-clause-one_more g c = record { entry = entry_of c.in_ok-entry.entry; more = c.in-Ok.ensures.ok.1 }
-
 pub returns-in-Err-clause-steps : goal.returns-in-Err-clause-steps
 returns-in-Err-clause-steps g c = λ bytes st.
     rw c.entry_fault.ensures (entry_refusal_is bytes _ c.in-Err.fault (λ e.

@@ -26,13 +26,6 @@ pass_within_step-requires-else-time-end c =
     let most = subst (λ (z : Content). c.args.walk.now.meter + most_to z time < 2 ^ 64) (sym c.self.view_is) c.requires.turns in
     grind (arith, last, subst (λ (walk : Vec Cell Global). IsRow (length late.sources) walk.items) (sym c.end_steps.ensures.keeps.rates) last.row_is)
 
-pub pass_within_step-requires-clause-turns : goal.pass_within_step-requires-clause-turns
-pass_within_step-requires-clause-turns c =
-    let time : ℕ = c.args.time in
-    let most = subst (λ (z : Content). c.args.walk.now.meter + most_to z time < 2 ^ 64) (sym c.self.view_is) c.requires.turns in
-    let all = most_within (content_of c.self.inside) time in
-    subst (λ (z : Content). c.args.walk.now.meter + length z.sources < 2 ^ 64) c.self.view_is (omega (arith, most, all))
-
 pub returns-then-time-end : goal.returns-then-time-end
 returns-then-time-end c =
     let V = content_of c.self.inside in

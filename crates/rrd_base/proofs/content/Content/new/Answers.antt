@@ -1,4 +1,4 @@
-use Rattle.rrd_base.proofs.Common.{length-map, arith, rules, ℕ, List, [], ◌∷◌, map, ◌≡◌, sym, ◌∙◌, ap, subst, length, replicate, ◌<◌, ◌≤◌, ◌/◌, AllByRecursion, RraDef, nothing, created, new_archive, IsValid, IsValidArchive, Content}
+use Rattle.rrd_base.proofs.Common.{length-map, arith, ℕ, List, [], ◌∷◌, map, ◌≡◌, sym, ap, subst, length, ◌<◌, ◌≤◌, ◌/◌, AllByRecursion, RraDef, created, new_archive, IsValidArchive}
 use Rattle.rrd_fixed.specs.declared.raw.Raw.TheVariants as Raw
 use Rattle.rrd_base.proofs.content.Content.new.Goals as goal
 
@@ -18,18 +18,3 @@ new_all-requires c =
       few_sources = subst (λ n. n ≤ 64) (sym c.len-sources.ensures) (c.created_is_valid.ensures c.args.spec c.requires).few_sources;
       few = omega (arith, ap length c.as_slice.ensures, same, (c.created_is_valid.ensures spec c.requires).few_archives);
     }
-
-pub invariant_of-result : goal.invariant_of-result
-invariant_of-result c =
-    let spec = c.args.spec in
-    let n = length spec.sources in
-    let sources : c.into_vec.result.items ≡ spec.sources = c.into_vec.ensures in
-    let raws : c.in_ok-raws.raws.items ≡ replicate n Raw.Unknown = search rules in
-    let preps : c.in_ok-preps.preps.items ≡ replicate n nothing = search rules in
-    let archives : c.in_ok-archives.archives ≡ map (new_archive n) spec.archives = c.in_ok-archives.ensures ∙ ap (λ m. map (new_archive m) c.as_slice.result.now) c.len-sources.ensures ∙ ap (map (new_archive n)) c.as_slice.ensures in
-    let same : (let x : Content = record { step = spec.step; depth = spec.depth; sources = c.into_vec.result.items; last = spec.start; raws = c.in_ok-raws.raws.items; parts = c.in_ok-preps.preps.items; archives = c.in_ok-archives.archives } in x) ≡ created spec
-    = ap (λ ss. let x : Content = record { step = spec.step; depth = spec.depth; sources = ss; last = spec.start; raws = c.in_ok-raws.raws.items; parts = c.in_ok-preps.preps.items; archives = c.in_ok-archives.archives } in x) sources
-    ∙ ap (λ rs. let x : Content = record { step = spec.step; depth = spec.depth; sources = spec.sources; last = spec.start; raws = rs; parts = c.in_ok-preps.preps.items; archives = c.in_ok-archives.archives } in x) raws
-    ∙ ap (λ ps. let x : Content = record { step = spec.step; depth = spec.depth; sources = spec.sources; last = spec.start; raws = replicate n Raw.Unknown; parts = ps; archives = c.in_ok-archives.archives } in x) preps
-    ∙ ap (λ xs. let x : Content = record { step = spec.step; depth = spec.depth; sources = spec.sources; last = spec.start; raws = replicate n Raw.Unknown; parts = replicate n nothing; archives = xs } in x) archives in
-    subst IsValid (sym same) (c.created_is_valid.ensures spec c.requires)

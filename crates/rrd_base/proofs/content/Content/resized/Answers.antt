@@ -1,36 +1,5 @@
-use Rattle.rrd_base.proofs.Common.{◌≡◌, sym, ◌∙◌, ap, subst, ◌/◌, ◌<◌, ◌≤◌, length, IfOk, None, get_or, arith, Rra, Content, RraDef, Resizing, rows_changed, rows_of_archives, content_of, rows_at, verdict, newest_rows, few_at, have_few, rows_at_archive, rows_of_place}
+use Rattle.rrd_base.proofs.Common.{◌≡◌, sym, ◌∙◌, ap, subst, IfOk, None, get_or, Rra, Content, RraDef, Resizing, rows_changed, rows_of_archives, content_of, rows_at, verdict, newest_rows, rows_at_archive, rows_of_place}
 use Rattle.rrd_base.proofs.content.Content.resized.Goals as goal
-
-pub get-rra-requires : goal.get-rra-requires
-get-rra-requires c =
-    let accepted = subst (λ (x : Content). verdict x (Resizing c.args.archive c.args.change c.args.rows) ≡ None) (sym c.self.view_is) c.requires in
-    (c.resize_changes_rows.ensures.fits (content_of c.self.inside) c.args.archive c.args.change c.args.rows c.self.invariant accepted).there
-
-pub rows_changed-requires-clause-small : goal.rows_changed-requires-clause-small
-rows_changed-requires-clause-small c =
-    let X = content_of c.self.inside in
-    let k = c.args.archive in
-    let accepted = subst (λ (x : Content). verdict x (Resizing k c.args.change c.args.rows) ≡ None) (sym c.self.view_is) c.requires in
-    let old : c.def.result.rows ≡ (get_or X.archives k c.get-rra.result.now).def.rows = ap (λ (d : RraDef). d.rows) c.def.ensures ∙ ap (λ (a : Rra). a.def.rows) c.get-rra.ensures in
-    omega (arith, old, few_at X.archives k c.get-rra.result.now (c.resize_changes_rows.ensures.fits X k c.args.change c.args.rows c.self.invariant accepted).there (have_few (length X.sources) (X.last / X.step) X.archives c.self.invariant.archives_are))
-
-pub rows_changed-requires-clause-few : goal.rows_changed-requires-clause-few
-rows_changed-requires-clause-few c =
-    let accepted = subst (λ (x : Content). verdict x (Resizing c.args.archive c.args.change c.args.rows) ≡ None) (sym c.self.view_is) c.requires in
-    (c.resize_changes_rows.ensures.fits (content_of c.self.inside) c.args.archive c.args.change c.args.rows c.self.invariant accepted).few_asked
-
-pub resized-requires : goal.resized-requires
-resized-requires c =
-    let X = content_of c.self.inside in
-    let k = c.args.archive in
-    let accepted = subst (λ (x : Content). verdict x (Resizing k c.args.change c.args.rows) ≡ None) (sym c.self.view_is) c.requires in
-    let old : c.def.result.rows ≡ (get_or X.archives k c.get-rra.result.now).def.rows = ap (λ (d : RraDef). d.rows) c.def.ensures ∙ ap (λ (a : Rra). a.def.rows) c.get-rra.ensures in
-    let fits = c.resize_changes_rows.ensures.fits X k c.args.change c.args.rows c.self.invariant accepted in
-    let new : c.rows_changed.result ≡ rows_changed c.args.change (get_or (rows_of_archives X.archives) k 0) c.args.rows = cc (c.rows_changed.ensures, old ∙ sym (rows_at_archive X.archives k c.get-rra.result.now fits.there)) in
-    record {
-      some_rows = subst (λ m. 0 < m) (sym new) fits.some_then;
-      few_rows = subst (λ m. m ≤ 1000000) (sym new) fits.few_then;
-    }
 
 pub returns : goal.returns
 returns c =

@@ -1,10 +1,6 @@
-use Rattle.rrd_base.proofs.Common.{◌≡◌, sym, ◌∙◌, ap, subst, ◌-◌, replicate, length, arith, ℕ, Vec, length-accepted, base_of_valid, Content, Reading, rates, passed, AreAccepted, IsValid, IsRow, content_of, leaves_of, Global, Raw, Walk, rules}
+use Rattle.rrd_base.proofs.Common.{◌≡◌, sym, ◌∙◌, ap, subst, ◌-◌, replicate, length, arith, ℕ, Vec, length-accepted, base_of_valid, Content, Reading, rates, passed, AreAccepted, IsValid, content_of, leaves_of, Global, Raw, Walk, rules}
 use Rattle.rrd_base.proofs.Catching.{with_raws}
 use Rattle.rrd_base.proofs.content.Content.take_sample.Goals as goal
-
-pub catch_up-requires-clause-rates_are : goal.catch_up-requires-clause-rates_are
-catch_up-requires-clause-rates_are c =
-    subst (λ (x : Content). IsRow (length x.sources) c.find_rates.new.self.rates.items) c.self.view_is (subst (λ ss. IsRow (length ss) c.find_rates.new.self.rates.items) c.deref.ensures.value c.find_rates.ensures.row)
 
 pub copy_from_slice-requires : goal.copy_from_slice-requires
 copy_from_slice-requires c =

@@ -4,9 +4,6 @@ use Rattle.rrd_spec.specs.Journal.Entries as entries
 use Rattle.rrd_spec.specs.Journal.Entries.{entry as entry_for}
 use Rattle.rrd_base.proofs.database.Database.resize.Goals as goal
 
-pub resize-old-requires-clause-there : goal.resize-old-requires-clause-there
-resize-old-requires-clause-there c = (c.resize_changes_rows.ensures.fits c.self.inside.content c.args.archive c.args.change c.args.rows c.self.invariant.valid.content_is (sym c.in_ok-check_resize.ensures)).there
-
 pub resize-old-requires-clause-valid : goal.resize-old-requires-clause-valid
 resize-old-requires-clause-valid c =
     let X = c.self.inside.content in

@@ -1,11 +1,6 @@
 use Rattle.rrd_base.proofs.Common.{◌≡◌, ◌∙◌, ◌++◌, ◌∷◌, [], refl, replicate, sym, ap, subst, arith, Cell, Rra, MayHead, with_head, coming, filed_in, IsRebuilding, archive_came, at_head, cursor_stays, head_keeps, head_is, none_later, outlines_lengths, plain_good, few_archives}
 use Rattle.rrd_base.proofs.rebuild.Rebuild.archive.Goals as goal
 
-pub unprepared-requires : goal.unprepared-requires
-unprepared-requires c =
-    let may : MayHead (filed_in (coming c.self.inside)) c.args.def = subst (λ f. MayHead f c.args.def) (sym c.self.view_is) (c.may_head.ensures.good c.if-not-may_head.false) in
-    record { few_rows = may.def_is.few_rows; some_sources = c.self.invariant.came.header_is.some_source; few_sources = c.self.invariant.came.header_is.few_sources; there = c.first_slot_row-first.ensures.there }
-
 pub push-requires : goal.push-requires
 push-requires c =
     let d = coming c.self.inside in

@@ -9,13 +9,6 @@ get-requires c =
     let is_due : due (filed_in d) ≡ CellDue = ap due c.self.view_is ∙ sym c.due.ensures ∙ c.in-CellDue.is in
     omega (arith, (at_cell c.cells_stand_in_slots.ensures.as_many d c.self.invariant.came is_due).there)
 
-pub overflow_sub-left : goal.overflow_sub-left
-overflow_sub-left c =
-    let d = coming c.self.inside in
-    let is_due : due (filed_in d) ≡ CellDue = ap due c.self.view_is ∙ sym c.due.ensures ∙ c.in-CellDue.is in
-    let here = cell_here c.cells_stand_in_slots.ensures.as_many d c.get.result.now c.self.inside.cursor c.self.invariant.came c.self.invariant.cursor_is is_due c.get.ensures refl in
-    omega (arith, here.slot, ap (λ (def : RraDef). def.rows) c.def-def.ensures)
-
 pub place-place-requires : goal.place-place-requires
 place-place-requires c =
     let d = coming c.self.inside in

@@ -1,20 +1,6 @@
-use Rattle.rrd_base.proofs.Common.{◌≡◌, refl, sym, ◌∙◌, ap, subst, ◌+◌, ◌*◌, ◌<◌, ◌^◌, ◌∷◌, ◌++◌, ℕ, List, [], min, length, replicate, length-append, arith, length-drop, length-replicate, Cell, HasWidth, HasWidth-append, HasWidth-drop, width_is, Rra, keep_last, Inside, push_before, push_past, shown}
+use Rattle.rrd_base.proofs.Common.{◌≡◌, refl, sym, ◌∙◌, ap, subst, ◌+◌, ◌*◌, ◌<◌, ◌^◌, ◌∷◌, ◌++◌, ℕ, List, [], min, length, replicate, length-append, arith, length-drop, length-replicate, Cell, HasWidth, HasWidth-append, HasWidth-drop, Rra, keep_last, Inside, push_before, push_past, shown}
 use Rattle.rrd_base.proofs.rra.Rra.push.Goals as goal
 use Rattle.rrd_base.proofs.rra.Rra.push.Goals.{then-times-rows, else-times-rows}
-
-pub push_row-requires : goal.push_row-requires
-push_row-requires c =
-    let rows = c.self.inside.rows in
-    let n = length c.args.row.now in
-    let wide = subst (λ (x : Rra). HasWidth n x.rows) (sym c.self.view_is) c.requires.wide in
-    let k : ℕ = c.args.times in
-    let most = subst (λ (x : Rra). c.args.meter.now + n * min (1 + k) (length x.rows) < 2 ^ 64) (sym c.self.view_is) c.requires.turns in
-    let more : min (1 + k) (length rows) ≡ 1 + k = omega (arith, c.if-times-rows.true, c.rows.ensures.count) in
-    let all = subst (λ x. c.args.meter.now + n * x < 2 ^ 64) more most in
-    record {
-      one_each = sym (width_is n rows wide (omega (arith, c.rows.ensures.count, c.rows.ensures.some)));
-      turns = omega (arith, all);
-    }
 
 pub push_times-requires : goal.push_times-requires
 push_times-requires c =

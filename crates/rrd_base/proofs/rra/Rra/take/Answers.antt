@@ -1,21 +1,7 @@
-use Rattle.rrd_base.proofs.Common.{◌≡◌, sym, ◌∙◌, ap, subst, ◌+◌, ◌-◌, ◌*◌, ◌/◌, ◌%◌, ◌≤◌, ◌<◌, ◌^◌, ◌∷◌, ◌++◌, ℕ, List, min, map, length, replicate, arith, length-replicate, mod_below, AllByRecursion, fold, Cell, Part, nothing, row_cell, with_each, HasWidth, RraDef, Rra, keep_last, ended_none, ended_some, row_fits, still_fit, taken_valid, rows_wide, begun, filled, full, left_of, rules}
+use Rattle.rrd_base.proofs.Common.{◌≡◌, sym, ◌∙◌, ap, subst, ◌+◌, ◌-◌, ◌*◌, ◌/◌, ◌%◌, ◌≤◌, ◌<◌, ◌^◌, ◌∷◌, ◌++◌, ℕ, List, min, map, length, replicate, arith, length-replicate, mod_below, AllByRecursion, fold, Cell, Part, nothing, row_cell, with_each, HasWidth, RraDef, Rra, keep_last, ended_none, ended_some, still_fit, taken_valid, rows_wide, filled, full, left_of, rules}
 use Rattle.rrd_base.proofs.rra.Rra.take.Goals as goal
 
 -- ---- the row stays unfinished
-
-pub go_on-requires-then-steps-left-clause-row : goal.go_on-requires-then-steps-left-clause-row
-go_on-requires-then-steps-left-clause-row c =
-    let begin = begun c.parts_stay_bounded.ensures.one_more c.args.steps.now.before c.args.self.now c.go_on.new.self c.args.steps.now.first.now c.args.steps.now.others.now c.requires.valid c.requires.steps_are.first c.requires.steps_are.others c.go_on.ensures.value in
-    begin.row
-
-pub go_on-requires-then-steps-left-clause-fits : goal.go_on-requires-then-steps-left-clause-fits
-go_on-requires-then-steps-left-clause-fits c =
-    let A = c.args.self.now in
-    let before : ℕ = c.args.steps.now.before in
-    let count : ℕ = c.args.steps.now.count in
-    let begin = begun c.parts_stay_bounded.ensures.one_more before A c.go_on.new.self c.args.steps.now.first.now c.args.steps.now.others.now c.requires.valid c.requires.steps_are.first c.requires.steps_are.others c.go_on.ensures.value in
-    let short = subst (λ (d : RraDef). count < left_of before d) c.def-in_row.ensures c.if-steps-left.true in
-    begin.fits count (omega (arith, row_fits before A.def.steps c.requires.valid.some_steps))
 
 pub returns-then-steps-left : goal.returns-then-steps-left
 returns-then-steps-left c =
@@ -41,19 +27,6 @@ returns-then-steps-left c =
     }
 
 -- ---- it ends
-
-pub go_on-requires-else-steps-left-clause-row : goal.go_on-requires-else-steps-left-clause-row
-go_on-requires-else-steps-left-clause-row c =
-    let begin = begun c.parts_stay_bounded.ensures.one_more c.args.steps.now.before c.args.self.now c.go_on.new.self c.args.steps.now.first.now c.args.steps.now.others.now c.requires.valid c.requires.steps_are.first c.requires.steps_are.others c.go_on.ensures.value in
-    begin.row
-
-pub go_on-requires-else-steps-left-clause-fits : goal.go_on-requires-else-steps-left-clause-fits
-go_on-requires-else-steps-left-clause-fits c =
-    let A = c.args.self.now in
-    let before : ℕ = c.args.steps.now.before in
-    let begin = begun c.parts_stay_bounded.ensures.one_more before A c.go_on.new.self c.args.steps.now.first.now c.args.steps.now.others.now c.requires.valid c.requires.steps_are.first c.requires.steps_are.others c.go_on.ensures.value in
-    subst (λ (d : RraDef). AllByRecursion (λ (p : Part). p.known + left_of before d ≤ 1000000) c.go_on.new.self.parts) (sym c.def-in_row.ensures)
-    (begin.fits (left_of before A.def) (omega (arith, (row_fits before A.def.steps c.requires.valid.some_steps))))
 
 pub close_row-requires : goal.close_row-requires
 close_row-requires c =

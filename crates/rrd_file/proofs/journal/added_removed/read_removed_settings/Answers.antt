@@ -21,8 +21,3 @@ pub returns-clause-brings : goal.returns-clause-brings
 returns-clause-brings g c = λ bytes pieces later st.
     let len : length c.piece.new.piece ≡ 13 = search rules in
     kept bytes c.args.build.now pieces RemovedHeadDue later c.args.input.now c.piece.new.self (OfArchive c.in-Some.def) c.piece.new.piece st c.in_ok-piece.ensures.read c.in-Some.ensures.some.1 (sym len) (ReadRemovedHead c.in-Some.def c.in-Some.ensures.some.0) (validated c.args.build.now c.validator.result.now RemovedHeadDue (OfArchive c.in-Some.def) c.validator.ensures (c.accepts_archive.ensures.good c.if-not-accepts_archive.false))
-
-pub returns-clause-good : goal.returns-clause-good
-returns-clause-good g c =
-    let is = (c.accepts_archive.ensures.good c.if-not-accepts_archive.false).def_is in
-    record { some_steps = is.some_steps; few_steps = is.few_steps; some_rows = is.some_rows; few_rows = is.few_rows; xff_low = is.xff_low; xff_high = is.xff_high }

@@ -1,4 +1,4 @@
-use Rattle.rrd_file.proofs.Common.{◌∙◌, ◌+◌, ◌-◌, ◌<◌, ◌++◌, ℕ, sym, ap, length, replicate, subst, take, arith, err_from_is_err_and, outline_left, row_pieces, RowCellDue, cells_due, Comes, next_due, next_width, rows_all, rows_go_on, rows_new}
+use Rattle.rrd_file.proofs.Common.{◌∙◌, ◌+◌, ◌-◌, ◌<◌, ◌++◌, ℕ, sym, ap, length, replicate, subst, take, arith, err_from_is_err_and, outline_left, row_pieces, RowCellDue, cells_due, Comes, next_due, next_width, rows_go_on, rows_new}
 use Rattle.rrd_file.proofs.journal.rows.read_old_rows.Goals as goal
 
 pub loop-i-init : goal.loop-i-init
@@ -28,6 +28,3 @@ loop-i-preserved g c =
     rows_go_on f n i rows row c.loop-i.input c.read_row.new.input c.args.input.now c.loop-i.invariant more
     (c.row_mut.ensures.same_width row (c.in_ok-read_row.ensures.same_width ∙ ap length c.row_mut.ensures.value)) (c.in_ok-read_row.ensures.same_width ∙ wide)
     (λ bytes pieces later st. c.in_ok-read_row.ensures.brings bytes pieces later (subst (λ (k : ℕ). Comes bytes f pieces (replicate k RowCellDue ++ later) c.loop-i.input) (sym wide) st))
-
-pub returns-clause-brings : goal.returns-clause-brings
-returns-clause-brings g c = rows_all c.args.build.now c.args.count c.loop-i.i c.loop-i.rows c.args.input.now c.loop-i.input c.loop-i.invariant (omega arith)

@@ -1,4 +1,4 @@
-use Rattle.rrd_file.proofs.Common.{◌≡◌, ◌∙◌, ◌+◌, ◌-◌, ◌<◌, ◌≤◌, ◌++◌, ◌∷◌, [], List, sym, ap, arith, length-append, length, map, replicate, subst, rules, err_from_is_err_and, Cell, OfCell, Piece, DueInEntry, RowCellDue, Comes, more_map, none_less, one_less}
+use Rattle.rrd_file.proofs.Common.{◌≡◌, ◌∙◌, ◌+◌, ◌-◌, ◌<◌, ◌++◌, ◌∷◌, [], List, sym, ap, arith, length-append, length, map, replicate, subst, rules, err_from_is_err_and, Cell, OfCell, Piece, DueInEntry, RowCellDue, Comes, more_map, one_less}
 use Rattle.rrd_file.proofs.journal.rows.read_saved_cells.Goals as goal
 
 pub returns-in_err-cell-clause-brings : goal.returns-in_err-cell-clause-brings
@@ -24,9 +24,3 @@ loop-preserved g c =
           (c.in_ok-cell.ensures bytes (pieces ++ map OfCell cells) (replicate (n - (i + 1)) RowCellDue ++ later)
           (subst (λ (l : List DueInEntry). Comes bytes c.args.build.now (pieces ++ map OfCell cells) l c.loop.input) (one_less RowCellDue n i later more) (c.loop.invariant.1 bytes pieces later st))),
     )
-
-pub returns-clause-brings : goal.returns-clause-brings
-returns-clause-brings g c = λ bytes pieces later st.
-    let n = c.args.count in
-    let past : n ≤ c.loop.counter = search rules in
-    subst (λ (l : List DueInEntry). Comes bytes c.args.build.now (pieces ++ map OfCell c.loop.cells.items) l c.loop.input) (none_less RowCellDue n c.loop.counter later past) (c.loop.invariant.1 bytes pieces later st)

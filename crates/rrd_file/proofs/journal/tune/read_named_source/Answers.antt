@@ -24,6 +24,3 @@ unfolding spell
 returns-clause-brings g c = λ bytes pieces more st.
     let len : length c.piece.new.piece ≡ 79 = search rules in
     subst (λ (l : List DueInEntry). Comes bytes c.args.build.now (pieces ++ OfSavedSource c.in-Some.old ∷ []) l c.piece.new.self) (append-nil (named_due (c.in-Some.old.number + 1) more)) (kept bytes c.args.build.now pieces (NamedDue c.args.lowest more) [] c.args.input.now c.piece.new.self (OfSavedSource c.in-Some.old) c.piece.new.piece st c.in_ok-piece.ensures.read c.in-Some.ensures.some.1 (sym len) (ReadNamed c.args.lowest more c.in-Some.old c.in-Some.ensures.some.0) (validated c.args.build.now c.validator.result.now (NamedDue c.args.lowest more) (OfSavedSource c.in-Some.old) c.validator.ensures (c.is_valid_saved_source.ensures.good c.if-not-is_valid_saved_source.false)))
-
-pub returns-clause-few : goal.returns-clause-few
-returns-clause-few g c = c.is_valid_saved_source.ensures.few c.if-not-is_valid_saved_source.false

@@ -1,4 +1,4 @@
-use Rattle.rrd_file.proofs.Common.{◌≡◌, ◌∙◌, ◌+◌, ◌-◌, ◌<◌, ◌≤◌, ◌++◌, ◌∷◌, [], ℕ, List, sym, ap, subst, length, length-append, map, arith, rules, err_from_is_err_and, SavedSource, ATune, OfCount, OfSavedSource, OfTag, Piece, DueInEntry, named_due, Comes, more_map, named_less, none_named}
+use Rattle.rrd_file.proofs.Common.{◌≡◌, ◌∙◌, ◌+◌, ◌-◌, ◌<◌, ◌++◌, ◌∷◌, [], List, sym, ap, subst, length, length-append, map, arith, rules, err_from_is_err_and, SavedSource, ATune, OfCount, OfSavedSource, OfTag, Piece, DueInEntry, named_due, Comes, more_map, named_less}
 use Rattle.rrd_file.proofs.journal.tune.read_tune.Goals as goal
 
 pub returns-in_err-count-clause-closes : goal.returns-in_err-count-clause-closes
@@ -29,12 +29,3 @@ loop-preserved g c =
           subst (λ (l : List Piece). Comes bytes c.args.build.now l (named_due (old.number + 1) (n - (i + 1))) c.read_named_source.new.input) (more_map OfSavedSource (OfTag ATune ∷ OfCount n ∷ []) c.loop.olds.items old ∙ ap (λ (l : List SavedSource). OfTag ATune ∷ OfCount n ∷ map OfSavedSource l) (sym items))
           (c.in_ok-old.ensures.brings bytes (OfTag ATune ∷ OfCount c.in_ok-count.count ∷ map OfSavedSource c.loop.olds.items) (n - (i + 1)) due),
     )
-
-pub returns-clause-closes : goal.returns-clause-closes
-returns-clause-closes g c = λ bytes st.
-    let n = c.in_ok-count.count in
-    let i = c.loop.counter in
-    let past : n ≤ i = omega arith in
-    let all : n ≡ length c.loop.olds.items = omega (arith, c.loop.invariant.0) in
-    subst (λ (k : ℕ). Comes bytes c.args.build.now (OfTag ATune ∷ OfCount k ∷ map OfSavedSource c.loop.olds.items) [] c.loop.input) all
-    (subst (λ (l : List DueInEntry). Comes bytes c.args.build.now (OfTag ATune ∷ OfCount c.in_ok-count.count ∷ map OfSavedSource c.loop.olds.items) l c.loop.input) (none_named c.loop.lowest n i past) (c.loop.invariant.2 bytes st))

@@ -1,8 +1,5 @@
-use Rattle.rrd_file.proofs.Common.{◌∙◌, Some, ap, sym, map, arith, length-map, SavedSource, OfSavedSource, spell, small_at, err_from_is_err_and, all_added, item_added, item_at, item_broken, mapped_at}
+use Rattle.rrd_file.proofs.Common.{◌∙◌, Some, ap, sym, map, arith, length-map, SavedSource, OfSavedSource, spell, err_from_is_err_and, all_added, item_added, item_at, item_broken, mapped_at}
 use Rattle.rrd_file.proofs.journal.tune.write_saved_sources.Goals as goal
-
-pub write_saved_source-requires : goal.write_saved_source-requires
-write_saved_source-requires g c = small_at c.args.olds.now c.loop-i.i c.index-olds-i.result c.requires c.loop-i-test.true c.index-olds-i.is
 
 pub returns-in_err-write_saved_source : goal.returns-in_err-write_saved_source
 returns-in_err-write_saved_source g c =

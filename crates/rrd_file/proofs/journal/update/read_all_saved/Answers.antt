@@ -1,4 +1,4 @@
-use Rattle.rrd_file.proofs.Common.{◌≡◌, ◌∙◌, ◌+◌, ◌<◌, ◌≤◌, ◌++◌, ◌∷◌, [], List, sym, ap, take, drop, length, subst, rules, flat_map, err_from_is_err_and, RraDef, SavedArchive, outline_left, saved_pieces, Piece, AreSavedShaped, DueInEntry, archive_due, Comes, there, dropped_all, more_flat, next_archive, shaped_more, taken_all}
+use Rattle.rrd_file.proofs.Common.{◌≡◌, ◌∙◌, ◌+◌, ◌<◌, ◌++◌, ◌∷◌, [], List, sym, ap, take, drop, length, subst, rules, flat_map, err_from_is_err_and, SavedArchive, outline_left, saved_pieces, Piece, AreSavedShaped, DueInEntry, archive_due, Comes, there, more_flat, next_archive, shaped_more}
 use Rattle.rrd_file.proofs.journal.update.read_all_saved.Goals as goal
 
 pub returns-in_err-old-clause-brings : goal.returns-in_err-old-clause-brings
@@ -26,15 +26,3 @@ loop-archive-preserved g c =
           (c.in_ok-old.ensures.brings bytes (pieces ++ flat_map saved_pieces olds) (flat_map (archive_due c.args.build.now.header.step now c.args.last) (drop (i + 1) now.archives) ++ later) found.0 found.1
           (subst (λ (l : List DueInEntry). Comes bytes c.args.build.now (pieces ++ flat_map saved_pieces olds) l c.loop-archive.input) (next_archive (archive_due c.args.build.now.header.step now c.args.last) now.archives i found.0 later found.1) (c.loop-archive.invariant.1 bytes pieces later st))),
     )
-
-pub returns-clause-brings : goal.returns-clause-brings
-returns-clause-brings g c = λ bytes pieces later st.
-    let now = outline_left c.args.build.now in
-    let past : length now.archives ≤ c.loop-archive.archive = search rules in
-    subst (λ (l : List RraDef). Comes bytes c.args.build.now (pieces ++ flat_map saved_pieces c.loop-archive.olds.items) (flat_map (archive_due c.args.build.now.header.step now c.args.last) l ++ later) c.loop-archive.input) (dropped_all now.archives c.loop-archive.archive past) (c.loop-archive.invariant.1 bytes pieces later st)
-
-pub returns-clause-shaped : goal.returns-clause-shaped
-returns-clause-shaped g c =
-    let now = outline_left c.args.build.now in
-    let past : length now.archives ≤ c.loop-archive.archive = search rules in
-    subst (λ (l : List RraDef). AreSavedShaped (length now.sources) l c.loop-archive.olds.items) (taken_all now.archives c.loop-archive.archive past) c.loop-archive.invariant.0

@@ -1,4 +1,4 @@
-use Rattle.rrd_file.proofs.Common.{◌≡◌, ◌∙◌, ◌++◌, ◌∷◌, [], ℕ, List, Some, sym, ap, subst, append_assoc, length, map, min, replicate, slice_get, length-map, err_from_is_err_and, Consolidating, RraDef, parts_in, SavedArchive, rows_between, outline_left, EntryValidator, row_pieces, saved_pieces, OfPrep, OfRows, Piece, IsSavedShaped, DueInEntry, RowPrepDue, RowsDue, archive_due, cells_due, Comes, some_is}
+use Rattle.rrd_file.proofs.Common.{◌≡◌, ◌∙◌, ◌++◌, ◌∷◌, [], ℕ, List, Some, sym, subst, append_assoc, length, map, min, replicate, slice_get, err_from_is_err_and, RraDef, parts_in, rows_between, outline_left, EntryValidator, OfPrep, OfRows, DueInEntry, RowPrepDue, RowsDue, archive_due, cells_due, Comes, some_is}
 use Rattle.rrd_file.proofs.journal.update.read_saved.Goals as goal
 
 pub returns-in_err-preps-clause-brings : goal.returns-in_err-preps-clause-brings
@@ -37,33 +37,3 @@ returns-in_err-rows-clause-brings g c = λ bytes pieces later asked at came.
     let s2 = c.in_ok-count.ensures.brings bytes (pieces ++ map OfPrep (parts_in c.in_ok-preps.preps.items)) (cells_due r now ++ later) s1 in
     let s2b = subst (λ (k : ℕ). Comes bytes c.args.build.now ((pieces ++ map OfPrep (parts_in c.in_ok-preps.preps.items)) ++ OfRows c.in_ok-count.count ∷ []) (cells_due k now ++ later) c.read_row_count.new.input) (sym c.in_ok-count.ensures.value) s2 in
     rw (p.1, p.2) (c.in_err-rows.ensures.brings bytes ((pieces ++ map OfPrep (parts_in c.in_ok-preps.preps.items)) ++ OfRows c.in_ok-count.count ∷ []) later s2b)
-
-pub returns-clause-brings : goal.returns-clause-brings
-returns-clause-brings g c = λ bytes pieces later asked at came.
-    let def = c.archive-def.result.now in
-    let e : slice_get (outline_left c.args.build.now).archives c.args.archive ≡ Some def = subst (λ (j : EntryValidator). slice_get j.outline.archives c.args.archive ≡ Some def) c.validator.ensures c.archive-def.ensures.value in
-    let st = subst (λ (d : RraDef). Comes bytes c.args.build.now pieces (archive_due c.args.build.now.header.step (outline_left c.args.build.now) c.args.last d ++ later) c.args.input.now) (some_is asked def (sym at ∙ e)) came in
-    let now = outline_left c.args.build.now in
-    let r = min (rows_between c.args.build.now.header.step def c.args.last now.last) def.rows in
-    let s0 = subst (λ (l : List DueInEntry). Comes bytes c.args.build.now pieces l c.args.input.now) (append_assoc (replicate (length now.sources) (RowPrepDue c.args.last def)) (RowsDue r ∷ cells_due r now) later) st in
-    let s1 = c.in_ok-preps.ensures.brings bytes pieces (RowsDue r ∷ (cells_due r now ++ later)) s0 in
-    let s2 = c.in_ok-count.ensures.brings bytes (pieces ++ map OfPrep (parts_in c.in_ok-preps.preps.items)) (cells_due r now ++ later) s1 in
-    let s2b = subst (λ (k : ℕ). Comes bytes c.args.build.now ((pieces ++ map OfPrep (parts_in c.in_ok-preps.preps.items)) ++ OfRows c.in_ok-count.count ∷ []) (cells_due k now ++ later) c.read_row_count.new.input) (sym c.in_ok-count.ensures.value) s2 in
-    let rows = c.in_ok-rows.rows in
-    let parts = map OfPrep (parts_in c.in_ok-preps.preps.items) in
-    let s3 = c.in_ok-rows.ensures.brings bytes ((pieces ++ map OfPrep (parts_in c.in_ok-preps.preps.items)) ++ OfRows c.in_ok-count.count ∷ []) later s2b in
-    let joined = append_assoc (pieces ++ parts) (OfRows c.in_ok-count.count ∷ []) (row_pieces rows) ∙ append_assoc pieces parts (OfRows c.in_ok-count.count ∷ row_pieces rows)
-    ∙ ap (λ (k : ℕ). pieces ++ (parts ++ (OfRows k ∷ row_pieces rows))) (sym c.in_ok-rows.ensures.shaped.as_many) in
-    subst (λ (o : SavedArchive). Comes bytes c.args.build.now (pieces ++ saved_pieces o) later c.read_saved_rows.new.input) (sym c.new.ensures)
-    (subst (λ (l : List Piece). Comes bytes c.args.build.now l later c.read_saved_rows.new.input) joined s3)
-
-pub returns-clause-shaped : goal.returns-clause-shaped
-returns-clause-shaped g c = λ def e.
-    let it = c.archive-def.result.now in
-    let at : slice_get (outline_left c.args.build.now).archives c.args.archive ≡ Some it = subst (λ (j : EntryValidator). slice_get j.outline.archives c.args.archive ≡ Some it) c.validator.ensures c.archive-def.ensures.value in
-    let same : it ≡ def = some_is it def (sym at ∙ e) in
-    subst (λ (o : SavedArchive). IsSavedShaped (length (outline_left c.args.build.now).sources) def o) (sym c.new.ensures) (record {
-      same_function = ap (λ (d : RraDef). d.function) same;
-      one_part_each = length-map c.in_ok-preps.preps.items (λ (prep : Consolidating). prep.part) ∙ c.in_ok-preps.ensures.shaped;
-      one_cell_each = c.in_ok-rows.ensures.shaped.one_width;
-    })

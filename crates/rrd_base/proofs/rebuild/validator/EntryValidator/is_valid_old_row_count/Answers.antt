@@ -1,4 +1,4 @@
-use Rattle.rrd_base.proofs.Common.{◌∙◌, ◌*◌, ◌<◌, ◌≤◌, length, ap, subst, sym, arith, pos, not, rules, nat_lt, Average, RraDef, limits_of, AreOldRows, EntryValidator, not_past, past_not, rows_are_put}
+use Rattle.rrd_base.proofs.Common.{◌∙◌, ◌*◌, ◌<◌, ◌≤◌, length, ap, subst, sym, pos, not, rules, nat_lt, Average, RraDef, limits_of, AreOldRows, EntryValidator, not_past, past_not, rows_are_put}
 use Rattle.rrd_base.proofs.rebuild.validator.EntryValidator.is_valid_old_row_count.Goals as goal
 
 abbrev no_def : RraDef
@@ -9,14 +9,6 @@ overflow_sub-all c =
     let now = c.self.inside.outline in
     let there : c.args.archive < length now.archives = subst (λ (j : EntryValidator). c.args.archive < length j.outline.archives) (sym c.self.view_is) c.requires in
     (rows_are_put c.as_slice-archives.result.now now.archives c.args.archive c.args.rows c.all_rows.result no_def c.as_slice-archives.ensures there c.self.invariant.outline_is.few_rows c.all_rows.ensures).within
-
-pub overflow_add-all : goal.overflow_add-all
-overflow_add-all c =
-    let now = c.self.inside.outline in
-    let there : c.args.archive < length now.archives = subst (λ (j : EntryValidator). c.args.archive < length j.outline.archives) (sym c.self.view_is) c.requires in
-    let put = rows_are_put c.as_slice-archives.result.now now.archives c.args.archive c.args.rows c.all_rows.result no_def c.as_slice-archives.ensures there c.self.invariant.outline_is.few_rows c.all_rows.ensures in
-    let small : c.args.rows ≤ 1000000 = search rules in
-    omega (arith, put.few, small)
 
 pub returns-clause-good : goal.returns-clause-good
 returns-clause-good c = λ e.
