@@ -208,6 +208,22 @@ class Writing(WriterCase):
         self.assertEqual(making.lines[1][1:], [f"update {NOW}:1", f"update {NOW + 10}:2"])
         self.assertEqual(self.collectd.lines[1:], ["rrdi: 2 samples taken in, 0 lost"])
 
+    def test_a_sample_that_comes_during_a_try(self) -> None:
+        """It stays behind those that come back."""
+        writer = self.writer
+
+        class Slow(Making):
+            def batch_file(self, *words: Any) -> Answer:
+                if not self.batches:
+                    writer.write(values(NOW + 20, 3, type="derive"))
+                return super().batch_file(*words)
+        making = self.use(Slow(graphite.BUSY))
+        for at in (0, 10):
+            writer.write(values(NOW + at, 1 + at // 10, type="derive"))
+        writer.flush(0)
+        writer.end()
+        self.assertEqual(making.lines[-1][1:], [f"update {NOW + 10 * at}:{1 + at}" for at in range(3)])
+
     def test_the_next_try(self) -> None:
         """What could not be written is tried again after the whole timeout, and not with each further value."""
         making = self.use(Making(*[graphite.BUSY] * 2))

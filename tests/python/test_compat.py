@@ -67,8 +67,10 @@ class Translations(unittest.TestCase):
             self.assertEqual(str(refused.exception), f"this time is relative to itself: {text}")
         self.assertEqual(Moment("end-1h", NOW).seconds(end=NOW), NOW - 3_600)
         self.assertEqual(Moment("start+1h", NOW).seconds(start=NOW), NOW + 3_600)
-        # The day has no 24:00, and the hour no minute 60; years have two digits, or are those of 1900 and later.
-        for text in ("", "32:00", "x", "12:00 13:00", "now-", "1970-01-01", "24:00", "23:60", "01/02/0139"):
+        # The day has no 24:00, and the hour no minute 60; minutes have two digits; years have two, or are those of 1900 and
+        # later.
+        for text in ("", "32:00", "x", "12:00 13:00", "now-", "1970-01-01", "24:00", "23:60", "01/02/0139", "12:5", "12:x",
+                     "jan foo", "jan", "now-x", "now+1h-", "1/x/2000", "1/2.2000", "1/2/x"):
             with self.assertRaisesRegex(Untranslatable, "cannot parse time: "):
                 Moment(text, NOW).seconds()
         with self.assertRaisesRegex(Untranslatable, "relative to itself"):

@@ -195,6 +195,19 @@ class InBlocks(Creating):
         database.flush()  # the change has waited
         self.assertEqual(rrdi.info(self.file).sources["g"].type, "GAUGE")
 
+    def test_a_flush_that_fails(self: Any) -> None:
+        """The changes wait for the next one, which still makes no database in place of somebody else's file."""
+        file = self.folder / "later/f.rrdi"
+        database = rrdi.Database(file, collect=True)
+        database.create(*ONE)
+        with self.assertRaises(rrdi.Error):
+            database.flush()
+        file.parent.mkdir()
+        file.write_bytes(OTHERS)
+        with self.assertRaises(rrdi.Exists):
+            database.flush()
+        self.assertEqual(file.read_bytes(), OTHERS)
+
     def test_another_program_makes_the_database_meanwhile(self: Any) -> None:
         chosen = self.library() or library.load_library()
         self.make_meanwhile(lambda: chosen.run_file(os.fsencode(self.file), "\0".join(

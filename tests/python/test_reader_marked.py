@@ -18,7 +18,7 @@ from support import marks
 from support.marks import PAGE, number
 from rrdi import errors, locks, reader
 from rrdi.locks import SHARED, locked
-from rrdi.reader.files import opened, read_bytes
+from rrdi.reader.files import opened, patience, read_bytes
 from rrdi.reader.selected import OpenFile
 
 OLD = graphite.file_bytes(130, archives=[(1, 400, {130: [2.5], 20: [1.5]})])  # over a page
@@ -254,6 +254,12 @@ class Locks(DataCase):
         Path(self.path + ".new").write_bytes(NEW)
         with mock.patch("rrdi.locks.flock", replace):
             self.assertEqual(reader.read_file(self.path)["last_time"], 140)
+
+    def test_patience(self) -> None:
+        """A reader waits for as long as RRDI_WAIT says, which is read in seconds and kept in milliseconds."""
+        for wait, seconds in ((5_000, 5), (0, 0), (1_500, 1.5)):
+            with mock.patch("rrdi.environment.WAIT", wait):
+                self.assertEqual(patience(), seconds)
 
     def test_errors_of_locks(self) -> None:
         """Only a file system without locks is read without one."""
