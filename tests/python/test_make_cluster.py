@@ -7,6 +7,7 @@ import importlib.util
 import os
 import signal
 import socket
+import subprocess
 import sys
 import time
 import unittest
@@ -105,6 +106,26 @@ class Starting(unittest.TestCase):
         ports = {name: self.module.ports_of(self.cluster, name) for name in ("node1", "relay", "front")}
         self.assertEqual({name: {what: len(found) for what, found in those.items()} for name, those in ports.items()},
                          {"node1": {"carbon": 3, "web": 1}, "relay": {"carbon": 2}, "front": {"web": 1}})
+
+    def test_settings(self) -> None:
+        """Graphite's own settings come first, and the front alone serves the scripts and pictures itself."""
+        self.module.write_settings(self.cluster)
+        texts = {name: (self.cluster.folder / name / f"web_{name}.py").read_text() for name in ("node1", "front")}
+        self.assertTrue(texts["front"].startswith("from graphite.app_settings import *\n"), texts["front"])
+        self.assertIn("ROOT_URLCONF = 'front_pages'\n", texts["front"])
+        self.assertNotIn("front_pages", texts["node1"])
+        self.assertEqual([(self.cluster.folder / name / "front_pages.py").exists() for name in ("node1", "front")], [False, True])
+        for text in (*texts.values(), (self.cluster.folder / "front/front_pages.py").read_text()):
+            compile(text, "settings", "exec")
+
+    def test_the_status(self) -> None:
+        """It says whether all was done."""
+        self.module.write_settings(self.cluster)
+        for words, status in (("status", 0), ("stop node1", 0), ("stop node9", 1)):
+            command, _, names = words.partition(" ")
+            ran = subprocess.run([sys.executable, "-B", TOP / "examples/make-cluster", command, self.cluster.folder, *names.split()],
+                                 capture_output=True, text=True, timeout=HANG)
+            self.assertEqual((ran.returncode, bool(ran.stderr)), (status, status > 0), ran)
 
     def test_what_was_killed(self) -> None:
         """Only what does not run is started, whether one process was killed or both."""

@@ -15,14 +15,16 @@ import time
 import unittest
 from pathlib import Path
 from typing import Dict, List, Optional
+from unittest import mock
 
 from cases import needs_program
 from doubles import TOP
 from tool_case import Ran, ToolCase
 
 from rrdi.feeding.feeder import FeedOptions
-from rrdi.tools.command_line import WrongArguments
-from rrdi.tools.feed import USAGE, FeedArguments, read_arguments
+from rrdi.feeding.writers import Reason
+from rrdi.tools.command_line import Failure, WrongArguments
+from rrdi.tools.feed import USAGE, FeedArguments, read_arguments, rules_of
 
 CREATE = "--step 10 DS:v:GAUGE:60:U:U RRA:AVERAGE:0.5:1:9"
 # A program that notes what it is asked for. Its batch accepts all samples.
@@ -76,6 +78,16 @@ class WrongOnes(ToolCase):
         ran = self.tool("rrdi-feed", "--graphite", ".", "--rules", "rules", given="a 1 10\n", env={"REFUSED": "bad step"})
         self.assertEqual(ran, Ran(1, "", f"rrdi-feed: rules: create {CREATE}: bad step\n"))
         self.assertFalse((self.folder / "log").exists())
+
+    def test_what_is_wrong_with_a_rule(self) -> None:
+        """The failure has the explanation of rrdi, which the tool prints as a second line."""
+        rules = self.write("rules", f"** ** {CREATE}\n")
+        for reason, detail in ((Reason("bad step", "its step is 0"), "its step is 0"), ("no room", "")):
+            writer = mock.Mock()
+            writer.create.return_value = reason
+            with self.assertRaises(Failure) as raised:
+                rules_of(rules, writer)
+            self.assertEqual((str(raised.exception), raised.exception.detail), (f"{rules}: create {CREATE}: {reason}", detail))
 
 
 class Feed(ToolCase):

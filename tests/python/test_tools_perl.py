@@ -255,10 +255,12 @@ package main; use RRDs; tie *STDOUT, 'Kept'; my $last = RRDs::last('f.rrdi'); un
         self.assertEqual((ran.out, ran.err), ("0\n", ""))
 
     def test_taint_mode(self) -> None:
-        """The environment chooses no program then; rrdi is the one of the system, which may not be there."""
+        """The environment chooses no program then, nor what Python runs; rrdi is the one of the system, which may not be there."""
         assert PERL
         script = "use RRDs; print RRDs::last('f.rrdi') // RRDs::error()"
-        ran = self.run_command([PERL, "-T", f"-I{TOP}/perl", "-e", script], env={"RRDI_RRDTOOL": "/nowhere"})
+        self.write("sitecustomize.py", "print('chosen')\n")
+        ran = self.run_command([PERL, "-T", f"-I{TOP}/perl", "-e", script],
+                               env={"RRDI_RRDTOOL": "/nowhere", "PYTHONPATH": str(self.folder)})
         self.assertEqual((ran.status, ran.err), (0, ""))
         self.assertIn(ran.out, ("0", "cannot run rrdi: No such file or directory"))
 

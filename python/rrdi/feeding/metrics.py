@@ -81,6 +81,10 @@ def with_start(arguments: Sequence[str], sample: bytes) -> List[str]:
 class NotCreated(Exception):
     """Why a file could not be created."""
 
+    def __init__(self, reason: str):
+        super().__init__(reason)
+        self.reason = reason
+
 
 class Creating:
     """A writer that first creates a file that does not exist, if the file has arguments of create."""
@@ -117,7 +121,7 @@ class Creating:
             make(file, fill, makes_folder=True)
             return ""
         except NotCreated as refused:
-            return str(refused)
+            return refused.reason
         except OSError as error:
             return f"cannot create: {reason_in(error)}"
         except MemoryError:
