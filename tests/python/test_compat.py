@@ -70,7 +70,8 @@ class Translations(unittest.TestCase):
         # The day has no 24:00, and the hour no minute 60; minutes have two digits; years have two, or are those of 1900 and
         # later.
         for text in ("", "32:00", "x", "12:00 13:00", "now-", "1970-01-01", "24:00", "23:60", "01/02/0139", "12:5", "12:x",
-                     "jan foo", "jan", "now-x", "now+1h-", "1/x/2000", "1/2.2000", "1/2/x"):
+                     "jan foo", "jan", "now-x", "now+1h-", "1/x/2000", "1/2.2000", "1/2/x",
+                     "315360000"):
             with self.assertRaisesRegex(Untranslatable, "cannot parse time: "):
                 Moment(text, NOW).seconds()
         with self.assertRaisesRegex(Untranslatable, "relative to itself"):
@@ -83,8 +84,13 @@ class Translations(unittest.TestCase):
             for text, wanted in (("20240203", 1_706_918_400), ("12am 20240203", 1_706_918_400), ("12pm 20240203", 1_706_961_600),
                                  ("1pm 20240203", 1_706_965_200), ("8:30am 02/03/2024", 1_706_949_000),
                                  ("noon 03.02.2024", 1_706_961_600), ("03.02.24", 1_706_918_400), ("02/03/95", 791_769_600),
-                                 ("teatime 20240203", 1_706_976_000), ("20240203 6pm", 1_706_983_200)):
+                                 ("teatime 20240203", 1_706_976_000), ("20240203 6pm", 1_706_983_200),
+                                 ("315360001", 315_360_001), ("noon today", 1_699_963_200), ("noon yesterday", 1_699_876_800),
+                                 ("noon tomorrow", 1_700_049_600)):
                 self.assertEqual(Moment(text, NOW).seconds(), wanted, text)
+            sunday = 1_699_790_400  # at noon: the week begins with it
+            for number, name in enumerate(("sunday", "mon", "tuesday", "wed", "thursday", "friday", "sat")):
+                self.assertEqual(Moment(f"noon {name}", NOW).seconds(), sunday + 86_400 * number, name)
         time.tzset()
         with self.assertRaisesRegex(Untranslatable, "cannot parse time: "):
             Moment("13pm 20240203", NOW).seconds()

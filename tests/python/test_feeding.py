@@ -19,7 +19,7 @@ from tool_case import EachWriter, finished, taken
 import rrdi
 from rrdi import choice, library
 from rrdi.errors import CANNOT_OPEN, CANNOT_WRITE, NO_MEMORY, NoLibrary
-from rrdi.feeding.feeder import Feeder, FeedOptions, line_text
+from rrdi.feeding.feeder import FIRST_PAUSE, LONGEST_PAUSE, Feeder, FeedOptions, line_text
 from rrdi.by_program import ByProgram
 from rrdi.feeding.writers import BatchWriter, Outcome, Reason
 from rrdi.library import Answer
@@ -225,6 +225,16 @@ class Batches(unittest.TestCase):
         writer, feeder, said = self.fed(b"a 10:1\na 20:3", {b"a": [again, again]})
         self.assertEqual(writer.batches, [(b"a", [b"10:1", b"20:3"])] * 3)
         self.assertEqual((feeder.count, said, feeder.pauses), (0, "", {}))
+
+    def test_pauses(self) -> None:
+        """Each is twice as long as the one before, up to a bound."""
+        feeder, found = Feeder(FeedOptions(), Stub()), []  # type: Feeder, List[float]
+        self.addCleanup(feeder.threads.shutdown)
+        while not found or found[-1] < LONGEST_PAUSE:
+            feeder.end_batch(b"a", [b"10:1"], Outcome(again="cannot open"))
+            found.append(feeder.waiting[b"a"].pause)
+        self.assertEqual(found, [min(FIRST_PAUSE * 2 ** number, LONGEST_PAUSE) for number in range(len(found))])
+        self.assertEqual((FIRST_PAUSE, LONGEST_PAUSE, len(found)), (0.1, 60, 11))
 
     def test_lost(self) -> None:
         _, _, said = self.fed(b"a 10:1\na 20:3", {b"a": [Outcome(lost="cannot write")]})

@@ -79,6 +79,8 @@ class Record(ToolCase):
         self.assertEqual(self.rrdi("info", "f.rrd"), info)
         self.assertEqual(self.recorder.create(self.file, 10, -1, "DS:g:GAUGE:20:0:U", "RRA:MAX:0.5:1:4"), "")
         self.assertGreater(int(self.rrdi("last", "f.rrd")), 1_700_000_000)
+        self.assertEqual(self.recorder.create(self.file, 10, 0, "DS:g:GAUGE:20:0:U", "RRA:MAX:0.5:1:4"), "")
+        self.assertEqual(self.rrdi("last", "f.rrd"), "0\n")
 
     def test_numbers_are_rounded_as_elsewhere(self) -> None:
         """The results for random numbers of all kinds are the same as those of rrdi.compat, which the tools use."""
@@ -138,6 +140,18 @@ class Record(ToolCase):
         self.assertEqual(self.rrdi("last", "f.rrd"), "1000002999\n")
         self.assertEqual(self.recorder.update(self.file, None, *samples),
                          f"{self.file}: sample 1 of 2999: not later than 1000002999")
+
+    def test_memory(self) -> None:
+        """An update keeps none of its memory: neither that of its lines, nor that of its messages."""
+        self.make()
+        samples = ["1000000000:" + "1" * 200] * 4
+        sizes = []
+        for _ in range(3):
+            for _ in range(2_000):
+                self.recorder.update(self.file, None, *samples)
+            with open("/proc/self/statm", encoding="ascii") as file:
+                sizes.append(int(file.read().split()[5]) * os.sysconf("SC_PAGE_SIZE"))
+        self.assertLess(sizes[2] - sizes[0], 500_000)
 
     def test_it_waits_for_a_lock(self) -> None:
         self.make()

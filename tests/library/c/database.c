@@ -5,6 +5,7 @@
 #include <errno.h>
 #include <fcntl.h>
 #include <sys/file.h>
+#include <sys/syscall.h>
 #include <sys/wait.h>
 #include <time.h>
 #include <unistd.h>
@@ -17,6 +18,13 @@
 #define TOLERANCE 100
 
 static struct rrdi_db db, other;
+static int flushes;
+
+/* Takes the place of the system's function, for the library too. */
+int fdatasync(int file) {
+    flushes++;
+    return (int)syscall(SYS_fdatasync, file);
+}
 
 static bool ended(uint32_t fault, uint32_t returned, int error, const char *text) {
     answer = db.answer;
@@ -62,6 +70,7 @@ static void test_updates(void) {
                "not later than 10: 10 is not later than the last update, 10; the next sample may be at 11 or later"),
          "an update that comes too late");
     want(rrdi_db_update(&db, 20, values, 1) == RRDI_REFUSED, "an update with a value for one of two sources");
+    want(rrdi_db_update(&db, 20, NULL, 0) == RRDI_REFUSED, "an update without values");
     for (size_t at = 0; at < 4; at++) {
         many[2 * at] = rrdi_double((double)at);
         many[2 * at + 1] = rrdi_count(7 + 10 * at);
@@ -79,6 +88,29 @@ static void test_updates(void) {
     stored = 9;
     rrdi_update_many(&db.file, times, many, 4, 2, &stored, output, sizeof output, &answer);
     want(!stored && answer.fault == RRDI_REFUSED && explains("20 is not later"), "samples for an open file that come too late");
+}
+
+/* A database begins with the present time, unless its definition says another one. */
+static void test_start(void) {
+    uint64_t last, begun = (uint64_t)time(NULL);
+    want(!rrdi_db_open(&other, "now.rrdi", "DS:g:GAUGE:100:U:U RRA:LAST:0.5:1:4", 0) && !rrdi_db_last(&other, &last) &&
+             last + 60 >= begun && last <= (uint64_t)time(NULL),
+         "the time at which a database begins");
+    rrdi_db_close(&other);
+}
+
+/* Only a database that was opened so flushes each of its changes. */
+static void test_flushes(void) {
+    struct rrdi_value values[] = {rrdi_double(1.5), rrdi_count(9)};
+    const uint32_t options[] = {0, RRDI_SYNCS};
+    for (size_t at = 0; at < 2; at++) {
+        want(!rrdi_db_open(&other, "flushed.rrdi", DEFINITION, options[at]), "a database that flushes or not");
+        for (uint64_t number = 1; number < 4; number++) {
+            int before = flushes;
+            want(!rrdi_db_update(&other, 100 * (at + 1) + number, values, 2) && (flushes > before) == (at == 1), "the flushes of an update");
+        }
+        rrdi_db_close(&other);
+    }
 }
 
 /* The rows are those of the samples, and each sample is a change of its own. */
@@ -266,6 +298,8 @@ int main(void) {
     test_open();
     test_updates();
     test_fetch();
+    test_start();
+    test_flushes();
     test_wrong_structs();
     test_wrong_files();
     test_fork();
