@@ -258,7 +258,7 @@ package main; use RRDs; tie *STDOUT, 'Kept'; my $last = RRDs::last('f.rrdi'); un
         """The environment chooses no program then, nor what Python runs; rrdi is the one of the system, which may not be there."""
         assert PERL
         script = "use RRDs; print RRDs::last('f.rrdi') // RRDs::error()"
-        self.write("sitecustomize.py", "print('chosen')\n")
+        self.write("sitecustomize.py", "import os\nos.write(1, b'chosen')\n")
         ran = self.run_command([PERL, "-T", f"-I{TOP}/perl", "-e", script],
                                env={"RRDI_RRDTOOL": "/nowhere", "PYTHONPATH": str(self.folder)})
         self.assertEqual((ran.status, ran.err), (0, ""))
