@@ -56,6 +56,16 @@ def test_no_program(folder: Path, needs: Callable[..., None]) -> None:
         assert "nowhere not found; run make first" in told(folder, *words, status=2)
 
 
+def test_packages_of_a_fresh_tree(make: Callable[..., None], folder: Path) -> None:
+    """`make deb` makes the folder of the packages, also for the program alone."""
+    stub = folder / "bin/dpkg-buildpackage"
+    stub.parent.mkdir()
+    stub.write_text('#!/bin/sh\ntest -d "$DEBS" && touch "$DEBS/made"\n')
+    stub.chmod(0o755)
+    make("deb", f"PATH={stub.parent}:{os.environ['PATH']}")
+    assert (folder / "top/out/made").exists()
+
+
 def test_no_kit(folder: Path, needs: Callable[..., None]) -> None:
     """An archive that was built elsewhere is linked with the kit, which is found by its rt."""
     needs("make")
