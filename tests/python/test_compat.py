@@ -86,11 +86,16 @@ class Translations(unittest.TestCase):
                                  ("noon 03.02.2024", 1_706_961_600), ("03.02.24", 1_706_918_400), ("02/03/95", 791_769_600),
                                  ("teatime 20240203", 1_706_976_000), ("20240203 6pm", 1_706_983_200),
                                  ("315360001", 315_360_001), ("noon today", 1_699_963_200), ("noon yesterday", 1_699_876_800),
-                                 ("noon tomorrow", 1_700_049_600)):
+                                 ("noon tomorrow", 1_700_049_600), ("noon jan 5 2024", 1_704_456_000),
+                                 ("noon mar 3 24", 1_709_467_200), ("december 31 99 6pm", 946_663_200), ("noon may 9", 1_683_633_600)):
                 self.assertEqual(Moment(text, NOW).seconds(), wanted, text)
             sunday = 1_699_790_400  # at noon: the week begins with it
             for number, name in enumerate(("sunday", "mon", "tuesday", "wed", "thursday", "friday", "sat")):
                 self.assertEqual(Moment(f"noon {name}", NOW).seconds(), sunday + 86_400 * number, name)
+        with mock.patch.dict(os.environ, {"TZ": "CET-1CEST,M3.5.0,M10.5.0/3"}):
+            time.tzset()
+            # Half an hour before a Tuesday of summer ends.
+            self.assertEqual(Moment("noon tuesday", 1_721_165_400).seconds(), 1_721_124_000)
         time.tzset()
         with self.assertRaisesRegex(Untranslatable, "cannot parse time: "):
             Moment("13pm 20240203", NOW).seconds()
@@ -130,6 +135,7 @@ class Translations(unittest.TestCase):
                 ("create x.rrdi --step 1d DS:g:GAUGE:1M:0:U RRA:MAX:.5:1:1M",
                  ["create x.rrdi --step 86400 DS:g:GAUGE:2678400:0:U RRA:MAX:0.5:1:31"]),
                 ("update f.rrdi 10:1.23456789e1:nan", ["update f.rrdi 10:12.345679:U"]),
+                ("create f.rrd DS:g RRA", ["create f.rrd DS:g RRA"]), ("tune f.rrdi RRA#0:+0", ["resize f.rrdi 0 GROW 0"]),
                 ("tune f.rrdi RRA#0:4", []), ("tune f.rrdi -h g:5m -h g:10m", ["tune f.rrdi --heartbeat g:300",
                                                                               "tune f.rrdi --heartbeat g:600"]),
                 ("tune f.rrd -h g:5m -r g:h -h h:7", ["tune f.rrd --heartbeat g:300 --data-source-rename g:h",

@@ -83,7 +83,7 @@ class Fast:
             "rrdi_run": self._nothing, "rrdi_batch": self._nothing, "rrdi_run_file": self._at_path,
             "rrdi_batch_file": self._at_path, "rrdi_open": self._open, "rrdi_close": self._close,
             "rrdi_run_open": self._on_open, "rrdi_batch_open": self._on_open, "rrdi_update_open": self._update,
-            "rrdi_fetch_open": self._fetch})
+            "rrdi_update_many": self._update_many, "rrdi_fetch_open": self._fetch})
 
     def _nothing(self, *words: int) -> None:
         pass
@@ -110,6 +110,14 @@ class Fast:
         self.at_call()
         found = (_Value * count).from_address(values)
         self.said.append(f"numbers {time}:{':'.join(map(text_of, found))}")
+        put(answer, self.answer, output)
+
+    def _update_many(self, *words: int) -> None:
+        file, times, values, count, sources, stored, output, room, answer = words
+        found, when = (_Value * (count * sources)).from_address(values), (ctypes.c_uint64 * count).from_address(times)
+        rows = (found[at * sources:(at + 1) * sources] for at in range(count))
+        self.said.append(" ".join(["many", *(":".join([str(time), *map(text_of, row)]) for time, row in zip(when, rows))]))
+        ctypes.c_size_t.from_address(stored).value = count
         put(answer, self.answer, output)
 
     def _fetch(self, *words: int) -> None:
@@ -432,6 +440,30 @@ class Updates(FastCase):
         opened.close()
         self.assertEqual((opened.is_open, opened.update(((10, 1),), None), opened.fetch(0, 1, 0, 10)), (False, None, None))
         self.assertEqual(self.said(), ["close"])
+
+
+class ManySamples(FastCase):
+    def test_from_which_one_on(self) -> None:
+        opened, samples = self.opened(), ((10, 1.5), "20:2.5", (30, None))
+        for first in range(3):
+            self.assertEqual(opened.update_many(samples, first, 5), (DONE, 3 - first))
+        self.assertEqual(self.said(), ["many 10:1.5 20:2.5 30:U", "many 20:2.5 30:U", "many 30:U"])
+        # From none on, with another number of values, and with what is no sample.
+        wrong: List[Tuple[Tuple[object, ...], int]] = [
+            (samples, -1), (samples, 3), ((*samples, (40, 1, 2)), 0), ((*samples, object()), 0)]
+        for given, first in wrong:
+            self.assertIsNone(opened.update_many(given, first, 5))
+        self.assertEqual(self.said(), [])
+
+    def test_memory(self) -> None:
+        """What is no sample leaves nothing behind of those before it."""
+        opened, samples, sizes = self.opened(), (*((10 + at, 1.5) for at in range(1_000)), object()), []  # type: Any, Any, List[int]
+        for _ in range(3):
+            for _ in range(300):
+                opened.update_many(samples, 0, 5)
+            with open("/proc/self/statm", encoding="ascii") as file:
+                sizes.append(int(file.read().split()[5]) * os.sysconf("SC_PAGE_SIZE"))
+        self.assertLess(sizes[2] - sizes[0], 2_000_000)
 
 
 class Fetches(FastCase):

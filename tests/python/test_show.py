@@ -116,6 +116,10 @@ class Files(ToolCase):
                          [*table[:1], "time                    g  c", "1970-01-01 00:00:20  2.25  5"])
         self.assertEqual(self.show("f.rrdi", "-s", "end-5s").splitlines()[2:], ["1970-01-01 00:00:30  -  2"])
         self.assertEqual(self.show("f.rrdi", "MAX").splitlines()[2:], ["1970-01-01 00:00:20  2.25  5"])
+        self.create("s.rrdi", "DS:g:GAUGE:9:U:U", "RRA:LAST:0:1:9", step=1)
+        self.rrdi("update", "s.rrdi", "1:1", "2:2", "3:3")
+        self.assertEqual(self.show("s.rrdi", "-s", "epoch+1s", "-e", "epoch+3s").splitlines()[2:],
+                         ["1970-01-01 00:00:02  2", "1970-01-01 00:00:03  3"])
         self.assertEqual(self.show("f.rrdi", "-a", "1"), self.show("f.rrdi", "MAX"))
 
     def test_other_forms(self) -> None:
@@ -127,6 +131,10 @@ class Files(ToolCase):
             "archive,function,seconds,time,g,c", "1,MAX,20,20,2.250000,5.000000"])
         self.assertIn('{source="c",file="f.rrdi",archive="1",function="MAX",seconds="20"} 5.000000 20\n',
                       self.show("f.rrdi", "MAX", "--openmetrics"))
+        # OpenMetrics is UTF-8, whatever the locale says.
+        os.link(self.folder / "f.rrdi", self.folder / "r\u00e4um.rrdi")
+        ran = self.tool("rrdi-show", "--openmetrics", "r\u00e4um.rrdi", env={"PYTHONIOENCODING": "ascii"})
+        self.assertIn('file="r\u00e4um.rrdi"', ran.out)
         self.assertEqual(json.loads(self.show("f.rrdi", "MAX", "--json")), {
             "archive": 1, "function": "MAX", "seconds": 20, "sources": ["g", "c"],
             "rows": [{"time": 20, "cells": [2.25, 5.0]}]})

@@ -393,7 +393,7 @@ class Record(ToolCase):
                               "Cached:        300 kB\nSReclaimable:   80 kB\nSwapTotal:     200 kB\nSwapFree:      150 kB\n")
         (self.folder / "net").mkdir()
         self.write("net/dev", "Inter-|   Receive |  Transmit\n face |bytes packets|bytes\n"
-                              "    lo: 7 1 0 0 0 0 0 0 7 1 0 0 0 0 0 0\n  eth0:5000 1 0 0 0 0 0 0 600 1 0 0 0 0 0 0\n")
+                              "    lo: 7 1 0 0 0 0 0 0 7 1 0 0 0 0 0 0\n  eth0:5000 1 0 0 0 0 0 0 600\n")
         words = ("--network", "eth0", "--memory", "--disk", ".", "m.rrdi")
         self.env["RRDI_PROC"] = str(self.folder)
         self.assertEqual(self.tool("rrdi-record", *words), Ran(0, "", ""))
