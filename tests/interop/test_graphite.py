@@ -26,13 +26,19 @@ from support.check import Check
 from support.graphite import Cluster, Point, apart, known
 from support.program import TOP, Answer, environment
 
-LEAST = {"values": 60_000, "points": 20_000, "late points": 200, "bad lines": 20, "damaged files": 5,
+LEAST = {"values": 60_000, "points": 20_000, "late points": 200, "bad lines": 20, "damaged files": 5, "requests of Grafana": 11,
          "files of collectd": 10}
 METRICS, POINTS, STEP = 500, 20_000, 10
 KINDS = ("load", "min", "max", "count", "last")
 # By the archive: how far back it is asked for, and the largest difference: half a millionth of each rounded step.
 ARCHIVES = {"10s": (3_600, 0.0, "app.*.*.*"), "1m": (30_000, 4e-6, "app.*.*.*"),
             "10m": (100_000, 4e-5, "app.*.*.{count,last}")}
+# What Grafana asks for: series of a panel, with the most points that it draws, and parts of names.
+SERIES = ((["aliasByNode(app.host00.*.*, 1, 2)"], 60), (["app.host01.m1.min", "scale(app.host01.m1.min, 2)"], 1_000),
+          (["sumSeries(app.host0*.m*.load)"], 100), (["summarize(app.host02.*.*, '1min', 'max', false)"], 500),
+          (["movingAverage(app.host03.m3.count, 5)", "perSecond(app.host03.m3.count)"], 180), (["app.{host04,host05}.m[0-4].*"], 7))
+PARTS = (("metrics/find", "*"), ("metrics/find", "app.*"), ("metrics/find", "app.host00.*"), ("metrics/find", "app.{host01,host02}.m?.*"),
+         ("metrics/expand", "app.host0[12].*.*"))
 LATE = 10  # slots by which points are late
 RETRY = 11  # seconds after which the front asks a node again that failed: REMOTE_RETRY_DELAY, and one more
 PATIENCE = 600  # seconds for a node that has to write or to show something
@@ -159,9 +165,26 @@ class Clusters:
         self.rrdi.run("start", "node2")
         self.wait(POINTS, "node1", "node2")
         time.sleep(RETRY)
+        self.try_grafana()
         self.rrdi.run("stop", "node1")
         self.compare("the other node is ended", POINTS)
         self.rrdi.run("start", "node1")
+
+    def try_grafana(self) -> None:
+        """Sends what Grafana's data source for Graphite sends: forms that ask for series, of at most so many points, and for
+        the parts of names. The front over rrdi answers as whisper does."""
+        times = [("from", self.begun - 1_800), ("until", self.begun)]
+        for targets, most in SERIES:
+            fields = [*(("target", target) for target in targets), *times, ("format", "json"), ("maxDataPoints", most)]
+            ours, theirs = (graphite.values_of(cluster.posted(name, "render", fields)) for cluster, name in self.pages())
+            self.check(known(ours) > 0 and not apart(ours, theirs, 1e-5), f"{targets} at most {most}: {apart(ours, theirs, 1e-5)[:5]}")
+        for page, query in PARTS:
+            ours, theirs = (cluster.posted(name, page, [("query", query), *times]) for cluster, name in self.pages())
+            self.check(ours and ours == theirs, f"{page} {query}: {str(ours)[:300]} and not {str(theirs)[:300]}")
+        self.check.count("requests of Grafana", len(SERIES) + len(PARTS))
+
+    def pages(self) -> list[tuple[Cluster, str]]:
+        return [(self.rrdi, "front"), (self.whisper, "front")]
 
     def try_bad_input(self) -> None:
         """Sends bad lines: nothing else is lost, and carbon's own metrics have the counts."""

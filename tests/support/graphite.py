@@ -15,7 +15,7 @@ import urllib.error
 import urllib.parse
 import urllib.request
 from pathlib import Path
-from typing import Dict, List, NamedTuple, Optional, Sequence
+from typing import Any, Dict, List, NamedTuple, Optional, Sequence
 
 from support.program import TOP
 
@@ -115,7 +115,13 @@ class Cluster:
                                         "noCache": "1"})
         with urllib.request.urlopen(f"http://127.0.0.1:{self.base(name) + 8}/render?{query}", timeout=PAGE) as answer:
             found = json.load(answer)
-        return {series["target"]: {when: value for value, when in series["datapoints"]} for series in found}
+        return values_of(found)
+
+    def posted(self, name: str, page: str, fields: Sequence[tuple[str, object]]) -> Any:
+        """What a graphite-web answers a form."""
+        data = urllib.parse.urlencode(fields).encode()
+        with urllib.request.urlopen(f"http://127.0.0.1:{self.base(name) + 8}/{page}", data, timeout=PAGE) as answer:
+            return json.load(answer)
 
     def status(self, name: str, page: str) -> int:
         """The status with which a graphite-web answers a page."""
@@ -135,6 +141,10 @@ class Cluster:
                 return True
             time.sleep(0.4)
         return False
+
+
+def values_of(found: List[Dict[str, Any]]) -> Dict[str, Values]:
+    return {series["target"]: {when: value for value, when in series["datapoints"]} for series in found}
 
 
 def received(source: socket.socket, length: int) -> bytes:
