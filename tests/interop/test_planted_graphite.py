@@ -41,9 +41,9 @@ class Clock:
         self.now += seconds
 
 
-FAULTS = ("not-written", "lost-points", "other-value", "lacks-metric", "other-counts", "lost-good", "none-rewritten",
-          "wrong-name", "lacks-damaged", "shows-damaged", "other-database", "no-page", "silent", "lost-later", "kept",
-          "fails")
+FAULTS = ("not-written", "lost-points", "other-value", "lacks-metric", "other-form", "other-parts", "other-counts",
+          "lost-good", "none-rewritten", "wrong-name", "lacks-damaged", "shows-damaged", "other-database",
+          "no-page", "silent", "lost-later", "kept", "fails")
 
 
 class Remembered(Cluster):
@@ -79,6 +79,13 @@ class Remembered(Cluster):
 
     def status(self, name: str, page: str) -> int:
         return 500 if self.fault == "no-page" else 200
+
+    def posted(self, name: str, page: str, fields: Any) -> Any:
+        given = dict(fields)
+        if page == "render":
+            value = 0.5 if self.fault == "other-form" else 1.5
+            return [{"target": given["target"], "datapoints": [[value, 10]]}]
+        return [] if self.fault == "other-parts" else [given["query"]]
 
     def is_damaged(self, metric: str) -> bool:
         file = self.folder / "node1/data" / (metric.replace(".", "/") + ".rrdi")

@@ -265,8 +265,8 @@ class Files(ToolCase):
     def test_bad_rules(self) -> None:
         self.write("rules", "** ** --step x DS:v:GAUGE:60:U:U RRA:AVERAGE:0.5:1:9\n")
         ran = self.tool("rrdi-feed", "--graphite", ".", "--rules", "rules")
-        self.assertEqual((ran.status, ran.err.count("\n")), (1, 1))
-        self.assertTrue(ran.err.startswith("rrdi-feed: rules: create --step x DS:v"), ran.err)
+        self.assertEqual((ran.status, ran.err.count("\n")), (1, 2))
+        self.assertRegex(ran.err, "^rrdi-feed: rules: create --step x DS:v.*\nrrdi-feed: it is 'x', not a whole number of seconds\n")
 
     def test_a_full_disk(self) -> None:
         """A disk that is full for the whole time: no file is left, and the samples are reported."""
