@@ -1,4 +1,5 @@
 -- Of a list of runs, those that committed lead to the last state alone.
+use Rattle.std.proofs.Common.{arith}
 use Rattle.std.proofs.Common.{◌≡◌, ◌∙◌, ◌⊎◌, ℕ, List, [], ◌∷◌, Option, Some, None, inl, inr, refl, sym, ap, subst}
 use Rattle.rrd_store.specs.Commits.{CommittedAlone, ComputesAll, HoldsOrNone, MayBeIn, MayBeOut, MayCommit, MayNotCommit, run_of, state_of}
 use Rattle.rrd_store.specs.Runs.{Computes, Damaged, Ended, Event, Filing, IsFileOf, Keeping, KeepsNone, Killed, Leads, LeadsBy, Run, Standing, StandsBy, fault_of}
@@ -37,10 +38,7 @@ module _ (t t1 : Standing) where
 
 run_goes : (t : Standing) (run : Run) (t1 : Standing) → Leads t run t1 → Goes t t1 run (fault_of run)
 run_goes (Keeping s) run t1 h = goes_by (Keeping s) t1 run h.0 h.1 (fault_of run) h.2
-run_goes (Damaged bytes) run t1 h = elim h [
-  | inl made ↦ goes_by (Damaged bytes) t1 run made.1 made.2 (fault_of run) made.3
-  | inr refused ↦ inl (subst MayNotCommit (sym refused.1.2) tt, ap state_of refused.2)
-]
+run_goes (Damaged bytes) run t1 h = grind arith
 
 -- the same of an event
 abbrev GoesBy : Standing → Event → Standing → Type 0
@@ -48,16 +46,7 @@ GoesBy t event t1 = (MayBeOut event × (state_of t1 ≡ state_of t)) ⊎ (MayBeI
 
 event_goes : (t : Standing) (event : Event) (t1 : Standing) → LeadsBy t event t1 → GoesBy t event t1
 event_goes t (Ended run) t1 h = run_goes t run t1 h
-event_goes t (Killed run) t1 h = elim h [
-  | inl same ↦ inl (tt, ap state_of same)
-  | inr other ↦ elim other [
-    | inl leads ↦ elim (run_goes t run t1 leads) [
-      | inl out ↦ inl (tt, out.1)
-      | inr goes ↦ inr (tt, goes.1)
-    ]
-    | inr spoilt ↦ inl (tt, spoilt_none t t1 spoilt.0 spoilt.1 spoilt.2)
-  ]
-]
+event_goes t (Killed run) t1 h = grind (arith, run_goes)
 
 -- ---- a list
 

@@ -6,5 +6,6 @@ pub use Rattle.rrd_store.proofs.Encodings.{taken_file, taken_is, has_none, befor
 pub use Rattle.rrd_store.proofs.FaultRuns.{fault_changes_nothing}
 pub use Rattle.rrd_store.proofs.Kept.{appends_nothing, executes_kept, keeps_same, stays_same}
 pub use Rattle.rrd_store.proofs.Left.{left_by}
-pub use Rattle.rrd_store.proofs.Sessions.{lines_read, ok_same, executes_same, kept_read}
+pub use Rattle.rrd_store.proofs.Sessions.{lines_read, ok_same, kept_read}
+pub use Rattle.rrd_tool.proofs.Moved.{executes_same}
 pub use Rattle.rrd_store.proofs.Standings.{run_computed, runs_computed}

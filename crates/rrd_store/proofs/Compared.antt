@@ -1,21 +1,10 @@
 -- Two files that are compared block by block, and the spans of the blocks that differ.
-use Rattle.std.proofs.Common.{◌≡◌, ℕ, ◌+◌, ◌<◌, ◌≤◌, ◌-◌, List, [], ◌∷◌, ◌++◌, Some, length, take, drop, slice_index, get_or, inl, inr, refl, sym, ◌∙◌, ap, arith}
+use Rattle.std.proofs.Common.{◌≡◌, ℕ, ◌+◌, ◌<◌, ◌≤◌, ◌-◌, List, length, take, drop, slice_index, get_or, inl, inr, sym, ◌∙◌, ap, arith}
 use Rattle.std.specs.List.{All}
 use Rattle.std.proofs.lemmas.Bool.{cases_lt}
 use Rattle.std.proofs.lemmas.List.{get_or-take, get_or-drop}
-use Rattle.std.proofs.lemmas.List.Elements.{All-pop}
 use Rattle.rrd_file.specs.Spans.{AgreesOutside, IsBeside}
 use Rattle.rrd_file.specs.declared.span.Span.{Span}
-
--- no byte is in an empty span
-pub beside_empty : (k : ℕ) (span : Span) → span.end ≤ span.start → IsBeside k span
-beside_empty k span empty = elim (cases_lt k span.start) as (λ _. IsBeside k span) [
-  | inl below ↦ inl below
-  | inr above ↦ inr (omega (arith, above, empty))
-]
-
-pub beside_pushed : (k : ℕ) (spans : List Span) (span : Span) → All (IsBeside k) (spans ++ span ∷ []) → All (IsBeside k) spans × IsBeside k span
-beside_pushed k spans span all = All-pop (IsBeside k) (spans ++ span ∷ []) spans (Some span) refl all
 
 -- the first `start` bytes were compared: those that differ are in the spans, or in the last one, which may yet grow
 pub record IsCompared (start : ℕ) (last : Span) (spans : List Span) (old new : List ℕ) : Type 0 where

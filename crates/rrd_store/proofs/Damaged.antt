@@ -1,5 +1,5 @@
 -- A file that was cut short breaks off within a piece, and so is no database.
-use Rattle.std.proofs.Common.{◌≡◌, ◌∙◌, ◌<◌, ◌≤◌, ◌++◌, ◌∷◌, [], ℕ, List, Result, Ok, Err, sym, ap, ap₂, refl, subst, arith, inl, inr, length, drop, get_or, append_assoc, append-nil}
+use Rattle.std.proofs.Common.{◌≡◌, ◌∙◌, ◌<◌, ◌≤◌, ◌++◌, ◌∷◌, [], ℕ, List, Result, Ok, Err, sym, ap, refl, subst, arith, inl, inr, length, drop, append_assoc, append-nil}
 use Rattle.std.proofs.lemmas.Bool.{cases_lt}
 use Rattle.std.proofs.lemmas.List.Concat.{flat_map-cons}
 use Rattle.std.specs.List.{flat_map}
@@ -40,9 +40,7 @@ past [] ys front next rest e le = (front, refl, e)
 past (x ∷ xs) ys [] next rest e le = absurd (omega arith)
 past (x ∷ xs) ys (b ∷ front) next rest e le =
     let short : length xs ≤ length front = omega (arith, le) in
-    let more = past xs ys front next rest (ap (drop 1) e) short in
-    let same : b ≡ x = ap (λ (l : List ℕ). get_or l 0 0) (sym e) in
-    (more.0, ap₂ (λ c (l : List ℕ). c ∷ l) same more.1, more.2)
+    grind (arith, past xs ys front next rest (ap (drop 1) e) short)
 
 module _ (laws : Layouts) where
   -- pieces one after another, and a front of their bytes

@@ -1,15 +1,13 @@
 -- The bytes of a file that stay in memory are those of the database before a command.
-use Rattle.std.proofs.Common.{◌≡◌, ◌∙◌, ℕ, Bool, true, false, List, Option, Some, None, IfErr, IfOk, IfSome, Result, Ok, Err, Bor, option_map, refl, sym, ap, subst}
+use Rattle.std.proofs.Common.{arith}
+use Rattle.std.proofs.Common.{◌≡◌, ◌∙◌, ℕ, false, List, [], Option, Some, None, IfErr, IfOk, IfSome, Result, Ok, Err, Bor, refl, sym, ap, subst}
 use Rattle.std.specs.Option.{option_copied}
 use Rattle.std.specs.Result.{result_err}
-use Rattle.rrd_spec.specs.Commands.{Updating}
-use Rattle.rrd_spec.specs.Commands.Verdict.{verdict}
-use Rattle.rrd_spec.specs.Journal.Survivors.{Stored, changed}
+use Rattle.rrd_spec.specs.Journal.Survivors.{Stored}
 use Rattle.rrd_spec.specs.Laws.Updates.{UpdateIsLater}
 use Rattle.rrd_spec.specs.History.{Content}
-use Rattle.rrd_spec.specs.declared.refusal.Refusal.{Refusal}
 use Rattle.rrd_spec.specs.declared.requests.update.Update.{Update}
-use Rattle.rrd_file.specs.Encoded.{Encodes, Precedes, bytes_in}
+use Rattle.rrd_file.specs.Encoded.{Encodes, bytes_in}
 use Rattle.rrd_file.specs.Faults.{IsFile, IsValidStored}
 use Rattle.rrd_file.specs.Laws.{EncodedIsLayout}
 use Rattle.rrd_file.specs.Layout.{layout}
@@ -17,14 +15,11 @@ use Rattle.rrd_file.specs.Spans.{AgreesOutside}
 use Rattle.rrd_file.specs.declared.encoded.Encoded.{Encoded}
 use Rattle.rrd_file.specs.declared.span.Span.{Span}
 use Rattle.rrd_tool.specs.Commands.{effect}
-use Rattle.rrd_tool.specs.Effects.{Effect, Changes, stored_next, text_on, verdict_on}
-use Rattle.rrd_tool.specs.Execution.{Comes, Executes, database_left, fault_left, has_changed}
+use Rattle.rrd_tool.specs.Execution.{Executes, database_left, has_changed}
 use Rattle.rrd_tool.specs.declared.commands.Command.{Command}
 use Rattle.rrd_tool.specs.declared.execution.Outcome.{Outcome}
 use Rattle.rrd_tool.specs.declared.execution.Outcome.TheVariants.{Printed, Changed, Refused as WasRefused}
-use Rattle.rrd_tool.specs.declared.faults.Fault.{Fault}
-use Rattle.rrd_tool.specs.declared.faults.Fault.TheVariants.{Line, NoDatabase, Output, Refused}
-use Rattle.rrd_store.specs.Encoding.{AreOf, IsBefore, IsOf, IsUpdate, encoded_by, encoded_in}
+use Rattle.rrd_store.specs.Encoding.{AreOf, IsBefore, IsBeforeBatch, IsOf, encoded_by, encoded_in}
 use Rattle.rrd_store.specs.Sessions.{HasBytes, first_there, kept_by, kept_unless}
 use Rattle.rrd_store.specs.Single.{Ends}
 use Rattle.rrd_store.specs.Storages.{Becomes, Bytes, DiffersWithin, Held, IsAnyFile, Leaves, Missing, Stays}
@@ -33,53 +28,35 @@ use Rattle.rrd_store.specs.declared.encoding.Reach.{Reach}
 use Rattle.rrd_store.specs.declared.encoding.Reach.TheVariants.{NewestRows}
 use Rattle.rrd_store.specs.declared.faults.TaskFault.{TaskFault}
 use Rattle.rrd_store.specs.declared.faults.TaskFault.TheVariants as task
-use Rattle.rrd_store.proofs.Sessions.{executes_same, stays_same}
+use Rattle.rrd_tool.proofs.Moved.{accepted, executes_same, not_refused}
+use Rattle.rrd_tool.specs.Batch.Moved.{IsChangedBy, IsUpdate}
+use Rattle.rrd_tool.specs.declared.changed_by.ChangedBy.{ChangedBy}
+use Rattle.rrd_tool.specs.declared.changed_by.ChangedBy.TheVariants.{Nothing, Updates, Anything}
+use Rattle.rrd_store.proofs.Sessions.{stays_same}
 
 some_same : {A : Type 0} (x y : A) → Some x ≡ Some y → x ≡ y
 some_same x y e = cc
 
--- a command that changed the database was accepted
-moved : (verdict : Option Fault) (text : List ℕ) (effect : Effect) (kept left : Option Stored) (a b : Option (List ℕ)) (changed : Bool) (fault : Option Fault)
-    → Comes verdict text effect (left ≡ stored_next kept effect) (left ≡ kept) a b changed fault → changed ≡ true → (verdict ≡ None) × (left ≡ stored_next kept effect)
-moved verdict text effect kept left a b changed None p e = (p.0, p.1)
-moved verdict text effect kept left a b changed (Some Output) p e = (p.0, p.1)
-moved verdict text effect kept left a b changed (Some (Line fault)) p e = absurd (let no : false ≡ true = sym p.2 ∙ e in cc)
-moved verdict text effect kept left a b changed (Some (Refused fault)) p e = absurd (let no : false ≡ true = sym p.2 ∙ e in cc)
-moved verdict text effect kept left a b changed (Some NoDatabase) p e = absurd (let no : false ≡ true = sym p.2 ∙ e in cc)
-
-not_refused : (verdict : Option Refusal) → ◌≡◌ {A = Option Fault} (option_map Refused verdict) None → verdict ≡ None
-not_refused None h = refl
-not_refused (Some refusal) h = absurd cc
-
 pub is_before : (e : Encoded) (reach : Reach) (found : Option Stored) (command : Command) (a b : Option (List ℕ)) (outcome : Outcome)
     → Executes found command a b outcome → IsOf e found → ((d : Stored) → found ≡ Some d → IsValidStored d) → (reach ≡ NewestRows → IsUpdate (effect command))
     → ((base : Content) (update : Update) → UpdateIsLater base update) → IsBefore e reach outcome
-is_before e reach found command a b outcome executed of valid reaches law = record {
-  same = λ unchanged. subst (IsOf e) (sym (executes_same found command a b outcome executed unchanged)) of;
-  updated = λ rows changed_it now left.
-      let update = (reaches rows).0 in
-      let effect_is : effect command ≡ Changes (Updating update) = (reaches rows).1 in
-      let here = of.here in
-      let done = moved (verdict_on found (effect command)) (text_on found (effect command)) (effect command) found (database_left outcome) a b (has_changed outcome) (fault_left outcome) executed changed_it in
-      let accepted : verdict_on (Some here) (Changes (Updating update)) ≡ None = (λ i. verdict_on (sym of.is i) (sym effect_is i)) ∙ done.0 in
-      let next : Some now ≡ Some (changed here (Updating update)) = sym left ∙ done.1 ∙ (λ i. stored_next (of.is i) (effect_is i)) in
-      let is : now ≡ changed here (Updating update) = some_same now (changed here (Updating update)) next in
-      let here_valid = valid here of.is in
-      let verdict_is : verdict here.content (Updating update) ≡ None = not_refused (verdict here.content (Updating update)) accepted in
-      subst (Precedes e) (sym is) (record {
-        before = here;
-        encodes = of.encodes;
-        valid = here_valid.content_is;
-        later = law here.content update here_valid.content_is verdict_is;
-      });
-}
+is_before e reach found command a b outcome executed of valid reaches law = grind (arith, executes_same, accepted, some_same, not_refused)
+
+-- the bytes from before a batch
+before_batch : (e : Encoded) (by : ChangedBy) (found left : Option Stored) → IsOf e found → IsChangedBy by found left → IsBeforeBatch e by left
+before_batch e Nothing found left of is = grind arith
+before_batch e Updates found left of is = grind arith
+before_batch e Anything found left of is = grind arith
+
+pub before_lines : (encoded : Option Encoded) (by : ChangedBy) (found left : Option Stored) → IfSome encoded (λ e. IsOf e found) → IsChangedBy by found left
+    → IfSome encoded (λ e. IsBeforeBatch e by left)
+before_lines None by found left of is = tt
+before_lines (Some e) by found left of is = before_batch e by found left of is
 
 -- the bytes of the database that a command left are those of the database that stays in memory
 first_is : (left other : Option Stored) (e : Encoded) (d : Stored) → IsOf e left → first_there left other ≡ Some d → Encodes e d
 first_is None other e d of kept = absurd (let no = of.is in cc)
-first_is (Some x) other e d of kept =
-    let same : of.here ≡ d = some_same of.here d (sym of.is ∙ kept) in
-    subst (Encodes e) same of.encodes
+first_is (Some x) other e d of kept = grind arith
 
 pub kept_is : (other : Option Stored) (outcome : Outcome) (end : Result (Unit {0}) TaskFault) (e : Encoded) (d : Stored) → IsOf e (database_left outcome) → kept_by other outcome end ≡ Some d → Encodes e d
 kept_is other outcome (Ok x) e d of kept = first_is (database_left outcome) other e d of kept
@@ -97,10 +74,6 @@ pub before_of : (encoded : Option Encoded) (reach : Reach) (found : Option Store
 before_of None reach found command a b outcome executed of valid reaches law = tt
 before_of (Some e) reach found command a b outcome executed of valid reaches law =
     is_before e reach found command a b outcome executed of (λ d is. subst (λ (k : Option Stored). IfSome k IsValidStored) is valid) reaches law
-
-pub kept_are : (other : Option Stored) (outcome : Outcome) (end : Result (Unit {0}) TaskFault) (encoded : Option Encoded) (kept : Option Stored) → IfSome encoded (λ e. IsOf e (database_left outcome)) → kept ≡ kept_by other outcome end → AreOf encoded kept
-kept_are other outcome end encoded kept of is e d some_e some_d =
-    kept_is other outcome end e d (subst (λ (o : Option Encoded). IfSome o (λ x. IsOf x (database_left outcome))) some_e of) (sym is ∙ some_d)
 
 pub taken_is : (encoded taken : Option Encoded) (database : Option Stored) (d : Stored) → taken ≡ encoded → database ≡ Some d → AreOf encoded database → IfSome taken (λ e. IsOf e database)
 taken_is None taken database d same is of = subst (λ (o : Option Encoded). IfSome o (λ e. IsOf e database)) (sym same) tt
@@ -126,9 +99,11 @@ pub may_differ : (held : Option Held) (before : Encoded) (spans : List Span) (by
     → HasBytes held (Some before) → IsAnyFile (bytes_in before) → AgreesOutside spans (bytes_in before) bytes → DiffersWithin spans held bytes
 may_differ None before spans bytes has file agrees = tt
 may_differ (Some Missing) before spans bytes has file agrees = absurd cc
-may_differ (Some (Bytes old)) before spans bytes has file agrees =
-    let same : bytes_in before ≡ old = cc in
-    (subst IsAnyFile same file, subst (λ (l : List ℕ). AgreesOutside spans l bytes) same agrees)
+may_differ (Some (Bytes old)) before spans bytes has file agrees = grind arith
+
+-- what the storage represents is the same
+pub may_stay : (held : Option Held) (before : Encoded) (bytes : List ℕ) → HasBytes held (Some before) → IsAnyFile (bytes_in before) → bytes ≡ bytes_in before → DiffersWithin [] held bytes
+may_stay held before bytes has file same = may_differ held before [] bytes has file (subst (AgreesOutside [] (bytes_in before)) (sym same) (record { each = λ k inside none. (inside, refl) }))
 
 -- the same of bytes that there may be
 pub may_lent : (encoding : Option Encoding) (lent : Option (Bor Encoding)) (P : Encoding → Type 0) → option_copied lent ≡ encoding → IfSome encoding P → IfSome lent (λ e. P e.now)
@@ -183,23 +158,9 @@ module _ (mid new : Option Held) (unknown : mid ≡ None → new ≡ None) where
 
 -- ---- the bytes that stay in memory are those of the database that stays
 
-of_in : (encoding : Option Encoding) (P : Encoded → Type 0) → IfSome encoding (λ e. P e.encoded) → IfSome (encoded_in encoding) P
-of_in None P of = tt
-of_in (Some e) P of = of
-
-of_by : (encoding : Option Encoding) (end : Result (Unit {0}) TaskFault) (P : Encoded → Type 0) → IfSome encoding (λ e. P e.encoded) → IfSome (encoded_by encoding end) P
-of_by encoding (Ok x) P of = of_in encoding P of
-of_by encoding (Err task.CannotWrite) P of = tt
-of_by encoding (Err task.CannotOpen) P of = of_in encoding P of
-of_by encoding (Err (task.Command fault)) P of = of_in encoding P of
-of_by encoding (Err (task.Stream fault)) P of = of_in encoding P of
-of_by encoding (Err (task.File fault)) P of = of_in encoding P of
-
 pub both_kept : (other : Option Stored) (outcome : Outcome) (end : Result (Unit {0}) TaskFault) (encoding : Option Encoding) (encoded : Option Encoded) (kept : Option Stored)
     → IfSome encoding (λ e. IsOf e.encoded (database_left outcome)) → encoded ≡ encoded_by encoding end → kept ≡ kept_by other outcome end → AreOf encoded kept
-both_kept other outcome end encoding encoded kept of encoded_is kept_is =
-    kept_are other outcome end encoded kept
-    (subst (λ (o : Option Encoded). IfSome o (λ e. IsOf e (database_left outcome))) (sym encoded_is) (of_by encoding end (λ e. IsOf e (database_left outcome)) of)) kept_is
+both_kept other outcome end encoding encoded kept of encoded_is kept_is = grind arith
 
 -- ---- after a batch
 
@@ -210,8 +171,3 @@ written_are (Ok x) fault encoded last kept fault_is ok err of kept_is =
     let kept_last : kept ≡ last = kept_is ∙ ap (λ (f : Option TaskFault). kept_unless f last) fault_is in
     λ e d some_e some_d. of e d (sym ok ∙ some_e) (sym kept_last ∙ some_d)
 written_are (Err f) fault encoded last kept fault_is ok err of kept_is = λ e d some_e some_d. absurd (let no = sym err ∙ some_e in cc)
-
-pub written_bytes : (stored : Result (Option Encoded) TaskFault) (encoded : Option Encoded) (held : Option Held)
-    → IfOk stored (λ (e : Option Encoded). encoded ≡ e) → IfErr stored (λ (f : TaskFault). encoded ≡ None) → IfOk stored (λ (e : Option Encoded). HasBytes held e) → HasBytes held encoded
-written_bytes (Ok x) encoded held ok err has = subst (HasBytes held) (sym ok) has
-written_bytes (Err f) encoded held ok err has = subst (HasBytes held) (sym err) (has_none held)

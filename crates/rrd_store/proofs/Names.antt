@@ -57,7 +57,8 @@ pub use Rattle.std.specs.Option.{option_copied}
 pub use Rattle.std.specs.Result.{result_err}
 pub use Rattle.std.specs.String.{string_bytes}
 pub use Rattle.rrd_store.specs.Batch.{IsFileBatch, written, RunsLines}
-pub use Rattle.rrd_store.specs.Encoding.{AreOf, IsBefore, IsOf, IsUpdate, encoded_by, encoded_in, MayReplace}
+pub use Rattle.rrd_store.specs.Encoding.{AreOf, IsBefore, IsOf, encoded_by, encoded_in, MayReplace}
+pub use Rattle.rrd_tool.specs.Batch.Moved.{IsUpdate}
 pub use Rattle.rrd_store.specs.Ending.{report_if}
 pub use Rattle.rrd_store.specs.Faults.{report_of, is_usage_error, task_fault_text}
 pub use Rattle.rrd_store.specs.Runs.{Answers, AnswersRead, Filing, Holds, IsDone, MayStop, ReadsFile, as_written, database_in, kept_next, state_in, DamagedFileStays, IsOfBreak, IsOfBytes, Run, ByBatch, ByCommand, ByRequest, FaultChangesNothing, fault_of_batch, AnswersLines, BatchRun, CommandRun, Computes, IsFirst, RequestRun, fault_of, first_of, begun, IsUnread, Did, IsCreate, OutputStays, Damaged, Ended, Event, HappenedAll, IsFileOf, Keeping, KeepsNone, Killed, Leads, LeadsAll, LeadsKilled, RunIsComputed, RunsFollowSpecification, Standing, StandsBy, WasKilled, IsValidState}

@@ -1,5 +1,5 @@
 -- Over bytes that are no database a create goes on as over no file, and each other run is refused.
-use Rattle.rrd_store.proofs.Names.{◌≡◌, ◌⊎◌, ◌∙◌, ℕ, List, Option, Some, None, Result, Ok, Err, sym, ap, refl, subst, inl, inr, Keeps, result_err, CreateSpec, Stored, effect, IsReading, reading, Changes, Effect, Makes, Reverts, Shows, Unread, Command, Line, LineFault, IsFileBatch, Bytes, Finds, Held, IsNoFile, ByBatch, ByCommand, ByRequest, Did, IsCreate, IsOfBytes, OutputStays, Run, fault_of, fault_of_batch, FindsOne, RunsAs, RunsFrom, StartsBy, FileBatchEnd, TaskFault}
+use Rattle.rrd_store.proofs.Names.{arith, ◌≡◌, ◌⊎◌, ◌∙◌, ℕ, List, Option, Some, None, Result, Ok, Err, sym, ap, refl, subst, inl, inr, Keeps, result_err, CreateSpec, Stored, effect, IsReading, reading, Changes, Effect, Makes, Reverts, Shows, Unread, Command, Line, LineFault, IsFileBatch, Bytes, Finds, Held, IsNoFile, ByBatch, ByCommand, ByRequest, Did, IsCreate, IsOfBytes, OutputStays, Run, fault_of, fault_of_batch, FindsOne, RunsAs, RunsFrom, StartsBy, FileBatchEnd, TaskFault}
 use Rattle.rrd_store.proofs.CommandRuns.{Answered, Before, StartsIn, before_made, started, unread_words}
 use Rattle.rrd_store.proofs.FileRuns.{LeadsIn}
 use Rattle.rrd_store.proofs.ValidStates.{Staying}
@@ -82,15 +82,9 @@ made_or_not : (words : List (List ℕ)) (now : ℕ) (command : Command) → read
     → ((c : Command) × (reading words now ≡ Some (Ok c)) × (spec : CreateSpec) × (effect c ≡ Makes spec))
     ⊎ ((c : Command) × (reading words now ≡ Some (Ok c)) × (spec : CreateSpec) × (effect c ≡ Makes spec) → ⊥)
 made_or_not words now command is (Makes spec) e = inl (command, is, spec, e)
-made_or_not words now command is (Changes change) e =
-    inr (λ made. let same : made.0 ≡ command = ap (command_or command) (sym made.1 ∙ is) in
-    let bad : Makes made.2 ≡ Changes change = sym made.3 ∙ ap effect same ∙ e in cc)
-made_or_not words now command is Reverts e =
-    inr (λ made. let same : made.0 ≡ command = ap (command_or command) (sym made.1 ∙ is) in
-    let bad : Makes made.2 ≡ Reverts = sym made.3 ∙ ap effect same ∙ e in cc)
-made_or_not words now command is (Shows show) e =
-    inr (λ made. let same : made.0 ≡ command = ap (command_or command) (sym made.1 ∙ is) in
-    let bad : Makes made.2 ≡ Shows show = sym made.3 ∙ ap effect same ∙ e in cc)
+made_or_not words now command is (Changes change) e = grind arith
+made_or_not words now command is Reverts e = grind arith
+made_or_not words now command is (Shows show) e = grind arith
 
 words_make : (words : List (List ℕ)) (now : ℕ) (read : Option (Result Command Unread)) → reading words now ≡ read
     → ((c : Command) × (reading words now ≡ Some (Ok c)) × (spec : CreateSpec) × (effect c ≡ Makes spec))
@@ -138,8 +132,7 @@ create_reads stays old new words now c0 c1 end made spec is makes (Ok command) r
     (came.0, (Ok command, r, came.1), came.2)
 
 pub create_leads : Staying → (old new : Held) (run : Run) → IsCreate run → Did old run new → LeadsIn old new None run
-create_leads stays old new (ByCommand r) is h =
-    create_reads stays old new r.words r.now r.out_before r.out_after r.end is.0 is.2 is.1 is.3 h.0 h.1 h.2
+create_leads stays old new (ByCommand r) is h = grind (arith, create_reads stays old new r.words r.now r.out_before r.out_after r.end is.0 is.2 is.1 is.3 h.0 h.1 h.2)
 create_leads stays old new (ByRequest r) is h =
     create_answers stays old new r.out_before r.out_after r.end r.command is.0 is.1 h.0 h.1 h.2
 create_leads stays old new (ByBatch r) is h = absurd is

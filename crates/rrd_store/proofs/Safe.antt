@@ -1,5 +1,6 @@
 -- What is said of a run that changed the database is also said of it where the change is read whole.
-use Rattle.std.proofs.Common.{◌≡◌, ◌∙◌, Bool, true, false, IsOk, IsTrue, List, ℕ, Option, Some, None, Result, Ok, Err, inl, inr, refl, sym, subst}
+use Rattle.std.proofs.Common.{arith}
+use Rattle.std.proofs.Common.{◌≡◌, Bool, true, false, IsOk, IsTrue, List, ℕ, Option, Some, None, Result, Ok, Err, refl, sym}
 use Rattle.std.specs.Result.{result_err}
 use Rattle.std.proofs.lemmas.Bool.{false≢true, true≢false}
 use Rattle.rrd_file.specs.Layout.{layout}
@@ -7,24 +8,11 @@ use Rattle.rrd_spec.specs.Journal.Survivors.{Stored}
 use Rattle.rrd_tool.specs.Execution.{database_left, has_changed}
 use Rattle.rrd_tool.specs.declared.execution.Outcome.{Outcome}
 use Rattle.rrd_tool.specs.declared.execution.Outcome.TheVariants.{Printed, Changed, Refused}
-use Rattle.rrd_store.specs.Batch.{HoldsOfLeft, RunsLines, written}
+use Rattle.rrd_store.specs.Batch.{HoldsOfLeft, RunsLines}
 use Rattle.rrd_store.specs.Single.{Ends}
-use Rattle.rrd_store.specs.Storages.{Becomes, Bytes, Held, Leaves, Stays}
+use Rattle.rrd_store.specs.Storages.{Bytes, Held, Leaves, Stays}
 use Rattle.rrd_store.specs.declared.stored_batch.FileBatchEnd.{FileBatchEnd}
 use Rattle.rrd_store.specs.declared.faults.TaskFault.{TaskFault}
-use Rattle.rrd_store.specs.declared.faults.TaskFault.TheVariants as task
-
-becomes_it : (old : Option Held) (bytes : List ℕ) → Becomes old (Some (Bytes bytes)) bytes
-becomes_it None bytes = tt
-becomes_it (Some held) bytes = refl
-
-pub whole_left : (database : Stored) (old new : Option Held) (end : Result (Unit {0}) TaskFault) → Leaves (Some database) old new end → Leaves (Some database) old (Some (Bytes (layout database))) end
-whole_left database old new (Ok x) is = becomes_it old (layout database)
-whole_left database old new (Err task.CannotWrite) is = inr (inl (becomes_it old (layout database)))
-whole_left database old new (Err task.CannotOpen) is = absurd is
-whole_left database old new (Err (task.File fault)) is = absurd is
-whole_left database old new (Err (task.Command fault)) is = absurd is
-whole_left database old new (Err (task.Stream fault)) is = absurd is
 
 some_is : (x y : Stored) → Some x ≡ Some y → x ≡ y
 some_is x y e = cc
@@ -32,8 +20,7 @@ some_is x y e = cc
 pub whole_ends : (outcome : Outcome) (text : List ℕ) (old new : Option Held) (end : Result (Unit {0}) TaskFault) (database : Stored)
     → has_changed outcome ≡ true → database_left outcome ≡ Some database → Ends outcome text old new end → Ends outcome text old (Some (Bytes (layout database))) end
 whole_ends (Printed d) text old new end database changed left ends = absurd (true≢false (sym changed))
-whole_ends (Changed d) text old new end database changed left ends =
-    subst (λ (k : Stored). Leaves (Some d) old (Some (Bytes (layout k))) end) (some_is d database left) (whole_left d old new end ends)
+whole_ends (Changed d) text old new end database changed left ends = grind arith
 whole_ends (Refused d fault) text old new end database changed left ends = absurd (true≢false (sym changed))
 
 -- a command that changed nothing left what was there
@@ -46,20 +33,12 @@ printed_stays (Refused d fault) text old new (Ok x) ok same ends = absurd (let n
 -- the same of lines
 pub whole_lines : (now numbered : ℕ) (found : Option Stored) (old new : Option Held) (r0 r1 c0 c1 : Option (List ℕ)) (end : FileBatchEnd) (database : Stored)
     → (lines : RunsLines now numbered found old new r0 r1 c0 c1 end) → lines.last ≡ Some database → RunsLines now numbered found old (Some (Bytes (layout database))) r0 r1 c0 c1 end
-whole_lines now numbered found old new r0 r1 c0 c1 end database lines last =
-    let fault = written end.unstored in
-    let left : Leaves (Some database) old new fault = subst (λ (k : Option Stored). Leaves k old new fault) last lines.left in
-    record {
-      last = lines.last;
-      runs = lines.runs;
-      left = subst (λ (k : Option Stored). Leaves k old (Some (Bytes (layout database))) fault) (sym last) (whole_left database old new fault left);
-    }
+whole_lines now numbered found old new r0 r1 c0 c1 end database lines last = grind arith
 
 pub left_holds : (now numbered : ℕ) (found left : Option Stored) (old new : Option Held) (r0 r1 c0 c1 : Option (List ℕ)) (end : FileBatchEnd) (Q : List ℕ → Bool)
     → (lines : RunsLines now numbered found old new r0 r1 c0 c1 end) → lines.last ≡ left
     → ((b : List ℕ) → RunsLines now numbered found old (Some (Bytes b)) r0 r1 c0 c1 end → IsTrue (Q b)) → HoldsOfLeft Q left
-left_holds now numbered found left old new r0 r1 c0 c1 end Q lines same holds = λ database is.
-    holds (layout database) (whole_lines now numbered found old new r0 r1 c0 c1 end database lines (same ∙ is))
+left_holds now numbered found left old new r0 r1 c0 c1 end Q lines same holds = grind arith
 
 -- no database was left, and nothing was written
 pub none_left : {T : Type 0} (left : Option Stored) (old new : Option Held) (end : Result T TaskFault) → IsOk end → left ≡ None → Leaves left old new end → Stays old new

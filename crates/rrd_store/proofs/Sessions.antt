@@ -1,5 +1,5 @@
 -- The database that stays in memory is the one that reading the storage gives.
-use Rattle.rrd_store.proofs.Names.{◌≡◌, ◌∙◌, ℕ, Bool, false, List, Option, Some, None, Result, Ok, Err, IfSome, refl, sym, ap, subst, Stored, newest, IsValidStored, LayoutIsItsFile, layout, effect, Effect, Makes, Changes, Reverts, Shows, is_change, stored_next, text_on, verdict_on, Comes, Executes, database_left, fault_left, has_changed, Command, Outcome, Printed, Changed, Fault, Line, NoDatabase, Output, Refused, written, IsRead, kept_by, kept_unless, Ends, Becomes, Held, Leaves, Stays, TaskFault}
+use Rattle.rrd_store.proofs.Names.{arith, ◌≡◌, ℕ, false, List, Option, Some, None, Result, Ok, Err, IfSome, refl, sym, ap, subst, Stored, newest, IsValidStored, LayoutIsItsFile, layout, database_left, has_changed, Outcome, Printed, Changed, written, IsRead, kept_by, kept_unless, Ends, Becomes, Held, Leaves, Stays, TaskFault}
 use Rattle.rrd_tool.specs.declared.execution.Outcome.TheVariants.{Refused as WasRefused}
 use Rattle.rrd_store.specs.declared.faults.TaskFault.TheVariants as task
 
@@ -57,34 +57,12 @@ module _ (old new : Option Held) (other : Option Stored) (unknown : old ≡ None
   kept_read (Changed d) text end ends same valid file = changed_kept d end ends (valid d refl) (file d)
   kept_read (WasRefused database fault) text end ends same valid file = same_kept database (WasRefused database fault) end refl ends.1 (same refl)
 
--- ---- a command that changed nothing leaves the database that it ran on
-
-shows_same : (kept : Option Stored) (effect : Effect) → is_change effect ≡ false → stored_next kept effect ≡ kept
-shows_same kept (Makes spec) h = absurd cc
-shows_same kept (Changes command) h = absurd cc
-shows_same kept Reverts h = absurd cc
-shows_same kept (Shows show) h = refl
-
-left_same : (verdict : Option Fault) (text : List ℕ) (effect : Effect) (kept left : Option Stored) (a b : Option (List ℕ)) (changed : Bool) (fault : Option Fault)
-    → Comes verdict text effect (left ≡ stored_next kept effect) (left ≡ kept) a b changed fault → changed ≡ false → left ≡ kept
-left_same verdict text effect kept left a b changed None p e = p.1 ∙ shows_same kept effect (sym p.2 ∙ e)
-left_same verdict text effect kept left a b changed (Some Output) p e = p.1 ∙ shows_same kept effect (sym p.2 ∙ e)
-left_same verdict text effect kept left a b changed (Some (Line fault)) p e = p.1
-left_same verdict text effect kept left a b changed (Some (Refused fault)) p e = p.1
-left_same verdict text effect kept left a b changed (Some NoDatabase) p e = p.1
-
-pub executes_same : (kept : Option Stored) (command : Command) (a b : Option (List ℕ)) (outcome : Outcome)
-    → Executes kept command a b outcome → has_changed outcome ≡ false → database_left outcome ≡ kept
-executes_same kept command a b outcome p e =
-    left_same (verdict_on kept (effect command)) (text_on kept (effect command)) (effect command) kept (database_left outcome) a b (has_changed outcome) (fault_left outcome) p e
-
 -- ---- a batch
 
 pub lines_read : (old new : Option Held) (last kept : Option Stored) (unstored : Option TaskFault) → (old ≡ None → new ≡ None) → Leaves last old new (written unstored)
     → kept ≡ kept_unless unstored last → IfSome kept IsValidStored → ((d : Stored) → LayoutIsItsFile newest d) → IsRead new kept
 lines_read old new None kept None unknown left is valid file = rw is tt
-lines_read old new (Some d) kept None unknown left is valid file =
-    rw is (written_read old new d unknown left (subst (λ (k : Option Stored). IfSome k IsValidStored) is valid) (file d))
+lines_read old new (Some d) kept None unknown left is valid file = grind arith
 lines_read old new last kept (Some fault) unknown left is valid file = rw is tt
 
 -- ---- results

@@ -3,10 +3,9 @@ use Rattle.std.specs.Prelude.{◌≡◌, ℕ, List, Option, Some, None, Result, 
 use Rattle.rrd_file.specs.Encoded.{Encodes, Precedes, bytes_in}
 use Rattle.rrd_file.specs.declared.encoded.Encoded.{Encoded}
 use Rattle.rrd_spec.specs.Journal.Survivors.{Stored}
-use Rattle.rrd_spec.specs.Commands.{Updating}
-use Rattle.rrd_spec.specs.declared.requests.update.Update.{Update}
-use Rattle.rrd_tool.specs.Effects.{Effect, Changes}
 use Rattle.rrd_tool.specs.Execution.{database_left, has_changed}
+use Rattle.rrd_tool.specs.declared.changed_by.ChangedBy.{ChangedBy}
+use Rattle.rrd_tool.specs.declared.changed_by.ChangedBy.TheVariants.{Nothing, Updates}
 use Rattle.rrd_tool.specs.declared.execution.Outcome.{Outcome}
 use Rattle.rrd_store.specs.Storages.{DiffersWithin, Held}
 use Rattle.rrd_store.specs.declared.encoding.Changed.{Changed}
@@ -16,9 +15,6 @@ use Rattle.rrd_store.specs.declared.encoding.Reach.{Reach}
 use Rattle.rrd_store.specs.declared.encoding.Reach.TheVariants.{NewestRows}
 use Rattle.rrd_store.specs.declared.faults.TaskFault.{TaskFault}
 use Rattle.rrd_store.specs.declared.faults.TaskFault.TheVariants as task
-
-abbrev pub IsUpdate : Effect → Type 0
-IsUpdate effect = (update : Update) × (effect ≡ Changes (Updating update))
 
 -- the bytes are the file of the database, if there are both
 abbrev pub AreOf : Option Encoded → Option Stored → Type 0
@@ -37,6 +33,11 @@ pub record IsBefore (e : Encoded) (reach : Reach) (outcome : Outcome) : Type 0 w
   pub updated :
       reach ≡ NewestRows → has_changed outcome ≡ true → (now : Stored) → database_left outcome ≡ Some now
       → Precedes e now
+
+-- the bytes are the file of the database from before a batch
+pub record IsBeforeBatch (e : Encoded) (by : ChangedBy) (left : Option Stored) : Type 0 where
+  pub same : by ≡ Nothing → IsOf e left
+  pub updated : by ≡ Updates → (now : Stored) → left ≡ Some now → Precedes e now
 
 -- the bytes may be written over these contents, where they say that they differ
 abbrev pub DiffersBy : Changed → Option Held → List ℕ → Type 0

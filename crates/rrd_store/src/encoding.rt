@@ -3,9 +3,10 @@ ghost use Rattle.std.specs.Prelude.{◌≡◌, IfSome, IsTrue, Option, Some, Non
 ghost use Rattle.rrd_file.specs.Encoded.{Encodes, Precedes, bytes_in};
 ghost use Rattle.rrd_file.specs.Laws.{IsValidStored};
 ghost use Rattle.rrd_file.specs.Spans.{AgreesOutside};
+ghost use Rattle.rrd_tool.specs.Batch.Moved.{IsUpdate};
 ghost use Rattle.rrd_tool.specs.Commands.{effect};
 ghost use Rattle.rrd_tool.specs.Execution.{database_left, has_changed};
-ghost use Rattle.rrd_store.specs.Encoding.{AreOf, IsBefore, IsOf, IsUpdate, DiffersBy, MayReplace, encoded_by, encoded_in};
+ghost use Rattle.rrd_store.specs.Encoding.{AreOf, IsBefore, IsBeforeBatch, IsOf, DiffersBy, MayReplace, encoded_by, encoded_in};
 ghost use Rattle.rrd_store.specs.Sessions.{HasBytes};
 ghost use Rattle.rrd_store.specs.Storages.{Held, IsAnyFile};
 ghost use Rattle.rrd_store.specs.declared.encoding.Reach.TheVariants.{NewestRows as OfNewestRows};
@@ -15,7 +16,7 @@ use crate::differing::differing;
 use rrd_base::{Database, database_is_valid};
 use rrd_file::laws::{encoded_is_layout, layout_is_file};
 use rrd_file::{Encoded, Span, Updated};
-use rrd_tool::{Command, Outcome};
+use rrd_tool::{ChangedBy, Command, Outcome};
 use std::alloc::Global;
 
 /// How much of a file a command may change.
@@ -124,6 +125,37 @@ pub(crate) fn encode_all(
     let encoded = Encoded::new(alloc, database)?;
     let changed = difference(alloc, &encoded, &before)?;
     Some(Encoding { encoded, changed })
+}
+
+// Returns bytes that nothing has changed.
+#[tactic(auto, using(crate::proofs::Encodings::may_stay))]
+fn encode_same(alloc: Global, before: Encoded) -> Encoding
+    ensures same { result.encoded ≡ before }
+    ensures may { (held : Option Held) → HasBytes held (Some before) → IsAnyFile (bytes_in before) → MayReplace held result }
+{
+    Encoding {
+        encoded: before,
+        changed: Changed::Within(Vec::new(alloc)),
+    }
+}
+
+/// Encodes the database that a batch left, if this has changed it. `before` are the bytes before the batch, if they are known.
+/// Returns `None` if memory runs out.
+pub(crate) fn encode_batch(
+    alloc: Global,
+    before: Option<Encoded>,
+    changed_by: ChangedBy,
+    database: &Database,
+) -> Option<Encoding>
+    requires { IfSome before (λ e. IsBeforeBatch e changed_by (Some database.now)) }
+    ensures of { IfSome result (λ e. Encodes e.encoded database.now) }
+    ensures may { (held : Option Held) → HasBytes held before → IfSome before (λ b. IsAnyFile (bytes_in b)) → IfSome result (MayReplace held) }
+{
+    match (before, changed_by) {
+        (Some(before), ChangedBy::Nothing) => Some(encode_same(alloc, before)),
+        (Some(before), ChangedBy::Updates) => encode_update(alloc, before, database),
+        (before, _) => encode_all(alloc, before, database),
+    }
 }
 
 // Returns bytes that a command did not change.

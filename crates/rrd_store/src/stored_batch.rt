@@ -4,17 +4,17 @@ ghost use Rattle.std.specs.Result.{result_err};
 ghost use Rattle.rrd_file.specs.Encoded.{bytes_in};
 ghost use Rattle.rrd_file.specs.Laws.{IsValidStored};
 ghost use Rattle.rrd_store.specs.Batch.{HoldsOfLeft, IsFileBatch, IsStored, RunsLines};
-ghost use Rattle.rrd_store.specs.Encoding.{AreOf};
+ghost use Rattle.rrd_store.specs.Encoding.{AreOf, IsBeforeBatch, IsOf};
 ghost use Rattle.rrd_store.specs.Sessions.{HasBytes, IsLinesOn, kept_unless};
 ghost use Rattle.rrd_store.specs.Storages.{Bytes, Held, IsAnyFile, Leaves, Stays};
 
-use crate::encoding::{encode_all, take_encoded};
+use crate::encoding::{encode_batch, take_encoded};
 use crate::stored::store_encoded;
 use crate::{Loaded, Storage, TaskFault};
 use rrd_base::{Database, database_is_valid};
 use rrd_file::Encoded;
 use rrd_file::laws::encoded_is_layout;
-use rrd_tool::{Fault, Observer, StreamFault, run_batch};
+use rrd_tool::{ChangedBy, Fault, Observer, StreamFault, run_batch};
 use std::alloc::Global;
 use std::io::{Read, Write};
 
@@ -60,15 +60,17 @@ impl Gate for Always {
 }
 
 // Writes the database that a batch left, if there is one and the gate allows it. `before` are the bytes before the batch, if
-// they are known. Returns the bytes that were written.
+// they are known, and `changed_by` what has changed the database since. Returns the bytes that were written.
 fn store_allowed<P: Storage, G: Gate>(
     alloc: Global,
     storage: &mut P,
     database: Option<&Database>,
     before: Option<Encoded>,
+    changed_by: ChangedBy,
     gate: &G,
 ) -> Result<Option<Encoded>, TaskFault>
-    requires { IfSome before (λ e. IsAnyFile (bytes_in e)) }
+    requires file { IfSome before (λ e. IsAnyFile (bytes_in e)) }
+    requires before { IfSome before (λ e. IsBeforeBatch e changed_by (option_map (λ d. d.now) database)) }
     ensures falls { (s : Option Held) → P.is_honest s storage.new → P.is_honest s storage.old }
     ensures sound { (s : Option Held) → P.is_honest s storage.new → P.is_sound s storage.old
         → HasBytes (P.contents s storage.old) before → P.is_sound s storage.new }
@@ -92,7 +94,7 @@ fn store_allowed<P: Storage, G: Gate>(
     if !gate.allows() {
         return Err(TaskFault::CannotWrite);
     }
-    let Some(encoding) = encode_all(alloc, before, database) else {
+    let Some(encoding) = encode_batch(alloc, before, changed_by, database) else {
         return Err(TaskFault::CannotWrite);
     };
     store_encoded(storage, &encoding, database)?;
@@ -138,7 +140,8 @@ pub(crate) fn run_on<P: Storage, R: Read, W: Write, G: Gate>(
     out: &mut W,
     gate: &G,
 ) -> (FileBatchEnd, Option<Database>, Option<Encoded>)
-    requires { IfSome before (λ e. IsAnyFile (bytes_in e)) }
+    requires file { IfSome before (λ e. IsAnyFile (bytes_in e)) }
+    requires of { IfSome before (λ e. IsOf e database) }
     ensures falls { (s : Option Held) → P.is_honest s storage.new → P.is_honest s storage.old }
     ensures sound { (s : Option Held) → P.is_honest s storage.new → P.is_sound s storage.old
         → HasBytes (P.contents s storage.old) before → P.is_sound s storage.new }
@@ -164,7 +167,14 @@ pub(crate) fn run_on<P: Storage, R: Read, W: Write, G: Gate>(
         → HasBytes (P.contents s storage.old) before → HasBytes (P.contents s storage.new) result.2 }
 {
     let end = run_batch(alloc, database, now, numbered, reader, out, gate);
-    let stored = store_allowed(alloc, storage, end.database.as_ref(), before, gate);
+    let stored = store_allowed(
+        alloc,
+        storage,
+        end.database.as_ref(),
+        before,
+        end.changed_by,
+        gate,
+    );
     let (unstored, encoded) = split(stored);
     let database = database_kept(end.database, unstored);
     let end = FileBatchEnd {

@@ -1,6 +1,6 @@
 -- What a fetch reads, in a database that is valid.
 use Rattle.std.specs.Prelude.{◌≡◌, ◌+◌, ◌*◌, ◌/◌, ◌≤◌, ◌<◌, ℕ, Bool, true, false, List, [], ◌∷◌, Option, Some, None, Result, Ok, length, map, nat_lt}
-use Rattle.rrd_tool.proofs.Names.{refl, subst, arith, ⊎_elim, AllByRecursion, find, filter, enumerate_from, option_or, cases_Bool, nat_tests, mul-le-mul_left, Function, RraDef, Candidate, Chosen, FetchRequest, Refusal, BadTime, BadSpan, Rra, Content, best, candidate, candidates, choice, covers, is_farther, is_nearer, same_function, span, span_of, span_rows, taken, unless_refused, choice_within, IsValid, IsValidArchive, ◌refuses◌, first_refusal, IsReadable, present}
+use Rattle.rrd_tool.proofs.Names.{refl, subst, arith, ⊎_elim, AllByRecursion, find, filter, enumerate_from, option_or, cases_Bool, nat_tests, mul-le-mul_left, Function, RraDef, Candidate, Chosen, FetchRequest, Refusal, BadTime, BadSpan, Rra, Content, best, candidate, candidates, choice, covers, is_farther, is_nearer, same_function, span, span_of, taken, unless_refused, choice_within, IsValid, IsValidArchive, ◌refuses◌, first_refusal, IsReadable, present}
 
 -- ---- lists
 
@@ -73,10 +73,7 @@ unrefused (Some refusal) answer chosen e = absurd cc
 
 spanned : (request : FetchRequest) (found : Option Candidate) (chosen : Chosen) → span_of present request found ≡ Ok chosen → (one : Candidate) × (found ≡ Some one) × (span request one ≡ chosen)
 spanned request None chosen e = absurd cc
-spanned request (Some one) chosen e = ⊎_elim
-    (λ (long : nat_lt 1000000 (span_rows (span request one)) ≡ true). absurd (let bad = rw long at e in cc))
-    (λ (short : nat_lt 1000000 (span_rows (span request one)) ≡ false). let same = rw short at e in let is : span request one ≡ chosen = cc in (one, refl, is))
-    (cases_Bool (nat_lt 1000000 (span_rows (span request one))))
+spanned request (Some one) chosen e = grind arith
 
 second_passes : (a b c : Bool) (r s t : Refusal) → first_refusal (◌refuses◌ a r ∷ ◌refuses◌ b s ∷ ◌refuses◌ c t ∷ []) ≡ None → b ≡ false
 second_passes true b c r s t e = absurd cc
@@ -87,9 +84,7 @@ in_time : (end : ℕ) → nat_lt 9999999999 end ≡ false → end ≤ 9999999999
 in_time end h = grind (arith, nat_tests)
 
 span_readable : (content : Content) (request : FetchRequest) (one : Candidate) → IsUsable (length content.archives) one → request.end ≤ 9999999999 → IsReadable content (span request one)
-span_readable content request one h end =
-    let some = h.1 in
-    record { there = h.0; some = some; small = omega arith }
+span_readable content request one h end = grind arith
 
 -- what is chosen can be read
 pub chosen_readable : (content : Content) (function : Function) (asked start end : ℕ) (chosen : Chosen) → IsValid content → choice content function asked start end ≡ Ok chosen → IsReadable content chosen

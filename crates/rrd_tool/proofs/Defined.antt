@@ -1,6 +1,6 @@
 -- The sources and the archives among the definitions that are read.
 use Rattle.std.specs.Prelude.{◌≡◌, ◌+◌, ◌<◌, ◌++◌, ◌∷◌, ℕ, List, [], Result, Ok, Err, length, drop}
-use Rattle.rrd_tool.proofs.Names.{◌∙◌, ap, refl, sym, get_or, Text, DsDef, RraDef, definitions_of, archives_in, definition_of, sources_in, Meets, each_of, or_fault, LineFault, Usage, BadWord, OutOfMemory, Definition}
+use Rattle.rrd_tool.proofs.Names.{arith, ◌∙◌, ap, refl, sym, get_or, Text, DsDef, RraDef, definitions_of, archives_in, definition_of, sources_in, Meets, each_of, or_fault, LineFault, Usage, BadWord, OutOfMemory, Definition}
 use Rattle.rrd_tool.proofs.Each.{prepend, word_fails, word_more}
 use Rattle.rrd_tool.specs.declared.faults.Part.TheVariants as part
 
@@ -40,9 +40,7 @@ pub defined_fails : (words : List Text) (answer : Result (List Definition) LineF
     → answer ≡ Err fault → defined ≡ Err fault → Meets (each_of definition_of part.Definition 1 words) answer → Meets (definitions_of words) defined
 defined_fails words answer defined Usage a d m = let bad : Meets (each_of definition_of part.Definition 1 words) (Err Usage) = rw a at m in absurd bad
 defined_fails words answer defined OutOfMemory a d m = rw d tt
-defined_fails words answer defined (BadWord p n) a d m =
-    let e : each_of definition_of part.Definition 1 words ≡ Err (p, n) = rw a at m in
-    rw (d, e) refl
+defined_fails words answer defined (BadWord p n) a d m = grind arith
 
 -- a definition that can't be read ends it
 pub read_fails : (words : List Text) (i : ℕ) (word : Text) (sources : List DsDef) (archives : List RraDef)

@@ -1,6 +1,6 @@
 -- The command with only the named subcommand serves, and enters that subcommand.
 use Rattle.std.specs.Prelude.{◌≡◌, ℕ, List, ◌∷◌, [], Option, Some, None, IfSome, Result, drop, true, option_map}
-use Rattle.rrd_tool.proofs.Names.{◌∙◌, refl, ap, bytes_eq, bytes_eq-Decides, App, Row, Text, subcommand_of, Serves, app_with, first_name, entered_of, line_of, rrdi_app, shape_of, values_of, command_names, name_in, name_text, Meets, Command, CommandName, LineFault}
+use Rattle.rrd_tool.proofs.Names.{arith, ◌∙◌, refl, ap, bytes_eq, bytes_eq-Decides, App, Row, Text, subcommand_of, Serves, app_with, first_name, entered_of, line_of, rrdi_app, shape_of, values_of, command_names, name_in, name_text, Meets, Command, CommandName, LineFault}
 use Rattle.rrd_tool.proofs.OnLiterals.{shapes_on_literals}
 use Rattle.rrd_tool.proofs.Finding.{found_passes}
 use Rattle.rrd_tool.proofs.FirstWord.{entered_by, serves}
@@ -40,19 +40,10 @@ unfolding shapes_on_literals
 enters_named verb.Create rest = ap entered_name (entered_by rrdi_app (name_text verb.Create) rest refl refl)
 enters_named name rest = ap entered_name (entered_by rrdi_app (name_text name) rest refl refl)
 
--- a name's text is the name's
-name_found : (name : CommandName) → name_in (name_text name) ≡ Some name
-unfolding shapes_on_literals
-name_found verb.Create = refl
-name_found x = refl
-
 values_read : (name : CommandName) (now : ℕ) (entered : Option (Text × List Row)) (r : Result Command LineFault) → entered_name entered ≡ Some (name_text name)
     → IfSome entered (λ e. Meets (values_of name e.1 now) r) → IfSome (line_of entered now) (λ read. Meets read r)
 values_read name now None r e h = tt
-values_read name now (Some p) r e h =
-    let same : p.0 ≡ name_text name = cc in
-    let found : name_in p.0 ≡ Some name = ap name_in same ∙ name_found name in
-    rw found h
+values_read name now (Some p) r e h = grind arith
 
 -- what the values are read as by the words' name is what the words are read as
 pub read_as : (name : CommandName) (words : List Text) (now : ℕ) (entered : Option (Text × List Row)) (r : Result Command LineFault)

@@ -23,11 +23,11 @@ module _ (s : Shape) (names : Names) (word name : Text) (rest : List Text) (met 
       ∙ ap (or_else (or_else (other_fault s (Some name) word nothing_held) [])) (stopped_fault s names (walk_from nothing_held) (name, []) rest)
 
 -- the subcommand of that name
-abbrev named : App → Text → Option Shape
+abbrev pub named : App → Text → Option Shape
 named a name = find (λ s. answers_to name (label_of s)) a.subs
 
 -- a parse of a name and the words after it, by the command's own shape and the named subcommand
-abbrev level : Shape → Kinds → Text → List Text → Option Shape → Kinds
+abbrev pub level : Shape → Kinds → Text → List Text → Option Shape → Kinds
 level t first name rest found =
     or_else first
     (or_else (option_map_or (λ s. level_fault s [] nothing_held rest false []) found [])
@@ -53,7 +53,7 @@ module _ (a : App) (name : Text) (rest : List Text) (met : subcommand_met (names
   words_of : argument_words a (name ∷ rest) ≡ name ∷ rest
   words_of = rw alone refl
 
-  fault_by : fault_of a (name ∷ rest) ≡ level (built a).top (or_else (or_else (other_fault (built a).top (Some name) name nothing_held) []) []) name rest (named (built a) name)
+  pub fault_by : fault_of a (name ∷ rest) ≡ level (built a).top (or_else (or_else (other_fault (built a).top (Some name) name nothing_held) []) []) name rest (named (built a) name)
   fault_by = ap (built_fault (built a) nothing_held) words_of ∙ fault_is (built a) name name rest met
 
   pub entered_by : subcommand_of a (name ∷ rest) ≡ option_map (λ s. rows_at s rest) (named (built a) name)

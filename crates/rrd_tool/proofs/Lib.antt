@@ -13,10 +13,12 @@ pub mod Pieces
 pub mod Each
 pub mod Defined
 pub mod Subcommand
+pub mod Values
 pub mod SaidLemmas
 pub mod BatchLemmas
 pub mod RunLemmas
 pub mod MoveLemmas
+pub mod Moved
 pub mod PrintLemmas
 pub mod Choosable
 pub mod SearchLemmas

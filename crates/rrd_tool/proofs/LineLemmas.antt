@@ -1,5 +1,5 @@
 -- What bytes more do to the lines of an input, and to an unfinished one.
-use Rattle.std.specs.Prelude.{◌≡◌, ◌++◌, ◌∷◌, ◌&&◌, ◌||◌, ◌≤◌, ◌<◌, ℕ, zero, suc, take, ◌+◌, Bool, true, false, List, [], length, nat_le, ◌⊎◌, if◌then◌else◌, Result, Ok, Err, OnOk}
+use Rattle.std.specs.Prelude.{◌≡◌, ◌++◌, ◌∷◌, ◌&&◌, ◌||◌, ◌≤◌, ℕ, zero, suc, take, ◌+◌, Bool, true, false, List, [], length, nat_le, ◌⊎◌, if◌then◌else◌, Result, Ok, Err, OnOk}
 use Rattle.rrd_tool.proofs.Names.{◌∙◌, get_or, sym, ap, refl, append_assoc, append-nil, arith, nat_eq, length-append, ⊎_elim, inl, inr, is_err, cases_Bool, nat_tests, list_all, has_end, is_empty, is_plain, is_text, last_part, whole_lines, without_cr, BuffersBy, IsLost, Ending, Plain, Cr, Lost}
 use Rattle.rrd_tool.proofs.Finding.{both}
 

@@ -5,7 +5,9 @@ pub use Rattle.clap.specs.Words.{AddsArg, AddsSubcommand, Kinds, Shape, HasKind,
 pub use Rattle.rrd_tool.specs.Names.{App, Rule, rule_of, with_rule, with_subcommand, Text, Row, subcommand_of, fault_of, is_simple, is_simple_and_free, found_of, app_of, new_app, subcommand_rows_of, first_of, Arg, Error, DisplayHelp, out-SubCommand, out-ArgMatches, SubCommand, Unknown, Refusal, BadTime, BadSpan, CreateSpec, Candidate, Chosen, FetchRequest, ArchiveTune, DsDef, RraDef}
 pub use Rattle.rrd_spec.specs.Words.{best, candidate, candidates, choice, covers, is_farther, is_nearer, same_function, span, span_of, span_rows, taken, unless_refused, create_verdict, created, ◌refuses◌, first_refusal, verdict, Rra, Content, oldest_time, cell_at, Entry, State, Stored, Changed, Reverted, Stands, stored_after, Action, ActsOn, Begins, CreatedIsValid, present, IsValid, IsValidArchive}
 unfoldable pub use Rattle.rrd_spec.proofs.Names.{choice_within}
-pub use Rattle.rrd_tool.specs.Words.{letter_rule, many_rule, option_rule, required_rule, word_rule, HasApp, Serves, app_with, first_name, IsRefused, IsTaken, Ran, Stopped, Tally, Told, Turn, is_told, line_told, state_after, tallied, tally_after, text_of, no_lines, Answers, AppendsSome, Performs, Moves, Tallies, Asks, line_turns, effect_turn, reading_turn, refusal_turn, text_turn, unless_short, words_turn, command_turn, line_of, shape_of, values_of, effect, definitions_of, archives_in, definition_of, sources_in, names_text, texts_below, fetch_text, row_text, row_of, fetch_answer, header_text, rows_text, IsReadable, row_room, first_text, archive_at, head_text, info_text, source_at, archive_text, source_text, time_line, last_text, raw_at, lastupdate_text, raws_text, command_names, name_in, name_text, IsReading, archive_tune_of, setting_of, tune_of, sample_of, StandsFor, Effect, Makes, Changes, Reverts, Shows, is_change, stored_next, stored_of, next, text_on, verdict_on, first_state, Affects, Comes, IsFault, database_left, fault_left, has_changed, Executes, PrintsSome, Prints, PrintsBy, fault_line, cut_of, pieces, bound_of, name_of, named, each_in, Meets, each_of, or_fault, Unread, ◌>>=◌, optional, is_empty, last_part, lines_of, whole_lines, has_end, is_plain, is_text, without_cr, text_in, words_of, if_some, is_blank, words_after, BuffersBy, IsLost, Buffers, Command, Definition, CommandName, Outcome, Fault, Line, Refused, NoDatabase, Output, LineFault, Usage, BadWord, OutOfMemory, Part, Sample, Ending, Plain, Cr, Lost, Refusals}
+pub use Rattle.rrd_tool.specs.Words.{GoesOnBy, IsUpdated, are_values, begins_with_minus, samples_of, letter_rule, many_rule, option_rule, required_rule, word_rule, HasApp, Serves, app_with, first_name, IsRefused, IsTaken, Ran, Stopped, Tally, Told, Turn, is_told, line_told, state_after, tallied, tally_after, text_of, no_lines, Answers, AppendsSome, Performs, Moves, Tallies, Asks, line_turns, effect_turn, reading_turn, refusal_turn, text_turn, unless_short, words_turn, command_turn, line_of, shape_of, values_of, effect, definitions_of, archives_in, definition_of, sources_in, names_text, texts_below, fetch_text, row_text, row_of, fetch_answer, header_text, rows_text, IsReadable, row_room, first_text, archive_at, head_text, info_text, source_at, archive_text, source_text, time_line, last_text, raw_at, lastupdate_text, raws_text, command_names, name_in, name_text, IsReading, archive_tune_of, setting_of, tune_of, sample_of, StandsFor, Effect, Makes, Changes, Reverts, Shows, is_change, stored_next, stored_of, next, text_on, verdict_on, first_state, Affects, Comes, IsFault, database_left, fault_left, has_changed, Executes, PrintsSome, Prints, PrintsBy, fault_line, cut_of, pieces, bound_of, name_of, named, each_in, Meets, each_of, or_fault, Unread, ◌>>=◌, optional, is_empty, last_part, lines_of, whole_lines, has_end, is_plain, is_text, without_cr, text_in, words_of, if_some, is_blank, words_after, BuffersBy, IsLost, Buffers, Command, Definition, CommandName, Outcome, Fault, Line, Refused, NoDatabase, Output, LineFault, Usage, BadWord, OutOfMemory, Part, Sample, Ending, Plain, Cr, Lost, Refusals}
+pub use Rattle.std.proofs.lemmas.List.{nil_from_length}
+pub use Rattle.std.proofs.lemmas.List.Folds.{list_all-map}
 pub use Rattle.clap.proofs.CutLemmas.{Lacks, list_any-Lacks, list_any-at, before_first-at, after_first-at, slice_split-Lacks, slice_split-at}
 pub use Rattle.clap.proofs.FaultLemmas.{stopped_fault}
 unfoldable pub use Rattle.clap.proofs.OnLiterals.{clap_on_literals}

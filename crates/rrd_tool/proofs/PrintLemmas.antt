@@ -1,14 +1,12 @@
 -- Texts one after another.
 use Rattle.std.specs.Prelude.{◌≡◌, Ok, Err, ◌+◌, ◌-◌, ◌*◌, ◌/◌, ◌++◌, ℕ, List, Option, zero, suc, [], ◌∷◌, ◌≤◌, ◌<◌, codes, take, length, slice_get}
-use Rattle.rrd_tool.proofs.Names.{◌∙◌, sym, ap, refl, append_assoc, append-nil, add-one, arith, inl, inr, get_or, mul-le-mul_left, take_more, cases_lt, slice_get_read, Appends, option_map_or, DsDef, AppendsFront, writes_stop, writes_then, names_text, texts_below}
+use Rattle.rrd_tool.proofs.Names.{◌∙◌, sym, ap, refl, append_assoc, append-nil, add-one, arith, inl, inr, get_or, take_more, cases_lt, slice_get_read, Appends, option_map_or, DsDef, AppendsFront, writes_stop, writes_then, names_text, texts_below}
 
 pub below_more : (f : ℕ → List ℕ) (n : ℕ) → texts_below f (n + 1) ≡ texts_below f n ++ f n
 below_more f n = rw add-one refl
 
 below_split : (f : ℕ → List ℕ) (n k : ℕ) → k ≤ n → (rest : List ℕ) × (texts_below f n ≡ texts_below f k ++ rest)
-below_split f zero k le =
-    let none : k ≡ 0 = omega arith in
-    ([], rw none refl)
+below_split f zero k le = grind arith
 below_split f (suc n) k le = elim (cases_lt k (suc n)) [
   | inl lt ↦ let split = below_split f n k (omega arith) in (split.0 ++ f n, ap (λ l. l ++ f n) split.1 ∙ append_assoc (texts_below f k) split.0 (f n))
   | inr ge ↦ let same : k ≡ suc n = omega arith in ([], rw same (sym (append-nil (texts_below f n ++ f n))))
@@ -46,7 +44,4 @@ names_more sources i source inside is = cc (take_more sources i source inside, n
 
 -- the rows up to the last one end by then
 pub within : (k res lo hi : ℕ) → 0 < res → k < (hi - lo) / res → lo + (k + 1) * res ≤ hi
-within k res lo hi some below =
-    let up : k + 1 ≤ (hi - lo) / res = omega arith in
-    let whole : res * (k + 1) ≤ res * ((hi - lo) / res) = mul-le-mul_left res up in
-    omega arith
+within k res lo hi some below = grind arith

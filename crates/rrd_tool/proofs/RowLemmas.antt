@@ -18,10 +18,7 @@ one_put f k n text rest all e is before =
 -- room for n things has room for one, and for the others beside it
 pub room_step : (n size at : ℕ) → 0 < n → n * size ≤ at → (size ≤ at) × ((n - 1) * size ≤ at - size)
 room_step zero size at some room = absurd (omega arith)
-room_step (suc m) size at some room =
-    let one : suc m * size ≡ size + m * size = omega arith in
-    let same : suc m - 1 ≡ m = omega arith in
-    (omega (arith, one, room), rw same (omega (arith, one, room)))
+room_step (suc m) size at some room = grind arith
 
 -- some fit
 pub div_some : (a b : ℕ) → 0 < b → b ≤ a → 0 < a / b

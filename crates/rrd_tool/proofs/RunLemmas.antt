@@ -1,6 +1,6 @@
 -- How a database keeps to the run, command by command and line by line.
 use Rattle.std.specs.Prelude.{◌≡◌, ◌≢◌, ◌∷◌, [], ℕ, Bool, true, false, List, Option, Some, None, Result, Ok, Err, length, option_map}
-use Rattle.rrd_tool.proofs.Names.{◌∙◌, inl, inr, ap, ap₂, sym, refl, subst, append-nil, arith, Appends, Keeps, WriteFault, CreateSpec, Refusal, create_verdict, created, CreatedIsValid, Content, Entry, State, Stored, Changed, Reverted, Stands, stored_after, Action, verdict, ActsOn, Begins, fault_of, Appends-kept, Turn, Effect, Makes, Changes, Reverts, Shows, StandsFor, is_change, stored_next, stored_of, next, text_on, verdict_on, first_state, Affects, Comes, IsFault, database_left, fault_left, has_changed, Performs, Asks, line_turns, Prints, PrintsBy, fault_line, is_empty, text_in, words_of, IsReading, command_of, effect_turn, reading_turn, refusal_turn, text_turn, turn, unless_short, words_turn, rrdi_app, Command, LineFault, Usage, BadWord, OutOfMemory, Part, Outcome, Fault, Line, Refused, NoDatabase, Output}
+use Rattle.rrd_tool.proofs.Names.{◌∙◌, inl, inr, ap, ap₂, sym, refl, subst, append-nil, arith, Appends, Keeps, WriteFault, CreateSpec, Refusal, create_verdict, created, CreatedIsValid, Content, Entry, State, Stored, Changed, Reverted, Stands, stored_after, Action, verdict, ActsOn, Begins, fault_of, Appends-kept, Turn, Effect, Makes, Changes, Reverts, Shows, StandsFor, stored_next, stored_of, next, text_on, verdict_on, first_state, Affects, Comes, IsFault, Performs, Asks, line_turns, Prints, fault_line, is_empty, text_in, words_of, IsReading, command_of, effect_turn, reading_turn, refusal_turn, text_turn, turn, unless_short, words_turn, rrdi_app, Command, LineFault, Usage, BadWord, OutOfMemory, Part, Outcome, Fault, Line, Refused, NoDatabase, Output}
 use Rattle.rrd_tool.proofs.SaidLemmas.{unwritten_some}
 
 -- ---- the database
@@ -167,21 +167,10 @@ some_length (word ∷ words) h = refl
 
 -- ---- what prints
 
--- a text that was printed, or a front of it
-prints_comes : (verdict : Option Fault) (text : List ℕ) (effect : Effect) (Moved Same : Type 0) (c0 c1 : Option (List ℕ)) (changed : Bool) (fault : Option Fault)
-    → verdict ≡ None → Moved → changed ≡ is_change effect → PrintsBy c0 c1 text fault → Comes verdict text effect Moved Same c0 c1 changed fault
-prints_comes verdict text effect Moved Same c0 c1 changed (Some (Line fault)) v m e p = absurd p
-prints_comes verdict text effect Moved Same c0 c1 changed (Some (Refused fault)) v m e p = absurd p
-prints_comes verdict text effect Moved Same c0 c1 changed (Some NoDatabase) v m e p = absurd p
-prints_comes verdict text effect Moved Same c0 c1 changed x v m e p = (v, m, e, p)
-
 -- a command that shows a text which was printed
 pub shown_comes : (kept : Stored) (show : Stored → Result (List ℕ) Refusal) (text : List ℕ) (c0 c1 : Option (List ℕ)) (outcome : Outcome)
     → show kept ≡ Ok text → Prints kept c0 c1 text outcome → Affects (Some kept) (Shows show) c0 c1 outcome
-shown_comes kept show text c0 c1 outcome e p =
-    prints_comes (verdict_on (Some kept) (Shows show)) (text_on (Some kept) (Shows show)) (Shows show)
-    (database_left outcome ≡ stored_next (Some kept) (Shows show)) (database_left outcome ≡ Some kept) c0 c1 (has_changed outcome) (fault_left outcome)
-    (rw e refl) p.0 p.1 (rw e p.2)
+shown_comes kept show text c0 c1 outcome e p = grind arith
 
 -- ---- what prints nothing
 

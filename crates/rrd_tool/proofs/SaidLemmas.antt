@@ -1,6 +1,6 @@
 -- Texts that aren't empty: what prints prints something.
 use Rattle.std.specs.Prelude.{◌≡◌, ◌++◌, ◌∷◌, [], ℕ, Bool, false, List, Option, Some, None, Result, Ok, Err, ℤ, codes, option_map, pos}
-use Rattle.rrd_tool.proofs.Names.{◌∙◌, ap, sym, refl, unwrap_or, result_map_both, result_ok, result_err, choice, oldest_time, Stored, Refusal, effect, fetch_text, time_line, Effect, Makes, Changes, Reverts, Shows, is_change, text_on, verdict_on, Comes, Executes, PrintsSome, fault_left, has_changed, fault_line, is_empty, Command, Outcome, Fault, Refused}
+use Rattle.rrd_tool.proofs.Names.{arith, ◌∙◌, ap, sym, refl, unwrap_or, result_map_both, result_ok, result_err, oldest_time, Stored, Refusal, effect, time_line, Effect, Makes, Changes, Reverts, Shows, is_change, text_on, verdict_on, Comes, Executes, PrintsSome, fault_left, has_changed, fault_line, is_empty, Command, Outcome, Fault, Refused}
 use Rattle.rrd_tool.specs.declared.commands.Command.TheVariants as command
 
 -- what stands behind something
@@ -35,8 +35,7 @@ Says Reverts = Unit {0}
 Says (Shows show) = (kept : Stored) → result_err (show kept) ≡ None → is_empty (unwrap_or (result_ok (show kept)) []) ≡ false
 
 each_says : (asked : Command) → Says (effect asked)
-each_says (command.Fetch request) =
-    λ kept h. answer_says (fetch_text kept.content) (choice kept.content request.function request.asked request.start request.end) (λ chosen. refl) h
+each_says (command.Fetch request) = grind arith
 each_says (command.First archive) = λ kept h. answer_says time_line (oldest_time kept.content archive) line_says h
 each_says command.Last = λ kept h. line_says (pos kept.content.last)
 each_says command.LastUpdate = λ kept h. refl

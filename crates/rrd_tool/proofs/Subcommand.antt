@@ -1,35 +1,16 @@
 -- What the parts of a subcommand's matches say of the whole, and that there is one.
-use Rattle.std.specs.Prelude.{◌≡◌, ℕ, ◌&&◌, Bool, List, Option, Some, None, [], ◌∷◌, true, false, is_some, option_map, not, Result, Ok, Err, IfSome, Box}
-use Rattle.rrd_tool.proofs.Names.{◌∙◌, ap, ap₂, refl, sym, App, Kinds, Row, Shape, Text, built, fault_of, rows_of, found_of, subcommand_of, subcommand_rows, check_kinds, or_else, check_fault, defaults_fault, entered_fault, level_fault, settle_fault, walk_fault, Held, Names, answers_to, finished, nothing_held, settled, stop_after, walk, walk_from, argument_words, entered, label_of, names_of, rows_at, explicit_source, is_given, AllByRecursion, find, list_any, SubCommand, out-SubCommand, box_value, rrdi_app, line_of, values_of, name_in, Unread, IsTaken, entered_of, IsReading, Meets, Command, LineFault, Usage, BadWord, OutOfMemory}
+use Rattle.std.specs.Prelude.{◌≡◌, ℕ, Bool, List, Option, Some, None, [], true, false, is_some, option_map, Result, Ok, Err, IfSome, Box}
+use Rattle.rrd_tool.proofs.Names.{arith, ◌∙◌, ap, ap₂, refl, sym, App, Kinds, Row, Shape, Text, built, fault_of, rows_of, found_of, subcommand_of, subcommand_rows, check_fault, entered_fault, level_fault, Held, Names, answers_to, finished, nothing_held, stop_after, walk, argument_words, entered, label_of, names_of, rows_at, AllByRecursion, find, SubCommand, out-SubCommand, box_value, rrdi_app, line_of, values_of, name_in, Unread, IsTaken, entered_of, IsReading, Meets, Command, LineFault, Usage, BadWord, OutOfMemory}
 use Rattle.rrd_tool.proofs.OnLiterals.{shapes_on_literals}
 use Rattle.rrd_tool.proofs.Finding.{all_pass, found_among}
 
-last_empty : (a b : Kinds) → or_else a b ≡ [] → b ≡ []
-last_empty [] b h = h
-last_empty (k ∷ ks) b h = cc
-
-never_without : (w a x : Bool) → a ≡ true → check_kinds w a x ≡ [] → ⊥
-never_without true a x r h = cc
-never_without false true x r h = cc
-never_without false false x r h = cc
-
 enters : (s : Shape) (rows : List Row) (has : Bool) → s.subcommand_required ≡ true → check_fault s rows has ≡ [] → has ≡ true
 enters s rows true r h = refl
-enters s rows false r h = absurd (never_without
-    (s.arg_required_else_help && not (list_any (λ r. explicit_source r.source) rows)) s.subcommand_required
-    (not (s.subcommand_negates_reqs && false) && list_any (λ a. a.required && not (is_given a.id rows)) s.rules)
-    r h)
+enters s rows false r h = grind arith
 
 level_last : (s : Shape) (names : Names) (h : Held) (words : List Text) (has : Bool) (below : Kinds)
     → level_fault s names h words has below ≡ [] → check_fault s (finished s.rules (walk s.rules names h words).held) has ≡ []
-level_last s names h words has below e =
-    let end = (walk s.rules names h words).held in
-    let d = check_fault s (finished s.rules end) has in
-    let c = or_else (defaults_fault (settled s.rules end).rows s.rules) d in
-    let b = or_else (settle_fault s.rules s.args_override_self end) c in
-    last_empty (defaults_fault (settled s.rules end).rows s.rules) d
-    (last_empty (settle_fault s.rules s.args_override_self end) c
-    (last_empty below b (last_empty (walk_fault s names (walk_from h) words) (or_else below b) e)))
+level_last s names h words has below e = grind arith
 
 -- words that a command with a required subcommand takes name one
 app_enters : (a : App) (words : List Text) → (built a).top.subcommand_required ≡ true → fault_of a words ≡ []

@@ -1,6 +1,6 @@
 -- Words whose first is no subcommand's name are refused.
 use Rattle.std.specs.Prelude.{◌≡◌, Bool, not, ◌&&◌, true, false, ℕ, List, [], ◌∷◌, Option, Some, None, IfSome, is_some, length, map, option_map, drop, encode_utf8, slice_get}
-use Rattle.rrd_tool.proofs.Names.{◌∙◌, ap, sym, refl, AllByRecursion, find, bytes_eq, chars, bytes_eq-Decides, Kinds, Shape, Text, fault_of, or_else, built_fault, bundle_fault, bundle_step_fault, flags_fault, long_fault, short_fault, stray_fault, step_fault, turn_fault, use_fault, walk_fault, Held, Names, Rule, after_flag, answers_to, arg_by_index, arg_by_long, arg_by_short, bundle, bundle_met, bundle_step, has_long, has_short, idle, nothing_held, plain, subcommand_met, takes_values, walk_from, walked, long_of, short_of, built, names_of, DisplayHelp, IsRefused, first_name, entered_of, rrdi_app, command_names, name_in, name_text, CommandName}
+use Rattle.rrd_tool.proofs.Names.{arith, ◌∙◌, ap, sym, refl, AllByRecursion, find, bytes_eq, chars, bytes_eq-Decides, Kinds, Shape, Text, fault_of, or_else, built_fault, bundle_fault, bundle_step_fault, flags_fault, long_fault, short_fault, stray_fault, step_fault, turn_fault, use_fault, walk_fault, Held, Names, Rule, after_flag, answers_to, arg_by_index, arg_by_long, arg_by_short, bundle, bundle_met, bundle_step, has_long, has_short, idle, nothing_held, plain, subcommand_met, takes_values, walk_from, walked, long_of, short_of, built, names_of, DisplayHelp, IsRefused, first_name, entered_of, rrdi_app, command_names, name_in, name_text, CommandName}
 use Rattle.clap.specs.Walk.{Outcome}
 use Rattle.rrd_tool.proofs.OnLiterals.{shapes_on_literals}
 use Rattle.rrd_tool.proofs.Finding.{found_among, none_passes}
@@ -84,8 +84,7 @@ other_way a b e = go (bytes_eq b a) refl
     go false t = refl
     go true t =
         let same : b ≡ a = (bytes_eq-Decides b a).0 t in
-        let yes : bytes_eq a b ≡ true = (bytes_eq-Decides a b).1 (sym same) in
-        let bad : true ≡ false = sym yes ∙ e in cc
+        grind arith
 
 -- a word that is no name is none of the subcommands'
 none_among : (word : Text) (names : List CommandName) → AllByRecursion (λ name. bytes_eq word (name_text name) ≡ false) names

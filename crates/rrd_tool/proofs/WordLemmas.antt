@@ -1,5 +1,5 @@
 -- The words of a text, word by word.
-use Rattle.std.specs.Prelude.{◌≡◌, ◌<◌, ◌++◌, ◌∷◌, ◌&&◌, ◌||◌, [], ℕ, zero, suc, Bool, true, false, List, take, drop, Result, Ok, Err, OnErr}
+use Rattle.std.specs.Prelude.{◌≡◌, ◌<◌, ◌++◌, ◌∷◌, [], ℕ, zero, suc, true, false, List, take, drop, Result, Ok, Err, OnErr}
 use Rattle.rrd_tool.proofs.Names.{◌∙◌, sym, ap, refl, arith, append-nil, append_assoc, nat_tests, list_all, list_any, IsAscii, IsUtf8, IsUtf8-from_ascii, if_some, is_empty, is_blank, is_plain, words_after}
 use Rattle.rrd_tool.proofs.Finding.{both}
 use Rattle.rrd_tool.proofs.LineLemmas.{neither}

@@ -1,6 +1,6 @@
 -- Definition: the arguments of a command, as clap parses them.
-use Rattle.std.specs.Prelude.{◌==◌, ◌∷◌, ℕ, Bool, List, [], Some, false, true, codes}
-use Rattle.rrd_tool.specs.Names.{unwrap_or, App, Row, Rule, Text, all_of, new_app, new_rule, Append}
+use Rattle.std.specs.Prelude.{◌==◌, ◌∷◌, ℕ, Bool, List, [], Some, false, not, true, codes}
+use Rattle.rrd_tool.specs.Names.{list_all, unwrap_or, App, Row, Rule, Text, all_of, new_app, new_rule, Append}
 pub mod Taken
 pub mod Shapes
 
@@ -37,6 +37,10 @@ bare_top = record (new_app (codes "rrdi")) {
 abbrev pub begins_with_minus : Text → Bool
 begins_with_minus [] = false
 begins_with_minus (b ∷ bs) = b == 45
+
+-- no text is an option
+abbrev pub are_values : List Text → Bool
+are_values words = list_all (λ word. not (begins_with_minus word)) words
 
 -- the values of an argument that may have any number of them
 abbrev pub words_of : Text → List Row → List Text

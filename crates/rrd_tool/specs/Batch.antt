@@ -4,6 +4,7 @@ use Rattle.rrd_tool.specs.Names.{Appends}
 use Rattle.rrd_tool.specs.Lines.{is_empty}
 pub mod Run
 pub mod Answers
+pub mod Moved
 
 -- a line, and whether the run reported that memory ran out for it
 pub record Told : Type 0 where

@@ -1,9 +1,10 @@
 -- Glue: the words of this crate that contracts and the crates above import, passed on from one place.
-pub use Rattle.rrd_tool.specs.Arguments.{bare_top, begins_with_minus, letter_rule, many_rule, option_rule, required_rule, word_rule}
+pub use Rattle.rrd_tool.specs.Arguments.{are_values, bare_top, begins_with_minus, letter_rule, many_rule, option_rule, required_rule, word_rule}
 pub use Rattle.rrd_tool.specs.Arguments.Shapes.{HasApp, IsParsedBy, IsRefused, Serves, app_with, first_name}
 pub use Rattle.rrd_tool.specs.Arguments.Taken.{IsTaken}
 pub use Rattle.rrd_tool.specs.Batch.{Counts, Ran, Stopped, Tally, Told, Turn, is_told, line_told, no_lines, state_after, tallied, tally_after, text_of}
 pub use Rattle.rrd_tool.specs.Batch.Answers.{Answers, AppendsSome, Asks, Moves, MovesByCommand, MovesByLine, Performs, Tallies, line_turns}
+pub use Rattle.rrd_tool.specs.Batch.Moved.{GoesOnBy, IsChangedBy, IsUpdate, IsUpdated, with_change}
 pub use Rattle.rrd_tool.specs.Batch.Run.{RunOver, command_turn, effect_turn, reading_turn, refusal_turn, text_turn, unless_short, words_turn}
 pub use Rattle.rrd_tool.specs.Commands.{effect, line_of, shape_of, values_of}
 pub use Rattle.rrd_tool.specs.Commands.Create.{archive_of, archives_in, create_app, create_of, definition_of, definitions_of, share_of, source_of, sources_in}
@@ -17,7 +18,7 @@ pub use Rattle.rrd_tool.specs.Commands.Names.{command_names, name_in, name_text}
 pub use Rattle.rrd_tool.specs.Commands.Reading.{IsReading}
 pub use Rattle.rrd_tool.specs.Commands.Resize.{change_of, resize_app, resize_of}
 pub use Rattle.rrd_tool.specs.Commands.Tune.{archive_tune_of, setting_of, tune_app, tune_of}
-pub use Rattle.rrd_tool.specs.Commands.Update.{sample_of, time_of, update_app, update_of, value_of}
+pub use Rattle.rrd_tool.specs.Commands.Update.{sample_of, samples_of, time_of, update_app, update_of, value_of}
 pub use Rattle.rrd_tool.specs.Effects.{Changes, Effect, Makes, Reverts, Shows, StandsFor, first_state, is_change, next, stored_next, stored_of, text_on, verdict_on}
 pub use Rattle.rrd_tool.specs.Execution.{Affects, Comes, Executes, IsFault, PrintsSome, RunsOn, database_left, fault_left, has_changed}
 pub use Rattle.rrd_tool.specs.Execution.Printing.{Prints, PrintsBy}

@@ -1,16 +1,19 @@
 //! A batch: runs each line of an input, and writes the output or the fault of the line.
-ghost use Rattle.std.specs.Prelude.{◌≡◌, ◌<◌, ◌≤◌, ◌+◌, ◌^◌, ◌∷◌, ◌++◌, [], ℕ, false, List, Option, OnOk, IfSome, true, length, option_map};
-ghost use Rattle.rrd_tool.specs.Names.{list_all, result_err, Consumes, State};
-ghost use Rattle.rrd_tool.specs.Words.{StandsFor, Buffers, has_end, is_plain, last_part, text_in, whole_lines, Counts, Tally, no_lines, Asks, Moves, MovesByCommand, MovesByLine, Tallies, RunOver};
+ghost use Rattle.std.specs.Prelude.{◌≡◌, ◌<◌, ◌≤◌, ◌+◌, ◌^◌, ◌∷◌, ◌++◌, [], ℕ, false, List, Option, Some, OnOk, IfSome, true, length, option_map};
+ghost use Rattle.rrd_tool.specs.Names.{list_all, result_err, Consumes, State, Stored};
+ghost use Rattle.rrd_spec.specs.Validity.{IsValid};
+ghost use Rattle.rrd_tool.specs.Words.{StandsFor, Buffers, has_end, is_plain, last_part, text_in, whole_lines, Counts, Tally, no_lines, Asks, Moves, MovesByCommand, MovesByLine, Tallies, RunOver, GoesOnBy, IsChangedBy};
 
+use crate::changed_by::ChangedBy;
 use crate::execution::{Outcome, execute};
 use crate::faults::{Fault, write_fault};
 use crate::lines::{LineBuffer, read_words, text_of_line};
 use crate::refusals::Refusals;
 use crate::{Command, LineFault, Observer, read_command};
 use memchr::memchr;
-use rrd_base::Database;
+use rrd_base::{Database, database_is_valid};
 use rrd_fixed::{WriteFault, flush, read_some};
+use rrd_spec::laws::updates_keep_newest_rows;
 use std::alloc::Global;
 use std::io::{Read, Write};
 
@@ -33,6 +36,8 @@ pub enum StreamFault {
 pub struct BatchEnd {
     /// The database after the lines that were run.
     pub database: Option<Database>,
+    /// What has changed the database.
+    pub changed_by: ChangedBy,
     /// The number of fault lines that were written completely.
     pub refused: u64,
     /// The numbers of the refused lines, in order, as many as were requested. The first line of the input is 1, and
@@ -49,10 +54,12 @@ struct Context {
     now: u64,
 }
 
-// The values that change during a batch: the database, and the refused lines. The observer sees these lines.
+// The values that change during a batch: the database, what has changed it, and the refused lines. The observer sees these
+// lines.
 #[derive(Drop)]
 struct Batch<'a, V> {
     database: Option<Database>,
+    changed_by: ChangedBy,
     refusals: Refusals,
     observer: &'a V,
 }
@@ -74,15 +81,29 @@ fn request(context: Context, text: Option<&[u8]>) -> Result<Option<Command>, Lin
     Ok(Some(command))
 }
 
+// The database that there is keeps the rules of one.
+fn all_are_valid(database: &Option<Database>)
+    ensures { (d : Stored) → database.now ≡ Some d → IsValid d.content }
+{
+    if let Some(database) = database {
+        database_is_valid(database);
+    }
+}
+
 // Runs a command. A command that changes the database prints nothing; the output of any other command is flushed.
 fn run_command<W: Write>(
     alloc: Global,
     database: &mut Option<Database>,
+    changed_by: &mut ChangedBy,
     command: Command,
     out: &mut W,
 ) -> Result<Option<Fault>, WriteFault>
-    ensures { MovesByCommand database.old database.new (W.contents out.old) (W.contents out.new) command result }
+    ensures moved { MovesByCommand database.old database.new (W.contents out.old) (W.contents out.new) command result }
+    ensures changed { GoesOnBy changed_by.old changed_by.new database.old database.new }
 {
+    updates_keep_newest_rows();
+    all_are_valid(database);
+    let is_update = command.is_update();
     match execute(alloc, database.take(), command, out) {
         Outcome::Printed(kept) => {
             *database = Some(kept);
@@ -90,6 +111,7 @@ fn run_command<W: Write>(
             Ok(None)
         }
         Outcome::Changed(changed) => {
+            *changed_by = changed_by.and(is_update);
             *database = Some(changed);
             Ok(None)
         }
@@ -110,16 +132,18 @@ fn run_command<W: Write>(
 fn perform<W: Write>(
     context: Context,
     database: &mut Option<Database>,
+    changed_by: &mut ChangedBy,
     out: &mut W,
     text: Option<&[u8]>,
 ) -> Result<Option<Fault>, WriteFault>
     requires { IfSome text (λ bytes. list_all is_plain bytes.now ≡ true) }
-    ensures { (line : List ℕ) → option_map (λ bytes. bytes.now) text.entry ≡ text_in line
+    ensures moved { (line : List ℕ) → option_map (λ bytes. bytes.now) text.entry ≡ text_in line
         → MovesByLine context.now database.old database.new (W.contents out.old) (W.contents out.new) line result }
+    ensures changed { GoesOnBy changed_by.old changed_by.new database.old database.new }
 {
     match request(context, text) {
         Ok(None) => Ok(None),
-        Ok(Some(command)) => run_command(context.alloc, database, command, out),
+        Ok(Some(command)) => run_command(context.alloc, database, changed_by, command, out),
         Err(fault) => Ok(Some(Fault::Line(fault))),
     }
 }
@@ -137,9 +161,17 @@ fn answer<W: Write, V: Observer>(
         → Moves context.now batch.old.database batch.new.database batch.old.refusals batch.new.refusals
         (W.contents out.old) (W.contents out.new) (line ∷ []) result }
     ensures count { batch.new.refusals.lines ≤ batch.old.refusals.lines + 1 }
+    ensures changed { GoesOnBy batch.old.changed_by batch.new.changed_by batch.old.database batch.new.database }
 {
     batch.refusals.begin_line();
-    let Some(fault) = perform(context, &mut batch.database, out, text)? else {
+    let Some(fault) = perform(
+        context,
+        &mut batch.database,
+        &mut batch.changed_by,
+        out,
+        text,
+    )?
+    else {
         return Ok(());
     };
     write_fault(out, &fault)?;
@@ -165,6 +197,7 @@ fn take_line<W: Write, V: Observer>(
         (W.contents out.old) (W.contents out.new) (whole_lines unfinished (bytes.now ++ 10 ∷ [])) result
         × OnOk result (Buffers line.new (last_part unfinished (bytes.now ++ 10 ∷ []))) }
     ensures count { batch.new.refusals.lines ≤ batch.old.refusals.lines + 1 }
+    ensures changed { GoesOnBy batch.old.changed_by batch.new.changed_by batch.old.database batch.new.database }
 {
     if line.is_empty() {
         return answer(context, batch, out, text_of_line(bytes));
@@ -189,6 +222,7 @@ fn feed<W: Write, V: Observer>(
         (W.contents out.old) (W.contents out.new) (whole_lines unfinished bytes.now) result
         × OnOk result (Buffers line.new (last_part unfinished bytes.now)) }
     ensures count { batch.new.refusals.lines ≤ batch.old.refusals.lines + length bytes.now }
+    ensures changed { GoesOnBy batch.old.changed_by batch.new.changed_by batch.old.database batch.new.database }
 {
     let mut from = 0;
     while let Some(length) = memchr(b'\n', &bytes[from..]) {
@@ -207,12 +241,13 @@ fn run_lines<R: Read, W: Write, V: Observer>(
     out: &mut W,
 ) -> Result<(), StreamFault>
     requires { batch.old.refusals.lines ≡ 0 }
-    ensures { (s0 : Option State) → StandsFor batch.old.database s0 → (most : ℕ) → Tallies most batch.old.refusals no_lines
+    ensures run { (s0 : Option State) → StandsFor batch.old.database s0 → (most : ℕ) → Tallies most batch.old.refusals no_lines
         → (seen : List ℕ) × Consumes (R.remaining reader.old) (R.remaining reader.new) seen
         × (s1 : Option State) × StandsFor batch.new.database s1
         × (tally : Tally) × Tallies most batch.new.refusals tally
         × RunOver context.now seen (R.remaining reader.new) s0 s1 tally
         (W.contents out.old) (W.contents out.new) (result_err result) }
+    ensures changed { GoesOnBy batch.old.changed_by batch.new.changed_by batch.old.database batch.new.database }
 {
     let Ok(mut line) = LineBuffer::new(context.alloc) else {
         return Err(StreamFault::OutOfMemory);
@@ -254,16 +289,18 @@ pub fn run_batch<R: Read, W: Write, V: Observer>(
     out: &mut W,
     observer: &V,
 ) -> BatchEnd
-    ensures { (s0 : Option State) → StandsFor database s0
+    ensures run { (s0 : Option State) → StandsFor database s0
         → (seen : List ℕ) × Consumes (R.remaining reader.old) (R.remaining reader.new) seen
         × (s1 : Option State) × StandsFor result.database s1
         × (tally : Tally) × Counts numbered tally result.refused result.lines.items
         × RunOver now seen (R.remaining reader.new) s0 s1 tally
         (W.contents out.old) (W.contents out.new) result.stream }
+    ensures changed { IsChangedBy result.changed_by database result.database }
 {
     let Ok(refusals) = Refusals::new(alloc, numbered) else {
         return BatchEnd {
             database,
+            changed_by: ChangedBy::Nothing,
             refused: 0,
             lines: Vec::new(alloc),
             stream: Some(StreamFault::OutOfMemory),
@@ -271,12 +308,14 @@ pub fn run_batch<R: Read, W: Write, V: Observer>(
     };
     let mut batch = Batch {
         database,
+        changed_by: ChangedBy::Nothing,
         refusals,
         observer,
     };
     let stream = run_lines(Context { alloc, now }, &mut batch, reader, out).err();
     BatchEnd {
         database: batch.database,
+        changed_by: batch.changed_by,
         refused: batch.refusals.count,
         lines: batch.refusals.numbers,
         stream,

@@ -1,8 +1,8 @@
 //! The commands, and the tables of them: the shape of each command for clap, its parsing and its run. The names are in
 //! `name`, and the parts of one command are in the file of its name.
-ghost use Rattle.std.specs.Prelude.{◌≡◌, IfOk, IfSome, List, None, Option, Some, is_some, true, ℕ};
+ghost use Rattle.std.specs.Prelude.{◌≡◌, ◌∷◌, [], IfOk, IfSome, IsTrue, List, None, Ok, Option, Some, is_some, map, true, ℕ};
 ghost use Rattle.rrd_tool.specs.Names.{found_of, rows_of, subcommand_rows_of};
-ghost use Rattle.rrd_tool.specs.Words.{shape_of, values_of, HasApp, first_name, Executes, IsReading, Meets};
+ghost use Rattle.rrd_tool.specs.Words.{shape_of, values_of, HasApp, first_name, name_text, Executes, IsReading, IsUpdate, Meets, effect};
 
 mod create;
 mod fetch;
@@ -18,6 +18,7 @@ mod update;
 
 use crate::arguments::{command_with, parse};
 use crate::execution::Outcome;
+use crate::words::are_values;
 use crate::{Fault, LineFault, Words};
 use clap::ArgMatches;
 pub use fetch::choose_rows;
@@ -58,6 +59,15 @@ pub enum Command {
     Revert,
 }
 
+impl Command {
+    /// Returns whether the command is an update.
+    pub fn is_update(&self) -> bool
+        ensures { IsTrue result → IsUpdate (effect self.now) }
+    {
+        matches!(self, Command::Update(_))
+    }
+}
+
 impl CommandName {
     /// Returns the shape of the command for clap.
     fn shape<'a>(self, alloc: Global) -> Result<clap::Command<'a>, AllocError>
@@ -72,6 +82,19 @@ impl CommandName {
             CommandName::First => first::shape(alloc),
             CommandName::Last | CommandName::LastUpdate | CommandName::Info | CommandName::Revert =>
                 Ok(self.bare(alloc)),
+        }
+    }
+
+    /// Returns the command without words after its name, if it takes none.
+    fn alone(self) -> Option<Command>
+        ensures { IfSome result (λ command. (now : ℕ) → IsReading (name_text self ∷ []) now (Ok command)) }
+    {
+        match self {
+            CommandName::Last => Some(Command::Last),
+            CommandName::LastUpdate => Some(Command::LastUpdate),
+            CommandName::Info => Some(Command::Info),
+            CommandName::Revert => Some(Command::Revert),
+            _ => None,
         }
     }
 
@@ -117,6 +140,25 @@ fn read_entered(
     name.read(alloc, inner, now)
 }
 
+// Parses the words after the name of a command without clap, which takes longer than most updates: samples, or no words. Returns
+// `None` if others may be among the words.
+fn read_values(
+    alloc: Global,
+    name: CommandName,
+    words: &[&str],
+    now: u64,
+) -> Option<Result<Command, LineFault>>
+    ensures { IfSome result (λ read. IsReading (name_text name ∷ map (λ w. w.now) words.now) now read) }
+{
+    match (name, words) {
+        (CommandName::Update, samples) if are_values(samples) => Some(update::read_samples(
+            alloc, samples, now,
+        )),
+        (_, []) => Some(Ok(name.alone()?)),
+        _ => None,
+    }
+}
+
 /// Parses the words of one command: its name and then its arguments.
 ///
 /// `now` is the time for `N` and for the defaults, in seconds since 1970. Defaults: a step of 300 seconds, a start ten
@@ -136,6 +178,9 @@ pub fn read_command(alloc: Global, words: &Words<'_>, now: u64) -> Result<Comman
     let Some(name) = name_of(words) else {
         return Err(LineFault::Usage);
     };
+    if let Some(read) = read_values(alloc, name, words.behind_first(), now) {
+        return read;
+    }
     let matches = parse(command_with(alloc, name.shape(alloc)?)?, words)?;
     read_entered(alloc, name, &matches, now)
 }

@@ -4,6 +4,7 @@
 
 mod arguments;
 mod batch;
+mod changed_by;
 mod commands;
 mod execution;
 mod faults;
@@ -14,6 +15,7 @@ mod refusals;
 mod words;
 
 pub use batch::{BatchEnd, StreamFault, run_batch};
+pub use changed_by::ChangedBy;
 pub use commands::{Command, choose_rows, read_command};
 pub use execution::{Outcome, execute};
 pub use faults::{Fault, LineFault, Part, write_error, write_fault};

@@ -1,5 +1,6 @@
 //! Words, and lists of them.
-ghost use Rattle.std.specs.Prelude.{◌≡◌, ◌++◌, ◌∷◌, [], length, map, is_ok, if◌then◌else◌, slice_get, option_map};
+ghost use Rattle.std.specs.Prelude.{◌≡◌, ◌++◌, ◌∷◌, [], drop, length, map, is_ok, if◌then◌else◌, not, slice_get, option_map};
+ghost use Rattle.rrd_tool.specs.Names.{list_all};
 ghost use Rattle.rrd_tool.specs.Words.{begins_with_minus};
 
 use std::alloc::{AllocError, Global};
@@ -58,6 +59,16 @@ impl<'a> Words<'a> {
         Some(self.items[0])
     }
 
+    /// Returns the words after the first.
+    pub(crate) fn behind_first(&self) -> &[&'a str]
+        ensures { map (λ word. word.now) result.now ≡ drop 1 self.now }
+    {
+        match self.items.as_slice() {
+            [] => &[],
+            [_, rest @ ..] => rest,
+        }
+    }
+
     /// Returns the words as a slice.
     pub fn as_slice(&self) -> &[&'a str]
         ensures { map (λ word. word.now) result.now ≡ self.now }
@@ -75,4 +86,11 @@ pub fn begins_with_minus(word: &str) -> bool
         return false;
     }
     bytes[0] == b'-'
+}
+
+/// Checks whether no word is an option.
+pub(crate) fn are_values(words: &[&str]) -> bool
+    ensures { result ≡ list_all (λ word. not (begins_with_minus word.now)) words.now }
+{
+    words.iter().all(|word| !begins_with_minus(word))
 }

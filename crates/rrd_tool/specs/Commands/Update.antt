@@ -38,8 +38,13 @@ sample_of now text =
 
 -- ---- its values
 
+-- an update by its template and the words of its samples
+abbrev pub samples_of : Option (List Name) → List Text → ℕ → Result Command Unread
+samples_of template words now =
+    each_of (sample_of now) part.Sample 1 words
+    >>= (λ samples. Ok (command.Update (record { template = template; samples = samples })))
+
 abbrev pub update_of : List Row → ℕ → Result Command Unread
 update_of rows now =
     optional template_of part.Template (first_of (codes "template") rows)
-    >>= (λ template. each_of (sample_of now) part.Sample 1 (words_of (codes "sample") rows)
-    >>= (λ samples. Ok (command.Update (record { template = template; samples = samples }))))
+    >>= (λ template. samples_of template (words_of (codes "sample") rows) now)

@@ -1,7 +1,7 @@
 //! `update`: adds samples (rrdupdate).
-ghost use Rattle.std.specs.Prelude.{◌≡◌, IfOk, List, Option, Some, map, ℕ};
+ghost use Rattle.std.specs.Prelude.{◌≡◌, IfOk, List, None, Option, Some, map, ℕ};
 ghost use Rattle.rrd_tool.specs.Names.{found_of, rows_of};
-ghost use Rattle.rrd_tool.specs.Words.{HasApp, sample_of, time_of, update_app, update_of, value_of, Executes, Meets, each_of, or_fault};
+ghost use Rattle.rrd_tool.specs.Words.{HasApp, sample_of, samples_of, time_of, update_app, update_of, value_of, Executes, Meets, each_of, or_fault};
 
 use super::name::CommandName;
 use crate::arguments::{letter_arg, many_arg, text_of, texts_of};
@@ -80,6 +80,17 @@ pub(crate) fn read(alloc: Global, matches: &ArgMatches<'_>, now: u64) -> Result<
         Some(words) => samples(alloc, now, words)?,
     };
     Ok(Command::Update(Update { template, samples }))
+}
+
+/// Parses words of which none is an option: each is a sample.
+pub(crate) fn read_samples(alloc: Global, words: &[&str], now: u64) -> Result<Command, LineFault>
+    ensures { Meets (samples_of None (map (λ w. w.now) words.now) now) result }
+{
+    let samples = samples(alloc, now, words)?;
+    Ok(Command::Update(Update {
+        template: None,
+        samples,
+    }))
 }
 
 /// Adds the samples.

@@ -50,6 +50,7 @@ loop-length-preserved g c =
           ),
       omega (arith, c.loop-length.invariant.1, c.take_line.ensures.count),
       omega (arith, inside, length-drop from bytes),
+      λ start was. c.in_ok-take_line.ensures.changed start (c.loop-length.invariant.3 start was),
     )
 
 pub extend-requires : goal.extend-requires

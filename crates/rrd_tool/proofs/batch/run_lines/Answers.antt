@@ -1,8 +1,8 @@
 use Rattle.rrd_tool.proofs.Common.{◌≡◌, ◌∙◌, ◌++◌, [], take, sym, ap, false, true, inl, inr, arith, is_empty, last_part, no_lines, turn, Consumes-nil, feed_fails, feed_goes, last_fails, last_goes, none_left, ran_none, appends_nothing, at_ok, part_append}
 use Rattle.rrd_tool.proofs.batch.run_lines.Goals as goal
 
-pub returns-then-is_empty : goal.returns-then-is_empty
-returns-then-is_empty g c h0 s most tallies =
+pub returns-then-is_empty-clause-run : goal.returns-then-is_empty-clause-run
+returns-then-is_empty-clause-run g c h0 s most tallies =
     let inv = c.reads.invariant.0 h0 s most tallies in
     let seen = inv.0 in
     let more = take c.in-Ok-read_some.count c.read_some.new.buffer in
@@ -14,8 +14,8 @@ returns-then-is_empty g c h0 s most tallies =
     seen more inv.1 c.in-Ok-read_some.ensures.ok inv.6 none nothing in
     (seen, left.0, inv.2, inv.3, inv.4, inv.5, (c.in-Ok-read_some.ensures.end c.if-count-eq0.true (omega arith), left.1))
 
-pub returns-then-is_err : goal.returns-then-is_err
-returns-then-is_err g c h0 s most tallies =
+pub returns-then-is_err-clause-run : goal.returns-then-is_err-clause-run
+returns-then-is_err-clause-run g c h0 s most tallies =
     let inv = c.reads.invariant.0 h0 s most tallies in
     let seen = inv.0 in
     let more = take c.in-Ok-read_some.count c.read_some.new.buffer in
@@ -28,8 +28,8 @@ returns-then-is_err g c h0 s most tallies =
     seen more inv.1 c.in-Ok-read_some.ensures.ok inv.6 none some c.answer.result (sym c.if-is_err.ensures.value) told.4 in
     (seen, failed.0, told.0, told.1, told.2, told.3, inr (c.in-Ok-read_some.ensures.end c.if-count-eq0.true (omega arith), failed.1))
 
-pub returns-then-count-eq0 : goal.returns-then-count-eq0
-returns-then-count-eq0 g c h0 s most tallies =
+pub returns-then-count-eq0-clause-run : goal.returns-then-count-eq0-clause-run
+returns-then-count-eq0-clause-run g c h0 s most tallies =
     let inv = c.reads.invariant.0 h0 s most tallies in
     let seen = inv.0 in
     let more = take c.in-Ok-read_some.count c.read_some.new.buffer in
@@ -42,8 +42,8 @@ returns-then-count-eq0 g c h0 s most tallies =
     seen more inv.1 c.in-Ok-read_some.ensures.ok inv.6 none some c.answer.result (sym c.if-is_err.ensures.value) told.4 in
     (seen, left.0, told.0, told.1, told.2, told.3, (c.in-Ok-read_some.ensures.end c.if-count-eq0.true (omega arith), left.1))
 
-pub returns-then-is_err-2 : goal.returns-then-is_err-2
-returns-then-is_err-2 g c h0 s most tallies =
+pub returns-then-is_err-2-clause-run : goal.returns-then-is_err-2-clause-run
+returns-then-is_err-2-clause-run g c h0 s most tallies =
     let inv = c.reads.invariant.0 h0 s most tallies in
     let seen = inv.0 in
     let more = take c.in-Ok-read_some.count c.read_some.new.buffer in
@@ -69,6 +69,7 @@ reads-preserved g c = (
       (seen ++ more, on.0, told.0, told.1, told.2, told.3, on.1, rw (part_append [] seen more) (at_ok c.feed.result (sym c.if-is_err-2.ensures.value) fed.1)),
   let bound = c.in-Ok-read_some.ensures.bound in
       omega (arith, c.feed.ensures.count, bound.0, bound.1, c.reads.invariant.1),
+  λ start was. c.feed.ensures.changed start (c.reads.invariant.2 start was),
 )
 
 pub reads-init : goal.reads-init
@@ -77,4 +78,5 @@ reads-init g c =
       λ h0 s most tallies.
           ([], Consumes-nil (g.R.Read.remaining c.args.reader.now), h0, s, no_lines, tallies, ran_none (turn c.args.context.now) h0 no_lines out out (appends_nothing out), c.in-Ok.ensures),
       let none = c.requires in omega (arith, none),
+      λ start was. was,
     )
