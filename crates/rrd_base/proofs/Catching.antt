@@ -1,6 +1,6 @@
 -- Seconds up to a time: the rest of a step, whole steps, and the begin of the next.
 use Rattle.std.specs.Prelude.{◌≡◌, ℕ, ◌+◌, ◌-◌, ◌*◌, ◌/◌, ◌%◌, ◌<◌, ◌≤◌, List, [], ◌∷◌, length, replicate, sum, map}
-use Rattle.rrd_base.proofs.Names.{sym, ◌∙◌, ap, subst, arith, replicate-append-replicate, div-add-mod', div-mul-add, mod_below, mul-le, Cell, RraDef, Raw, Sample, Content, Reading, Sampled, IsBase, rates, definitions, content_listed, passed, PassesInPieces, SampledPasses, rows_shown, in_all, least_of_sample, most_of_sample, AreAccepted, IsRow, IsValid, least_of_ends, least_to, most_of_ends, most_to, most_of_steps, base_of_valid}
+use Rattle.rrd_base.proofs.Names.{sym, ◌∙◌, ap, subst, arith, replicate-append-replicate, div-mul-add, mod_below, mul-le, Cell, RraDef, Raw, Sample, Content, Reading, Sampled, IsBase, definitions, content_listed, passed, PassesInPieces, SampledPasses, rows_shown, in_all, least_of_sample, most_of_sample, AreAccepted, IsRow, IsValid, least_of_ends, least_to, most_of_ends, most_to, most_of_steps, base_of_valid}
 use Rattle.rrd_base.proofs.Passing.{ended_div, within_div}
 use Rattle.rrd_base.proofs.TurnLemmas.{Leaves, leaves_of, passed_leaves, least_by_steps, most_by_steps, least_of_none}
 use Rattle.rrd_spec.proofs.GroupLemmas.{next_ahead}
@@ -49,8 +49,6 @@ caught_up pieces base late now time row is h e g =
     let s = base.step in
     let left = (time - end_of_step base) % s in
     let n = seconds_to_steps base time in
-    let fills = end_ahead base.last s is.some_step in
-    let split = div-add-mod' (time - end_of_step base) s in
     cc (g, e, pieces base (replicate n row) (replicate left row) (base_of_valid base is), replicate-append-replicate n left row, ap (λ m. passed base (replicate m row)) {x = n + left} {y = time - base.last} (omega arith))
 
 -- ---- their turns
@@ -61,8 +59,7 @@ number_at last step time some h =
     ap (λ n. n / step) {x = time} {y = (last / step + (1 + more / step)) * step + more % step} (omega arith) ∙ div-mul-add (last / step + (1 + more / step)) step (more % step) (mod_below more step some)
 
 pub least_caught : (base : Content) (time : ℕ) → IsValid base → end_of_step base ≤ time → least_to base time ≡ least_of_ends base (steps_after base time)
-least_caught base time is h =
-    ap (λ n. length base.sources * n) (least_by_steps base.step base.last time (1 + steps_after base time) base.archives (number_at base.last base.step time is.some_step h))
+least_caught base time is h = grind (arith, least_by_steps, number_at)
 
 pub most_caught : (base : Content) (time : ℕ) → IsValid base → end_of_step base ≤ time → most_of_ends base (steps_after base time) + length base.sources ≤ most_to base time
 most_caught base time is h =
@@ -81,8 +78,7 @@ least_within base time is later h =
     ap (λ x. n * x) (least_by_steps base.step base.last time 0 base.archives e ∙ least_of_none (base.last / base.step) base.archives) ∙ omega arith
 
 pub most_within : (base : Content) (time : ℕ) → length base.sources ≤ most_to base time
-most_within base time =
-    omega arith
+most_within base time = grind arith
 
 -- ---- a sample, and the samples of an update
 
@@ -96,14 +92,7 @@ pub record SameShape (base now : Content) : Type 0 where
   pub defs : definitions now.archives ≡ definitions base.archives
 
 pub sample_leaves : (passes : (base : Content) (reading : Reading) → SampledPasses base reading) (base now : Content) (reading : Reading) → IsBase base → base.last < reading.time → now ≡ content_listed base (Sampled reading ∷ []) → SameShape base now
-sample_leaves passes base now reading is later e =
-    let n = reading.time - base.last in
-    let left = passed_leaves base n (rates base.sources n base.raws reading.raws) in
-    let whole = e ∙ passes base reading is later in
-    record {
-      step = ap (λ (x : Content). x.step) whole ∙ left.step;
-      defs = ap (λ (x : Content). definitions x.archives) whole ∙ left.defs;
-    }
+sample_leaves passes base now reading is later e = grind (arith, passed_leaves)
 
 -- turns of the next sample, and of those after it
 pub turns_next : (turns : ℕ → ℕ → ℕ) (last next : ℕ) (left rest : List Sample) (sample : Sample) → left ≡ sample ∷ rest → next ≡ sample.time → in_all turns last left ≡ turns last sample.time + in_all turns next rest

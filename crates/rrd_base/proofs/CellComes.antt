@@ -1,7 +1,6 @@
 -- Cells come, one or many at once: they go into their places, and the cursor goes on.
-use Rattle.std.specs.Prelude.{◌≡◌, ◌+◌, ◌-◌, ◌*◌, ◌/◌, ◌%◌, ◌<◌, ◌≤◌, ℕ, zero, suc, List, [], ◌∷◌, ◌++◌, Some, None, Option, length, map, take, drop, sum, ◌⊎◌}
-use Rattle.rrd_base.proofs.Names.{◌∙◌, sym, ap, subst, arith, inl, inr, refl, get_or, set, append_assoc, append-nil, length-set, length-append, length-drop, take_at, add-one, AllByRecursion, flat_map, fold, cases_lt, flat_map-cons, length-take-le, take-append-le, add-mul-mod_self_right, mod-add-div', Cell, IsBounded, Due, SourceDue, HeadDue, CellDue, EntryDue, NothingDue, Outline, RraDef, rows_of_archives, Filed, Head, Source, head_of, Rra, limits_of, present, All-at, All-drop, drop_here, outline_undone, PutsCell, SlotHasPlace, IsArchiveDef, IsRowPart, after_heads, due, prep_or, unprepared, resolution, by_slot, cells_by_slot, place_in, IsRow, IsValidJournalWithin, Entry, Cursor, EntryValidator, Advances, AreFewer, KnowsPlace, KnowsPlaceIn, filled_by, journal_of, ArePrepared, Coming, HeadsCame, IsArchiveSoFar, IsCursor, IsRebuilding, content_so_far, filed_in}
-use Rattle.rrd_spec.specs.Files.Filed.{sources_of}
+use Rattle.std.specs.Prelude.{◌≡◌, ◌+◌, ◌-◌, ◌*◌, ◌/◌, ◌%◌, ◌<◌, ◌≤◌, ℕ, zero, suc, List, [], ◌∷◌, ◌++◌, None, Option, length, map, take, drop, sum, ◌⊎◌}
+use Rattle.rrd_base.proofs.Names.{◌∙◌, sym, ap, subst, arith, inl, inr, refl, get_or, set, append_assoc, append-nil, length-set, length-append, length-drop, take_at, add-one, AllByRecursion, flat_map, cases_lt, length-take-le, take-append-le, add-mul-mod_self_right, mod-add-div', Cell, IsBounded, Due, SourceDue, CellDue, RraDef, rows_of_archives, Filed, Head, head_of, Rra, All-at, All-drop, drop_here, PutsCell, SlotHasPlace, due, prep_or, resolution, cells_by_slot, place_in, IsRow, Cursor, Advances, AreFewer, KnowsPlace, KnowsPlaceIn, filled_by, ArePrepared, Coming, HeadsCame, IsArchiveSoFar, IsCursor, IsRebuilding, filed_in}
 use Rattle.rrd_base.proofs.Comes.{knows_nothing, rows_same}
 use Rattle.rrd_base.proofs.Dues.{AllAsMany, archive_wide, due_entry, due_head, due_nothing, due_source, due_then, none_there, one_each}
 use native.Mathlib.Nat as nat
@@ -14,30 +13,15 @@ pub record AtCell (d : Coming) : Type 0 where
   pub none : d.journal ≡ []
 
 only_cell : (o : Option RraDef) (later : Due) → prep_or o later ≡ CellDue → (o ≡ None) × (later ≡ CellDue)
-only_cell None later e = (refl, e)
-only_cell (Some def) later e = absurd cc
+only_cell o later e = grind arith
 
 no_entry : (d : Coming) → IsRebuilding d → d.archive < length d.archives → d.journal ≡ []
-no_entry d is there = elim (cases_lt 0 (length d.journal)) [
-  | inl some ↦ absurd (omega (arith, (is.cells_first some).all, there))
-  | inr none ↦ none_there d.journal (omega (arith, none))
-]
+no_entry d is there = grind (arith, none_there)
 
 pub at_cell : AllAsMany → (d : Coming) → IsRebuilding d → due (filed_in d) ≡ CellDue → AtCell d
 at_cell as_many d is e = elim (cases_lt (length d.sources) d.sources_due) [
   | inl lt ↦ absurd (let e2 : SourceDue ≡ CellDue = sym (due_source d is lt) ∙ e in cc)
-  | inr le ↦
-      let p = only_cell (unprepared d.sources_due (map head_of d.archives)) (after_heads (filed_in d)) (sym (due_then d is le) ∙ e) in
-      elim (cases_lt (length d.archives) d.archives_due) [
-        | inl lt ↦ absurd (let e2 : HeadDue ≡ CellDue = sym (due_head d is lt) ∙ p.1 in cc)
-        | inr many ↦ elim (cases_lt d.archive (length d.archives)) [
-          | inl there ↦ record { heads = record { all = omega (arith, many, is.few_archives); prepared = p.0 }; there = there; none = no_entry d is there }
-          | inr past ↦ absurd (elim (cases_lt (length d.journal) d.entries_due) [
-            | inl lt ↦ let e2 : EntryDue ≡ CellDue = sym (due_entry as_many d is many past lt) ∙ p.1 in cc
-            | inr le2 ↦ let e2 : NothingDue ≡ CellDue = sym (due_nothing as_many d is many past le2) ∙ p.1 in cc
-          ])
-        ]
-      ]
+  | inr le ↦ grind (arith, only_cell, due_then, due_head, no_entry, due_entry, due_nothing)
 ]
 
 -- ---- lists
@@ -88,38 +72,21 @@ take_front (x ∷ xs) ys = ap (λ zs. x ∷ zs) (take_front xs ys)
 cells_more : (f : Rra → List Cell) (xs : List Rra) (i n : ℕ) (a b : Rra) (cells : List Cell) → i < length xs → a ≡ get_or xs i a → n + length cells ≤ length (f a) → f b ≡ put_in (f a) n cells
     → flat_map f (take i (set xs i b)) ++ take (n + length cells) (flat_map f (drop i (set xs i b))) ≡ (flat_map f (take i xs) ++ take n (flat_map f (drop i xs))) ++ cells
 cells_more f [] i n a b cells h e few is = absurd (omega arith)
-cells_more f (x ∷ xs) zero n a b cells h e few is =
-    let one : flat_map f (b ∷ xs) ≡ put_in (f a) n cells ++ flat_map f xs = flat_map-cons f b xs ∙ ap (λ (cs : List Cell). cs ++ flat_map f xs) is in
-    let two : flat_map f (x ∷ xs) ≡ f a ++ flat_map f xs = flat_map-cons f x xs ∙ ap (λ (y : Rra). f y ++ flat_map f xs) (sym e) in
-    ap (take (n + length cells)) one ∙ (take_put_more (f a) (flat_map f xs) n cells few ∙ ap (λ (cs : List Cell). take n cs ++ cells) (sym two))
-cells_more f (x ∷ xs) (suc i) n a b cells h e few is =
-    let rest = cells_more f xs i n a b cells (omega arith) e few is in
-    let s = set xs i b in
-    let t = take (n + length cells) (flat_map f (drop i s)) in
-    let u = take n (flat_map f (drop i xs)) in
-    cc (flat_map-cons f x (take i s), append_assoc (f x) (flat_map f (take i s)) t, rest, append_assoc (f x) (flat_map f (take i xs) ++ u) cells, append_assoc (f x) (flat_map f (take i xs)) u, flat_map-cons f x (take i xs))
+cells_more f (x ∷ xs) zero n a b cells h e few is = grind (arith, take_put_more)
+cells_more f (x ∷ xs) (suc i) n a b cells h e few is = grind (arith, cells_more f xs i n a b cells (omega arith) e few is, append_assoc)
 
 -- those of a whole archive
 cells_over : (f : Rra → List Cell) (xs : List Rra) (i n : ℕ) (a : Rra) → i < length xs → a ≡ get_or xs i a → n ≡ length (f a)
     → flat_map f (take (suc i) xs) ++ [] ≡ flat_map f (take i xs) ++ take n (flat_map f (drop i xs))
 cells_over f [] i n a h e is = absurd (omega arith)
-cells_over f (x ∷ xs) zero n a h e is =
-    let one : flat_map f (x ∷ []) ++ [] ≡ f x = append-nil (flat_map f (x ∷ [])) ∙ (flat_map-cons f x [] ∙ append-nil (f x)) in
-    let count : n ≡ length (f x) = is ∙ ap (λ (y : Rra). length (f y)) e in
-    let two : take n (flat_map f (x ∷ xs)) ≡ f x = ap (take n) (flat_map-cons f x xs) ∙ (ap (λ m. take m (f x ++ flat_map f xs)) count ∙ take_front (f x) (flat_map f xs)) in
-    one ∙ sym two
-cells_over f (x ∷ xs) (suc i) n a h e is =
-    let rest = cells_over f xs i n a (omega arith) e is in
-    let u = take n (flat_map f (drop i xs)) in
-    cc (flat_map-cons f x (take (suc i) xs), append_assoc (f x) (flat_map f (take (suc i) xs)) [], rest, append_assoc (f x) (flat_map f (take i xs)) u, flat_map-cons f x (take i xs))
+cells_over f (x ∷ xs) zero n a h e is = grind (arith, append-nil, take_front)
+cells_over f (x ∷ xs) (suc i) n a h e is = grind (arith, cells_over f xs i n a (omega arith) e is, append_assoc)
 
 -- ---- the archives with one of them written to
 
 heads_set : (xs : List Rra) (i : ℕ) (a b : Rra) → i < length xs → a ≡ get_or xs i a → b.def ≡ a.def → b.parts ≡ a.parts → map head_of (set xs i b) ≡ map head_of xs
 heads_set [] i a b h e def parts = absurd (omega arith)
-heads_set (x ∷ xs) zero a b h e def parts =
-    let one : head_of b ≡ head_of a = λ j. let head : Head = record { def = def j; parts = parts j } in head in
-    ap (λ (head : Head). head ∷ map head_of xs) (one ∙ ap head_of e)
+heads_set (x ∷ xs) zero a b h e def parts = grind arith
 heads_set (x ∷ xs) (suc i) a b h e def parts = ap (λ (heads : List Head). head_of x ∷ heads) (heads_set xs i a b (omega arith) e def parts)
 
 prepared_set : (sources : ℕ) (xs : List Rra) (i : ℕ) (a b : Rra) → i < length xs → a ≡ get_or xs i a → b.parts ≡ a.parts → ArePrepared sources xs → ArePrepared sources (set xs i b)
@@ -130,8 +97,7 @@ prepared_set sources (x ∷ y ∷ xs) (suc (suc i)) a b h e parts is = (is.0, pr
 prepared_set sources x i a b h e parts is = absurd (omega arith)
 
 fewer_none : (sources step last : ℕ) (xs : List Rra) → 0 < sources → AllByRecursion (IsArchiveSoFar sources step last) xs → AreFewer sources xs 0
-fewer_none sources step last [] some all = refl
-fewer_none sources step last (a ∷ xs) some all = nat.mul-pos some all.0.def_is.some_rows
+fewer_none sources step last xs some all = grind arith
 
 -- ---- cells are written
 
@@ -156,48 +122,17 @@ cell_keeps d a b cells archive filled is at put there few =
     let new = cell_came d b archive filled in
     let same = heads_set d.archives d.archive a b at.there put.is put.def_same put.parts_same in
     let old = archive_at d a is at.there put.is in
-    let so_far : IsArchiveSoFar d.sources_due d.step d.last b = record {
-      def_is = subst (λ (def : RraDef). IsArchiveDef present def) (sym put.def_same) old.def_is;
-      few_parts = omega (arith, ap length put.parts_same, old.few_parts);
-      each_part = subst (λ (def : RraDef). AllByRecursion (IsRowPart d.step d.last def) b.parts) (sym put.def_same) (subst (AllByRecursion (IsRowPart d.step d.last a.def)) (sym put.parts_same) old.each_part);
-      rows_are = put.as_many ∙ (old.rows_are ∙ ap (λ (def : RraDef). def.rows) (sym put.def_same));
-      each_row = put.each_row;
-    } in
-    let rows : sum (rows_of_archives (set d.archives d.archive b)) ≡ sum (rows_of_archives d.archives) =
-    ap sum (sym (rows_same (set d.archives d.archive b)) ∙ (ap (map (λ (head : Head). head.def.rows)) same ∙ rows_same d.archives)) in
+    let so_far : IsArchiveSoFar d.sources_due d.step d.last b = grind arith in
+    let rows : sum (rows_of_archives (set d.archives d.archive b)) ≡ sum (rows_of_archives d.archives) = grind (arith, rows_same) in
     let count : length (set d.archives d.archive b) ≡ length d.archives = length-set d.archives d.archive b in
-    record {
-      header_is = is.header_is;
-      few_sources = is.few_sources;
-      sources_are = is.sources_are;
-      names_differ = is.names_differ;
-      raws_are = is.raws_are;
-      one_part_each = is.one_part_each;
-      parts_are = is.parts_are;
-      few_archives = omega (arith, count, is.few_archives);
-      archives_are = All_set (IsArchiveSoFar d.sources_due d.step d.last) d.archives d.archive b is.archives_are so_far;
-      few_cells = subst (λ n. d.sources_due * n ≤ (limits_of d.version).max_cells) (sym rows) is.few_cells;
-      places = is.places;
-      few_entries = is.few_entries;
-      validator_is = is.validator_is ∙ ap (λ (heads : List Head). let s : Outline = record { last = d.last; sources = map (λ (source : Source). source.def) (sources_of d.sources d.raws d.preps); archives = map (λ (head : Head). head.def) heads } in let j : EntryValidator = record { version = d.version; step = d.step; outline = fold outline_undone s (journal_of d.journal) } in j) (sym same);
-      journal_is = subst (λ (j : List Entry). IsValidJournalWithin (limits_of d.version) (content_so_far new) (journal_of j)) (sym at.none) tt;
-      sources_first = λ some. is.sources_first (omega (arith, some, count));
-      archives_prepared = prepared_set d.sources_due d.archives d.archive a b at.there put.is put.parts_same is.archives_prepared;
-      heads_first = λ some. record { all = count ∙ at.heads.all; prepared = ap (unprepared d.sources_due) same ∙ at.heads.prepared };
-      archive_there = omega (arith, there, count);
-      filled_few = few;
-      cells_first = λ some. absurd (omega (arith, some, ap length at.none));
-    }
+    grind (arith, All_set, prepared_set)
 
 -- with so many more cells
 abbrev pub with_more : Filed → List Cell → Filed
 with_more f cells = record f { cells = f.cells ++ cells }
 
 cell_within : (d : Coming) (a b : Rra) (cells : List Cell) → AtCell d → IsPut d a b cells → filed_in (cell_came d b d.archive (d.filled + length cells)) ≡ with_more (filed_in d) cells
-cell_within d a b cells at put =
-    let heads = heads_set d.archives d.archive a b at.there put.is put.def_same put.parts_same in
-    let more = cells_more (cells_by_slot d.step d.last) d.archives d.archive d.filled a b cells at.there put.is put.few put.cells_are in
-    λ i. let f : Filed = record (filed_in d) { heads = heads i; cells = more i } in f
+cell_within d a b cells at put = grind (arith, heads_set, cells_more)
 
 get_set : (xs : List Rra) (i : ℕ) (b : Rra) → i < length xs → b ≡ get_or (set xs i b) i b
 get_set [] i b h = absurd (omega arith)
@@ -231,9 +166,7 @@ pub record GoesOn (sources rows count : ℕ) (old new : Cursor) : Type 0 where
   pub source_there : new.source < sources
 
 mod_more : (n m rows : ℕ) → (n % rows + m) % rows ≡ (n + m) % rows
-mod_more n m rows =
-    let is : n + m ≡ (n % rows + m) + n / rows * rows = omega (arith, mod-add-div' n rows) in
-    sym (ap (λ x. x % rows) is ∙ add-mul-mod_self_right (n % rows + m) (n / rows) rows)
+mod_more n m rows = grind (arith, mod-add-div' n rows, add-mul-mod_self_right (n % rows + m) (n / rows) rows)
 
 pub place_on : (size last rows slot count : ℕ) → 0 < rows → (place_in size last rows slot + count) % rows ≡ place_in size last rows (slot + count)
 place_on size last rows slot count some =
@@ -241,63 +174,25 @@ place_on size last rows slot count some =
     mod_more (slot + rows - left) count rows ∙ ap (λ n. n % rows) (let small : left < rows = omega arith in omega arith)
 
 pub slots_apart : (slot rows sources : ℕ) → slot < rows → slot * sources + sources ≤ sources * rows
-slots_apart slot rows sources h =
-    let left = rows - slot - 1 in
-    let is : rows ≡ (slot + 1) + left = omega arith in
-    let one : sources * rows ≡ sources * (slot + 1) + sources * left = ap (λ n. sources * n) is ∙ nat.mul-add sources (slot + 1) left in
-    let two : sources * (slot + 1) ≡ sources * slot + sources = ap (λ n. sources * n) (add-one slot) ∙ nat.mul-suc sources slot in
-    let three : slot * sources ≡ sources * slot = nat.mul_comm slot sources in
-    omega (arith, one, two, three)
+slots_apart slot rows sources h = grind arith
 
 next_source : (sources size last rows place : ℕ) (old new : Cursor) → Advances sources rows place old new → place ≡ place_in size last rows old.slot → old.slot < rows → old.source + 1 < sources
     → StaysIn sources size last rows 1 old new
-next_source sources size last rows place old new goes is slot more =
-    let to : Cursor = record old { place = place; source = old.source + 1 } in
-    let here : StaysIn sources size last rows 1 old to = record {
-      archive_is = refl;
-      filled_is = omega arith;
-      few = omega (arith, slots_apart old.slot rows sources slot, more);
-      source_there = more;
-      knows = λ _. is;
-    } in
-    subst (StaysIn sources size last rows 1 old) (sym (goes.next_source more)) here
+next_source sources size last rows place old new goes is slot more = grind arith
 
 next_slot : (sources size last rows place : ℕ) (old new : Cursor) → Advances sources rows place old new → place ≡ place_in size last rows old.slot → old.source + 1 ≡ sources → old.slot + 1 < rows
     → StaysIn sources size last rows 1 old new
-next_slot sources size last rows place old new goes is source more =
-    let to : Cursor = record old { slot = old.slot + 1; place = (place + 1) % rows; source = 0 } in
-    let product : (old.slot + 1) * sources ≡ old.slot * sources + sources = ap (λ n. n * sources) (add-one old.slot) ∙ nat.suc-mul old.slot sources in
-    let here : StaysIn sources size last rows 1 old to = record {
-      archive_is = refl;
-      filled_is = omega (arith, product, source);
-      few = omega (arith, slots_apart (old.slot + 1) rows sources more, source);
-      source_there = omega (arith, source);
-      knows = λ _. ap (λ p. (p + 1) % rows) is ∙ place_on size last rows old.slot 1 (omega (arith, more));
-    } in
-    subst (StaysIn sources size last rows 1 old) (sym (goes.next_slot source more)) here
+next_slot sources size last rows place old new goes is source more = grind (arith, add-one, slots_apart, place_on)
 
 next_archive : (sources rows place : ℕ) (old new : Cursor) → Advances sources rows place old new → old.source + 1 ≡ sources → old.slot + 1 ≡ rows → GoesOn sources rows 1 old new
 next_archive sources rows place old new goes source slot =
     let to : Cursor = record { archive = old.archive + 1; slot = 0; place = (place + 1) % rows; source = 0 } in
     let product : (old.slot + 1) * sources ≡ old.slot * sources + sources = ap (λ n. n * sources) (add-one old.slot) ∙ nat.suc-mul old.slot sources in
-    let turned : rows * sources ≡ sources * rows = nat.mul_comm rows sources in
-    let here : GoesOn sources rows 1 old to = record {
-      archive_is = omega arith;
-      filled_is = omega arith;
-      all = omega (arith, product, source, turned, ap (λ n. n * sources) slot);
-      source_there = omega (arith, source);
-    } in
-    subst (GoesOn sources rows 1 old) (sym (goes.next_archive source slot)) here
+    grind arith
 
 goes_on : (sources size last rows place : ℕ) (old new : Cursor) → Advances sources rows place old new → place ≡ place_in size last rows old.slot → old.source < sources → old.slot < rows
     → StaysIn sources size last rows 1 old new ⊎ GoesOn sources rows 1 old new
-goes_on sources size last rows place old new goes is source slot = elim (cases_lt (old.source + 1) sources) [
-  | inl more ↦ inl (next_source sources size last rows place old new goes is slot more)
-  | inr last_source ↦ elim (cases_lt (old.slot + 1) rows) [
-    | inl more ↦ inl (next_slot sources size last rows place old new goes is (omega (arith, source, last_source)) more)
-    | inr last_slot ↦ inr (next_archive sources rows place old new goes (omega (arith, source, last_source)) (omega (arith, slot, last_slot)))
-  ]
-]
+goes_on sources size last rows place old new goes is source slot = grind (arith, next_source, next_slot, next_archive)
 
 -- ---- both
 
@@ -318,10 +213,7 @@ cells_come as_many d a b cells old new is at put archive filled goes =
           let few : filled_by d.sources_due new < d.sources_due * b.def.rows = subst (λ (def : RraDef). filled_by d.sources_due new < d.sources_due * def.rows) (sym put.def_same) stays.few in
           record {
             came = cell_keeps d a b cells new.archive (filled_by d.sources_due new) is at put (omega (arith, same, at.there)) (subst (λ (ys : List Rra). AreFewer d.sources_due ys (filled_by d.sources_due new)) (sym first) few);
-            cursor_is = record {
-              source_there = stays.source_there;
-              knows_place = subst (λ (xs : List Rra). KnowsPlaceIn d.step d.last xs new) (sym first) (subst (λ (def : RraDef). KnowsPlace (resolution d.step def) d.last def.rows new) (sym put.def_same) stays.knows);
-            };
+            cursor_is = grind arith;
             filed_is = (λ i. filed_in (cell_came d b (same i) (more i))) ∙ cell_within d a b cells at put;
           }
       | inr on ↦
@@ -333,10 +225,7 @@ cells_come as_many d a b cells old new is at put archive filled goes =
             came = cell_keeps d a b cells new.archive (filled_by d.sources_due new) is at put (omega (arith, next, at.there))
                 (subst (λ n. AreFewer d.sources_due (drop new.archive (set d.archives d.archive b)) n) (sym none)
                 (subst (λ (ys : List Rra). AreFewer d.sources_due ys 0) (sym later) (fewer_none d.sources_due d.step d.last (drop (suc d.archive) d.archives) is.header_is.some_source (All-drop (IsArchiveSoFar d.sources_due d.step d.last) (suc d.archive) d.archives is.archives_are))));
-            cursor_is = record {
-              source_there = on.source_there;
-              knows_place = knows_nothing d.step d.last (drop new.archive (set d.archives d.archive b)) d.sources_due new on.source_there none;
-            };
+            cursor_is = grind (arith, knows_nothing);
             filed_is = (λ i. filed_in (cell_came d b (next i) (none i))) ∙ cell_over d a b cells at put all;
           }
     ]
@@ -352,16 +241,7 @@ cell_comes as_many d a b cell place old new is at put archive filled place_is so
 pub slot_there : (d : Coming) (a : Rra) (cursor : Cursor) → IsRebuilding d → d.archive < length d.archives → a ≡ get_or d.archives d.archive a → d.filled ≡ filled_by d.sources_due cursor → cursor.slot < a.def.rows
 slot_there d a cursor is there e filled =
     let first = drop_here d.archives d.archive a there e in
-    let few : d.filled < d.sources_due * a.def.rows = subst (λ (ys : List Rra). AreFewer d.sources_due ys d.filled) first is.filled_few in
-    elim (cases_lt cursor.slot a.def.rows) [
-      | inl lt ↦ lt
-      | inr le ↦
-          let left = cursor.slot - a.def.rows in
-          let is : cursor.slot ≡ a.def.rows + left = omega (arith, le) in
-          let one : cursor.slot * d.sources_due ≡ a.def.rows * d.sources_due + left * d.sources_due = ap (λ n. n * d.sources_due) is ∙ nat.add-mul a.def.rows left d.sources_due in
-          let two : a.def.rows * d.sources_due ≡ d.sources_due * a.def.rows = nat.mul_comm a.def.rows d.sources_due in
-          absurd (omega (arith, few, filled, one, two))
-    ]
+    grind arith
 
 pub knows_here : (d : Coming) (a : Rra) (cursor : Cursor) → d.archive < length d.archives → a ≡ get_or d.archives d.archive a → IsCursor d cursor → KnowsPlace (resolution d.step a.def) d.last a.def.rows cursor
 knows_here d a cursor there e is = subst (λ (xs : List Rra). KnowsPlaceIn d.step d.last xs cursor) (drop_here d.archives d.archive a there e) is.knows_place
@@ -394,9 +274,7 @@ is_put as_many puts d a cell place cursor is there e filled place_is source insi
       as_many = length-set a.rows place (set (get_or a.rows place []) cursor.source cell);
       each_row = All_set (IsRow d.sources_due) a.rows place (set (get_or a.rows place []) cursor.source cell) so_far.each_row written;
       few = omega (arith, few, wide);
-      cells_are = subst (λ p. by_slot (resolution d.step a.def) d.last (set a.rows p (set (get_or a.rows p []) cursor.source cell)) ≡ set (cells_by_slot d.step d.last a) (cursor.slot * d.sources_due + cursor.source) cell) here put
-          ∙ ap (λ n. set (cells_by_slot d.step d.last a) n cell) (sym filled)
-          ∙ set_is_put (cells_by_slot d.step d.last a) d.filled cell (omega (arith, few, wide));
+      cells_are = grind (arith, set_is_put);
     }
 
 -- ---- what code needs to know
@@ -417,9 +295,7 @@ abbrev pub EachHasPlace : Type 0
 EachHasPlace = (resolution last rows slot : ℕ) → SlotHasPlace resolution last rows slot
 
 pub place_there : EachHasPlace → (d : Coming) (a : Rra) (cursor : Cursor) (place : ℕ) → IsRebuilding d → CellHere d a cursor → place ≡ place_in (resolution d.step a.def) d.last a.def.rows cursor.slot → place < a.def.rows
-place_there places d a cursor place is here e =
-    let there = places (resolution d.step a.def) d.last a.def.rows cursor.slot (nat.mul-pos is.header_is.some_step here.so_far.def_is.some_steps) here.slot in
-    subst (λ n. n < a.def.rows) (sym e) there.there
+place_there places d a cursor place is here e = grind arith
 
 pub row_there : (d : Coming) (a : Rra) (cursor : Cursor) (place : ℕ) → CellHere d a cursor → place < a.def.rows → length (get_or a.rows place []) ≡ d.sources_due
 row_there d a cursor place here inside =

@@ -1,6 +1,6 @@
 -- The archive that is taken, archive by archive.
-use Rattle.std.specs.Prelude.{◌≡◌, ℕ, ◌+◌, Bool, true, false, not, ◌&&◌, ◌||◌, cond, List, [], ◌∷◌, ◌++◌, length, map, Option, Some, None, ℤ, int_lt, int_le}
-use Rattle.rrd_base.proofs.Names.{refl, sym, ◌∙◌, ap, ltb, ⊎_elim, arith, append_assoc, append-nil, abs_diff, find, filter, list_any, enumerate_from, option_or, option_map_or, cases_Bool, cond-false, cond-true, or_parts, or_from, both_ways, not-true, not-false, le-ltb, lt-ltb, ltb-true, ltb-false, nat_tests, ints, map-append, filter-append, find-append, list_any-append, Function, RraDef, Candidate, FetchRequest, Searched, searched, is_preferred, same_function, candidate, candidates, best, covers, is_nearer, is_farther, taken}
+use Rattle.std.specs.Prelude.{◌≡◌, ℕ, ◌+◌, Bool, true, false, not, ◌&&◌, ◌||◌, cond, List, [], ◌∷◌, ◌++◌, length, Option, Some, None, ℤ, int_lt, int_le}
+use Rattle.rrd_base.proofs.Names.{refl, sym, ◌∙◌, ap, ltb, ⊎_elim, arith, append_assoc, append-nil, abs_diff, find, filter, list_any, enumerate_from, option_or, option_map_or, cases_Bool, cond-false, cond-true, or_parts, or_from, both_ways, not-true, not-false, nat_tests, ints, map-append, filter-append, find-append, list_any-append, Function, RraDef, Candidate, FetchRequest, Searched, searched, is_preferred, same_function, candidate, candidates, best, covers, is_nearer, is_farther, taken}
 
 -- ---- the best of a list
 
@@ -53,28 +53,21 @@ found_still : {A : Type 0} (p q : A → Bool) (xs : List A) (b : A) → ((x : A)
 found_still p q [] b h e k = absurd cc
 found_still p q (x ∷ xs) b h e k =
     ⊎_elim
-    (λ (yes : p x ≡ true).
-    let this : Some x ≡ Some b = sym (cond-true (p x) (Some x) (find p xs) yes) ∙ e in
-    let same : x ≡ b = cc in
-    cond-true (q x) (Some x) (find q xs) (ap q same ∙ k) ∙ this)
+    (λ (yes : p x ≡ true). grind arith)
     (λ (no : p x ≡ false). cond-false (q x) (Some x) (find q xs) (h x no) ∙ found_still p q xs b h (sym (cond-false (p x) (Some x) (find p xs) no) ∙ e) k)
     (cases_Bool (p x))
 
 or_true : (b : Bool) → (b || true) ≡ true
-or_true true = refl
-or_true false = refl
+or_true b = grind arith
 
 pub or_false : (b : Bool) → (b || false) ≡ b
-or_false true = refl
-or_false false = refl
+or_false b = grind arith
 
 beaten_by_last : {A : Type 0} (lt : A → A → Bool) (items : List A) (c x : A) → lt c x ≡ true → unbeaten lt (items ++ c ∷ []) x ≡ false
-beaten_by_last lt items c x h =
-    ap not (list_any-append (λ other. lt other x) items (c ∷ []) ∙ ap (λ t. list_any (λ other. lt other x) items || (t || false)) h ∙ or_true (list_any (λ other. lt other x) items))
+beaten_by_last lt items c x h = grind (arith, list_any-append, or_true)
 
 same_with_last : {A : Type 0} (lt : A → A → Bool) (items : List A) (c x : A) → lt c x ≡ false → unbeaten lt (items ++ c ∷ []) x ≡ unbeaten lt items x
-same_with_last lt items c x h =
-    ap not (list_any-append (λ other. lt other x) items (c ∷ []) ∙ ap (λ t. list_any (λ other. lt other x) items || (t || false)) h ∙ or_false (list_any (λ other. lt other x) items))
+same_with_last lt items c x h = grind (arith, list_any-append, or_false)
 
 -- one that beats an unbeaten one beats them all
 all_beaten : {A : Type 0} (lt : A → A → Bool) → IsOrder lt → (items xs : List A) (b c : A) → list_any (λ other. lt other b) xs ≡ false → lt c b ≡ true → find (unbeaten lt (items ++ c ∷ [])) xs ≡ None
@@ -88,16 +81,13 @@ none_beats : {A : Type 0} (lt : A → A → Bool) → IsOrder lt → (xs : List 
 none_beats lt order [] b c h k = refl
 none_beats lt order (x ∷ xs) b c h k =
     let parts = or_parts (lt x b) (list_any (λ other. lt other b) xs) h in
-    or_from (lt x c) (list_any (λ other. lt other c) xs)
-    (⊎_elim (λ (yes : lt x c ≡ true). absurd (both_ways (lt x b) parts.0 (order.goes_on x c b yes k))) (λ (no : lt x c ≡ false). no) (cases_Bool (lt x c)))
-    (none_beats lt order xs b c parts.1 k)
+    grind (arith, or_from, both_ways, cases_Bool, none_beats lt order xs b c parts.1 k)
 
 best_one : {A : Type 0} (lt : A → A → Bool) → IsOrder lt → (c : A) → best lt (c ∷ []) ≡ Some c
 best_one lt order c = cond-true (unbeaten lt (c ∷ []) c) (Some c) None (ap (λ t. not (t || false)) (order.not_itself c))
 
 stricter : {A : Type 0} (lt : A → A → Bool) (items : List A) (c x : A) → unbeaten lt items x ≡ false → unbeaten lt (items ++ c ∷ []) x ≡ false
-stricter lt items c x h =
-    ap not (list_any-append (λ other. lt other x) items (c ∷ []) ∙ ap (λ t. t || (lt c x || false)) (not-false (list_any (λ other. lt other x) items) h))
+stricter lt items c x h = grind (arith, list_any-append, not-false)
 
 best_more : {A : Type 0} (lt : A → A → Bool) → IsOrder lt → (items : List A) (b c : A) → best lt items ≡ Some b → best lt (items ++ c ∷ []) ≡ Some (cond (lt c b) c b)
 best_more lt order items b c h =
@@ -121,9 +111,7 @@ best_more lt order items b c h =
 -- some item is the best one
 best_some : {A : Type 0} (lt : A → A → Bool) → IsOrder lt → (done rest : List A) (b : A) → best lt done ≡ Some b → (found : A) × (best lt (done ++ rest) ≡ Some found)
 best_some lt order done [] b h = (b, ap (best lt) (append-nil done) ∙ h)
-best_some lt order done (c ∷ rest) b h =
-    let more = best_some lt order (done ++ c ∷ []) rest (cond (lt c b) c b) (best_more lt order done b c h) in
-    (more.0, ap (best lt) (sym (append_assoc done (c ∷ []) rest)) ∙ more.1)
+best_some lt order done (c ∷ rest) b h = grind (arith, best_some lt order (done ++ c ∷ []) rest (cond (lt c b) c b) (best_more lt order done b c h), best_more, append_assoc)
 
 -- ---- the two orders
 
@@ -131,11 +119,7 @@ abbrev off : ℕ → Candidate → ℕ
 off asked one = abs_diff one.resolution asked
 
 nearer_order : (asked : ℕ) → IsOrder (is_nearer asked)
-nearer_order asked = record {
-  not_itself = λ a. le-ltb (off asked a) (off asked a) (omega arith);
-  goes_on = λ a b c h k. lt-ltb (off asked a) (off asked c) (omega (arith, ltb-true (off asked a) (off asked b) h, ltb-true (off asked b) (off asked c) k));
-  between = λ a b c h k. lt-ltb (off asked a) (off asked c) (omega (arith, ltb-true (off asked a) (off asked b) h, ltb-false (off asked c) (off asked b) k));
-}
+nearer_order asked = grind arith
 
 abbrev far : ℤ → ℕ → ℤ → ℕ → Bool
 far r m s n = int_lt r s || (int_le r s && ltb m n)
@@ -150,11 +134,7 @@ far_between : (r s t : ℤ) (m n o : ℕ) → far r m s n ≡ true → far t o s
 far_between r s t m n o h k = grind (arith, ints, nat_tests)
 
 farther_order : (asked : ℕ) → IsOrder (is_farther asked)
-farther_order asked = record {
-  not_itself = λ a. far_itself a.reach (off asked a);
-  goes_on = λ a b c h k. far_on a.reach b.reach c.reach (off asked a) (off asked b) (off asked c) h k;
-  between = λ a b c h k. far_between a.reach b.reach c.reach (off asked a) (off asked b) (off asked c) h k;
-}
+farther_order asked = grind (arith, far_itself, far_on, far_between)
 
 -- ---- one archive more
 
@@ -163,20 +143,12 @@ instead asked start found c = Some (option_map_or (λ (b : Candidate). cond (is_
 
 -- it covers the start: only those that do are compared with it
 covering_more : (asked start : ℕ) (list some : List Candidate) (c : Candidate) → filter (covers start) list ≡ some → covers start c ≡ true → best (is_nearer asked) (some ++ c ∷ []) ≡ instead asked start (option_or (best (is_nearer asked) some) (best (is_farther asked) list)) c
-covering_more asked start list [] c e h = best_one (is_nearer asked) (nearer_order asked) c ∙ none_covers (best (is_farther asked) list) refl
-  where
-    none_covers : (found : Option Candidate) → best (is_farther asked) list ≡ found → Some c ≡ instead asked start found c
-    none_covers None k = refl
-    none_covers (Some t) k =
-        let out = found_outside (unbeaten (is_farther asked) list) (covers start) list t e k in
-        sym (ap Some (cond-true (is_preferred asked start c t) c t (cond-true (covers start c) (cond (covers start t) (is_nearer asked c t) true) (cond (covers start t) false (is_farther asked c t)) h ∙ cond-false (covers start t) (is_nearer asked c t) true out)))
+covering_more asked start list [] c e h = grind (arith, best_one (is_nearer asked) (nearer_order asked) c, nearer_order asked, found_outside, cond-true, cond-false)
 covering_more asked start list (first ∷ some) c e h =
     let found = best_some (is_nearer asked) (nearer_order asked) (first ∷ []) some first (best_one (is_nearer asked) (nearer_order asked) first) in
     let b = found.0 in
     let covers_b = found_among (unbeaten (is_nearer asked) (first ∷ some)) (covers start) list b (ap (find (unbeaten (is_nearer asked) (first ∷ some))) e ∙ found.1) in
-    best_more (is_nearer asked) (nearer_order asked) (first ∷ some) b c found.1
-    ∙ sym (ap (λ t. Some (cond t c b)) (cond-true (covers start c) (cond (covers start b) (is_nearer asked c b) true) (cond (covers start b) false (is_farther asked c b)) h ∙ cond-true (covers start b) (is_nearer asked c b) true covers_b))
-    ∙ sym (ap (λ o. instead asked start (option_or o (best (is_farther asked) list)) c) found.1)
+    grind (arith, best_more (is_nearer asked) (nearer_order asked) (first ∷ some) b c found.1, nearer_order asked, cond-true (covers start b) (is_nearer asked c b) true covers_b)
 
 -- it doesn't: it counts only where none does
 other_more : (asked start : ℕ) (list some : List Candidate) (c : Candidate) → filter (covers start) list ≡ some → covers start c ≡ false → option_or (best (is_nearer asked) some) (best (is_farther asked) (list ++ c ∷ [])) ≡ instead asked start (option_or (best (is_nearer asked) some) (best (is_farther asked) list)) c
@@ -185,9 +157,7 @@ other_more asked start (first ∷ list) [] c e h =
     let found = best_some (is_farther asked) (farther_order asked) (first ∷ []) list first (best_one (is_farther asked) (farther_order asked) first) in
     let t = found.0 in
     let out = found_outside (unbeaten (is_farther asked) (first ∷ list)) (covers start) (first ∷ list) t e found.1 in
-    best_more (is_farther asked) (farther_order asked) (first ∷ list) t c found.1
-    ∙ sym (ap (λ b. Some (cond b c t)) (cond-false (covers start c) (cond (covers start t) (is_nearer asked c t) true) (cond (covers start t) false (is_farther asked c t)) h ∙ cond-false (covers start t) false (is_farther asked c t) out))
-    ∙ sym (ap (λ o. instead asked start o c) found.1)
+    grind (arith, best_more (is_farther asked) (farther_order asked) (first ∷ list) t c found.1, farther_order asked, cond-false (covers start t) false (is_farther asked c t) out)
 other_more asked start list (first ∷ some) c e h =
     let found = best_some (is_nearer asked) (nearer_order asked) (first ∷ []) some first (best_one (is_nearer asked) (nearer_order asked) first) in
     let b = found.0 in
@@ -195,38 +165,16 @@ other_more asked start list (first ∷ some) c e h =
     cc (found.1, cond-false (covers start c) (cond (covers start b) (is_nearer asked c b) true) (cond (covers start b) false (is_farther asked c b)) h ∙ cond-true (covers start b) false (is_farther asked c b) covers_b)
 
 pub taken_more : (asked start : ℕ) (list : List Candidate) (c : Candidate) → taken asked start (list ++ c ∷ []) ≡ instead asked start (taken asked start list) c
-taken_more asked start list c =
-    let some = filter (covers start) list in
-    let all = filter-append (covers start) list (c ∷ []) in
-    ⊎_elim
-    (λ (yes : covers start c ≡ true).
-    let with_it : filter (covers start) (list ++ c ∷ []) ≡ some ++ c ∷ [] = all ∙ ap (λ zs. some ++ zs) (cond-true (covers start c) (c ∷ []) [] yes) in
-    let one = covering_more asked start list some c refl yes in
-    ap (λ zs. option_or (best (is_nearer asked) zs) (best (is_farther asked) (list ++ c ∷ []))) with_it ∙ ap (λ o. option_or o (best (is_farther asked) (list ++ c ∷ []))) one)
-    (λ (no : covers start c ≡ false).
-    let without : filter (covers start) (list ++ c ∷ []) ≡ some = all ∙ ap (λ zs. some ++ zs) (cond-false (covers start c) (c ∷ []) [] no) ∙ append-nil some in
-    ap (λ zs. option_or (best (is_nearer asked) zs) (best (is_farther asked) (list ++ c ∷ []))) without ∙ other_more asked start list some c refl no)
-    (cases_Bool (covers start c))
+taken_more asked start list c = grind (arith, filter-append, cond-true, covering_more, cond-false, append-nil, other_more, cases_Bool)
 
 -- ---- the candidates
 
 enumerated_more : (n : ℕ) (defs : List RraDef) (def : RraDef) → enumerate_from n (defs ++ def ∷ []) ≡ enumerate_from n defs ++ (n + length defs, def) ∷ []
 enumerated_more n [] def = ap (λ m. (m, def) ∷ []) {x = n} {y = n + 0} (omega arith)
-enumerated_more n (first ∷ defs) def =
-    ap (λ zs. (n, first) ∷ zs) (enumerated_more (n + 1) defs def ∙ ap (λ m. enumerate_from (n + 1) defs ++ (m, def) ∷ []) {x = n + 1 + length defs} {y = n + length (first ∷ defs)} (omega arith))
+enumerated_more n (first ∷ defs) def = grind (arith, enumerated_more (n + 1) defs def)
 
 pub candidates_more : (step last : ℕ) (function : Function) (defs : List RraDef) (def : RraDef) → candidates step last function (defs ++ def ∷ []) ≡ candidates step last function defs ++ cond (same_function def.function function) (candidate step last (length defs, def) ∷ []) []
-candidates_more step last function defs def =
-    let p : ℕ × RraDef → Bool = λ (number, one). same_function one.function function in
-    let one : (length defs, def) ∷ [] ≡ (0 + length defs, def) ∷ [] = ap (λ m. (m, def) ∷ []) {x = length defs} {y = 0 + length defs} (omega arith) in
-    ap (λ zs. map (candidate step last) (filter p zs)) (enumerated_more 0 defs def ∙ ap (λ zs. enumerate_from 0 defs ++ zs) (sym one))
-    ∙ ap (map (candidate step last)) (filter-append p (enumerate_from 0 defs) ((length defs, def) ∷ []))
-    ∙ map-append (candidate step last) (filter p (enumerate_from 0 defs)) (filter p ((length defs, def) ∷ []))
-    ∙ ap (λ zs. candidates step last function defs ++ zs) (by_function (same_function def.function function))
-  where
-    by_function : (b : Bool) → map (candidate step last) (cond b ((length defs, def) ∷ []) []) ≡ cond b (candidate step last (length defs, def) ∷ []) []
-    by_function true = refl
-    by_function false = refl
+candidates_more step last function defs def = grind (arith, enumerated_more, filter-append, map-append)
 
 -- ---- the search
 
@@ -239,26 +187,17 @@ compared old number def = record old { best = instead old.request.asked old.requ
 
 pub other_function : (old : Searched) (step last : ℕ) (request : FetchRequest) (defs : List RraDef) (def : RraDef) → old ≡ searched step last request defs → same_function def.function old.request.function ≡ false → old ≡ searched step last request (defs ++ def ∷ [])
 unfolding with_best
-other_function old step last request defs def is other =
-    let no : same_function def.function request.function ≡ false = sym (ap (λ (s : Searched). same_function def.function s.request.function) is) ∙ other in
-    let all : candidates step last request.function (defs ++ def ∷ []) ≡ candidates step last request.function defs = candidates_more step last request.function defs def ∙ ap (λ zs. candidates step last request.function defs ++ zs) (cond-false (same_function def.function request.function) (candidate step last (length defs, def) ∷ []) [] no) ∙ append-nil (candidates step last request.function defs) in
-    is ∙ sym (ap (λ zs. with_best step last request (taken request.asked request.start zs)) all)
+other_function old step last request defs def is other = grind (arith, candidates_more, cond-false, append-nil, taken)
 
 pub one_compared : (old : Searched) (number step last : ℕ) (request : FetchRequest) (defs : List RraDef) (def : RraDef) → number ≡ length defs → old ≡ searched step last request defs → same_function def.function old.request.function ≡ true → compared old number def ≡ searched step last request (defs ++ def ∷ [])
 unfolding with_best
-one_compared old number step last request defs def count is same =
-    let yes : same_function def.function request.function ≡ true = sym (ap (λ (s : Searched). same_function def.function s.request.function) is) ∙ same in
-    let next = candidate step last (length defs, def) in
-    let all : candidates step last request.function (defs ++ def ∷ []) ≡ candidates step last request.function defs ++ next ∷ [] = candidates_more step last request.function defs def ∙ ap (λ zs. candidates step last request.function defs ++ zs) (cond-true (same_function def.function request.function) (next ∷ []) [] yes) in
-    cc (is, count, taken_more request.asked request.start (candidates step last request.function defs) next, all)
+one_compared old number step last request defs def count is same = grind (arith, candidates_more, cond-true, taken_more)
 
 pub first_taken : (asked start : ℕ) (found : Option Candidate) (next c : Candidate) → found ≡ None → next ≡ c → Some next ≡ instead asked start found c
 first_taken asked start found next c none e = ap Some e ∙ ap (λ o. instead asked start o c) (sym none)
 
 pub next_taken : (asked start : ℕ) (found : Option Candidate) (next c b : Candidate) → found ≡ Some b → next ≡ c → is_preferred asked start next b ≡ true → Some next ≡ instead asked start found c
-next_taken asked start found next c b some e better =
-    sym (ap Some (cond-true (is_preferred asked start next b) next b better)) ∙ ap (instead asked start (Some b)) e ∙ ap (λ o. instead asked start o c) (sym some)
+next_taken asked start found next c b some e better = grind arith
 
 pub old_stays : (asked start : ℕ) (found : Option Candidate) (next c b : Candidate) → found ≡ Some b → next ≡ c → is_preferred asked start next b ≡ false → found ≡ instead asked start found c
-old_stays asked start found next c b some e worse =
-    some ∙ sym (ap Some (cond-false (is_preferred asked start next b) next b worse)) ∙ ap (instead asked start (Some b)) e ∙ ap (λ o. instead asked start o c) (sym some)
+old_stays asked start found next c b some e worse = grind arith

@@ -1,11 +1,10 @@
 -- What each piece keeps of a database that comes piece by piece.
 use Rattle.std.specs.Prelude.{◌≡◌, ◌+◌, ◌*◌, ◌%◌, ◌<◌, ◌≤◌, ℕ, zero, suc, List, [], ◌∷◌, ◌++◌, Some, None, Option, length, map, take, drop, false, replicate, sum, nat_lt, not, true, ◌⊎◌}
-use Rattle.rrd_base.proofs.Names.{Cursor, limits_of, newest, present, outline_undone, rows_of, AreRemovedSettings, IsArchiveDef, IsRowPart, MayHead, heads_with_part, MaySource, after_heads, due, prep_or, rows_in_all, unprepared, with_head, with_prep, names, has_source, is_double, Due, HeadDue, PrepDue, SourceDue, ◌∙◌, sym, ap, subst, arith, inl, inr, refl, get_or, set, length-append, AllByRecursion, list_any, fold, cases_lt, le-ltb, lt-ltb, or_parts, or_from, Cell, Name, Raw, same_name, IsAccepted, IsBounded, Part, Average, DsDef, RraDef, Outline, Entry, rows_of_archives, Filed, Head, Source, head_of, Rra, ArePrepared, Coming, IsArchiveSoFar, IsRebuilding, cells_before, content_so_far, filed_in, IsCursor, IsOutline, EntryValidator, validator, AreFewer, KnowsPlaceIn, filled_by, journal_of, AreAccepted, IsPart, IsRow, IsSourceWithin, IsValidJournalWithin, All-append, All-replicate, length-map, length-replicate}
+use Rattle.rrd_base.proofs.Names.{Cursor, limits_of, newest, present, outline_undone, rows_of, AreRemovedSettings, IsArchiveDef, IsRowPart, MayHead, heads_with_part, MaySource, after_heads, due, prep_or, rows_in_all, unprepared, with_head, with_prep, names, has_source, is_double, Due, HeadDue, PrepDue, SourceDue, ◌∙◌, sym, ap, subst, arith, inl, inr, refl, get_or, set, length-append, AllByRecursion, list_any, fold, cases_lt, le-ltb, lt-ltb, or_parts, or_from, Cell, Name, Raw, same_name, IsAccepted, IsBounded, Part, Average, DsDef, RraDef, Outline, Entry, rows_of_archives, Filed, Head, Source, head_of, Rra, ArePrepared, Coming, IsArchiveSoFar, IsRebuilding, cells_before, content_so_far, filed_in, IsCursor, IsOutline, EntryValidator, AreFewer, KnowsPlaceIn, filled_by, journal_of, AreAccepted, IsPart, IsRow, IsSourceWithin, IsValidJournalWithin, All-append, All-replicate, length-map, length-replicate}
 use Rattle.rrd_base.proofs.Versions.{archive_def_in, few_cells}
 use Rattle.rrd_spec.specs.Files.Rebuilding.{with_source}
 use Rattle.rrd_spec.specs.Files.Filed.{sources_of}
 use Rattle.rrd_base.proofs.Dues.{due_source, due_then, lengths_same, none_there, split_at, unprepared_is}
-use native.Mathlib.Nat as nat
 
 -- ---- lists
 
@@ -49,20 +48,13 @@ defs_of (d ∷ defs) (r ∷ raws) (p ∷ parts) a b = ap (λ (xs : List DsDef). 
 -- ---- what hasn't come
 
 cases_zero : (n : ℕ) → (n ≡ 0) ⊎ (0 < n)
-cases_zero zero = inl refl
-cases_zero (suc n) = inr (omega arith)
+cases_zero n = grind arith
 
 no_entries : (d : Coming) → IsRebuilding d → d.archive ≡ 0 → d.journal ≡ []
-no_entries d is none = none_there d.journal (elim (cases_zero (length d.journal)) [
-  | inl n ↦ n
-  | inr some ↦ absurd (omega (arith, (is.cells_first some).some, none))
-])
+no_entries d is none = grind (arith, none_there, cases_zero)
 
 no_archives : (d : Coming) → IsRebuilding d → length d.sources < d.sources_due → length d.archives ≡ 0
-no_archives d is few = elim (cases_zero (length d.archives)) [
-  | inl n ↦ n
-  | inr some ↦ absurd (omega (arith, is.sources_first some, few))
-]
+no_archives d is few = grind arith
 
 -- the settings, where no entry came
 abbrev plain : Coming → List DsDef → List Head → EntryValidator
@@ -73,9 +65,7 @@ plain d defs heads = record {
 }
 
 plain_validator : (d : Coming) → IsRebuilding d → d.journal ≡ [] → d.validator ≡ plain d d.sources (map head_of d.archives)
-plain_validator d is none =
-    let base = λ (defs : List DsDef). plain d defs (map head_of d.archives) in
-    cc (is.validator_is, none, defs_of d.sources d.raws d.preps (lengths_same d.sources d.raws is.raws_are) is.one_part_each)
+plain_validator d is none = grind (arith, defs_of d.sources d.raws d.preps (lengths_same d.sources d.raws is.raws_are) is.one_part_each, lengths_same d.sources d.raws is.raws_are)
 
 -- while no entry has come it has the archives that came
 pub outlines_lengths : (d : Coming) → IsRebuilding d → d.journal ≡ [] → length d.validator.outline.archives ≡ length d.archives
@@ -83,44 +73,23 @@ outlines_lengths d is none =
     ap (λ (j : EntryValidator). length j.outline.archives) (plain_validator d is none) ∙ length-map (map head_of d.archives) (λ (head : Head). head.def) ∙ length-map d.archives head_of
 
 pub knows_nothing : (step last : ℕ) (archives : List Rra) (sources : ℕ) (cursor : Cursor) → cursor.source < sources → filled_by sources cursor ≡ 0 → KnowsPlaceIn step last archives cursor
-knows_nothing step last [] sources cursor there none = tt
-knows_nothing step last (a ∷ archives) sources cursor there none = λ some.
-    absurd (elim (cases_zero cursor.slot) [
-      | inl zero_slot ↦ omega (arith, some, none)
-      | inr slot ↦ let p : 0 < cursor.slot * sources = nat.mul-pos slot (omega (arith, there)) in omega (arith, p, none)
-    ])
+knows_nothing step last archives sources cursor there none = grind arith
 
 -- a cursor that stands at the first cell
 pub cursor_stays : (d e : Coming) (cursor : Cursor) → e.sources_due ≡ d.sources_due → filled_by d.sources_due cursor ≡ 0 → IsCursor d cursor → IsCursor e cursor
-cursor_stays d e cursor same none is =
-    record { source_there = omega (arith, same, is.source_there); knows_place = knows_nothing e.step e.last (drop e.archive e.archives) d.sources_due cursor is.source_there none }
+cursor_stays d e cursor same none is = grind arith
 
 -- ---- a source
 
 prep_not : (o : Option RraDef) (later : Due) → (SourceDue ≡ later → ⊥) → prep_or o later ≡ SourceDue → ⊥
-prep_not None later other e = other (sym e)
-prep_not (Some def) later other e = cc
+prep_not o later other e = grind arith
 
 after_not : (f : Filed) → SourceDue ≡ after_heads f → ⊥
-after_not f e = elim (cases_lt (length f.heads) f.header.archives) [
-  | inl lt ↦ let e2 = rw (lt-ltb (length f.heads) f.header.archives lt) at e in cc
-  | inr h ↦ let e2 = rw (le-ltb (length f.heads) f.header.archives h) at e in
-      elim (cases_lt (length f.cells) (f.header.sources * rows_in_all f.heads)) [
-        | inl lt ↦ let e3 = rw (lt-ltb (length f.cells) (f.header.sources * rows_in_all f.heads) lt) at e2 in cc
-        | inr c ↦ let e3 = rw (le-ltb (length f.cells) (f.header.sources * rows_in_all f.heads) c) at e2 in
-            elim (cases_lt (length f.entries) f.header.entries) [
-              | inl lt ↦ let e4 = rw (lt-ltb (length f.entries) f.header.entries lt) at e3 in cc
-              | inr n ↦ let e4 = rw (le-ltb (length f.entries) f.header.entries n) at e3 in cc
-            ]
-      ]
-]
+after_not f e = grind arith
 
 -- a source is due while fewer came than were announced
 few_sources : (d : Coming) → IsRebuilding d → due (filed_in d) ≡ SourceDue → length d.sources < d.sources_due
-few_sources d is e = elim (cases_lt (length d.sources) d.sources_due) [
-  | inl lt ↦ lt
-  | inr le ↦ absurd (prep_not (unprepared d.sources_due (map head_of d.archives)) (after_heads (filed_in d)) (after_not (filed_in d)) (sym (due_then d is le) ∙ e))
-]
+few_sources d is e = grind (arith, prep_not, after_not, due_then)
 
 abbrev pub source_came : Coming → DsDef → Raw → Part → Coming
 source_came d def raw part = record d {
@@ -156,10 +125,7 @@ source_keeps d def raw part is may =
       few_cells = is.few_cells;
       places = is.places;
       few_entries = is.few_entries;
-      validator_is =
-          ap (λ (s : EntryValidator). let t : EntryValidator = record s { outline = record s.outline { sources = s.outline.sources ++ def ∷ [] } } in t) settled
-          ∙ (ap (λ (defs : List DsDef). plain d defs (map head_of d.archives)) (sym defs_now)
-          ∙ ap (λ (j : List Entry). validator (filed_in (record new { journal = j }))) (sym journal));
+      validator_is = grind arith;
       journal_is = subst (λ (j : List Entry). IsValidJournalWithin (limits_of d.version) (content_so_far new) (journal_of j)) (sym journal) tt;
       sources_first = λ some. absurd (omega (arith, some, no_archives d is few));
       archives_prepared = is.archives_prepared;
@@ -203,10 +169,7 @@ defs_more (h ∷ heads) a = ap (λ (defs : List RraDef). h.def ∷ defs) (defs_m
 
 prepared_more : (sources : ℕ) (archives : List Rra) (a : Rra) → ArePrepared sources archives → AllByRecursion (λ (x : Rra). length x.parts ≤ sources) archives → unprepared sources (map head_of archives) ≡ None → ArePrepared sources (archives ++ a ∷ [])
 prepared_more sources [] a is few none = tt
-prepared_more sources (b ∷ []) a is few none = elim (cases_lt (length b.parts) sources) [
-  | inl lt ↦ absurd (let e = rw (lt-ltb (length b.parts) sources lt) at none in cc)
-  | inr le ↦ (omega (arith, le, few.0), tt)
-]
+prepared_more sources (b ∷ []) a is few none = grind arith
 prepared_more sources (b ∷ x ∷ archives) a is few none = (is.0, prepared_more sources (x ∷ archives) a is.1 few.1 (rw (le-ltb (length b.parts) sources (omega (arith, is.0))) at none))
 
 abbrev pub archive_came : Coming → Rra → Coming
@@ -219,22 +182,10 @@ pub record AtHead (d : Coming) : Type 0 where
   pub few : length d.archives < d.archives_due
 
 head_prep : (o : Option RraDef) (later : Due) → prep_or o later ≡ HeadDue → (o ≡ None) × (later ≡ HeadDue)
-head_prep None later e = (refl, e)
-head_prep (Some def) later e = absurd cc
+head_prep o later e = grind arith
 
 head_after : (f : Filed) → after_heads f ≡ HeadDue → length f.heads < f.header.archives
-head_after f e = elim (cases_lt (length f.heads) f.header.archives) [
-  | inl lt ↦ lt
-  | inr h ↦ absurd (let e2 = rw (le-ltb (length f.heads) f.header.archives h) at e in
-      elim (cases_lt (length f.cells) (f.header.sources * rows_in_all f.heads)) [
-        | inl lt ↦ let e3 = rw (lt-ltb (length f.cells) (f.header.sources * rows_in_all f.heads) lt) at e2 in cc
-        | inr c ↦ let e3 = rw (le-ltb (length f.cells) (f.header.sources * rows_in_all f.heads) c) at e2 in
-            elim (cases_lt (length f.entries) f.header.entries) [
-              | inl lt ↦ let e4 = rw (lt-ltb (length f.entries) f.header.entries lt) at e3 in cc
-              | inr n ↦ let e4 = rw (le-ltb (length f.entries) f.header.entries n) at e3 in cc
-            ]
-      ])
-]
+head_after f e = grind arith
 
 pub at_head : (d : Coming) → IsRebuilding d → due (filed_in d) ≡ HeadDue → AtHead d
 at_head d is e = elim (cases_lt (length d.sources) d.sources_due) [
@@ -250,27 +201,16 @@ pub record NoneLater (d : Coming) : Type 0 where
   pub journal : d.journal ≡ []
 
 pub none_later : (d : Coming) → IsRebuilding d → length d.archives < d.archives_due → NoneLater d
-none_later d is few =
-    let none : d.archive + d.filled ≡ 0 = elim (cases_zero (d.archive + d.filled)) [
-      | inl n ↦ n
-      | inr some ↦ absurd (omega (arith, (is.heads_first some).all, few))
-    ] in
-    record { archive = omega arith; filled = omega arith; journal = no_entries d is (omega arith) }
+none_later d is few = grind (arith, cases_zero, no_entries)
 
 cells_none : (step last : ℕ) (archives : List Rra) (archive filled : ℕ) → archive ≡ 0 → filled ≡ 0 → cells_before step last archives archive filled ≡ []
 cells_none step last archives archive filled a b = ap (λ n. cells_before step last archives n filled) a ∙ ap (λ n. cells_before step last archives 0 n) b
 
 fewer_one : (sources filled : ℕ) (archives : List Rra) (a : Rra) → filled ≡ 0 → 0 < sources → AreFewer sources archives filled → 0 < a.def.rows → AreFewer sources (archives ++ a ∷ []) filled
-fewer_one sources filled [] a none some few rows = let p : 0 < sources * a.def.rows = nat.mul-pos some rows in omega (arith, none, p)
-fewer_one sources filled (s ∷ archives) a none some few rows = few
+fewer_one sources filled archives a none some few rows = grind arith
 
 pub head_is : (d : Coming) (a : Rra) → IsRebuilding d → a.parts ≡ [] → due (filed_in d) ≡ HeadDue → filed_in (archive_came d a) ≡ with_head (filed_in d) a.def
-head_is d a is none e =
-    let later = none_later d is (at_head d is e).few in
-    let head : head_of a ≡ record { def = a.def; parts = [] } = ap (λ (ps : List Part). let h : Head = record { def = a.def; parts = ps } in h) none in
-    let heads : map head_of (d.archives ++ a ∷ []) ≡ map head_of d.archives ++ record { def = a.def; parts = [] } ∷ [] = heads_more d.archives a ∙ ap (λ (h : Head). map head_of d.archives ++ h ∷ []) head in
-    let cells : cells_before d.step d.last (d.archives ++ a ∷ []) d.archive d.filled ≡ cells_before d.step d.last d.archives d.archive d.filled = cells_none d.step d.last (d.archives ++ a ∷ []) d.archive d.filled later.archive later.filled ∙ sym (cells_none d.step d.last d.archives d.archive d.filled later.archive later.filled) in
-    λ i. let f : Filed = record (filed_in d) { heads = heads i; cells = cells i } in f
+head_is d a is none e = grind (arith, none_later, at_head, heads_more, cells_none)
 
 few_each : (sources step last : ℕ) (archives : List Rra) → AllByRecursion (IsArchiveSoFar sources step last) archives → AllByRecursion (λ (x : Rra). length x.parts ≤ sources) archives
 few_each sources step last [] all = tt
@@ -305,11 +245,7 @@ head_keeps d a is none rows may =
       few_cells = subst (λ n. d.sources_due * n ≤ (limits_of d.version).max_cells) (sym (sum_more d.archives a)) (subst (λ n. d.sources_due * (n + a.def.rows) ≤ (limits_of d.version).max_cells) (rows_all d.archives) may.few_cells);
       places = is.places;
       few_entries = is.few_entries;
-      validator_is =
-          ap (λ (s : EntryValidator). let t : EntryValidator = record s { outline = record s.outline { archives = s.outline.archives ++ a.def ∷ [] } } in t) settled
-          ∙ (ap base (sym defs_now)
-          ∙ (ap (λ (sources : List DsDef). plain d sources (map head_of new.archives)) (sym defs)
-          ∙ ap (λ (j : List Entry). validator (filed_in (record new { journal = j }))) (sym later.journal)));
+      validator_is = grind arith;
       journal_is = subst (λ (j : List Entry). IsValidJournalWithin (limits_of d.version) (content_so_far new) (journal_of j)) (sym later.journal) tt;
       sources_first = λ some. omega (arith, at.sources, is.few_sources);
       archives_prepared = prepared_more d.sources_due d.archives a is.archives_prepared (few_each d.sources_due d.step d.last d.archives is.archives_are) at.prepared;
@@ -320,8 +256,7 @@ head_keeps d a is none rows may =
     }
 
 pub few_less : (s n m : ℕ) → 0 < s → s * n ≤ m → n ≤ m
-few_less zero n m some few = absurd (omega arith)
-few_less (suc s) n m some few = let p : suc s * n ≡ s * n + n = nat.suc-mul s n in omega (arith, p, few)
+few_less s n m some few = grind arith
 
 -- the rows that came are few
 pub few_rows : (d : Coming) → IsRebuilding d → sum (rows_of_archives d.archives) ≤ present.max_cells
@@ -337,25 +272,15 @@ rows_by_head [] = refl
 rows_by_head (a ∷ archives) = ap (λ (rows : List ℕ). a.def.rows ∷ rows) (rows_by_head archives)
 
 pub plain_good : (d : Coming) → IsRebuilding d → d.journal ≡ [] → IsOutline d.validator.outline
-plain_good d is none = subst (λ (j : EntryValidator). IsOutline j.outline) (sym (plain_validator d is none)) (record {
-  few_sources = omega (arith, is.few_sources, is.header_is.few_sources);
-  archives_are = defs_so_far d.sources_due d.step d.last d.archives is.archives_are;
-  few_rows = omega (arith, few_rows d is, ap sum (rows_by_head d.archives));
-})
+plain_good d is none = grind (arith, plain_validator, few_sources, defs_so_far, few_rows, rows_by_head)
 
 -- there is room for a source that is due
 pub room_for_source : (d : Coming) → IsRebuilding d → due (filed_in d) ≡ SourceDue → length d.validator.outline.sources < present.max_sources
-room_for_source d is e =
-    let few = few_sources d is e in
-    let archive : d.archive ≡ 0 = omega (arith, is.archive_there, no_archives d is few) in
-    omega (arith, few, is.header_is.few_sources, ap (λ (j : EntryValidator). length j.outline.sources) (plain_validator d is (no_entries d is archive)))
+room_for_source d is e = grind (arith, few_sources, no_archives, plain_validator, no_entries)
 
 -- what isn't past a limit
 pub not_past : (limit n : ℕ) → not (nat_lt limit n) ≡ true → n ≤ limit
-not_past limit n e = elim (cases_lt limit n) [
-  | inl lt ↦ absurd (let e2 = rw (lt-ltb limit n lt) at e in cc)
-  | inr le ↦ le
-]
+not_past limit n e = grind arith
 
 pub past_not : (limit n : ℕ) → n ≤ limit → not (nat_lt limit n) ≡ true
 past_not limit n le = rw (le-ltb limit n le) refl
@@ -367,23 +292,14 @@ validator_at_head d is e = plain_validator d is (none_later d is (at_head d is e
 
 cells_at_head : (d : Coming) (def : RraDef) → IsRebuilding d → due (filed_in d) ≡ HeadDue
     → length d.sources * (sum (rows_of (map (λ (head : Head). head.def) (map head_of d.archives))) + def.rows) ≡ d.sources_due * (rows_in_all (map head_of d.archives) + def.rows)
-cells_at_head d def is e =
-    let sources : length d.sources ≡ d.sources_due = omega (arith, is.few_sources, (at_head d is e).sources) in
-    let rows : sum (rows_of (map (λ (head : Head). head.def) (map head_of d.archives))) ≡ rows_in_all (map head_of d.archives) = ap sum (rows_by_head d.archives) ∙ sym (rows_all d.archives) in
-    (λ i. sources i * (rows i + def.rows))
+cells_at_head d def is e = grind (arith, at_head, rows_by_head, rows_all)
 
 -- as no entry has come, the validator of entries knows the sources and archives that came
 pub fits_at_head : (d : Coming) (def : RraDef) → IsRebuilding d → due (filed_in d) ≡ HeadDue → AreRemovedSettings (limits_of d.validator.version) d.validator.outline def → MayHead (filed_in d) def
-fits_at_head d def is e fits =
-    let here = subst (λ (j : EntryValidator). AreRemovedSettings (limits_of j.version) j.outline def) (validator_at_head d is e) fits in
-    record { is_due = e; def_is = here.def_is; few_cells = subst (λ n. n ≤ (limits_of d.version).max_cells) (cells_at_head d def is e) here.few_cells }
+fits_at_head d def is e fits = grind (arith, validator_at_head d is e, few_cells, cells_at_head d def is e)
 
 pub head_fits : (d : Coming) (def : RraDef) → IsRebuilding d → MayHead (filed_in d) def → AreRemovedSettings (limits_of d.validator.version) d.validator.outline def
-head_fits d def is may =
-    let j = plain d d.sources (map head_of d.archives) in
-    let here : AreRemovedSettings (limits_of j.version) j.outline def =
-    record { def_is = may.def_is; few_cells = subst (λ n. n ≤ (limits_of d.version).max_cells) (sym (cells_at_head d def is may.is_due)) may.few_cells } in
-    subst (λ (j : EntryValidator). AreRemovedSettings (limits_of j.version) j.outline def) (sym (validator_at_head d is may.is_due)) here
+head_fits d def is may = grind (arith, few_cells, cells_at_head d def is may.is_due, validator_at_head d is may.is_due)
 
 -- ---- a preparation
 
@@ -393,22 +309,10 @@ pub record AtPrep (d : Coming) (def : RraDef) : Type 0 where
   pub def_is : IsArchiveDef present def
 
 after_no_prep : (f : Filed) (def : RraDef) → after_heads f ≡ PrepDue def → ⊥
-after_no_prep f def e = elim (cases_lt (length f.heads) f.header.archives) [
-  | inl lt ↦ let e2 = rw (lt-ltb (length f.heads) f.header.archives lt) at e in cc
-  | inr h ↦ let e2 = rw (le-ltb (length f.heads) f.header.archives h) at e in
-      elim (cases_lt (length f.cells) (f.header.sources * rows_in_all f.heads)) [
-        | inl lt ↦ let e3 = rw (lt-ltb (length f.cells) (f.header.sources * rows_in_all f.heads) lt) at e2 in cc
-        | inr c ↦ let e3 = rw (le-ltb (length f.cells) (f.header.sources * rows_in_all f.heads) c) at e2 in
-            elim (cases_lt (length f.entries) f.header.entries) [
-              | inl lt ↦ let e4 = rw (lt-ltb (length f.entries) f.header.entries lt) at e3 in cc
-              | inr n ↦ let e4 = rw (le-ltb (length f.entries) f.header.entries n) at e3 in cc
-            ]
-      ]
-]
+after_no_prep f def e = grind arith
 
 prep_some : (o : Option RraDef) (later : Due) (def : RraDef) → (later ≡ PrepDue def → ⊥) → prep_or o later ≡ PrepDue def → o ≡ Some def
-prep_some None later def other e = absurd (other e)
-prep_some (Some x) later def other e = cc
+prep_some o later def other e = grind arith
 
 unprepared_def : (sources step last : ℕ) (archives : List Rra) (def : RraDef) → AllByRecursion (IsArchiveSoFar sources step last) archives → unprepared sources (map head_of archives) ≡ Some def → IsArchiveDef present def
 unprepared_def sources step last [] def all e = absurd cc
@@ -430,10 +334,7 @@ at_prep d def is e = elim (cases_lt (length d.sources) d.sources_due) [
 ]
 
 one_unprepared : (sources : ℕ) (x : Rra) (def : RraDef) → unprepared sources (head_of x ∷ []) ≡ Some def → (length x.parts < sources) × (x.def ≡ def)
-one_unprepared sources x def e = elim (cases_lt (length x.parts) sources) [
-  | inl lt ↦ let e2 = rw (lt-ltb (length x.parts) sources lt) at e in let same : x.def ≡ def = cc in (lt, same)
-  | inr le ↦ absurd (let e2 = rw (le-ltb (length x.parts) sources le) at e in cc)
-]
+one_unprepared sources x def e = grind arith
 
 pub last_prep : (d : Coming) (x : Rra) (i : ℕ) (def : RraDef) → IsRebuilding d → length d.archives ≡ suc i → x ≡ get_or d.archives i x → unprepared d.sources_due (map head_of d.archives) ≡ Some def → (length x.parts < d.sources_due) × (x.def ≡ def)
 last_prep d x i def is n e o = one_unprepared d.sources_due x def (sym (unprepared_is d x i is n e) ∙ o)
@@ -464,12 +365,7 @@ part_more : (P : Part → Type 0) (parts : List Part) (part : Part) → AllByRec
 part_more P parts part all one = All-append P parts (part ∷ []) all (one, tt)
 
 pub prep_later : (d : Coming) (def : RraDef) → IsRebuilding d → unprepared d.sources_due (map head_of d.archives) ≡ Some def → NoneLater d
-prep_later d def is o =
-    let none : d.archive + d.filled ≡ 0 = elim (cases_zero (d.archive + d.filled)) [
-      | inl n ↦ n
-      | inr some ↦ absurd (let e = sym (is.heads_first some).prepared ∙ o in cc)
-    ] in
-    record { archive = omega arith; filled = omega arith; journal = no_entries d is (omega arith) }
+prep_later d def is o = grind (arith, cases_zero, no_entries)
 
 -- where the archives are these
 front_keeps : (d : Coming) (front : List Rra) (x : Rra) (part : Part) → IsRebuilding (record d { archives = front ++ x ∷ [] }) → NoneLater d → length x.parts < d.sources_due → IsRowPart d.step d.last x.def part → IsRebuilding (record d { archives = front ++ record x { parts = x.parts ++ part ∷ [] } ∷ [] })
@@ -479,8 +375,7 @@ front_keeps d front x part is later few one =
     let new = record d { archives = front ++ y ∷ [] } in
     let counts : length (front ++ y ∷ []) ≡ length (front ++ x ∷ []) = length-append front (y ∷ []) ∙ sym (length-append front (x ∷ [])) in
     let rows : sum (rows_of_archives (front ++ x ∷ [])) ≡ sum (rows_of_archives (front ++ y ∷ [])) = sum_more front x ∙ sym (sum_more front y) in
-    let defs : map (λ (head : Head). head.def) (map head_of (front ++ x ∷ [])) ≡ map (λ (head : Head). head.def) (map head_of (front ++ y ∷ [])) =
-    ap (map (λ (head : Head). head.def)) (heads_more front x) ∙ (defs_more (map head_of front) (head_of x) ∙ (sym (defs_more (map head_of front) (head_of y)) ∙ sym (ap (map (λ (head : Head). head.def)) (heads_more front y)))) in
+    let defs : map (λ (head : Head). head.def) (map head_of (front ++ x ∷ [])) ≡ map (λ (head : Head). head.def) (map head_of (front ++ y ∷ [])) = grind (arith, heads_more front x, defs_more (map head_of front) (head_of x), defs_more (map head_of front) (head_of y), heads_more front y) in
     record {
       header_is = is.header_is;
       few_sources = is.few_sources;
@@ -490,13 +385,7 @@ front_keeps d front x part is later few one =
       one_part_each = is.one_part_each;
       parts_are = is.parts_are;
       few_archives = omega (arith, counts, is.few_archives);
-      archives_are = All_last (IsArchiveSoFar d.sources_due d.step d.last) front x y is.archives_are (λ (a : IsArchiveSoFar d.sources_due d.step d.last x). record {
-        def_is = a.def_is;
-        few_parts = omega (arith, few, length-append x.parts (part ∷ []));
-        each_part = part_more (IsRowPart d.step d.last x.def) x.parts part a.each_part one;
-        rows_are = a.rows_are;
-        each_row = a.each_row;
-      });
+      archives_are = All_last (IsArchiveSoFar d.sources_due d.step d.last) front x y is.archives_are (λ (a : IsArchiveSoFar d.sources_due d.step d.last x). grind (arith, length-append, part_more));
       few_cells = subst (λ n. d.sources_due * n ≤ (limits_of d.version).max_cells) rows is.few_cells;
       places = is.places;
       few_entries = is.few_entries;
@@ -522,9 +411,4 @@ prep_keeps d i x def part is n e o one =
     (front_keeps d (take i d.archives) x part (subst (λ (archives : List Rra). IsRebuilding (record d { archives = archives })) split is) (prep_later d def is o) last.0 (subst (λ (def : RraDef). IsRowPart d.step d.last def part) (sym last.1) one))
 
 pub prep_is : (d : Coming) (i : ℕ) (x : Rra) (def : RraDef) (part : Part) → IsRebuilding d → length d.archives ≡ suc i → x ≡ get_or d.archives i x → unprepared d.sources_due (map head_of d.archives) ≡ Some def → filed_in (prep_came d i x part) ≡ with_prep (filed_in d) part
-prep_is d i x def part is n e o =
-    let later = prep_later d def is o in
-    let new = set d.archives i (record x { parts = x.parts ++ part ∷ [] }) in
-    let heads : map head_of new ≡ heads_with_part (map head_of d.archives) part = ap (map head_of) (set_last d.archives i (record x { parts = x.parts ++ part ∷ [] }) n) ∙ (heads_part (take i d.archives) x part ∙ ap (λ (archives : List Rra). heads_with_part (map head_of archives) part) (sym (split_at d.archives i x n e))) in
-    let cells : cells_before d.step d.last new d.archive d.filled ≡ cells_before d.step d.last d.archives d.archive d.filled = cells_none d.step d.last new d.archive d.filled later.archive later.filled ∙ sym (cells_none d.step d.last d.archives d.archive d.filled later.archive later.filled) in
-    λ i. let f : Filed = record (filed_in d) { heads = heads i; cells = cells i } in f
+prep_is d i x def part is n e o = grind (arith, prep_later, set_last, heads_part, split_at, cells_none)

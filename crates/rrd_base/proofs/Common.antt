@@ -19,15 +19,15 @@ pub use Rattle.rrd_base.proofs.Passing.{few_known, parts_more, still_fit, within
 pub use Rattle.rrd_base.proofs.PushedRows.{row_fits, push_past, ended_none, ended_some, push_more, push_all}
 pub use Rattle.rrd_base.proofs.PutBack.{none_back, front_short, front_of, popped, put_back_next, put_back_more, as_many, can_at}
 pub use Rattle.rrd_base.proofs.Rebuilt.{all_came, content_valid, database_valid, filed_whole}
-pub use Rattle.rrd_base.proofs.ResizeLemmas.{rows_of_place, few_at, have_few, rows_at_archive, resized_is, changed_few, few_sum, some_of_all, sum_set, sum_push}
+pub use Rattle.rrd_base.proofs.ResizeLemmas.{rows_of_place, rows_at_archive, resized_is, changed_few, few_sum, some_of_all, sum_set, sum_push}
 pub use Rattle.rrd_base.proofs.RowsCome.{are_put, may_come, one_item, passes_on, whole_few, within, with_cells_is}
 pub use Rattle.rrd_base.proofs.RraLemmas.{shown, closes, parts_fit, row_of_parts, goes_on, preps_fit, parts_in-new, taken_valid}
 pub use Rattle.rrd_base.proofs.SampleSteps.{one_taken, later_sample, accepted_raws}
 pub use Rattle.rrd_base.proofs.Taking.{begun, filled, full, left_of}
-pub use Rattle.rrd_base.proofs.TuneLemmas.{last_valid, refilled, any_default, rows_set, archive_tuned, settings_are, sources_put_back, before_more, before_few, raws_more, raws_next}
+pub use Rattle.rrd_base.proofs.TuneLemmas.{refilled, rows_set, archive_tuned, settings_are, sources_put_back, before_more, before_few, raws_more, raws_next}
 unfoldable pub use Rattle.rrd_base.proofs.TuneLemmas.{with_archives}
 pub use Rattle.rrd_base.proofs.TurnLemmas.{leaves_of, sum_more, sum_within, few_turns}
-pub use Rattle.rrd_base.proofs.UpdatingLemmas.{value_at, value_at_end, own_value}
+pub use Rattle.rrd_base.proofs.UpdatingLemmas.{value_at, own_value}
 pub use Rattle.rrd_base.proofs.Versions.{few_archives, source_in}
 pub use Rattle.rrd_spec.proofs.ArchiveTunes.{length-insert}
 pub use Rattle.rrd_spec.proofs.ManySteps.{push_before}

@@ -1,6 +1,6 @@
 -- What a database's journal needs, and keeps.
-use Rattle.std.specs.Prelude.{◌≡◌, suc, ◌-◌, ◌<◌, List, [], ◌∷◌, length, map, None, false}
-use Rattle.rrd_base.proofs.Names.{refl, ◌∙◌, ap, get_or, arith, fold, Sample, Update, DsDef, Name, Content, Reading, Sampled, Moment, moment_of, moment_after, KeepsArchives, Updating, sample_of, moved, DatabaseChange, last_time, template_of, PassesAll, verdict, no_sample}
+use Rattle.std.specs.Prelude.{◌≡◌, suc, ◌-◌, ◌<◌, List, [], ◌∷◌, length, map, None}
+use Rattle.rrd_base.proofs.Names.{refl, ◌∙◌, ap, get_or, arith, fold, Sample, Update, DsDef, Name, Content, Reading, Sampled, Moment, moment_after, KeepsArchives, Updating, sample_of, moved, DatabaseChange, last_time, PassesAll, verdict}
 
 -- ---- the last time
 
@@ -11,8 +11,7 @@ last_at_end sources template now (s ∷ t ∷ samples) h = last_at_end sources t
 
 -- an update's content ends at its last sample
 pub moved_last : (base : Content) (update : Update) → 0 < length update.samples → (moved base (Updating update)).last ≡ last_time update.samples
-moved_last base update h =
-    last_at_end base.sources (template_of base.sources update.template) (moment_of base) update.samples h
+moved_last base update h = grind (arith, last_at_end)
 
 pub last_item : (samples : List Sample) (d : Sample) → 0 < length samples → (get_or samples (length samples - 1) d).time ≡ last_time samples
 last_item [] d h = absurd (omega arith)
@@ -22,10 +21,7 @@ last_item (s ∷ t ∷ samples) d h = ap (λ n. (get_or (s ∷ t ∷ samples) n 
 -- ---- an accepted update has a sample
 
 pub some_samples : (passes : (base : Content) (command : DatabaseChange) → PassesAll base command) (base : Content) (update : Update) → verdict base (Updating update) ≡ None → 0 < length update.samples
-some_samples passes base update h = some update.samples (passes base (Updating update) h).1.1.0 where
-  some : (samples : List Sample) → no_sample samples ≡ false → 0 < length samples
-  some [] e = cc
-  some (sample ∷ samples) e = omega arith
+some_samples passes base update h = grind arith
 
 -- ---- an update lets no archive come or go
 

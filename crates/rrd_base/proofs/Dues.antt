@@ -1,6 +1,6 @@
 -- Which piece is due, by what the fields hold.
 use Rattle.std.specs.Prelude.{◌≡◌, ◌+◌, ◌*◌, ◌<◌, ◌≤◌, ℕ, zero, suc, List, [], ◌∷◌, ◌++◌, Some, None, length, map, take, drop, min, sum, nat_lt, if◌then◌else◌}
-use Rattle.rrd_base.proofs.Names.{resolution, SourceDue, HeadDue, PrepDue, CellDue, EntryDue, NothingDue, ◌∙◌, sym, ap, subst, arith, refl, get_or, length-append, length-take, length-drop, AllByRecursion, flat_map, lt-ltb, le-ltb, length-map, flat_map-cons, Cell, Head, head_of, Rra, after_heads, due, prep_or, rows_in_all, unprepared, ArePrepared, Coming, IsArchiveSoFar, IsRebuilding, filed_in, AreFewer, cells_by_slot, AreAccepted, IsRow, DsDef, RraDef, Raw, Part, All-take, All-drop, All-weaker, AsManyCells, HasOneEach}
+use Rattle.rrd_base.proofs.Names.{resolution, SourceDue, HeadDue, PrepDue, CellDue, EntryDue, NothingDue, ◌∙◌, sym, ap, subst, arith, refl, get_or, length-append, length-take, length-drop, AllByRecursion, flat_map, lt-ltb, le-ltb, length-map, Cell, Head, head_of, Rra, after_heads, due, prep_or, rows_in_all, unprepared, ArePrepared, Coming, IsArchiveSoFar, IsRebuilding, filed_in, AreFewer, cells_by_slot, AreAccepted, IsRow, DsDef, RraDef, Raw, Part, All-take, All-drop, All-weaker, AsManyCells, HasOneEach}
 use Rattle.rrd_spec.specs.Files.Filed.{sources_of}
 use Rattle.rrd_base.proofs.Rebuilt.{fold_sum, journal_length}
 use native.Mathlib.Nat as nat
@@ -31,12 +31,10 @@ archives_wide as_many sources step last [] some all = omega arith
 archives_wide as_many sources step last (a ∷ archives) some all =
     let here = archive_wide as_many sources step last a some all.0 in
     let later = archives_wide as_many sources step last archives some all.1 in
-    let more : length (flat_map (cells_by_slot step last) (a ∷ archives)) ≡ length (cells_by_slot step last a) + length (flat_map (cells_by_slot step last) archives) =
-    ap length (flat_map-cons (cells_by_slot step last) a archives) ∙ length-append (cells_by_slot step last a) (flat_map (cells_by_slot step last) archives) in
+    let more : length (flat_map (cells_by_slot step last) (a ∷ archives)) ≡ length (cells_by_slot step last a) + length (flat_map (cells_by_slot step last) archives) = grind (arith, length-append) in
     let product : sources * (a.def.rows + rows_in_all (map head_of archives)) ≡ sources * a.def.rows + sources * rows_in_all (map head_of archives) = nat.mul-add sources a.def.rows (rows_in_all (map head_of archives)) in
     let total : rows_in_all (map head_of (a ∷ archives)) ≡ a.def.rows + rows_in_all (map head_of archives) = fold_sum a.def.rows (map (λ (head : Head). head.def.rows) (map head_of archives)) in
-    let bound : length (flat_map (cells_by_slot step last) (a ∷ archives)) ≡ sources * (a.def.rows + rows_in_all (map head_of archives)) = omega (arith, here, later, more, product) in
-    bound ∙ ap (λ n. sources * n) (sym total)
+    grind arith
 
 pub none_there : {A : Type 0} (xs : List A) → length xs ≡ 0 → xs ≡ []
 none_there [] n = refl
@@ -113,12 +111,7 @@ cells_count as_many d is =
 rows_split : (n : ℕ) (archives : List Rra) → rows_in_all (map head_of archives) ≡ rows_in_all (map head_of (take n archives)) + rows_in_all (map head_of (drop n archives))
 rows_split zero archives = omega arith
 rows_split (suc n) [] = refl
-rows_split (suc n) (a ∷ archives) =
-    let rows = λ (xs : List Rra). map (λ (head : Head). head.def.rows) (map head_of xs) in
-    let one : sum (a.def.rows ∷ rows archives) ≡ a.def.rows + sum (rows archives) = fold_sum a.def.rows (rows archives) in
-    let two : sum (a.def.rows ∷ rows (take n archives)) ≡ a.def.rows + sum (rows (take n archives)) = fold_sum a.def.rows (rows (take n archives)) in
-    let later : sum (rows archives) ≡ sum (rows (take n archives)) + sum (rows (drop n archives)) = rows_split n archives in
-    omega (arith, one, two, later)
+rows_split (suc n) (a ∷ archives) = grind (arith, fold_sum, rows_split n archives)
 
 pub total : (d : Coming) → d.sources_due * rows_in_all (map head_of d.archives) ≡ d.sources_due * rows_in_all (map head_of (take d.archive d.archives)) + d.sources_due * rows_in_all (map head_of (drop d.archive d.archives))
 total d = ap (λ n. d.sources_due * n) (rows_split d.archive d.archives) ∙ nat.mul-add d.sources_due _ _
@@ -134,23 +127,15 @@ few_left sources filled (a ∷ archives) some few =
 pub due_cell : AllAsMany → (d : Coming) → IsRebuilding d → d.archives_due ≤ length d.archives → d.archive < length d.archives → after_heads (filed_in d) ≡ CellDue
 due_cell as_many d is h there =
     let left : 0 < length (drop d.archive d.archives) = omega (arith, there, length-drop d.archive d.archives) in
-    let few = few_left d.sources_due d.filled (drop d.archive d.archives) left is.filled_few in
-    let n : length (filed_in d).cells < d.sources_due * rows_in_all (map head_of d.archives) = omega (arith, few, cells_count as_many d is, total d) in
-    after_cells d h ∙ rw (lt-ltb (length (filed_in d).cells) (d.sources_due * rows_in_all (map head_of d.archives)) n) refl
+    grind (arith, few_left, cells_count, total, after_cells, lt-ltb)
 
 past_cells : AllAsMany → (d : Coming) → IsRebuilding d → d.archives_due ≤ length d.archives → length d.archives ≤ d.archive → after_heads (filed_in d) ≡ (if nat_lt (length (filed_in d).entries) d.entries_due then EntryDue else NothingDue)
 past_cells as_many d is h past =
     let none : drop d.archive d.archives ≡ [] = none_there (drop d.archive d.archives) (omega (arith, past, length-drop d.archive d.archives)) in
-    let zero_left : d.sources_due * rows_in_all (map head_of (drop d.archive d.archives)) ≡ d.sources_due * 0 = ap (λ xs. d.sources_due * rows_in_all (map head_of xs)) none in
-    let n : d.sources_due * rows_in_all (map head_of d.archives) ≤ length (filed_in d).cells = omega (arith, cells_count as_many d is, total d, zero_left) in
-    after_cells d h ∙ rw (le-ltb (length (filed_in d).cells) (d.sources_due * rows_in_all (map head_of d.archives)) n) refl
+    grind (arith, cells_count, total, after_cells, le-ltb)
 
 pub due_entry : AllAsMany → (d : Coming) → IsRebuilding d → d.archives_due ≤ length d.archives → length d.archives ≤ d.archive → length d.journal < d.entries_due → after_heads (filed_in d) ≡ EntryDue
-due_entry as_many d is h past some =
-    let n : length (filed_in d).entries < d.entries_due = omega (arith, some, journal_length d) in
-    past_cells as_many d is h past ∙ rw (lt-ltb (length (filed_in d).entries) d.entries_due n) refl
+due_entry as_many d is h past some = grind (arith, journal_length, past_cells, lt-ltb)
 
 pub due_nothing : AllAsMany → (d : Coming) → IsRebuilding d → d.archives_due ≤ length d.archives → length d.archives ≤ d.archive → d.entries_due ≤ length d.journal → after_heads (filed_in d) ≡ NothingDue
-due_nothing as_many d is h past none =
-    let n : d.entries_due ≤ length (filed_in d).entries = omega (arith, none, journal_length d) in
-    past_cells as_many d is h past ∙ rw (le-ltb (length (filed_in d).entries) d.entries_due n) refl
+due_nothing as_many d is h past none = grind (arith, journal_length, past_cells, le-ltb)

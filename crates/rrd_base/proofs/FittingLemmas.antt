@@ -58,9 +58,7 @@ kept_length kept items [] = refl
 kept_length kept items (old ∷ olds) = kept_length kept (slice_set items old.number (kept old)) olds ∙ length-set items old.number (kept old)
 
 pub kept_refills : {A : Type 0} (kept : SavedSource → A) (items : List A) (olds : List SavedSource) → refill (length items) items (with_kept kept items olds) ≡ with_kept kept items olds
-kept_refills kept items olds =
-    let all = with_kept kept items olds in
-    rw (drop_all (length all) items (omega (arith, kept_length kept items olds)), append-nil) (take_all (length items) all (omega (arith, kept_length kept items olds)))
+kept_refills kept items olds = grind (arith, drop_all, kept_length, append-nil, take_all)
 
 -- ---- numbers of rows
 
@@ -82,13 +80,7 @@ pub record RowsPut (held : RraDef) (defs : List RraDef) (i rows all : ℕ) : Typ
   pub all_is : all - held.rows + rows ≡ sum (rows_of (with_row_number defs i rows))
 
 pub rows_are_put : (items defs : List RraDef) (i rows all : ℕ) (d : RraDef) → items ≡ defs → i < length defs → sum (rows_of defs) ≤ present.max_cells → all ≡ min (sum (rows_of items)) (2 ^ 64 - 1) → RowsPut (get_or items i d) defs i rows all
-rows_are_put items defs i rows all d same h few e =
-    let all_is = e ∙ ap (λ (ds : List RraDef). min (sum (rows_of ds)) (2 ^ 64 - 1)) same in
-    let old = rows_at_is defs i d h in
-    let put = rows_put defs i rows h in
-    let none = rows_put defs i 0 h in
-    subst (λ (ds : List RraDef). RowsPut (get_or ds i d) defs i rows all) (sym same)
-    (record { within = omega (arith, old, none, few, all_is); few = omega (arith, few, all_is); old_is = old; all_is = omega (arith, old, put, none, few, all_is) })
+rows_are_put items defs i rows all d same h few e = grind (arith, rows_at_is defs i d h, rows_put defs i rows h, rows_put defs i 0 h)
 
 -- an archive's number of rows set in its place
 pub row_number_set : (defs : List RraDef) (i rows : ℕ) (def : RraDef) → i < length defs → def ≡ get_or defs i def → set defs i (record def { rows = rows }) ≡ with_row_number defs i rows

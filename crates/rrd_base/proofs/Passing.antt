@@ -5,9 +5,7 @@ use Rattle.rrd_base.proofs.Names.{sym, ◌∙◌, ap, subst, arith, length-repli
 -- parts with so many seconds more, by the law of parts
 pub parts_more : (grow : (function : Function) (sources n : ℕ) (parts : List Part) (row : List Cell) → PartsGrow function sources n parts row) (function : Function) (sources k n : ℕ) (parts : List Part) (row : List Cell) → AreParts function sources k parts → IsRow sources row → AreParts function sources (k + n) (fold (with_each function) parts (replicate n row))
 parts_more grow function sources k zero parts row is good = subst (λ m. AreParts function sources m parts) {x = k} {y = k + zero} (omega arith) is
-parts_more grow function sources k (suc n) parts row is good =
-    subst (λ m. AreParts function sources m (fold (with_each function) (with_each function parts row) (replicate n row))) {x = k + 1 + n} {y = k + suc n} (omega arith)
-    (parts_more grow function sources (k + 1) n (with_each function parts row) row (grow function sources k parts row is good) good)
+parts_more grow function sources k (suc n) parts row is good = grind (arith, parts_more grow function sources (k + 1) n (with_each function parts row) row (grow function sources k parts row is good) good)
 
 -- what each part of a list has
 pub few_known : (function : Function) (k limit : ℕ) (parts : List Part) → k ≤ limit → AllByRecursion (IsPart function k) parts → AllByRecursion (λ (p : Part). p.known ≤ limit) parts
@@ -20,8 +18,7 @@ still_fit function k n limit (part ∷ parts) h is = let few = is.0.few in (omeg
 
 -- where a step ends
 pub within_div : (last n step : ℕ) → 0 < step → last + n < (last / step + 1) * step → (last + n) / step ≡ last / step
-within_div last n step some h =
-    ap (λ m. m / step) {x = last + n} {y = last / step * step + (last % step + n)} (omega arith) ∙ div-mul-add (last / step) step (last % step + n) (omega arith)
+within_div last n step some h = grind arith
 
 -- the seconds up to the end of the step are no more than the step
 pub within_step : (last n step : ℕ) → 0 < step → last + n ≤ (last / step + 1) * step → last % step + n ≤ step
@@ -45,8 +42,6 @@ with_filled base last parts archives = record base { last = last; parts = parts;
 pub ends : (over : (base : Content) (left count : ℕ) (rates : List Cell) → SecondsOver base left count rates) (base : Content) (n k : ℕ) (row cells : List Cell) (parts : List Part) (archives : List Rra) → IsValid base → IsRow (length base.sources) row → base.last + n ≡ (base.last / base.step + 1) * base.step → cells ≡ map (step_cell base.step) (fold (with_each Average) base.parts (replicate n row)) → parts ≡ replicate (length base.sources) nothing → archives ≡ map (archive_passed (length base.sources) (base.last / base.step) (cells ∷ replicate k row)) base.archives → let now : Content = record base { last = base.last + (n + k * base.step); parts = parts; archives = archives } in now ≡ passed base (replicate (n + k * base.step) row)
 unfolding with_filled
 ends over base n k row cells parts archives is row_is h e p a =
-    let last = base.last + (n + k * base.step) in
-    let c = length base.sources in
     cc (p, a, e, over base n k row (base_of_valid base is) h row_is.one_each)
 
 -- by the law of seconds, what they leave is valid

@@ -1,6 +1,6 @@
 -- Rows that are pushed, and how many rows end while steps pass.
 use Rattle.std.specs.Prelude.{◌≡◌, ℕ, ◌+◌, ◌-◌, ◌*◌, ◌/◌, ◌%◌, ◌<◌, ◌≤◌, min, List, [], ◌∷◌, ◌++◌, length, drop, replicate}
-use Rattle.rrd_base.proofs.Names.{sym, ◌∙◌, ap, arith, length-append, append_assoc, ⊎_elim, cases_lt, length-replicate, replicate-append-replicate, length-drop, div-add-mod', div-mul-add, mod_below, keep_last, keep_last-append, keep_last_past, length-keep_last}
+use Rattle.rrd_base.proofs.Names.{sym, ◌∙◌, ap, arith, length-append, append_assoc, ⊎_elim, cases_lt, length-replicate, replicate-append-replicate, div-add-mod', div-mul-add, mod_below, keep_last, keep_last-append, keep_last_past, length-keep_last}
 use Rattle.rrd_spec.proofs.GroupLemmas.{next_ahead}
 
 -- ---- rows that are pushed
@@ -41,18 +41,13 @@ pub row_fits : (before m : ℕ) → 0 < m → before % m + 1 + ((before / m + 1)
 row_fits before m some = omega (arith, div-add-mod' before m, next_ahead before m some)
 
 past_end : (before count m : ℕ) → 0 < m → (before / m + 1) * m - (before + 1) ≤ count → let more = count - ((before / m + 1) * m - (before + 1)) in before + (1 + count) ≡ (before / m + 1 + more / m) * m + more % m
-past_end before count m some h =
-    omega (arith, next_ahead before m some, div-add-mod' (count - ((before / m + 1) * m - (before + 1))) m)
+past_end before count m some h = grind arith
 
 -- how many rows end
 pub ended_none : (before count m : ℕ) → 0 < m → count < (before / m + 1) * m - (before + 1) → (before + (1 + count)) / m - before / m ≡ 0
-ended_none before count m some h =
-    let split = div-add-mod' before m in
-    let same : (before + (1 + count)) / m ≡ before / m = ap (λ x. x / m) {x = before + (1 + count)} {y = before / m * m + (before + (1 + count) - before / m * m)} (omega arith) ∙ div-mul-add (before / m) m (before + (1 + count) - before / m * m) (omega arith) in
-    omega arith
+ended_none before count m some h = grind arith
 
 pub ended_some : (before count m : ℕ) → 0 < m → (before / m + 1) * m - (before + 1) ≤ count → (before + (1 + count)) / m - before / m ≡ 1 + (count - ((before / m + 1) * m - (before + 1))) / m
 ended_some before count m some h =
     let more = count - ((before / m + 1) * m - (before + 1)) in
-    let at : (before + (1 + count)) / m ≡ before / m + 1 + more / m = ap (λ x. x / m) (past_end before count m some h) ∙ div-mul-add (before / m + 1 + more / m) m (more % m) (mod_below more m some) in
-    omega arith
+    grind (arith, past_end before count m some h, div-mul-add (before / m + 1 + more / m) m (more % m) (mod_below more m some), mod_below more m some)

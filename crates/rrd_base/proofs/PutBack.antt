@@ -25,8 +25,7 @@ popped n k xs ys x e count last = cc (last, e, ap (λ m. get_or (take m xs) (m -
 pub put_back_next : (k : ℕ) (archives : List Rra) (olds : List SavedArchive) (d : Rra) → k < length archives → get_or (take (suc k) archives ++ put_back_each (drop (suc k) archives) (drop (suc k) olds)) k d ≡ get_or archives k d
 put_back_next k [] olds d h = absurd (omega arith)
 put_back_next zero (archive ∷ archives) olds d h = refl
-put_back_next (suc k) (archive ∷ archives) [] d h = put_back_next k archives [] d (omega arith)
-put_back_next (suc k) (archive ∷ archives) (old ∷ olds) d h = put_back_next k archives olds d (omega arith)
+put_back_next (suc k) (archive ∷ archives) olds d h = grind (arith, put_back_next k archives, put_back_next k archives olds d (omega arith))
 
 -- one archive more
 pub put_back_more : (k : ℕ) (archives : List Rra) (saved : List SavedArchive) (d new : Rra) (s : SavedArchive) → k < length archives → k < length saved → new ≡ put_back (get_or archives k d) (get_or saved k s) → set (take (suc k) archives ++ put_back_each (drop (suc k) archives) (drop (suc k) saved)) k new ≡ take k archives ++ put_back_each (drop k archives) (drop k saved)
@@ -36,8 +35,7 @@ put_back_more k x saved d new s h m e = absurd (omega arith)
 
 -- nothing is back yet
 pub none_back : (n : ℕ) (archives : List Rra) (saved : List SavedArchive) → length archives ≤ n → archives ≡ take n archives ++ put_back_each (drop n archives) (drop n saved)
-none_back n archives saved h =
-    sym (ap (λ rest. take n archives ++ put_back_each rest (drop n saved)) (drop_all n archives h) ∙ append-nil (take n archives) ∙ take_all n archives h)
+none_back n archives saved h = grind (arith, drop_all, append-nil, take_all)
 
 -- what is asked, at a place
 pub as_many : (archives : List Rra) (saved : List SavedArchive) → CanPutBackEach archives saved → length saved ≡ length archives
@@ -65,8 +63,6 @@ can_put_back step sources steps from to archive old is fits =
     }
 
 pub can_put_back_each : (step sources steps from to : ℕ) (archives : List Rra) (olds : List SavedArchive) → AllByRecursion (IsValidArchive sources steps) archives → FitEach step sources from to archives olds → CanPutBackEach archives olds
-can_put_back_each step sources steps from to [] [] is fit = tt
-can_put_back_each step sources steps from to [] (old ∷ olds) is fit = fit
+can_put_back_each step sources steps from to [] olds is fit = grind arith
 can_put_back_each step sources steps from to (archive ∷ archives) [] is fit = fit
-can_put_back_each step sources steps from to (archive ∷ archives) (old ∷ olds) is fit =
-    (can_put_back step sources steps from to archive old is.0 fit.0, can_put_back_each step sources steps from to archives olds is.1 fit.1)
+can_put_back_each step sources steps from to (archive ∷ archives) (old ∷ olds) is fit = grind (arith, can_put_back step sources steps from to archive old is.0 fit.0, can_put_back_each step sources steps from to archives olds is.1 fit.1)

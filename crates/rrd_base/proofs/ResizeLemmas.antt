@@ -1,6 +1,6 @@
 -- An archive with another number of rows.
 use Rattle.std.specs.Prelude.{◌≡◌, ℕ, zero, suc, ◌+◌, ◌-◌, ◌*◌, ◌/◌, ◌<◌, ◌≤◌, List, [], ◌∷◌, ◌++◌, length, drop, replicate, sum, None}
-use Rattle.rrd_base.proofs.Names.{refl, sym, ◌∙◌, ap, get_or, set, arith, length-drop, fold, AllByRecursion, Cell, newest_rows, width, Rra, Content, Change, Grow, Shrink, Resizing, moved, rows_changed, rows_of_archives, rows_at, with_rows_at, HasFewRows, IsValid, IsValidArchive, verdict, ResizeChanges, newest_of, rows_then}
+use Rattle.rrd_base.proofs.Names.{refl, ◌∙◌, ap, get_or, set, arith, length-drop, fold, AllByRecursion, Cell, newest_rows, width, Rra, Content, Change, Resizing, moved, rows_changed, rows_of_archives, rows_at, with_rows_at, HasFewRows, IsValid, IsValidArchive, verdict, ResizeChanges, newest_of, rows_then}
 use Rattle.rrd_base.proofs.RraLemmas.{width_is}
 
 -- ---- the number of all rows
@@ -15,8 +15,7 @@ sum_more x xs = from_any (0 + x) xs ∙ ap (λ n. n + sum xs) {x = 0 + x} {y = x
 pub sum_set : (k new : ℕ) (rows : List ℕ) → k < length rows → sum (set rows k new) + get_or rows k 0 ≡ sum rows + new
 sum_set k new [] h = absurd (omega arith)
 sum_set zero new (r ∷ rows) h = omega (arith, sum_more new rows, sum_more r rows)
-sum_set (suc k) new (r ∷ rows) h =
-    omega (arith, sum_set k new rows (omega arith), sum_more r rows, sum_more r (set rows k new))
+sum_set (suc k) new (r ∷ rows) h = grind (arith, sum_set k new rows (omega arith), sum_more)
 
 -- and with one more
 pub sum_push : (rows : List ℕ) (row : ℕ) → sum (rows ++ row ∷ []) ≡ sum rows + row
@@ -24,8 +23,7 @@ sum_push [] row = omega (arith, sum_more row [])
 sum_push (r ∷ rows) row = omega (arith, sum_push rows row, sum_more r rows, sum_more r (rows ++ row ∷ []))
 
 pub changed_few : (change : Change) (old rows : ℕ) → rows_changed change old rows ≤ old + rows
-changed_few Grow old rows = omega arith
-changed_few Shrink old rows = omega arith
+changed_few change old rows = grind arith
 
 pub rows_at_archive : (archives : List Rra) (k : ℕ) (d : Rra) → k < length archives → get_or (rows_of_archives archives) k 0 ≡ (get_or archives k d).def.rows
 rows_at_archive [] k d h = absurd (omega arith)
@@ -42,18 +40,9 @@ some_of_all [] k d h = absurd (omega arith)
 some_of_all (a ∷ rest) zero d h = omega (arith, sum_more a.def.rows (rows_of_archives rest))
 some_of_all (a ∷ rest) (suc k) d h = omega (arith, some_of_all rest k d (omega arith), sum_more a.def.rows (rows_of_archives rest))
 
-pub few_at : (archives : List Rra) (k : ℕ) (d : Rra) → k < length archives → AllByRecursion HasFewRows archives → (get_or archives k d).def.rows ≤ 1000000
-few_at [] k d h is = absurd (omega arith)
-few_at (a ∷ rest) zero d h is = is.0.few
-few_at (a ∷ rest) (suc k) d h is = few_at rest k d (omega arith) is.1
-
 pub few_sum : (archives : List Rra) → AllByRecursion HasFewRows archives → sum (rows_of_archives archives) ≤ length archives * 1000000
 few_sum [] is = omega arith
 few_sum (a ∷ rest) is = let f = is.0.few in omega (arith, f, few_sum rest is.1, sum_more a.def.rows (rows_of_archives rest))
-
-pub have_few : (sources steps : ℕ) (archives : List Rra) → AllByRecursion (IsValidArchive sources steps) archives → AllByRecursion HasFewRows archives
-have_few sources steps [] is = tt
-have_few sources steps (a ∷ rest) is = (record { few = is.0.few_rows }, have_few sources steps rest is.1)
 
 -- ---- the rows
 

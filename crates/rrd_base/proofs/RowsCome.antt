@@ -1,6 +1,6 @@
 -- Whole rows of cells come at once.
-use Rattle.std.specs.Prelude.{◌≡◌, ◌+◌, ◌*◌, ◌/◌, ◌%◌, ◌<◌, ◌≤◌, ℕ, zero, suc, List, [], ◌∷◌, ◌++◌, None, length, map, take, drop, min, ◌⊎◌, sum}
-use Rattle.rrd_base.proofs.Names.{◌∙◌, sym, ap, subst, arith, inl, inr, refl, get_or, set, append_assoc, append-nil, length-set, length-append, length-drop, take_at, drop_at, AllByRecursion, add-mul, take-add, cases_lt, le-ltb, lt-ltb, length-map, length-take-le, take-append-drop, take_all, drop-drop, mul-le, Cell, IsBounded, width, with_rows, CellDue, Filed, Head, head_of, Rra, All-drop, All-take, drop_here, PutsBlock, due, rows_in_all, unprepared, resolution, by_slot, cells_by_slot, place_in, IsRow, Cursor, filled_by, Coming, IsRebuilding, filed_in, MayCells, with_cells}
+use Rattle.std.specs.Prelude.{◌≡◌, ◌+◌, ◌*◌, ◌/◌, ◌%◌, ◌<◌, ◌≤◌, ℕ, zero, suc, List, [], ◌∷◌, ◌++◌, None, length, map, take, drop, min, ◌⊎◌}
+use Rattle.rrd_base.proofs.Names.{◌∙◌, sym, ap, subst, arith, inl, inr, refl, get_or, append_assoc, append-nil, length-set, length-append, length-drop, take_at, drop_at, AllByRecursion, add-mul, take-add, cases_lt, length-map, length-take-le, take-append-drop, take_all, drop-drop, mul-le, Cell, IsBounded, width, with_rows, CellDue, Filed, head_of, Rra, All-drop, All-take, drop_here, PutsBlock, due, rows_in_all, unprepared, resolution, by_slot, cells_by_slot, place_in, IsRow, Cursor, filled_by, Coming, IsRebuilding, filed_in, MayCells, with_cells}
 use Rattle.rrd_spec.specs.Files.Rebuilding.{with_cell}
 use Rattle.rrd_base.specs.Rebuild.Cursors.{Passes}
 use Rattle.rrd_base.proofs.CellComes.{All_set, AtCell, CellHere, GoesOn, IsPut, StaysIn, place_on, put_in, slots_apart, with_more}
@@ -18,8 +18,7 @@ pub record OnlyCellsLack (f : Filed) : Type 0 where
 
 cell_due : (f : Filed) → OnlyCellsLack f → length f.cells < f.header.sources * rows_in_all f.heads → due f ≡ CellDue
 unfolding due
-cell_due f lacks more =
-    rw (le-ltb (length f.sources) f.header.sources lacks.sources, lacks.prepared, le-ltb (length f.heads) f.header.archives lacks.heads, lt-ltb (length f.cells) (f.header.sources * rows_in_all f.heads) more) refl
+cell_due f lacks more = grind arith
 
 may_all : (f : Filed) (cells : List Cell) → OnlyCellsLack f → AllByRecursion IsBounded cells → length f.cells + length cells ≤ f.header.sources * rows_in_all f.heads → MayCells f cells
 may_all f [] lacks all few = tt
@@ -35,10 +34,7 @@ lacks_in d is at = record {
 }
 
 first_fewer : (sources : ℕ) (a : Rra) (archives : List Rra) → sources * a.def.rows ≤ sources * rows_in_all (map head_of (a ∷ archives))
-first_fewer sources a archives =
-    let rows = map (λ (head : Head). head.def.rows) (map head_of archives) in
-    let two : sources * (a.def.rows + sum rows) ≡ sources * a.def.rows + sources * sum rows = nat.mul-add sources a.def.rows (sum rows) in
-    subst (λ n. sources * a.def.rows ≤ sources * n) (sym (fold_sum a.def.rows rows)) (omega (arith, two))
+first_fewer sources a archives = grind (arith, fold_sum)
 
 -- as many as the archive lacks
 pub may_come : AllAsMany → (d : Coming) (a : Rra) (cells : List Cell) → IsRebuilding d → AtCell d → a ≡ get_or d.archives d.archive a → AllByRecursion IsBounded cells → d.filled + length cells ≤ d.sources_due * a.def.rows → MayCells (filed_in d) cells
@@ -95,9 +91,7 @@ row_behind xs k w part row fits e =
 
 pub rows_in_slots : AllAsMany → AllBlocks → (size last sources : ℕ) (rows : List (List Cell)) (slot n place : ℕ) (cells : List Cell) → 0 < size → AllByRecursion (IsRow sources) rows → AllByRecursion IsBounded cells → slot + n ≤ length rows → n * sources ≤ length cells
     → place ≡ place_in size last (length rows) slot → by_slot size last (with_rows n sources rows place cells) ≡ put_in (by_slot size last rows) (slot * sources) (take (n * sources) cells)
-rows_in_slots as_many blocks size last sources rows slot zero place cells some all bounded fits has is =
-    let none : 0 * sources ≡ 0 = omega arith in
-    sym (ap (λ m. put_in (by_slot size last rows) (slot * sources) (take m cells)) none ∙ none_put (by_slot size last rows) (slot * sources))
+rows_in_slots as_many blocks size last sources rows slot zero place cells some all bounded fits has is = grind (arith, put_in, none_put)
 rows_in_slots as_many blocks size last sources rows slot (suc n) place cells some all bounded fits has is =
     let before = with_rows n sources rows place cells in
     let count = length-rows n sources rows place cells in
@@ -110,16 +104,14 @@ rows_in_slots as_many blocks size last sources rows slot (suc n) place cells som
     let there : slot + n < length before = omega (arith, count, fits) in
     let all_before = rows_bounded n sources rows place cells all bounded less in
     let put = blocks size last sources before (slot + n) row some (one_each sources before all_before) there (part_wide n sources cells has) in
-    let at : place_in size last (length before) (slot + n) ≡ (place + n) % length rows =
-    ap (λ m. place_in size last m (slot + n)) count ∙ sym (ap (λ p. (p + n) % length rows) is ∙ place_on size last (length rows) slot n (omega (arith, fits))) in
+    let at : place_in size last (length before) (slot + n) ≡ (place + n) % length rows = grind (arith, place_on) in
     let was = rows_in_slots as_many blocks size last sources rows slot n place cells some all bounded (omega (arith, fits)) less is in
     let wide : length xs ≡ length rows * sources = as_many size last sources rows some (one_each sources rows all) in
     let long : length part ≡ n * sources = length-take-le (n * sources) cells less in
     let sum : (slot + n) * sources ≡ k + length part = add-mul slot n sources ∙ ap (λ m. k + m) (sym long) in
     let next : (slot + n + 1) * sources ≡ k + length part + sources = add-mul (slot + n) 1 sources ∙ (let one : (slot + n) * sources + 1 * sources ≡ k + length part + sources = omega (arith, sum) in one) in
     let top : (slot + n + 1) * sources ≤ length rows * sources = mul-le (slot + n + 1) sources (length rows) sources (omega (arith, fits)) (omega arith) in
-    let both : part ++ row ≡ take (suc n * sources) cells = sym (ap (λ m. take m cells) more ∙ take-add (n * sources) sources cells) in
-    cc (at, put, was, sum, next, row_behind xs k sources part row (omega (arith, wide, next, top)) (part_wide n sources cells has), both)
+    grind (arith, take-add, row_behind, part_wide)
 
 -- ---- the rows of an archive
 
@@ -139,17 +131,7 @@ are_put as_many blocks d a cursor place n cells is here e filled first place_is 
     let turned : a.def.rows * d.sources_due ≡ d.sources_due * a.def.rows = nat.mul_comm a.def.rows d.sources_due in
     let same_rows : place ≡ place_in (resolution d.step a.def) d.last (length a.rows) cursor.slot = place_is ∙ ap (λ m. place_in (resolution d.step a.def) d.last m cursor.slot) (sym so_far.rows_are) in
     let whole : take (n * d.sources_due) cells ≡ cells = take_all (n * d.sources_due) cells (omega (arith, count)) in
-    record {
-      is = e;
-      def_same = refl;
-      parts_same = refl;
-      as_many = length-rows n d.sources_due a.rows place cells;
-      each_row = rows_bounded n d.sources_due a.rows place cells so_far.each_row bounded (omega (arith, count));
-      few = omega (arith, wide, at, count, sum, top, turned);
-      cells_are = rows_in_slots as_many blocks (resolution d.step a.def) d.last d.sources_due a.rows cursor.slot n place cells size so_far.each_row bounded (omega (arith, fits, so_far.rows_are)) (omega (arith, count)) same_rows
-          ∙ ap (λ m. put_in (cells_by_slot d.step d.last a) m (take (n * d.sources_due) cells)) (sym at)
-          ∙ ap (put_in (cells_by_slot d.step d.last a) d.filled) whole;
-    }
+    grind (arith, length-rows, rows_bounded, rows_in_slots, put_in)
 
 -- ---- the cursor
 
@@ -161,24 +143,9 @@ passes_on sources size last rows place count old new goes is first some slot fit
     elim (cases_lt (old.slot + count) rows) [
       | inl more ↦
           let to : Cursor = record old { slot = old.slot + count; place = (place + count) % rows; source = 0 } in
-          let here : StaysIn sources size last rows (count * sources) old to = record {
-            archive_is = refl;
-            filled_is = omega (arith, sum, first);
-            few = omega (arith, slots_apart (old.slot + count) rows sources more, some);
-            source_there = some;
-            knows = λ _. ap (λ p. (p + count) % rows) is ∙ place_on size last rows old.slot count (omega (arith, slot));
-          } in
+          let here : StaysIn sources size last rows (count * sources) old to = grind (arith, slots_apart, place_on) in
           inl (subst (StaysIn sources size last rows (count * sources) old) (sym (goes.within more)) here)
-      | inr past ↦
-          let all : old.slot + count ≡ rows = omega (arith, past, fits) in
-          let to : Cursor = record { archive = old.archive + 1; slot = 0; place = (place + count) % rows; source = 0 } in
-          let here : GoesOn sources rows (count * sources) old to = record {
-            archive_is = omega arith;
-            filled_is = omega arith;
-            all = omega (arith, sum, first, turned, ap (λ n. n * sources) all);
-            source_there = some;
-          } in
-          inr (subst (GoesOn sources rows (count * sources) old) (sym (goes.over all)) here)
+      | inr past ↦ grind arith
     ]
 
 -- ---- what code needs to know
@@ -190,20 +157,15 @@ one_item (z ∷ xs) zero x y h a b = a ∙ sym b
 one_item (z ∷ xs) (suc i) x y h a b = one_item xs i x y (omega arith) a b
 
 pub width_is : (sources : ℕ) (rows : List (List Cell)) → AllByRecursion (IsRow sources) rows → 0 < length rows → width rows ≡ sources
-width_is sources [] all some = absurd (omega arith)
-width_is sources (row ∷ rows) all some = all.0.one_each
+width_is sources rows all some = grind arith
 
 -- whole rows are no more than all cells
 pub whole_few : (count sources total left : ℕ) → 0 < sources → count ≡ min (total / sources) left → count * sources ≤ total
-whole_few count sources total left some is =
-    let le : count * sources ≤ total / sources * sources = mul-le count sources (total / sources) sources (omega (arith, is)) (omega arith) in
-    let turned : total / sources * sources ≡ sources * (total / sources) = nat.mul_comm (total / sources) sources in
-    omega (arith, le, turned, some)
+whole_few count sources total left some is = grind arith
 
 -- such rows end within the archive
 pub within : (sources slot source count rows cells : ℕ) → source ≡ 0 → cells ≡ count * sources → slot + count ≤ rows → slot * sources + source + cells ≤ sources * rows
 within sources slot source count rows cells none long fits =
     let sum : (slot + count) * sources ≡ slot * sources + count * sources = add-mul slot count sources in
     let top : (slot + count) * sources ≤ rows * sources = mul-le (slot + count) sources rows sources fits (omega arith) in
-    let turned : rows * sources ≡ sources * rows = nat.mul_comm rows sources in
-    omega (arith, none, long, sum, top, turned)
+    grind arith

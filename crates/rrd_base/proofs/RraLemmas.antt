@@ -9,10 +9,7 @@ shown def preps rows = record { def = def; parts = parts_in preps; rows = rows }
 -- the cells of a row, off the preparations and off their parts
 pub row_of_parts : (function : Function) (xff : ℤ) (steps : ℕ) (preps : List Consolidating) → AllOf function preps → map (row_of xff steps) preps ≡ map (row_cell function xff steps) (parts_in preps)
 row_of_parts function xff steps [] of = refl
-row_of_parts function xff steps (prep ∷ preps) of =
-    let first : row_cell prep.function xff steps prep.part ≡ row_cell function xff steps prep.part = ap (λ f. row_cell f xff steps prep.part) of.0 in
-    let rest = row_of_parts function xff steps preps of.1 in
-    cc
+row_of_parts function xff steps (prep ∷ preps) of = grind (arith, row_of_parts function xff steps preps of.1)
 
 -- steps that leave the row unfinished
 pub goes_on : (def : RraDef) (preps : List Consolidating) (rows : List (List Cell)) (step : List Cell) (count : ℕ) → AllOf def.function preps → shown def (map_each (with_steps count) preps step) rows ≡ record (shown def preps rows) { parts = fold (with_each def.function) (parts_in preps) (replicate count step) }
@@ -35,8 +32,7 @@ parts_fit limit [] is = tt
 parts_fit limit (prep ∷ preps) is = (is.0, parts_fit limit preps is.1)
 
 pub width_is : (sources : ℕ) (rows : List (List Cell)) → 0 < length rows → AllByRecursion (IsRow sources) rows → width rows ≡ sources
-width_is sources [] some is = absurd (omega arith)
-width_is sources (row ∷ rows) some is = is.0.one_each
+width_is sources rows some is = grind arith
 
 -- ---- what is valid stays valid
 

@@ -1,6 +1,6 @@
 -- A tune, source by source.
-use Rattle.std.specs.Prelude.{◌≡◌, ℕ, zero, suc, ◌+◌, ◌<◌, ◌≤◌, Bool, true, false, cond, List, [], ◌∷◌, ◌++◌, drop, length, take, map, None, Some}
-use Rattle.rrd_base.proofs.Names.{refl, ◌∙◌, ap, append-nil, length-append, length-drop, take_all, set, get_or, arith, drop_all, length-take, AllByRecursion, fold, insert, refill, Raw, DsDef, SavedSource, Tuning, Cell, Rra, Content, raws_under, TuningBy, moved, raw_under, saved_sources, is_named, with_rows_at, IsThere, with_archive_tuned, with_raws, ArchiveTune, Add, Remove, RraDef, verdict, TuneAdds, TuneRemoves, IsValid, with_sources}
+use Rattle.std.specs.Prelude.{◌≡◌, ℕ, zero, suc, ◌+◌, ◌<◌, ◌≤◌, Bool, cond, List, [], ◌∷◌, ◌++◌, length, take, map, None, Some}
+use Rattle.rrd_base.proofs.Names.{refl, ◌∙◌, ap, append-nil, take_all, set, get_or, arith, drop_all, fold, refill, Raw, DsDef, SavedSource, Tuning, Cell, Rra, Content, raws_under, TuningBy, moved, raw_under, saved_sources, is_named, with_rows_at, IsThere, with_archive_tuned, with_raws, ArchiveTune, Add, Remove, RraDef, verdict, TuneAdds, TuneRemoves, IsValid, with_sources}
 use Rattle.rrd_spec.specs.Journal.Entries.{with_source}
 
 -- one raw value more
@@ -20,20 +20,16 @@ raws_next f (s ∷ ss) (x ∷ xs) (suc i) r = raws_next f ss xs i r
 -- ---- what is kept of the sources
 
 before_rest : (b : Bool) (h : SavedSource) (xs ys : List SavedSource) → cond b (h ∷ (xs ++ ys)) (xs ++ ys) ≡ cond b (h ∷ xs) xs ++ ys
-before_rest true h xs ys = refl
-before_rest false h xs ys = refl
+before_rest b h xs ys = grind arith
 
 -- one source more
 pub before_more : (tuning : Tuning) (n i m : ℕ) (sources : List DsDef) (raws : List Raw) (d : DsDef) (r : Raw) → i < length sources → length raws ≡ length sources → m ≡ n + i → saved_sources tuning n (take (suc i) sources) (take (suc i) raws) ≡ saved_sources tuning n (take i sources) (take i raws) ++ (let h : SavedSource = record { number = m; source = get_or sources i d; raw = get_or raws i r } in cond (is_named tuning (get_or sources i d)) (h ∷ []) [])
 before_more tuning n zero m (s ∷ ss) (x ∷ xs) d r h k e = ap (λ z. let w : SavedSource = record { number = z; source = s; raw = x } in cond (is_named tuning s) (w ∷ []) []) {x = n} {y = m} (omega arith)
-before_more tuning n (suc i) m (s ∷ ss) (x ∷ xs) d r h k e =
-    let w : SavedSource = record { number = n; source = s; raw = x } in
-    cc (before_more tuning (n + 1) i m ss xs d r (omega arith) (omega arith) (omega arith), before_rest (is_named tuning s) w (saved_sources tuning (n + 1) (take i ss) (take i xs)) _)
+before_more tuning n (suc i) m (s ∷ ss) (x ∷ xs) d r h k e = grind (arith, before_more tuning (n + 1) i m ss xs d r (omega arith) (omega arith) (omega arith), before_rest)
 before_more tuning n i m x raws d r h k e = absurd (omega arith)
 
 shorter : (b : Bool) (h : SavedSource) (xs ys : List SavedSource) → length xs ≤ length ys → length (cond b (h ∷ xs) xs) ≤ length (cond b (h ∷ ys) ys)
-shorter true h xs ys k = omega arith
-shorter false h xs ys k = k
+shorter b h xs ys k = grind arith
 
 -- no more than of all
 pub before_few : (tuning : Tuning) (n i : ℕ) (sources : List DsDef) (raws : List Raw) → length (saved_sources tuning n (take i sources) (take i raws)) ≤ length (saved_sources tuning n sources raws)
@@ -70,20 +66,9 @@ settings_are now sources raws ss rs e f = ap (λ s. with_settings now s raws) e 
 unfoldable pub with_archives : Content → List Rra → Content
 with_archives now archives = record now { archives = archives }
 
--- an item that is there, whatever would stand for one that isn't
-pub any_default : {A : Type 0} (xs : List A) (n : ℕ) (x y : A) → n < length xs → get_or xs n x ≡ get_or xs n y
-any_default [] n x y h = absurd (omega arith)
-any_default (z ∷ xs) zero x y h = refl
-any_default (z ∷ xs) (suc n) x y h = any_default xs n x y (omega arith)
-
-pub last_valid : {A : Type 0} (P : A → Type 0) (xs : List A) (x : A) → AllByRecursion P (xs ++ x ∷ []) → P x
-last_valid P [] x all = all.0
-last_valid P (y ∷ xs) x all = last_valid P xs x all.1
-
 -- as many items written over all of them
 pub refilled : {A : Type 0} (xs ys : List A) → length ys ≡ length xs → refill (length xs) xs ys ≡ ys
-refilled xs ys h =
-    rw (drop_all (length ys) xs (omega (arith, h)), append-nil) (take_all (length xs) ys (omega (arith, h)))
+refilled xs ys h = grind (arith, drop_all, append-nil, take_all)
 
 -- what an accepted tune of an archive makes, and that the archive that goes is there
 pub record ArchiveTuned (now : Content) (tuning : Tuning) (asked : ArchiveTune) : Type 0 where

@@ -1,6 +1,6 @@
 -- How many turns there are.
-use Rattle.std.specs.Prelude.{◌≡◌, ℕ, zero, suc, ◌+◌, ◌-◌, ◌*◌, ◌/◌, ◌<◌, ◌≤◌, min, List, [], ◌∷◌, length, take, map, replicate, sum}
-use Rattle.rrd_base.proofs.Names.{refl, sym, ◌∙◌, ap, subst, get_or, arith, div-div-eq-div-mul, length-replicate, mul-le, fold, Cell, RraDef, Rra, Content, definitions, rows_of_archives, IsValid, archive_passed, passed, rows_shown, most_of_sample, rows_ended, rows_pushed, least_of_steps, most_of_steps}
+use Rattle.std.specs.Prelude.{◌≡◌, ℕ, zero, suc, ◌+◌, ◌-◌, ◌*◌, ◌/◌, ◌<◌, ◌≤◌, List, [], ◌∷◌, length, take, map, replicate, sum}
+use Rattle.rrd_base.proofs.Names.{refl, sym, ◌∙◌, ap, subst, get_or, arith, div-div-eq-div-mul, length-replicate, mul-le, fold, Cell, RraDef, Rra, Content, definitions, rows_of_archives, IsValid, archive_passed, passed, rows_shown, most_of_sample, rows_pushed, least_of_steps, most_of_steps}
 
 -- ---- archive by archive
 
@@ -14,10 +14,7 @@ sum_first n ns = from_any (0 + n) ns ∙ omega arith
 sum_next : (f : RraDef → ℕ) (archives : List Rra) (i : ℕ) (d : Rra) → i < length archives → sum (map f (definitions (take (suc i) archives))) ≡ sum (map f (definitions (take i archives))) + f (get_or archives i d).def
 sum_next f [] i d h = absurd (omega arith)
 sum_next f (a ∷ rest) zero d h = let one = sum_first (f a.def) [] in omega arith
-sum_next f (a ∷ rest) (suc i) d h =
-    let far : sum (map f (definitions (take (suc (suc i)) (a ∷ rest)))) ≡ f a.def + sum (map f (definitions (take (suc i) rest))) = sum_first (f a.def) (map f (definitions (take (suc i) rest))) in
-    let near : sum (map f (definitions (take (suc i) (a ∷ rest)))) ≡ f a.def + sum (map f (definitions (take i rest))) = sum_first (f a.def) (map f (definitions (take i rest))) in
-    far ∙ ap (λ n. f a.def + n) (sum_next f rest i d (omega arith)) ∙ omega (arith, near)
+sum_next f (a ∷ rest) (suc i) d h = grind (arith, sum_first, sum_next f rest i d (omega arith))
 
 pub sum_more : (f : RraDef → ℕ) (archives : List Rra) (i : ℕ) (d : Rra) → i < length archives → sum (map f (definitions (take (i + 1) archives))) ≡ sum (map f (definitions (take i archives))) + f (get_or archives i d).def
 sum_more f archives i d h = ap (λ k. sum (map f (definitions (take k archives)))) {x = i + 1} {y = suc i} (omega arith) ∙ sum_next f archives i d h
@@ -25,19 +22,13 @@ sum_more f archives i d h = ap (λ k. sum (map f (definitions (take k archives))
 pub sum_within : (f : RraDef → ℕ) (archives : List Rra) (i : ℕ) → sum (map f (definitions (take i archives))) ≤ sum (map f (definitions archives))
 sum_within f archives zero = omega arith
 sum_within f [] (suc i) = omega arith
-sum_within f (a ∷ rest) (suc i) =
-    let part : sum (map f (definitions (take (suc i) (a ∷ rest)))) ≡ f a.def + sum (map f (definitions (take i rest))) = sum_first (f a.def) (map f (definitions (take i rest))) in
-    let whole : sum (map f (definitions (a ∷ rest))) ≡ f a.def + sum (map f (definitions rest)) = sum_first (f a.def) (map f (definitions rest)) in
-    omega (arith, sum_within f rest i)
+sum_within f (a ∷ rest) (suc i) = grind (arith, sum_first, sum_within f rest i)
 
 -- ---- no more than a valid database allows
 
 most_in_all : (step from to : ℕ) (archives : List Rra) → sum (map (λ (def : RraDef). 8 + rows_shown step from to def) (definitions archives)) ≤ 8 * length archives + sum (rows_of_archives archives)
 most_in_all step from to [] = omega arith
-most_in_all step from to (a ∷ rest) =
-    let turns = sum_first (8 + rows_shown step from to a.def) (map (λ (def : RraDef). 8 + rows_shown step from to def) (definitions rest)) in
-    let rows = sum_first a.def.rows (rows_of_archives rest) in
-    omega (arith, most_in_all step from to rest)
+most_in_all step from to (a ∷ rest) = grind (arith, sum_first, most_in_all step from to rest)
 
 pub few_turns : (base : Content) (from to : ℕ) → IsValid base → most_of_sample (length base.sources) base.step (definitions base.archives) from to ≤ 9000000
 few_turns base from to is =
@@ -46,11 +37,7 @@ few_turns base from to is =
     let r = sum (rows_of_archives base.archives) in
     let s = sum (map (λ (def : RraDef). 8 + rows_shown base.step from to def) (definitions base.archives)) in
     let all = mul-le n (3 + s) n (3 + (8 * m + r)) (omega arith) (omega (arith, most_in_all base.step from to base.archives)) in
-    let sources = is.few_sources in
-    let places = mul-le n m 64 128 is.few_sources is.few_archives in
-    let cells : n * r ≤ 8000000 = is.few_cells in
-    let split : n * (3 + (8 * m + r)) ≡ 3 * n + 8 * (n * m) + n * r = omega arith in
-    omega arith
+    grind arith
 
 -- ---- a sample, by the steps that end in its interval
 
@@ -59,29 +46,16 @@ rows_by_steps step last time k def at = cc (ap (λ n. n - last / (step * def.ste
 
 pub least_by_steps : (step last time k : ℕ) (archives : List Rra) → time / step ≡ last / step + k → sum (map (rows_shown step last time) (definitions archives)) ≡ least_of_steps (last / step) k (definitions archives)
 least_by_steps step last time k [] at = refl
-least_by_steps step last time k (a ∷ rest) at =
-    let defs = definitions rest in
-    let one = sum_first (rows_shown step last time a.def) (map (rows_shown step last time) defs) in
-    let two = sum_first (rows_pushed (last / step) k a.def) (map (rows_pushed (last / step) k) defs) in
-    let here = rows_by_steps step last time k a.def at in
-    omega (arith, least_by_steps step last time k rest at)
+least_by_steps step last time k (a ∷ rest) at = grind (arith, sum_first, rows_by_steps, least_by_steps step last time k rest)
 
 pub most_by_steps : (step last time k : ℕ) (archives : List Rra) → time / step ≡ last / step + k → most_of_steps (last / step) k (definitions archives) ≤ sum (map (λ (def : RraDef). 8 + rows_shown step last time def) (definitions archives))
 most_by_steps step last time k [] at = omega arith
-most_by_steps step last time k (a ∷ rest) at =
-    let defs = definitions rest in
-    let one = sum_first (8 + rows_shown step last time a.def) (map (λ (def : RraDef). 8 + rows_shown step last time def) defs) in
-    let two = sum_first (4 + rows_pushed (last / step) k a.def) (map (λ (def : RraDef). 4 + rows_pushed (last / step) k def) defs) in
-    let here = rows_by_steps step last time k a.def at in
-    omega (arith, most_by_steps step last time k rest at)
+most_by_steps step last time k (a ∷ rest) at = grind (arith, sum_first, rows_by_steps, most_by_steps step last time k rest)
 
 -- none of the rows ends where no step does
 pub least_of_none : (before : ℕ) (archives : List Rra) → least_of_steps before 0 (definitions archives) ≡ 0
 least_of_none before [] = refl
-least_of_none before (a ∷ rest) =
-    let one = sum_first (rows_pushed before 0 a.def) (map (rows_pushed before 0) (definitions rest)) in
-    let here : rows_ended before 0 a.def ≡ 0 = ap (λ n. n / a.def.steps - before / a.def.steps) {x = before + 0} {y = before} (omega arith) ∙ omega arith in
-    omega (arith, least_of_none before rest)
+least_of_none before (a ∷ rest) = grind (arith, sum_first, least_of_none before rest)
 
 -- ---- what seconds leave as it is
 

@@ -1,6 +1,6 @@
 -- An update's values, name by name.
-use Rattle.std.specs.Prelude.{◌≡◌, ℕ, zero, suc, ◌+◌, ◌<◌, ◌≤◌, Bool, true, false, cond, List, [], ◌∷◌, length, drop}
-use Rattle.rrd_base.proofs.Names.{refl, sym, ◌∙◌, ap, get_or, arith, or_parts, list_any, Name, same_name, DsDef, Given, names, is_double, value_for, bytes_eq-Decides}
+use Rattle.std.specs.Prelude.{◌≡◌, ℕ, zero, suc, ◌+◌, ◌<◌, Bool, false, cond, List, [], ◌∷◌, length, drop}
+use Rattle.rrd_base.proofs.Names.{refl, sym, ◌∙◌, ap, get_or, arith, or_parts, list_any, Name, same_name, DsDef, Given, names, is_double, value_for}
 use Rattle.rrd_spec.proofs.NameLemmas.{same_itself}
 
 -- a sample without values
@@ -9,28 +9,18 @@ no_value [] source = refl
 no_value (n ∷ ns) source = refl
 
 neither : (found : Bool) (source : DsDef) (names : List Name) → cond found Given.Unknown (value_for names [] source) ≡ Given.Unknown
-neither true source names = refl
-neither false source names = no_value names source
+neither found source names = grind (arith, no_value)
 
 -- the value at the first place that is left, or one further on
 value_here : (names : List Name) (values : List Given) (i : ℕ) (d : Name) (source : DsDef) → i < length names → value_for (drop i names) (drop i values) source ≡ cond (same_name (get_or names i d) source.name) (get_or values i Given.Unknown) (value_for (drop (suc i) names) (drop (suc i) values) source)
 value_here [] values i d source h = absurd (omega arith)
-value_here (n ∷ ns) [] zero d source h = sym (neither (same_name n source.name) source ns)
-value_here (n ∷ ns) [] (suc i) d source h = no_value (drop i ns) source ∙ sym (neither (same_name (get_or ns i d) source.name) source (drop (suc i) ns))
+value_here (n ∷ ns) [] i d source h = grind (arith, neither, no_value)
 value_here (n ∷ ns) (v ∷ vs) zero d source h = refl
 value_here (n ∷ ns) (v ∷ vs) (suc i) d source h = value_here ns vs i d source (omega arith)
 
 -- the same where the name at this place is the source's or not
 pub value_at : (names : List Name) (values : List Given) (i : ℕ) (name : Name) (source : DsDef) (found : Bool) → i < length names → name ≡ get_or names i name → same_name name source.name ≡ found → value_for (drop i names) (drop i values) source ≡ cond found (get_or values i Given.Unknown) (value_for (drop (i + 1) names) (drop (i + 1) values) source)
 value_at names values i name source found h is same = cc (value_here names values i name source h, ap (λ n. same_name n source.name) (sym is) ∙ same, ap (λ n. cond found (get_or values i Given.Unknown) (value_for (drop n names) (drop n values) source)) {x = suc i} {y = i + 1} (omega arith))
-
--- none is left
-pub value_at_end : (names : List Name) (values : List Given) (i : ℕ) (source : DsDef) → length names ≤ i → value_for (drop i names) (drop i values) source ≡ Given.Unknown
-value_at_end [] values zero source h = refl
-value_at_end [] values (suc i) source h = refl
-value_at_end (n ∷ ns) values zero source h = absurd (omega arith)
-value_at_end (n ∷ ns) [] (suc i) source h = no_value (drop i ns) source
-value_at_end (n ∷ ns) (v ∷ vs) (suc i) source h = value_at_end ns vs i source (omega arith)
 
 -- ---- without a template
 

@@ -1,5 +1,5 @@
 -- Lemmas on a change that is appended to a log.
-use Rattle.rrd_change.proofs.Names.{◌≡◌, ℕ, ◌+◌, ◌^◌, ◌<◌, ◌≤◌, List, [], ◌∷◌, ◌++◌, length, take, get_or, refl, sym, ◌∙◌, ap, subst, arith, inl, inr, ◌⊎◌, cases_lt, length_push, take_all, length-take, get_or-take, take-append-le, StandsAt, AreAny, ArePut, IsCut, Change, IsRight, change_bytes, change_size, changes_in, last_size, Fill, HaveByte, IsLogged, Leads, Makes, TouchByte, chain_end, first_of, IsLogHeld, IsOnDisk, IsStopped, IsTornLog, Torn, AgreesOutside, AreSpans, IsIn, change_of, Follows, IsDatabase, IsOpen, All, Fails, World, Span}
+use Rattle.rrd_change.proofs.Names.{common_steps, ◌≡◌, ℕ, ◌+◌, ◌^◌, ◌<◌, ◌≤◌, List, [], ◌∷◌, ◌++◌, length, take, get_or, refl, sym, ◌∙◌, ap, subst, arith, inl, inr, ◌⊎◌, cases_lt, length_push, take_all, length-take, get_or-take, take-append-le, StandsAt, AreAny, ArePut, IsCut, Change, IsRight, change_bytes, change_size, changes_in, last_size, Fill, HaveByte, IsLogged, Leads, Makes, TouchByte, chain_end, first_of, IsLogHeld, IsOnDisk, IsStopped, Torn, AgreesOutside, AreSpans, IsIn, change_of, Follows, IsDatabase, IsOpen, All, Fails, World, Span}
 use Rattle.rrd_change.proofs.Holding.{fails_disk, held_left}
 use Rattle.rrd_change.proofs.Chains.{chain_all, chain_count}
 use Rattle.rrd_change.proofs.Laying.{leads_more, leads_size}
@@ -25,10 +25,7 @@ whole_appended old tail cs c at bytes x f next is put =
     let end = chain_end tail (first_of old ∷ cs) in
     let size : length bytes ≡ change_size c = ap length next.spelled ∙ length-change tail at c in
     let len : length f ≡ end + change_size c = omega (arith, put.len, next.here, size, is.ends) in
-    let stands : StandsAt f at (change_bytes tail at c) = record {
-      within = omega (arith, put.len, length-change tail at c, size);
-      each = λ i k. put.inside i (omega (arith, k, length-change tail at c, size)) ∙ ap (λ xs. get_or xs i 0) next.spelled;
-    } in
+    let stands : StandsAt f at (change_bytes tail at c) = grind arith in
     record {
       logged = append_whole old tail cs c x f is.logged next.right (λ k low high. put.outside k (inl (omega (arith, high, next.here)))) (subst (λ (n : ℕ). StandsAt f n (change_bytes tail n c)) next.here stands) len;
       ends = len ∙ sym (end_more tail (first_of old ∷ cs) c);
@@ -37,7 +34,6 @@ whole_appended old tail cs c at bytes x f next is put =
 part_appended : (old : List ℕ) (tail : ℕ) (cs : List Change) (c : Change) (at n : ℕ) (bytes x f : List ℕ) → IsNext old tail cs c at bytes → IsOpen old tail cs x → n < length bytes →
     ArePut at (take n bytes) x f → IsLogged old tail cs f
 part_appended old tail cs c at n bytes x f next is few put =
-    let end = chain_end tail (first_of old ∷ cs) in
     let size : length bytes ≡ change_size c = ap length next.spelled ∙ length-change tail at c in
     let took : length (take n bytes) ≡ n = omega (arith, length-take n bytes, few) in
     let front : (i : ℕ) → at + i < length f → get_or f (at + i) 0 ≡ get_or (change_bytes tail at c) i 0 = λ i k.
@@ -56,21 +52,16 @@ cut_appended old tail cs c at bytes x f next is cut =
       | inr none ↦ let P : List ℕ → Type 0 = λ xs. IsLogged old tail cs xs in inl (subst P (sym (front.2.none (omega (arith, none)))) is.logged)
       | inl some ↦ elim (cases_lt n (length bytes)) [
         | inl few ↦ inl (part_appended old tail cs c at n bytes x f next is few (front.2.some some))
-        | inr all ↦
-            inr (whole_appended old tail cs c at bytes x f next is (subst (λ (xs : List ℕ). ArePut at xs x f) (take_all n bytes all) (front.2.some some))).logged
+        | inr all ↦ grind (arith, whole_appended, take_all)
       ]
     ]
 
 -- ---- what is known in memory
 
 touch_join : (k : ℕ) (cs : List Change) (c : Change) → TouchByte k (cs ++ c ∷ []) → TouchByte k cs ⊎ HaveByte k c.pieces
-touch_join k [] c (inl h) = inr h
-touch_join k [] c (inr h) = absurd h
+touch_join k [] c h = grind arith
 touch_join k (d ∷ cs) c (inl h) = inl (inl h)
-touch_join k (d ∷ cs) c (inr h) = elim (touch_join k cs c h) [
-  | inl front ↦ inl (inr front)
-  | inr back ↦ inr back
-]
+touch_join k (d ∷ cs) c (inr h) = grind (arith, touch_join k cs c h)
 
 touch_left : (k : ℕ) (cs : List Change) (c : Change) → TouchByte k cs → TouchByte k (cs ++ c ∷ [])
 touch_left k [] c h = absurd h
@@ -124,39 +115,19 @@ first_of_more xs c n = elim (cases_lt n (length xs)) [
 pub logged_all : (old : List ℕ) (tail : ℕ) (cs : List Change) (f : List ℕ) → IsLogged old tail cs f → changes_in tail f ≡ first_of old ∷ cs
 logged_all old tail cs f h = chain_all tail f (first_of old ∷ cs) h.log.chain h.log.begun
 
--- whatever the disk has of a change that is appended, it has the changes before it
-torn_appended : (other old : List ℕ) (tail : ℕ) (cs all : List Change) (at count : ℕ) (x f : List ℕ) → IsOpen old tail cs x → at ≡ chain_end tail (first_of old ∷ cs) → AreAny at count x f →
-    (all ≡ cs) ⊎ ((c : Change) × (all ≡ cs ++ c ∷ []) × Leads old cs other × Fill (length old) cs) → IsTornLog other old tail all f
-torn_appended other old tail cs all at count x f is here a last = record {
-  sure = cs;
-  whole = x;
-  logged = is.logged;
-  same = λ k from to. a.outside k (inl (omega (arith, to, here)));
-  reaches = omega (arith, a.longer, is.ends);
-  last = last;
-}
-
 -- ---- an append
 
 pub next_made : (old now new : List ℕ) (cs : List Change) (log : logs.Log) (changed : List Span) (bytes : List ℕ) → Follows old now cs log → IsDatabase new → AreSpans (length new) changed →
     length new ≤ log.tail → bytes ≡ change_bytes log.tail log.end (change_of (length new) new changed) → log.tail < 2 ^ 64 → length bytes < 2 ^ 64 →
     IsNext old log.tail cs (change_of (length new) new changed) log.end bytes
-next_made old now new cs log changed bytes h is are below spelled fits few =
-    let c = change_of (length new) new changed in
-    let size : length bytes ≡ change_size c = ap length spelled ∙ length-change log.tail log.end c in
-    record {
-      right = record { fits = fits; body_fits = omega (arith, size, few); enough = is.enough; below = below; pieces = pieces_within new changed are };
-      spelled = spelled;
-      here = h.ends;
-    }
+next_made old now new cs log changed bytes h is are below spelled fits few = grind (arith, common_steps, length-change, pieces_within)
 
 -- the disk has any bytes behind the changes before
 torn_held : (other now old : List ℕ) (tail at : ℕ) (cs all : List Change) (bytes : List ℕ) (u v : World) → at ≡ chain_end tail (first_of old ∷ cs) →
     (all ≡ cs) ⊎ ((c : Change) × (all ≡ cs ++ c ∷ []) × Leads old cs other × Fill (length old) cs) → All (IsOpen old tail cs) u → Fails (IsCut at bytes) (AreAny at (length bytes)) u v →
     IsLogged old tail all v.held → IsLogHeld Torn other now old tail all v
 torn_held other now old tail at cs all bytes u v here last is f held =
-    let to : (x z : List ℕ) → IsOpen old tail cs x → AreAny at (length bytes) x z → IsOnDisk Torn other now old tail all z =
-    λ x z is_open any. inr (inr (tt, torn_appended other old tail cs all at (length bytes) x z is_open here any last)) in
+    let to : (x z : List ℕ) → IsOpen old tail cs x → AreAny at (length bytes) x z → IsOnDisk Torn other now old tail all z = grind arith in
     let disk = fails_disk (IsOpen old tail cs) (IsOnDisk Torn other now old tail all) (IsCut at bytes) (AreAny at (length bytes)) u v (λ x z is_open cut. to x z is_open cut.any) to f is.leave is.keep in
     record { held = held; leave = disk.0; keep = disk.1 }
 

@@ -1,5 +1,5 @@
 -- Lemmas on the beginning of a log.
-use Rattle.rrd_change.proofs.Names.{◌≡◌, ℕ, ◌+◌, ◌-◌, ◌^◌, ◌<◌, ◌≤◌, max, true, List, [], ◌∷◌, ◌++◌, length, take, get_or, refl, sym, ◌∙◌, ap, subst, arith, inl, inr, ◌⊎◌, append_assoc, replicate, nat_le, and_from, le-leb, append-nil, length-append, length-replicate, length-take, get_or_append_left, get_or-append-add, take_all, StandsAt, AreAny, ArePut, AreWholeOrNot, IsTorn, Change, IsRight, change_bytes, change_size, Fill, IsUnderCut, Leads, chain_end, first_of, log_mark, AgreesOutside, AreSpans, IsIn, change_of, Began, Follows, IsDatabase, IsFirst, IsInPlace, IsOpen, IsReady, Represents, cut_of, Base, Log, Span, World, Fails, All}
+use Rattle.rrd_change.proofs.Names.{◌≡◌, ℕ, ◌+◌, ◌-◌, ◌^◌, ◌<◌, ◌≤◌, max, List, [], ◌∷◌, ◌++◌, length, get_or, refl, sym, ◌∙◌, ap, subst, arith, inl, inr, ◌⊎◌, append_assoc, replicate, append-nil, length-append, length-replicate, get_or_append_left, get_or-append-add, StandsAt, AreAny, ArePut, AreWholeOrNot, IsTorn, Change, IsRight, change_bytes, change_size, Fill, IsUnderCut, Leads, chain_end, first_of, log_mark, AgreesOutside, AreSpans, IsIn, change_of, Began, Follows, IsDatabase, IsFirst, IsInPlace, IsOpen, IsReady, Represents, cut_of, Base, Log, Span, World, Fails, All}
 use Rattle.rrd_change.proofs.Holding.{marks_all}
 use Rattle.rrd_change.proofs.Spanned.{have_in, in_have, pieces_within, spans_fill, spans_make}
 use Rattle.rrd_change.proofs.Logs.{log_begins}
@@ -20,21 +20,10 @@ put_stands at xs ys zs old new p =
     }
 
 pub length-first : (old : List ℕ) → 16 ≤ length old → change_size (first_of old) ≡ 80
-length-first old enough =
-    let size : length (take 16 old) ≡ 16 = omega (arith, length-take 16 old, enough) in
-    omega (arith, length-append (take 16 old) [], size)
+length-first old enough = grind arith
 
 first_right : (old : List ℕ) (tail : ℕ) → tail < 2 ^ 64 → 16 ≤ length old → length old ≤ tail → IsRight tail (first_of old)
-first_right old tail fits enough below =
-    let size = length-first old enough in
-    let most = length-take 16 old in
-    record {
-      fits = fits;
-      body_fits = omega (arith, size);
-      enough = enough;
-      below = below;
-      pieces = and_from (nat_le (0 + length (take 16 old)) (length old)) true (le-leb (0 + length (take 16 old)) (length old) (omega (arith, most, enough))) refl;
-    }
+first_right old tail fits enough below = grind arith
 
 -- the first two changes are behind the database
 pub ready_put : (old : List ℕ) (tail : ℕ) (c : Change) (at : ℕ) (bytes x f : List ℕ) → IsFirst old tail c at bytes → tail < 2 ^ 64 → length bytes < 2 ^ 64 →
@@ -50,8 +39,7 @@ ready_put old tail c at bytes x f h fits few e put =
     let gap : length zeros ≡ tail - length old = length-replicate (tail - length old) 0 in
     let own_size = length-change tail tail first in
     let next_size = length-change tail (tail + 80) c in
-    let all : length bytes ≡ tail - length old + (80 + change_size c) =
-    omega (arith, ap length h.spelled, length-append zeros (own ++ next), length-append own next, gap, own_size, next_size, eighty) in
+    let all : length bytes ≡ tail - length old + (80 + change_size c) = grind (arith, length-append) in
     let x_size : length x ≡ length old = ap length e ∙ length-cut old (omega (arith, enough)) in
     let f_size : length f ≡ tail + 80 + change_size c = omega (arith, put.len, all, x_size, h.behind, below) in
     let P : List ℕ → Type 0 = λ xs. ArePut at xs x f in
@@ -108,14 +96,6 @@ open_stands old new tail cs f leads fill is = inr (inr (record { old = old; tail
 pub behind_stands : (old x f : List ℕ) (at count : ℕ) → IsDatabase old → x ≡ cut_of old → at ≡ length old → AreAny at count x f → IsUnderCut old f
 behind_stands old x f at count is e behind a = under_stays old x f at count is (cut_under old x is e) (omega (arith, behind)) a
 
--- how a database began, as a change
-pub base_first : (base : Base) (old : List ℕ) → Began base old → change_of base.length base.first (record { start = 0; end = 16 } ∷ []) ≡ first_of old
-base_first base old b =
-    let enough = b.is.enough in
-    let F : ℕ → List ℕ → Change = λ n xs. record { size = n; pieces = record { start = 0; bytes = xs } ∷ [] } in
-    let own : take 16 base.first ≡ take 16 old = ap (λ xs. take 16 xs) b.first ∙ take_all 16 (take 16 old) (omega (arith, length-take 16 old)) in
-    ap (λ n. F n (take 16 base.first)) b.length ∙ ap (λ xs. F (length old) xs) own
-
 -- ---- a change of spans
 
 pub first_length : (old : List ℕ) (tail : ℕ) (c : Change) (at : ℕ) (bytes : List ℕ) → IsFirst old tail c at bytes → at + length bytes ≡ chain_end tail (first_of old ∷ c ∷ [])
@@ -124,26 +104,13 @@ first_length old tail c at bytes h =
     let own = change_bytes tail tail (first_of old) in
     let next = change_bytes tail (tail + 80) c in
     let gap : length zeros ≡ tail - length old = length-replicate (tail - length old) 0 in
-    let own_size = length-change tail tail (first_of old) in
-    let next_size = length-change tail (tail + 80) c in
-    omega (arith, ap length h.spelled, length-append zeros (own ++ next), length-append own next, gap, own_size, next_size, length-first old h.is.enough, h.behind, h.below)
+    grind (arith, length-change tail tail (first_of old), length-change tail (tail + 80) c, length-append zeros (own ++ next), length-append own next, length-first old h.is.enough)
 
 pub first_made : (base : Base) (old new : List ℕ) (changed : List Span) (tail : ℕ) (bytes : List ℕ) → Began base old → IsDatabase new → AreSpans (length new) changed →
     max base.length (length new) ≤ tail →
     bytes ≡ replicate (tail - base.length) 0 ++ (change_bytes tail tail (change_of base.length base.first (record { start = 0; end = 16 } ∷ [])) ++ change_bytes tail (tail + 80) (change_of (length new) new changed)) →
     IsFirst old tail (change_of (length new) new changed) base.length bytes
-first_made base old new changed tail bytes b is are at_tail e =
-    let next = change_bytes tail (tail + 80) (change_of (length new) new changed) in
-    record {
-      is = b.is;
-      behind = b.length;
-      below = omega (arith, at_tail, b.length);
-      enough = is.enough;
-      within = omega (arith, at_tail);
-      pieces = pieces_within new changed are;
-      spelled = e ∙ ap (λ n. replicate (tail - n) 0 ++ (change_bytes tail tail (change_of base.length base.first (record { start = 0; end = 16 } ∷ [])) ++ next)) b.length
-          ∙ ap (λ x. replicate (tail - length old) 0 ++ (change_bytes tail tail x ++ next)) (base_first base old b);
-    }
+first_made base old new changed tail bytes b is are at_tail e = grind (arith, pieces_within)
 
 pub leads_first : (old new : List ℕ) (changed : List Span) → AreSpans (length new) changed → AgreesOutside changed old new → Leads old (change_of (length new) new changed ∷ []) new
 leads_first old new changed are agrees = (new, spans_make changed old new are agrees, refl)
@@ -164,9 +131,6 @@ follows_first base old new changed log bytes is are agrees h ends count spans =
       below = h.within;
       ends = ends ∙ first_length old log.tail (change_of (length new) new changed) base.length bytes h;
       count = count;
-      each = λ k touched. elim touched [
-        | inl has ↦ subst (P k) (sym spans) (have_in new changed k are has)
-        | inr none ↦ absurd none
-      ];
+      each = grind (arith, have_in);
       only = λ k high is_in. inl (in_have new changed k are (subst (P k) spans is_in));
     }

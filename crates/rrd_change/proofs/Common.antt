@@ -10,20 +10,20 @@ pub use Rattle.rrd_change.proofs.Laid.{laid_mid, all_laid_over, head_at, head_la
 pub use Rattle.rrd_change.proofs.Laying.{touched_said}
 pub use Rattle.rrd_change.proofs.Logs.{append_whole, append_cut, cut_stands, log_begins, log_stands, others_in_place, write_keeps, torn_counts}
 pub use Rattle.rrd_change.proofs.Loose.{front_failed, front_stored, front_under, plain_uncut, under_uncut}
-pub use Rattle.rrd_change.proofs.Making.{IsBegun, IsBehind, begun_sized, behind_made, made_whole, unmade_first, unmade_sized, made_marked, any_first, first_then, made_end, made_more, made_none}
+pub use Rattle.rrd_change.proofs.Making.{IsBegun, IsBehind, begun_sized, made_whole, unmade_first, made_marked, any_first, first_then, made_more}
 pub use Rattle.rrd_change.proofs.Marked.{by_cut, log_or_none}
 pub use Rattle.rrd_change.proofs.Marking.{marked, not_marked, not_unmarked}
 pub use Rattle.rrd_change.proofs.Outcomes.{broken_stand, log_stand, either_stand, rest_stands, stands, all_stand, marked_stand}
 pub use Rattle.rrd_change.proofs.Outgrown.{read_now, seen_reads, seen_stays, stays_log}
-pub use Rattle.rrd_change.proofs.Overlaid.{by_log_mark, settled_cut, settled_log, settled_plain, cut_unmarked, log_in, no_log, overlaid, past_log, past_unlaid, unlaid}
+pub use Rattle.rrd_change.proofs.Overlaid.{by_log_mark, settled_cut, settled_log, settled_plain, log_in, no_log, overlaid, past_log, past_unlaid, unlaid}
 pub use Rattle.rrd_change.proofs.Paging.{never_does, page_failed, page_put}
 pub use Rattle.rrd_change.proofs.Pieces.{change_pushed, length-pieces, three, pushed_more, within_more, spans_more}
-pub use Rattle.rrd_change.proofs.Placing.{any_in_then, any_none, first_any, in_part, put_any_in, put_in_more, put_in_none, put_none}
+pub use Rattle.rrd_change.proofs.Placing.{any_in_then, first_any, in_part, put_any_in, put_in_more, put_in_none, put_none}
 pub use Rattle.rrd_change.proofs.Reading.{length-change}
 pub use Rattle.rrd_change.proofs.Relogging.{old_below}
 pub use Rattle.rrd_change.proofs.Restoring.{found_cut, found_log, missing_rests, alone_found, Cuts, Leaves, Rewrites, cut_is_log, cut_leaves, cuts, mark_leaves, marks_again, rewrite_leaves, rewrites}
 pub use Rattle.rrd_change.proofs.Resumed.{any_in, any_then, cut_then, front_then, put_cut}
-pub use Rattle.rrd_change.proofs.Rewriting.{part_failed, part_restores, seen_failed, seen_restored, stays_failed, none_restored, restored_synced, restores_failed, restores_then}
+pub use Rattle.rrd_change.proofs.Rewriting.{part_failed, part_restores, seen_restored, restores_failed}
 pub use Rattle.rrd_change.proofs.Settling.{IsPlaced, cut_front_of, cut_placed, cut_sized, open_any, placed_put, reach_placed, sized_stands}
 pub use Rattle.rrd_change.proofs.Spanned.{spans_make}
 pub use Rattle.rrd_change.proofs.Spelling.{left_head, next_piece, none_from, piece_before, left_more}

@@ -1,5 +1,5 @@
 -- Lemmas on the heads of changes.
-use Rattle.rrd_change.proofs.Names.{◌≡◌, ℕ, zero, suc, ◌+◌, ◌-◌, ◌^◌, ◌<◌, ◌≤◌, true, List, [], ◌++◌, length, take, drop, refl, sym, ◌∙◌, ap, subst, arith, append_assoc, inl, inr, Some, None, w64, from_be_bytes, flat_map, append-nil, length-append, length-drop, length-take, take-append-drop, take_at, drop_at, from_be_bytes-to_be_bytes_8, begins_with, Change, IsRight, are_within, body_bytes, change_bytes, change_head, head_bytes, piece_bytes, read_change, spelled_pieces, HasPieces, IsHeadOf}
+use Rattle.rrd_change.proofs.Names.{◌≡◌, ℕ, zero, suc, ◌+◌, ◌-◌, ◌^◌, ◌<◌, ◌≤◌, true, List, [], ◌++◌, length, take, drop, refl, sym, ◌∙◌, ap, subst, arith, append_assoc, Some, None, w64, from_be_bytes, append-nil, length-append, length-drop, length-take, take-append-drop, take_at, drop_at, from_be_bytes-to_be_bytes_8, begins_with, Change, IsRight, body_bytes, change_bytes, change_head, head_bytes, read_change, spelled_pieces, HasPieces, IsHeadOf}
 use Rattle.rrd_change.proofs.Fronts.{begins_from, front_of}
 use Rattle.rrd_change.proofs.Reading.{IsReadFrom, change_is, change_read, head_body, head_count, head_size, length-head, on_change, pieces_few, pieces_spelled}
 
@@ -8,10 +8,7 @@ length-spelled zero xs = refl
 length-spelled (suc n) xs = ap (λ k. suc k) (length-spelled n _)
 
 pub read_none : (tail at : ℕ) (bytes : List ℕ) → ((c : Change) → IsReadFrom tail at bytes c → ⊥) → read_change tail at bytes ≡ None
-read_none tail at bytes h = elim (on_change (read_change tail at bytes)) [
-  | inl e ↦ e
-  | inr (c, e) ↦ absurd (h c (change_is tail at bytes c e))
-]
+read_none tail at bytes h = grind (arith, on_change (read_change tail at bytes), change_is tail)
 
 -- what the head of a change that is read says
 pub record IsSeen (tail at : ℕ) (bytes : List ℕ) (c : Change) : Type 0 where
@@ -45,10 +42,7 @@ seen tail at bytes c h =
       size = ap (λ xs. from_be_bytes w64 (take 8 (drop 32 xs))) all ∙ ap (λ xs. from_be_bytes w64 xs) (head_size tail at c rest) ∙ from_be_bytes-to_be_bytes_8 c.size size;
       body = ap (λ xs. take (length body) xs) behind ∙ take_at body (drop (length (change_bytes tail at c)) bytes) (length body) refl;
       begins = begins_from bytes (head_bytes tail at (length c.pieces) c.size body) rest (all ∙ ap (λ xs. xs ++ rest) (head_is tail at c));
-      has = record {
-        spelled = ap (λ ps. flat_map piece_bytes ps) (sym own);
-        within = ap (λ ps. are_within c.size ps) own ∙ right.pieces;
-      };
+      has = grind arith;
     }
 
 -- a head with the right numbers and checksum, and the pieces that it says, are a change

@@ -1,53 +1,33 @@
 -- Lemmas on what calls leave of a property that the file has, and whatever the disk may have.
-use Rattle.rrd_change.proofs.Names.{Change, Fill, IsLogHeld, IsLogLeft, Leads, LogEnd, ℕ, List, inl, inr, sym, subst, Result, Ok, Err, All, Does, Effect, Fails, IsHeld, Moves, Stores, View, World, length, ◌≤◌, ArePut, AreWholeOrNot, IsTorn, arith, ◌≡◌, ◌⊎◌}
-use Rattle.rrd_change.proofs.Stepping.{steps_as}
+use Rattle.rrd_change.proofs.Names.{Change, Fill, IsLogHeld, IsLogLeft, Leads, LogEnd, ℕ, List, sym, subst, Result, All, Does, Effect, Fails, IsHeld, Moves, Stores, View, World, length, ◌≤◌, ArePut, AreWholeOrNot, IsTorn, arith, ◌≡◌, ◌⊎◌}
 
 pub does_as : {X E : Type 0} (a b : X → Effect) (e f : Effect) (r : Result X E) (old new : View) → ((x : X) (u v : World) → a x u v → b x u v) → ((u v : World) → e u v → f u v) →
     Does a e r old new → Does b f r old new
-does_as a b e f (Ok x) old new well badly s = steps_as (a x) (b x) old new (well x) s
-does_as a b e f (Err x) old new well badly s = steps_as e f old new badly s
+does_as a b e f r old new well badly s = grind arith
 
 pub moves_all : (G H : List ℕ → Type 0) (c t : List ℕ → List ℕ → Type 0) (u v : World) → ((x y : List ℕ) → G x → c x y → H y) → ((x y : List ℕ) → G x → t x y → H y) →
     Moves c t u v → All G u → All H v
-moves_all G H c t u v calls torn m a = record {
-  held = calls u.held v.held a.held m.held;
-  leave = λ z left. let h = m.leave z left in torn h.0 z (a.leave h.0 h.1) h.2;
-  keep = λ z kept. let h = m.keep z kept in calls h.0 z (a.keep h.0 h.1) h.2;
-}
+moves_all G H c t u v calls torn m a = grind arith
 
 pub stores_all : (G H : List ℕ → Type 0) (c : List ℕ → List ℕ → Type 0) (u v : World) → ((x y : List ℕ) → G x → c x y → H y) → Stores c u v → All G u → All H v
-stores_all G H c u v calls m a = record {
-  held = calls u.held v.held a.held m.held;
-  leave = λ z left. let h = m.leave z left in calls h.0 z (a.keep h.0 h.1) h.2;
-  keep = λ z kept. let h = m.keep z kept in calls h.0 z (a.keep h.0 h.1) h.2;
-}
+stores_all G H c u v calls m a = grind arith
 
 -- what holds of a file that stays the same, or to which something happens
 pub unless : (Q : List ℕ → Type 0) (C : Type 0) (b f : List ℕ) → Q b → (C → Q f) → (f ≡ b) ⊎ C → Q f
-unless Q C b f was to (inl e) = subst Q (sym e) was
-unless Q C b f was to (inr c) = to c
+unless Q C b f was to h = grind arith
 
 pub fails_disk : (D E : List ℕ → Type 0) (c t : List ℕ → List ℕ → Type 0) (u v : World) → ((x y : List ℕ) → D x → c x y → E y) → ((x y : List ℕ) → D x → t x y → E y) →
     Fails c t u v → ((x : List ℕ) → u.may_leave x → D x) → ((x : List ℕ) → u.may_keep x → D x) → ((y : List ℕ) → v.may_leave y → E y) × ((y : List ℕ) → v.may_keep y → E y)
-fails_disk D E c t u v calls torn m leave keep = (
-  λ z left. let h = m.leave z left in torn h.0 z (leave h.0 h.1) h.2,
-  λ z kept. let h = m.keep z kept in elim h.1 [
-    | inl (was, call) ↦ calls h.0 z (keep h.0 was) call
-    | inr (left, tore) ↦ torn h.0 z (leave h.0 left) tore
-  ],
-)
+fails_disk D E c t u v calls torn m leave keep = grind arith
 
 pub fails_all : (G H : List ℕ → Type 0) (c t : List ℕ → List ℕ → Type 0) (u v : World) → ((x y : List ℕ) → G x → c x y → H y) → ((x y : List ℕ) → G x → t x y → H y) →
     Fails c t u v → All G u → All H v
-fails_all G H c t u v calls torn m a =
-    let disk = fails_disk G H c t u v calls torn m a.leave a.keep in record { held = calls u.held v.held a.held m.held; leave = disk.0; keep = disk.1 }
+fails_all G H c t u v calls torn m a = grind arith
 
 -- a mark was written, or was not
 pub marks_all : (G H : List ℕ → Type 0) (mark : List ℕ) (u v : World) → ((x : List ℕ) → G x → H x) → ((x : List ℕ) → G x → length mark ≤ length x) →
     ((x y : List ℕ) → G x → ArePut 0 mark x y → H y) → Fails (AreWholeOrNot 0 mark) (IsTorn 0 mark) u v → All G u → All H v
-marks_all G H mark u v none long put f a =
-    let or_not : (x y : List ℕ) → G x → AreWholeOrNot 0 mark x y → H y = λ x y g. unless H (ArePut 0 mark x y) x y (none x g) (put x y g) in
-    fails_all G H (AreWholeOrNot 0 mark) (IsTorn 0 mark) u v or_not (λ x y g t. let few = long x g in or_not x y g (t.whole (omega (arith, few)))) f a
+marks_all G H mark u v none long put f a = grind arith
 
 pub all_as : (G H : List ℕ → Type 0) (w : World) → ((x : List ℕ) → G x → H x) → All G w → All H w
 all_as G H w to a = record { held = to w.held a.held; leave = λ c left. to c (a.leave c left); keep = λ c kept. to c (a.keep c kept) }

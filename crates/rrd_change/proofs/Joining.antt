@@ -1,6 +1,6 @@
 -- Lemmas on spans that become one.
-use Rattle.rrd_change.proofs.Names.{◌≡◌, ℕ, ◌≤◌, Bool, true, ◌&&◌, max, List, [], ◌∷◌, ◌++◌, sym, ◌∙◌, arith, inl, inr, ◌↔◌, IsPermutation, nat_le, nat_lt, list_any, and_from, and_parts, cases_lt, le-leb, leb-true, lt-ltb, ltb-true, or_cases, list_any-IsPermutation, or-true, true-or, IsIn, AreAnyIn, ArePutIn, Fails, Stores, World, Span}
-use Rattle.rrd_change.proofs.Placing.{in_join, in_left, in_right, put_any_in}
+use Rattle.rrd_change.proofs.Names.{common_steps, ◌≡◌, ℕ, ◌≤◌, Bool, true, ◌&&◌, max, List, [], ◌∷◌, ◌++◌, sym, ◌∙◌, arith, inl, inr, ◌↔◌, IsPermutation, nat_le, nat_lt, list_any, and_parts, leb-true, ltb-true, or_cases, list_any-IsPermutation, or-true, IsIn, AreAnyIn, ArePutIn, Fails, Stores, World, Span}
+use Rattle.rrd_change.proofs.Placing.{in_join, in_left, in_right}
 
 -- whether byte k is in a span
 has : ℕ → Span → Bool
@@ -9,9 +9,7 @@ has k s = nat_le s.start k && nat_lt k s.end
 has_any : (k : ℕ) (spans : List Span) → IsIn k spans → list_any (has k) spans ≡ true
 unfolding has
 has_any k [] h = absurd h
-has_any k (s ∷ spans) (inl h) =
-    let is : has k s ≡ true = and_from (nat_le s.start k) (nat_lt k s.end) (le-leb s.start k h.0) (lt-ltb k s.end h.1) in
-    rw is (true-or (list_any (has k) spans))
+has_any k (s ∷ spans) (inl h) = grind arith
 has_any k (s ∷ spans) (inr h) = rw (has_any k spans h) (or-true (has k s))
 
 any_has : (k : ℕ) (spans : List Span) → list_any (has k) spans ≡ true → IsIn k spans
@@ -33,10 +31,7 @@ pub in_grown : (k : ℕ) (all : List Span) (last s : Span) (end : ℕ) → last.
     IsIn k (all ++ record { start = last.start; end = end } ∷ []) → IsIn k ((all ++ last ∷ []) ++ s ∷ [])
 in_grown k all last s end low high e h = elim (in_join k all (record { start = last.start; end = end } ∷ []) h) [
   | inl front ↦ in_left k (all ++ last ∷ []) (s ∷ []) (in_left k all (last ∷ []) front)
-  | inr (inl here) ↦ elim (cases_lt k last.end) [
-    | inl before ↦ in_left k (all ++ last ∷ []) (s ∷ []) (in_right k all (last ∷ []) (inl (here.0, before)))
-    | inr behind ↦ in_right k (all ++ last ∷ []) (s ∷ []) (inl (omega (arith, behind, high), omega (arith, here.1, behind, e)))
-  ]
+  | inr (inl here) ↦ grind (arith, common_steps, in_left, in_right)
   | inr (inr none) ↦ absurd none
 ]
 
@@ -67,31 +62,8 @@ in_more k xs ys s to h = elim (in_join k xs (s ∷ []) h) [
 abbrev pub AreSame : List Span → List Span → Type 0
 AreSame xs ys = (k : ℕ) → IsIn k xs ↔ IsIn k ys
 
-any_in_same : (xs ys : List Span) (new x f : List ℕ) → AreSame xs ys → AreAnyIn xs new x f → AreAnyIn ys new x f
-any_in_same xs ys new x f same a = record {
-  longer = a.longer;
-  bound = a.bound;
-  same = λ k. elim (a.same k) [
-    | inl stays ↦ inl stays
-    | inr (high, low, is) ↦ inr (high, low, (same k).0 is)
-  ];
-}
-
-put_in_same : (xs ys : List Span) (new x f : List ℕ) → AreSame xs ys → ArePutIn xs new x f → ArePutIn ys new x f
-put_in_same xs ys new x f same p =
-    let any = any_in_same xs ys new x f same (put_any_in xs new x f p) in
-    record { longer = p.longer; bound = p.bound; put = λ k high low is. p.put k high low ((same k).1 is); same = any.same }
-
 pub stores_in_same : (xs ys : List Span) (new : List ℕ) (u v : World) → AreSame xs ys → Stores (ArePutIn xs new) u v → Stores (ArePutIn ys new) u v
-stores_in_same xs ys new u v same s = record {
-  held = put_in_same xs ys new u.held v.held same s.held;
-  leave = λ z left. let h = s.leave z left in (h.0, h.1, put_in_same xs ys new h.0 z same h.2);
-  keep = λ z kept. let h = s.keep z kept in (h.0, h.1, put_in_same xs ys new h.0 z same h.2);
-}
+stores_in_same xs ys new u v same s = grind arith
 
 pub fails_in_same : (xs ys : List Span) (new : List ℕ) (u v : World) → AreSame xs ys → Fails (AreAnyIn xs new) (AreAnyIn xs new) u v → Fails (AreAnyIn ys new) (AreAnyIn ys new) u v
-fails_in_same xs ys new u v same s = record {
-  held = any_in_same xs ys new u.held v.held same s.held;
-  leave = λ z left. let h = s.leave z left in (h.0, h.1, any_in_same xs ys new h.0 z same h.2);
-  keep = λ z kept. grind (arith, any_in_same);
-}
+fails_in_same xs ys new u v same s = grind arith

@@ -1,5 +1,5 @@
 -- Lemmas on laying the changes of a log over a database, one after another.
-use Rattle.rrd_change.proofs.Names.{◌≡◌, ◌⊎◌, ℕ, suc, ◌+◌, ◌-◌, ◌*◌, ◌≤◌, List, [], ◌∷◌, ◌++◌, length, take, drop, get_or, sym, ◌∙◌, ap, subst, arith, inl, inr, Some, None, put_mid, cases_lt, length-append, length-take, length-drop, get_or-take, get_or-drop, get_or_append_left, get_or-append_right, drop-drop, take_rest, drop-append-add, Change, Piece, all_changed, body_bytes, change_at, change_size, changes_from, changes_in, laid, last_size, read_change, spelled_pieces, HaveByte, TouchByte, chain_end, HasPieces, IsHeadOf, IsLaid, IsLogRead, spans_of, IsIn, Head, Log, Span}
+use Rattle.rrd_change.proofs.Names.{common_steps, ◌≡◌, ◌⊎◌, ℕ, suc, ◌+◌, ◌-◌, ◌*◌, ◌≤◌, List, [], ◌∷◌, ◌++◌, length, take, drop, get_or, sym, ◌∙◌, ap, subst, arith, inl, inr, Some, None, put_mid, cases_lt, length-append, length-take, get_or-take, get_or-drop, get_or_append_left, get_or-append_right, drop-drop, take_rest, drop-append-add, Change, Piece, all_changed, body_bytes, change_at, change_size, changes_from, changes_in, laid, last_size, read_change, spelled_pieces, HaveByte, TouchByte, chain_end, HasPieces, IsHeadOf, IsLaid, IsLogRead, spans_of, IsIn, Head, Log, Span}
 use Rattle.rrd_change.proofs.Chains.{from_some, none_left}
 use Rattle.rrd_change.proofs.Placing.{in_join, in_left, in_right}
 use Rattle.rrd_change.proofs.Reading.{change_is}
@@ -69,12 +69,10 @@ one_laid old bytes new next spans more done changes size c h is within below lai
     let count = h.count in
     let all = length-append old bytes in
     let fuel : length file - changes ≡ suc (length file - (changes + 1)) = omega (arith, all, few, count, within) in
-    let step : (most : ℕ) → changes_from tail file (suc most) (tail + done) ≡ c ∷ changes_from tail file most (tail + done + change_size c) =
-    λ most. from_some tail file most (tail + done) c (left_at old bytes done ∙ is) in
+    let step : (most : ℕ) → changes_from tail file (suc most) (tail + done) ≡ c ∷ changes_from tail file most (tail + done + change_size c) = grind (arith, from_some, left_at) in
     let rest = changes_left old bytes (done + 48 + length (body_bytes c)) (changes + 1) in
     let here : tail + done + change_size c ≡ tail + (done + 48 + length (body_bytes c)) = omega arith in
-    let split : changes_left old bytes done changes ≡ c ∷ rest =
-    ap (λ n. changes_from tail file n (tail + done)) fuel ∙ step (length file - (changes + 1)) ∙ ap (λ n. c ∷ changes_from tail file (length file - (changes + 1)) n) here in
+    let split : changes_left old bytes done changes ≡ c ∷ rest = grind arith in
     record {
       few = omega (arith, within);
       count = omega (arith, count);
@@ -139,16 +137,7 @@ head_at old bytes done h few (c, read, is) =
     let width : 48 + h.length - 48 ≡ done + 48 + h.length - (done + 48) = omega arith in
     let same : take (48 + h.length - 48) (drop 48 (drop done bytes)) ≡ take (done + 48 + h.length - (done + 48)) (drop (done + 48) bytes) =
     ap (λ n. take n (drop 48 (drop done bytes))) width ∙ ap (λ xs. take (done + 48 + h.length - (done + 48)) xs) (drop-drop 48 done bytes) in
-    record {
-      change = c;
-      read = read_here;
-      size = here.size;
-      below = omega (arith, here.size, right.below);
-      count = here.count;
-      within = omega (arith, here.within, length-drop done bytes, few);
-      has = subst (HasPieces h.pieces h.size) same here.has;
-      pieces = ap (λ xs. spelled_pieces h.pieces xs) (sym same) ∙ here.pieces;
-    }
+    grind (arith, common_steps)
 
 pub head_laid : (old bytes new next : List ℕ) (spans more : List Span) (done changes size : ℕ) (h : Head) → IsPartRead old bytes new spans done changes size → IsHeadAt old bytes done h →
     IsLaid (record { size = h.size; pieces = spelled_pieces h.pieces (take (done + 48 + h.length - (done + 48)) (drop (done + 48) bytes)) }) new next →

@@ -5,11 +5,7 @@ use Rattle.rrd_change.proofs.Marking.{cut_under}
 use Rattle.rrd_change.proofs.Settling.{cut_front_of, cut_placed, length-front}
 
 pub under_loose : (other now f : List ℕ) → IsUnderCut now f → IsLoose other now f
-under_loose other now f h = record {
-  reaches = h.reaches;
-  placed = λ k high low. h.same k (omega (arith, high)) low;
-  stands = inr (inr (inl h));
-}
+under_loose other now f h = grind arith
 
 pub plain_loose : (other now f : List ℕ) → IsDatabase now → IsPlain now f → IsLoose other now f
 plain_loose other now f is (inl e) = record { reaches = omega (arith, ap length e); placed = λ k high low. ap (λ xs. get_or xs k 0) e; stands = inr (inl e) }
@@ -50,16 +46,10 @@ front_failed other now u v f h =
 -- ---- what is left
 
 pub under_uncut : (other now : List ℕ) (w : World) → IsDatabase now → All (IsUnderCut now) w → IsUncut other now w
-under_uncut other now w is a = record {
-  is = is;
-  held = inr a.held;
-  leave = λ c left. under_loose other now c (a.leave c left);
-  keep = λ c kept. under_loose other now c (a.keep c kept);
-}
+under_uncut other now w is a = grind arith
 
 plain_held : (now f : List ℕ) → IsDatabase now → IsPlain now f → (f ≡ now) ⊎ IsUnderCut now f
-plain_held now f is (inl e) = inl e
-plain_held now f is (inr e) = inr (cut_under now f is e)
+plain_held now f is h = grind arith
 
 pub plain_uncut : (other now : List ℕ) (w : World) → IsDatabase now → All (IsPlain now) w → IsUncut other now w
 plain_uncut other now w is a = record {
@@ -72,7 +62,6 @@ plain_uncut other now w is a = record {
 -- the mark that programs read stays
 pub front_under : (other now : List ℕ) (u v : World) → Fails (AreWholeOrNot 0 (cut_front_of now)) (IsTorn 0 (cut_front_of now)) u v → IsCutLeft other now u → IsCutLeft other now v
 front_under other now u v f h =
-    let P : List ℕ → Type 0 = λ xs. IsUnderCut now xs in
     record {
       under = grind (arith, front_put, under_loose);
       uncut = front_failed other now u v f h.uncut;

@@ -1,10 +1,7 @@
 -- Lemmas on a file that is written for the first time.
-use Rattle.rrd_change.proofs.Names.{◌≡◌, ℕ, ◌+◌, ◌-◌, ◌<◌, ◌≤◌, max, List, [], length, take, drop, get_or, refl, sym, ◌∙◌, ap, arith, inl, inr, cases_lt, length-take, length-drop, get_or-take, get_or-drop, ext_get_or, AreAny, ArePut, AreWholeOrNot, IsSized, IsSizedOrNot, IsTorn, IsMadeTo, IsUnmade, StaysFirst, IsDatabase, World, Fails, All}
+use Rattle.rrd_change.proofs.Names.{◌≡◌, ℕ, ◌+◌, ◌-◌, ◌<◌, ◌≤◌, List, [], length, take, drop, get_or, sym, ◌∙◌, ap, arith, inl, inr, cases_lt, length-take, length-drop, get_or-take, get_or-drop, ext_get_or, AreAny, ArePut, AreWholeOrNot, IsSized, IsTorn, IsMadeTo, IsUnmade, StaysFirst, IsDatabase, World, Fails, All}
 use Rattle.rrd_change.proofs.Holding.{marks_all}
 use Rattle.rrd_change.proofs.Marking.{put_behind, put_front}
-
-pub made_none : (new old : List ℕ) → IsMadeTo 16 new old old
-made_none new old = record { len = λ enough. omega (arith, enough); made = λ k high low. absurd (omega (arith, high, low)); first = λ k low. refl }
 
 pub first_then : (old mid file : List ℕ) → StaysFirst old mid → StaysFirst mid file → StaysFirst old file
 first_then old mid file a b k low = b k low ∙ a k low
@@ -37,10 +34,6 @@ pub record IsBegun (file : List ℕ) : Type 0 where
 pub begun_sized : (x f : List ℕ) → x ≡ [] → IsSized 16 x f → IsBegun f
 begun_sized x f e s = record { len = s.len; zero_first = s.below 0 (omega arith) ∙ ap (λ xs. get_or xs 0 0) e }
 
-pub unmade_sized : (new x f : List ℕ) → x ≡ [] → IsSizedOrNot 16 x f → IsUnmade new f
-unmade_sized new x f e (inl same) = inl (ap (λ xs. get_or xs 0 0) (same ∙ e))
-unmade_sized new x f e (inr s) = inl (begun_sized x f e s).zero_first
-
 pub unmade_first : (new x f : List ℕ) → IsBegun x → StaysFirst x f → IsUnmade new f
 unmade_first new x f b s = inl (s 0 (omega arith) ∙ b.zero_first)
 
@@ -49,9 +42,6 @@ pub record IsBehind (new file : List ℕ) : Type 0 where
   pub len : length file ≡ length new
   pub made : (k : ℕ) → 16 ≤ k → k < length new → get_or file k 0 ≡ get_or new k 0
   pub zero_first : get_or file 0 0 ≡ 0
-
-pub behind_made : (new x f : List ℕ) → IsDatabase new → IsBegun x → IsMadeTo (length new) new x f → IsBehind new f
-behind_made new x f is b m = record { len = omega (arith, m.len (omega (arith, b.len)), b.len, is.enough); made = m.made; zero_first = m.first 0 (omega arith) ∙ b.zero_first }
 
 pub made_whole : (new x f : List ℕ) → IsDatabase new → IsBehind new x → ArePut 0 (take 16 new) x f → f ≡ new
 made_whole new x f is b put =
@@ -66,11 +56,3 @@ made_whole new x f is b put =
 pub made_marked : (new : List ℕ) (u v : World) → IsDatabase new → Fails (AreWholeOrNot 0 (take 16 new)) (IsTorn 0 (take 16 new)) u v → All (IsBehind new) u → All (IsUnmade new) v
 made_marked new u v is f a = marks_all (IsBehind new) (IsUnmade new) (take 16 new) u v (λ x b. inl b.zero_first) (λ x b. omega (arith, length-take 16 new, b.len, is.enough))
     (λ x y b put. inr (made_whole new x y is b put)) f a
-
--- up to the end, or up to the sixteenth byte of fewer
-pub made_end : (at end : ℕ) (new old file : List ℕ) → 16 ≤ at → end ≤ at → at ≤ max 16 end → IsMadeTo at new old file → IsMadeTo end new old file
-made_end at end new old file high over few m = record {
-  len = λ enough. omega (arith, m.len enough, over, few, enough);
-  made = λ k from to. m.made k from (omega (arith, to, over));
-  first = m.first;
-}

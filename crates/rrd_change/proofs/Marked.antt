@@ -1,5 +1,5 @@
 -- Lemmas on whether a file has a mark.
-use Rattle.rrd_change.proofs.Names.{◌≡◌, ◌↔◌, ℕ, true, false, List, Option, Some, None, IsSome, IsTrue, refl, sym, true≢false, is_some, begins_with, IsOffset, cut_mark, log_mark, mark_of, spelled_tail}
+use Rattle.rrd_change.proofs.Names.{arith, ◌≡◌, ◌↔◌, ℕ, true, false, List, Option, IsSome, IsTrue, refl, sym, true≢false, is_some, begins_with, IsOffset, cut_mark, log_mark, mark_of, spelled_tail}
 
 pub by_cut : (file : List ℕ) → begins_with file cut_mark ≡ true → IsSome (mark_of file)
 unfolding mark_of
@@ -15,5 +15,4 @@ by_none file cut begins some = let no = rw (cut, begins) at some in absurd (true
 
 -- a file without a cut mark, by what was looked for
 pub log_or_none : (file : List ℕ) (found : Option ℕ) → begins_with file cut_mark ≡ false → IsOffset found file → IsTrue (is_some found) ↔ IsSome (mark_of file)
-log_or_none file None cut is = (λ yes. absurd (true≢false (sym yes)), λ some. absurd (by_none file cut is some))
-log_or_none file (Some tail) cut is = (λ yes. by_log file cut is.1, λ some. refl)
+log_or_none file found cut is = grind (arith, true≢false, by_none, by_log)

@@ -1,5 +1,5 @@
 -- Lemmas on the marks of a file.
-use Rattle.rrd_change.proofs.Names.{◌≡◌, ℕ, ◌+◌, ◌-◌, ◌<◌, ◌≤◌, List, length, drop, get_or, refl, sym, ◌∙◌, ap, arith, inl, inr, zero-add, length-append, length-drop, get_or-drop, get_or_append_left, get_or-append_right, ext_get_or, AreAny, ArePut, AreWholeOrNot, IsTorn, IsUnderCut, cut_mark, database_mark, IsAtRest, IsDatabase, IsMarked, IsPlain, Represents, cut_of, All, Fails, FailsToWriteWhole, Stores, World, WritesWhole}
+use Rattle.rrd_change.proofs.Names.{◌≡◌, ℕ, ◌<◌, ◌≤◌, List, length, drop, get_or, refl, sym, ◌∙◌, ap, arith, inl, inr, zero-add, length-append, length-drop, get_or_append_left, ext_get_or, AreAny, ArePut, AreWholeOrNot, IsTorn, IsUnderCut, cut_mark, database_mark, IsAtRest, IsDatabase, IsMarked, IsPlain, Represents, cut_of, All, Fails, FailsToWriteWhole, Stores, World, WritesWhole}
 use Rattle.rrd_change.proofs.Holding.{held_all, moves_all, stores_all, marks_all}
 
 pub length-cut : (bytes : List ℕ) → 4 ≤ length bytes → length (cut_of bytes) ≡ length bytes
@@ -9,9 +9,7 @@ pub cut_front : (bytes : List ℕ) (k : ℕ) → k < 4 → get_or (cut_of bytes)
 cut_front bytes k low = get_or_append_left cut_mark (drop 4 bytes) 0 k low
 
 pub cut_each : (bytes : List ℕ) (k : ℕ) → 4 ≤ k → get_or (cut_of bytes) k 0 ≡ get_or bytes k 0
-cut_each bytes k high =
-    let here : 4 + (k - 4) ≡ k = omega (arith, high) in
-    get_or-append_right cut_mark (drop 4 bytes) 4 k 0 refl high ∙ get_or-drop 4 bytes (k - 4) 0 ∙ ap (λ n. get_or bytes n 0) here
+cut_each bytes k high = grind arith
 
 -- bytes that were put at the start
 pub put_front : (mark old new : List ℕ) (k : ℕ) → ArePut 0 mark old new → k < length mark → get_or new k 0 ≡ get_or mark k 0
@@ -21,12 +19,10 @@ pub put_behind : (mark old new : List ℕ) (k : ℕ) → ArePut 0 mark old new �
 put_behind mark old new k p high = p.outside k (inr (omega (arith, high)))
 
 pub plain_length : (bytes file : List ℕ) → 4 ≤ length bytes → IsPlain bytes file → length file ≡ length bytes
-plain_length bytes file enough (inl e) = ap length e
-plain_length bytes file enough (inr e) = ap length e ∙ length-cut bytes enough
+plain_length bytes file enough h = grind arith
 
 plain_each : (bytes file : List ℕ) (k : ℕ) → 4 ≤ k → IsPlain bytes file → get_or file k 0 ≡ get_or bytes k 0
-plain_each bytes file k high (inl e) = ap (λ xs. get_or xs k 0) e
-plain_each bytes file k high (inr e) = ap (λ xs. get_or xs k 0) e ∙ cut_each bytes k high
+plain_each bytes file k high h = grind arith
 
 pub is_cut_of : (bytes file : List ℕ) → 4 ≤ length bytes → length file ≡ length bytes → ((k : ℕ) → k < 4 → get_or file k 0 ≡ get_or cut_mark k 0) →
     ((k : ℕ) → 4 ≤ k → get_or file k 0 ≡ get_or bytes k 0) → file ≡ cut_of bytes
@@ -64,8 +60,7 @@ not_marked bytes u v f rest =
 -- ---- removing the mark
 
 uncut_or_not : (bytes x y : List ℕ) → IsDatabase bytes → x ≡ cut_of bytes → AreWholeOrNot 0 database_mark x y → IsPlain bytes y
-uncut_or_not bytes x y is e (inl same) = inr (same ∙ e)
-uncut_or_not bytes x y is e (inr p) = inl (uncut_put bytes x y is e p)
+uncut_or_not bytes x y is e h = grind (arith, uncut_put)
 
 uncut_torn : (bytes x y : List ℕ) → IsDatabase bytes → x ≡ cut_of bytes → IsTorn 0 database_mark x y → IsPlain bytes y
 uncut_torn bytes x y is e t =
@@ -88,29 +83,15 @@ not_unmarked bytes u v m was = grind (arith, moves_all, uncut_or_not, uncut_torn
 -- ---- a file with a cut mark
 
 pub cut_under : (bytes file : List ℕ) → IsDatabase bytes → file ≡ cut_of bytes → IsUnderCut bytes file
-cut_under bytes file is e =
-    let enough = is.enough in
-    let size = plain_length bytes file (omega (arith, enough)) (inr e) in
-    record {
-      begins = is.begins;
-      marked = record { within = omega (arith, size, enough); each = λ i k. ap (λ n. get_or file n 0) (zero-add i) ∙ ap (λ xs. get_or xs i 0) e ∙ cut_front bytes i k };
-      reaches = omega (arith, size);
-      same = λ k low high. plain_each bytes file k low (inr e);
-    }
+cut_under bytes file is e = search (arith, plain_length, marked, zero-add, cut_front, plain_each)
 
 -- the bytes of the database stay
 pub under_same : (bytes old new : List ℕ) → IsUnderCut bytes old → length bytes ≤ length new → ((k : ℕ) → k < length bytes → get_or new k 0 ≡ get_or old k 0) → IsUnderCut bytes new
-under_same bytes old new h long stays = record {
-  begins = h.begins;
-  marked = record { within = omega (arith, h.begins.within, long); each = λ i k. stays (0 + i) (omega (arith, k, h.begins.within)) ∙ h.marked.each i k };
-  reaches = long;
-  same = λ k low high. stays k high ∙ h.same k low high;
-}
+under_same bytes old new h long stays = grind arith
 
 -- what follows the database may be anything
 pub under_stays : (bytes old new : List ℕ) (at count : ℕ) → IsDatabase bytes → IsUnderCut bytes old → length bytes ≤ at → AreAny at count old new → IsUnderCut bytes new
 under_stays bytes old new at count is h behind a = under_same bytes old new h (omega (arith, h.reaches, a.longer)) (λ k low. a.outside k (inl (omega (arith, low, behind))))
 
 pub plain_represents : (bytes file : List ℕ) → IsDatabase bytes → IsPlain bytes file → Represents bytes file
-plain_represents bytes file is (inl e) = inl e
-plain_represents bytes file is (inr e) = inr (inl (cut_under bytes file is e))
+plain_represents bytes file is h = grind (arith, cut_under)

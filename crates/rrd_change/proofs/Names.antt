@@ -4,7 +4,7 @@ pub use Rattle.std.proofs.Math.Bool.{or-true, true-or}
 pub use Rattle.std.proofs.Math.Seq.{drop-append-add, take-suc, take-add}
 pub use Rattle.std.proofs.lemmas.Bool.{cases_lt, and_from, le-leb, false_from_ne_true, and_parts, leb-true, lt-ltb, ltb-true, or_cases, cases_Bool, true≢false, eqb-false, eqb-true}
 pub use Rattle.std.proofs.lemmas.Bool.Decides.{Decides-eqb}
-pub use Rattle.std.proofs.lemmas.Grind.{flat_map-append}
+pub use Rattle.std.proofs.lemmas.Grind.{common_steps, flat_map-append}
 pub use Rattle.std.proofs.lemmas.List.{length_push, take_all, length-take, get_or-take, take-append-le, append-nil, length-append, length-replicate, get_or_append_left, get_or-append-add, length-drop, take-append-drop, take_at, drop_at, get_or-drop, get_or-append_right, drop-drop, take_rest, get_or_past, ext_get_or, drop_all, get_or_push}
 pub use Rattle.std.proofs.lemmas.List.Prefix.{front_fits, front_from_reads, at_from_reads, front_reads}
 pub use Rattle.std.proofs.lemmas.List.Sorted.{list_any-IsPermutation}

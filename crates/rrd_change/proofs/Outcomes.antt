@@ -1,15 +1,12 @@
 -- Lemmas on what files represent, by what they stand for.
-use Rattle.rrd_change.proofs.Names.{◌≡◌, ℕ, List, refl, sym, ◌∙◌, subst, inl, inr, StandsAt, AllStand, AllStandAsTold, IsEither, IsWhole, database_mark, settled, IsAtRest, IsBroken, IsLogOf, IsMarked, IsPlain, Represents, RepresentsEither, cut_of, All, World, Log}
+use Rattle.rrd_change.proofs.Names.{arith, ◌≡◌, ℕ, List, refl, inl, inr, AllStand, AllStandAsTold, IsEither, IsWhole, settled, IsAtRest, IsBroken, IsLogOf, IsMarked, IsPlain, Represents, RepresentsEither, cut_of, All, World, Log}
 use Rattle.rrd_change.proofs.Holding.{all_as, held_all}
 use Rattle.rrd_change.proofs.Logs.{cut_stands, log_stands, plain_stands}
 use Rattle.rrd_change.proofs.Marking.{cut_under, plain_represents}
 use Rattle.rrd_change.proofs.Settling.{log_stands_all}
 
 pub stands : (end_of : List ℕ → ℕ) (now file : List ℕ) → IsWhole end_of now → Represents now file → settled end_of file ≡ now
-stands end_of now file whole (inl e) =
-    plain_stands end_of file (subst (λ (xs : List ℕ). StandsAt xs 0 database_mark) (sym e) whole.is.begins) ∙ e
-stands end_of now file whole (inr (inl under)) = cut_stands end_of now file whole.ends under
-stands end_of now file whole (inr (inr log)) = log_stands end_of log.old now log.tail log.changes file log.logged log.leads
+stands end_of now file whole h = grind (arith, plain_stands, cut_stands, log_stands)
 
 either : (end_of : List ℕ → ℕ) (old new file : List ℕ) → IsWhole end_of old → IsWhole end_of new → RepresentsEither old new file → IsEither old new (settled end_of file)
 either end_of old new file was is (inl h) = inl (stands end_of old file was h)

@@ -1,11 +1,9 @@
 -- Lemmas on the bytes of a file over which the changes of its log are laid.
-use Rattle.rrd_change.proofs.Names.{◌≡◌, ℕ, ◌<◌, ◌≤◌, List, [], ◌∷◌, ◌++◌, length, take, drop, get_or, refl, sym, subst, ◌∙◌, ap, arith, set, inr, true, false, append-nil, ext_get_or, get_or-take, get_or_append_left, length-append, length-take, take_all, drop_all, begins_with, Change, all_changed, changes_in, laid_over, last_size, chain_end, IsLogIn, IsLogMark, IsMarkOf, IsLogRead, cut_mark, log_mark, settled, settled_by, spelled_tail, unmarked, Mark, Log}
+use Rattle.rrd_change.proofs.Names.{◌≡◌, ℕ, ◌<◌, ◌≤◌, List, [], ◌∷◌, ◌++◌, length, take, drop, get_or, refl, sym, subst, ◌∙◌, ap, arith, true, false, append-nil, ext_get_or, get_or-take, get_or_append_left, length-append, length-take, take_all, drop_all, begins_with, Change, all_changed, changes_in, laid_over, last_size, chain_end, IsLogIn, IsLogMark, IsMarkOf, IsLogRead, cut_mark, log_mark, settled, settled_by, spelled_tail, unmarked, Mark, Log}
 use Rattle.rrd_change.proofs.Chains.{chain_count, none_left}
-use Rattle.rrd_change.proofs.Fronts.{front_of}
 use Rattle.rrd_change.proofs.Logs.{by_mark, is_cut, is_log, is_plain}
 use Rattle.rrd_change.proofs.Reading.{past_read}
 use Rattle.rrd_change.proofs.Standing.{get_or-by, length-by}
-use Rattle.rrd_change.specs.declared.finding.Mark.TheVariants as marks
 
 -- what a vector has after both parts of it were lent
 pub clipped : (n : ℕ) (new rest file : List ℕ) → n ≡ length file → length (new ++ rest) ≡ length file → take n (new ++ rest ++ drop (length (new ++ rest)) file) ≡ new ++ rest
@@ -26,11 +24,7 @@ over_by (c ∷ cs) old rest new size end len each last fits at some =
 
 pub overlaid : (file old rest new : List ℕ) (tail n size : ℕ) (log : Log) → file ≡ old ++ rest → length old ≡ tail → n ≡ length file → IsLogRead old rest new log size → (log.end ≡ tail → ⊥) →
     take size (take n (new ++ rest ++ drop (length (new ++ rest)) file)) ≡ laid_over (changes_in tail file) file
-overlaid file old rest new tail n size log all tail_is n_is read some =
-    let len : length (new ++ rest) ≡ length file = omega (arith, ap length all, length-append new rest, length-append old rest, read.len) in
-    ap (λ xs. take size xs) (clipped n new rest file n_is len)
-    ∙ over_by (changes_in (length old) (old ++ rest)) old rest new size log.end read.len read.each read.last read.fits read.end (λ e. some (e ∙ tail_is))
-    ∙ ap (λ t. laid_over (changes_in t (old ++ rest)) (old ++ rest)) tail_is ∙ ap (λ xs. laid_over (changes_in tail xs) xs) (sym all)
+overlaid file old rest new tail n size log all tail_is n_is read some = grind (arith, length-append, clipped, over_by)
 
 -- ---- no change
 
@@ -44,8 +38,7 @@ unlaid file old rest new tail n size log all tail_is n_is read at =
     let len : length (new ++ rest) ≡ length file = omega (arith, ap length all, length-append new rest, length-append old rest, read.len) in
     let none : changes_in (length old) (old ++ rest) ≡ [] = no_changes (changes_in (length old) (old ++ rest)) (length old) (sym read.end ∙ at ∙ sym tail_is) in
     let same : new ≡ old = ext_get_or 0 new old read.len (λ k low. read.each k ∙ ap (λ cs. all_changed cs k (get_or old k 0)) none) in
-    let none_here : changes_in tail file ≡ [] = ap (λ xs. changes_in tail xs) all ∙ ap (λ t. changes_in t (old ++ rest)) (sym tail_is) ∙ none in
-    clipped n new rest file n_is len ∙ ap (λ xs. xs ++ rest) same ∙ sym all ∙ ap (λ cs. laid_over cs file) (sym none_here)
+    grind (arith, clipped)
 
 pub past_log : (tail : ℕ) (file : List ℕ) → length file < tail → changes_in tail file ≡ []
 past_log tail file past = none_left tail file (length file) tail (past_read tail tail file (omega (arith, past)))
@@ -54,9 +47,6 @@ pub past_unlaid : (tail : ℕ) (file : List ℕ) → length file < tail → file
 past_unlaid tail file past = ap (λ cs. laid_over cs file) (sym (past_log tail file past))
 
 -- ---- by the mark
-
-pub cut_unmarked : (file : List ℕ) → begins_with file cut_mark ≡ true → set file 3 73 ≡ unmarked file
-cut_unmarked file h = ap (λ xs. set xs 3 73) (front_of file cut_mark h)
 
 pub settled_cut : (end_of : List ℕ → ℕ) (file : List ℕ) → begins_with file cut_mark ≡ true → settled end_of file ≡ take (end_of (unmarked file)) (unmarked file)
 settled_cut end_of file h = by_mark end_of file ∙ ap (λ m. settled_by end_of m file) (is_cut file h)
@@ -78,6 +68,4 @@ log_in file old rest new tail size log all tail_is read =
     subst (IsLogIn log tail) (sym all) (subst (λ (t : ℕ). IsLogIn log t (old ++ rest)) tail_is (record { tail_is = read.tail; ends = read.end; count = read.count; touched = read.touched; only = read.only }))
 
 pub by_log_mark : (m : Mark) (tail : ℕ) (file : List ℕ) → begins_with file cut_mark ≡ false → (tail ≡ spelled_tail file) × (begins_with file (log_mark (spelled_tail file)) ≡ true) → IsLogMark m tail file → IsMarkOf m file
-by_log_mark marks.Missing tail file cut (is, log) h = (cut, inr (ap (λ t. changes_in t file) (sym is) ∙ h))
-by_log_mark marks.Cut tail file cut (is, log) h = absurd h
-by_log_mark (marks.Log found) tail file cut (is, log) h = let P : ℕ → Type 0 = λ t. IsLogIn found t file in (cut, log, subst P is h)
+by_log_mark m tail file cut (is, log) h = grind arith

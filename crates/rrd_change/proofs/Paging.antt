@@ -1,5 +1,5 @@
 -- Lemmas on a file of one page, which one write replaces.
-use Rattle.rrd_change.proofs.Names.{◌≡◌, ℕ, ◌≤◌, List, length, ◌∙◌, arith, inl, inr, Result, Ok, Err, ext_get_or, ArePut, AreWholeOrNot, IsStopped, Whole, Began, IsAtRest, IsDatabase, Does, Moves, Steps, View, World, seen, Never, Base}
+use Rattle.rrd_change.proofs.Names.{◌≡◌, ℕ, ◌≤◌, List, length, ◌∙◌, arith, inl, inr, Result, ext_get_or, ArePut, AreWholeOrNot, IsStopped, Whole, Began, IsAtRest, IsDatabase, Does, Moves, View, World, seen, Never, Base}
 use Rattle.rrd_change.proofs.Marking.{put_front}
 
 -- a call on a file that is never synced: nothing is said of the disk
@@ -8,16 +8,9 @@ pub record Puts (call : List ℕ → List ℕ → Type 0) (old new : World) : Ty
   pub leave : (c : List ℕ) → new.may_leave c → ⊥
   pub keep : (c : List ℕ) → new.may_keep c → ⊥
 
-never_moves : (c t : List ℕ → List ℕ → Type 0) (old new : View) → Steps (Moves c t) old new → Steps (Puts c) (seen Never old) (seen Never new)
-never_moves c t old new s = record {
-  falls = s.falls;
-  does = λ d x honest. record { held = (s.does d x honest).held; leave = λ z left. left; keep = λ z kept. kept };
-}
-
 pub never_does : {A E : Type 0} (c e t : List ℕ → List ℕ → Type 0) (r : Result A E) (old new : View) → Does (λ x. Moves c t) (Moves e t) r old new →
     Does (λ x. Puts c) (Puts e) r (seen Never old) (seen Never new)
-never_does c e t (Ok x) old new s = never_moves c t old new s
-never_does c e t (Err x) old new s = never_moves e t old new s
+never_does c e t r old new s = grind arith
 
 put_whole : (new x f : List ℕ) → length x ≤ length new → ArePut 0 new x f → f ≡ new
 put_whole new x f few p = ext_get_or 0 f new (omega (arith, p.len, few)) (λ k low. put_front new x f k p (omega (arith, low, p.len, few)))

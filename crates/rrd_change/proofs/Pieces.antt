@@ -1,5 +1,5 @@
 -- Lemmas on bytes that are appended piece by piece, and on the pieces of a change.
-use Rattle.rrd_change.proofs.Names.{◌≡◌, ℕ, suc, ◌+◌, ◌<◌, ◌≤◌, List, [], ◌∷◌, ◌++◌, length, take, get_or, refl, sym, ◌∙◌, ap, subst, arith, append_assoc, flat_map, take-suc, flat_map-append, append-nil, Change, body_bytes, change_bytes, change_head, head_bytes, piece_bytes, AreSpans, piece_of, pieces_of, Span}
+use Rattle.rrd_change.proofs.Names.{◌≡◌, ℕ, suc, ◌+◌, ◌<◌, ◌≤◌, List, [], ◌∷◌, ◌++◌, length, take, get_or, refl, ◌∙◌, ap, arith, append_assoc, flat_map, take-suc, flat_map-append, append-nil, Change, body_bytes, change_bytes, change_head, head_bytes, piece_bytes, AreSpans, piece_of, pieces_of, Span}
 
 pub three : (a b c d x y z : List ℕ) → x ≡ a ++ b → y ≡ x ++ c → z ≡ y ++ d → z ≡ a ++ (b ++ (c ++ d))
 three a b c d x y z e f g = grind (arith, append_assoc)
@@ -23,15 +23,12 @@ pushed_more bytes first buffer new spans n none low was more =
     let s = get_or spans n none in
     let before = flat_map piece_bytes (pieces_of bytes (take n spans)) in
     let last : flat_map piece_bytes (piece_of bytes s ∷ []) ≡ piece_bytes (piece_of bytes s) = append-nil (piece_bytes (piece_of bytes s)) in
-    let all : flat_map piece_bytes (pieces_of bytes (take (n + 1) spans)) ≡ before ++ piece_bytes (piece_of bytes s) =
-    ap (λ xs. flat_map piece_bytes (pieces_of bytes xs)) (spans_more spans n none low) ∙ ap (λ ps. flat_map piece_bytes ps) (pieces_join bytes (take n spans) s)
-    ∙ flat_map-append piece_bytes (pieces_of bytes (take n spans)) (piece_of bytes s ∷ []) ∙ ap (λ ys. before ++ ys) last in
-    more ∙ ap (λ ys. ys ++ piece_bytes (piece_of bytes s)) was ∙ append_assoc first before (piece_bytes (piece_of bytes s)) ∙ ap (λ ys. first ++ ys) (sym all)
+    let all : flat_map piece_bytes (pieces_of bytes (take (n + 1) spans)) ≡ before ++ piece_bytes (piece_of bytes s) = grind (arith, spans_more spans n none low, pieces_join bytes (take n spans) s, flat_map-append piece_bytes (pieces_of bytes (take n spans)) (piece_of bytes s ∷ [])) in
+    grind (arith, append_assoc)
 
 pub within_more : (count : ℕ) (spans : List Span) (n : ℕ) (none : Span) → n < length spans → AreSpans count (take n spans) →
     (get_or spans n none).start ≤ (get_or spans n none).end → (get_or spans n none).end ≤ count → AreSpans count (take (n + 1) spans)
-within_more count spans n none low h ordered few =
-    subst (AreSpans count) (sym (spans_more spans n none low)) (within_join count (take n spans) (get_or spans n none) h ordered few)
+within_more count spans n none low h ordered few = grind (arith, spans_more spans n none low, within_join count (take n spans) (get_or spans n none) h ordered few)
 
 pub length-pieces : (bytes : List ℕ) (spans : List Span) → length (pieces_of bytes spans) ≡ length spans
 length-pieces bytes [] = refl

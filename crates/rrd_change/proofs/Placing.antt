@@ -4,10 +4,7 @@ use Rattle.rrd_change.proofs.Names.{◌≡◌, ℕ, zero, suc, ◌+◌, ◌-◌,
 pub in_join : (k : ℕ) (xs ys : List Span) → IsIn k (xs ++ ys) → IsIn k xs ⊎ IsIn k ys
 in_join k [] ys h = inr h
 in_join k (x ∷ xs) ys (inl h) = inl (inl h)
-in_join k (x ∷ xs) ys (inr h) = elim (in_join k xs ys h) [
-  | inl front ↦ inl (inr front)
-  | inr back ↦ inr back
-]
+in_join k (x ∷ xs) ys (inr h) = grind (arith, in_join k xs ys h)
 
 pub in_left : (k : ℕ) (xs ys : List Span) → IsIn k xs → IsIn k (xs ++ ys)
 in_left k [] ys h = absurd h
@@ -23,9 +20,6 @@ pub in_at : (k : ℕ) (spans : List Span) (n : ℕ) (none : Span) → n < length
 in_at k [] n none low from to = absurd (omega (arith, low))
 in_at k (s ∷ spans) zero none low from to = inl (from, to)
 in_at k (s ∷ spans) (suc n) none low from to = inr (in_at k spans n none (omega (arith, low)) from to)
-
-pub any_none : (spans : List Span) (new old : List ℕ) → AreAnyIn spans new old old
-any_none spans new old = record { longer = omega arith; bound = omega arith; same = λ k. inl refl }
 
 pub any_in_then : (spans : List Span) (new old mid file : List ℕ) → AreAnyIn spans new old mid → AreAnyIn spans new mid file → AreAnyIn spans new old file
 any_in_then spans new old mid file a b = grind arith
@@ -51,29 +45,12 @@ put_in_more xs s new old mid file start end at_start at_end some was put =
     record {
       longer = omega (arith, was.longer, put.len);
       bound = omega (arith, was.bound, put.len, reach, at_end);
-      put = λ k high low is. elim (cases_lt k start) [
-        | inl before ↦ elim (in_join k xs (s ∷ []) is) [
-          | inl front ↦ put.outside k (inl before) ∙ was.put k high low front
-          | inr (inl last) ↦ absurd (omega (arith, last.0, at_start, before, high))
-          | inr (inr none) ↦ absurd none
-        ]
-        | inr from ↦ elim (cases_lt k end) [
-          | inl to ↦ value k from to
-          | inr behind ↦ elim (in_join k xs (s ∷ []) is) [
-            | inl front ↦ put.outside k (inr (omega (arith, reach, behind))) ∙ was.put k high low front
-            | inr (inl last) ↦ absurd (omega (arith, last.1, at_end, behind, low))
-            | inr (inr none) ↦ absurd none
-          ]
-        ]
-      ];
+      put = λ k high low is. grind (arith, in_join k xs (s ∷ []) is);
       same = λ k. elim (cases_lt k start) [
         | inl before ↦ grind (arith, in_left)
         | inr from ↦ elim (cases_lt k end) [
           | inl to ↦ inr (omega (arith, from, at_start), omega (arith, to, at_end), in_right k xs (s ∷ []) (inl (omega (arith, from, at_start), omega (arith, to, at_end))))
-          | inr behind ↦ elim (was.same k) [
-            | inl stays ↦ inl (put.outside k (inr (omega (arith, reach, behind))) ∙ stays)
-            | inr there ↦ inr (there.0, there.1, in_left k xs (s ∷ []) there.2)
-          ]
+          | inr behind ↦ grind (arith, in_left)
         ]
       ];
     }
@@ -83,11 +60,7 @@ pub put_in_none : (xs : List Span) (s : Span) (new old file : List ℕ) → min 
 put_in_none xs s new old file none was = record {
   longer = was.longer;
   bound = was.bound;
-  put = λ k high low is. elim (in_join k xs (s ∷ []) is) [
-    | inl front ↦ was.put k high low front
-    | inr (inl last) ↦ absurd (omega (arith, last.0, last.1, none, high, low))
-    | inr (inr nothing) ↦ absurd nothing
-  ];
+  put = λ k high low is. grind (arith, in_join k xs (s ∷ []) is);
   same = λ k. grind (arith, in_left);
 }
 
@@ -99,8 +72,7 @@ pub in_part : (spans : List Span) (n : ℕ) (none : Span) (new : List ℕ) (star
     end ≡ min (get_or spans n none).end (length new) → start < end → (old file : List ℕ) → AreAny start (length (take (end - start) (drop start new))) old file → AreAnyIn spans new old file
 in_part spans n none new start end low at_start at_end some old file a =
     let size : length (take (end - start) (drop start new)) ≡ end - start = omega (arith, length-take (end - start) (drop start new), length-drop start new, at_end) in
-    span_any spans new old file start (length (take (end - start) (drop start new))) (omega (arith, at_start)) (omega (arith, size, at_end, some))
-    (λ k from to. in_at k spans n none low (omega (arith, from, at_start)) (omega (arith, to, size, at_end, some))) a
+    grind (arith, span_any, in_at)
 
 in_take : (k : ℕ) (spans : List Span) (n : ℕ) → IsIn k (take n spans) → IsIn k spans
 in_take k spans n h = let P : List Span → Type 0 = λ xs. IsIn k xs in subst P (take-append-drop n spans) (in_left k (take n spans) (drop n spans) h)

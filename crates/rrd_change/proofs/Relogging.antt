@@ -1,11 +1,11 @@
 -- Lemmas on a log whose bytes and mark are written again.
-use Rattle.rrd_change.proofs.Names.{◌≡◌, ◌⊎◌, ℕ, ◌+◌, ◌-◌, ◌<◌, ◌≤◌, List, [], ◌∷◌, ◌++◌, length, get_or, refl, sym, ◌∙◌, ap, subst, arith, inl, inr, cases_lt, append-nil, ext_get_or, SameIn, StandsAt, AreMixed, ArePut, AreRestored, AreWholeOrNot, IsSized, IsSizedOrNot, IsTorn, Change, change_bytes, change_size, AreSaid, IsChain, IsLogged, IsUnderCut, chain_end, first_of, IsLogHeld, IsOnDisk, IsTornLog, IsUnlogged, LogEnd, log_mark, IsOpen, All, Fails, FailsToRestore, Stores, StoresAgain, World}
+use Rattle.rrd_change.proofs.Names.{◌≡◌, ◌⊎◌, ℕ, ◌+◌, ◌-◌, ◌<◌, ◌≤◌, List, [], ◌∷◌, ◌++◌, length, get_or, refl, sym, ◌∙◌, ap, subst, arith, inl, inr, cases_lt, append-nil, ext_get_or, SameIn, StandsAt, AreMixed, ArePut, AreRestored, AreWholeOrNot, IsSized, IsSizedOrNot, IsTorn, Change, change_size, AreSaid, IsChain, IsLogged, chain_end, first_of, IsLogHeld, IsOnDisk, IsTornLog, IsUnlogged, LogEnd, log_mark, IsOpen, All, Fails, FailsToRestore, Stores, StoresAgain, World}
 use Rattle.rrd_change.proofs.Holding.{fails_disk, unless}
 use Rattle.rrd_change.proofs.Appending.{end_more}
 use Rattle.rrd_change.proofs.Chains.{chain_count, chain_stays}
 use Rattle.rrd_change.proofs.Laying.{said_before}
 use Rattle.rrd_change.proofs.Logs.{logged_sized}
-use Rattle.rrd_change.proofs.Marking.{put_behind, under_same}
+use Rattle.rrd_change.proofs.Marking.{put_behind}
 use Rattle.rrd_change.proofs.Reading.{change_stands, length-change, past_read}
 use Rattle.rrd_change.proofs.Rewriting.{restored_mixed}
 
@@ -21,9 +21,7 @@ chain_same tail x y at (c ∷ cs) ds h j k high low =
     let size = length-change tail at c in
     elim (cases_lt k (at + change_size c)) [
       | inl here ↦
-          let is : at + (k - at) ≡ k = omega (arith, high) in
-          let within : k - at < length (change_bytes tail at c) = omega (arith, size, here, high) in
-          ap (λ n. get_or y n 0) (sym is) ∙ t.0.each (k - at) within ∙ sym (s.0.each (k - at) within) ∙ ap (λ n. get_or x n 0) is
+          let is : at + (k - at) ≡ k = omega (arith, high) in grind arith
       | inr later ↦ chain_same tail x y (at + change_size c) cs ds h.1 j.1 k later low
     ]
 
@@ -56,22 +54,9 @@ relogged old tail cs h f is len same marked kept =
 
 -- ---- what the disk may have
 
-under_front : (base b f : List ℕ) (n : ℕ) → IsUnderCut base b → length base ≤ n → n ≤ length f → SameIn 0 n b f → IsUnderCut base f
-under_front base b f n h low long same = under_same base b f h (omega (arith, low, long)) (λ k few. same k (omega arith) (omega (arith, few, low)))
-
 unlogged_front : (other now old : List ℕ) (tail : ℕ) (cs : List Change) (b f : List ℕ) → IsUnlogged other now old tail cs b → length old ≤ tail → tail ≤ length f → SameIn 0 tail b f →
     IsUnlogged other now old tail cs f
-unlogged_front other now old tail cs b f u below long same = record {
-  base = u.base;
-  either = u.either;
-  below = u.below;
-  under = under_front u.base b f tail u.under u.below long same;
-  reaches = omega (arith, below, long);
-  kept = λ k high low. elim (u.kept k high low) [
-    | inl is ↦ inl (same k (omega arith) (omega (arith, low, below)) ∙ is)
-    | inr said ↦ inr said
-  ];
-}
+unlogged_front other now old tail cs b f u below long same = grind arith
 
 -- the log has the sure changes, and perhaps one more
 sure_all : (other old : List ℕ) (tail : ℕ) (cs : List Change) (f : List ℕ) (t : IsTornLog other old tail cs f) →
@@ -87,7 +72,6 @@ torn_kept : (other old : List ℕ) (tail : ℕ) (cs : List Change) (f : List ℕ
 torn_kept other old tail cs f t k high low =
     let below = old_below old tail t.sure t.whole t.logged in
     let count = chain_count tail (first_of old ∷ t.sure) in
-    let P : List Change → Type 0 = λ xs. AreSaid xs k in
     elim (t.logged.kept k high low) [
       | inl is ↦ inl (t.same k (omega arith) (omega (arith, low, below, count)) ∙ is)
       | inr said ↦ grind (arith, said_before)
@@ -95,10 +79,7 @@ torn_kept other old tail cs f t k high low =
 
 -- some bytes of the log are those that programs read
 mixed_front : (h : List ℕ) (tail n : ℕ) (b f : List ℕ) → AreMixed h tail n b f → n ≤ length b → SameIn 0 tail b f
-mixed_front h tail n b f m long k high low = elim (m.each long k) [
-  | inl is ↦ is
-  | inr (from, to, is) ↦ absurd (omega (arith, from, low))
-]
+mixed_front h tail n b f m long k high low = grind arith
 
 -- the file that programs read, and the one on the disk, end where the log ends
 pub record IsLogCut (end : LogEnd) (other now old : List ℕ) (tail : ℕ) (cs : List Change) (w : World) : Type 0 where

@@ -1,5 +1,5 @@
 -- Lemmas on repairs by what was found of a file.
-use Rattle.rrd_change.proofs.Names.{◌≡◌, ℕ, ◌+◌, ◌≤◌, max, Bool, true, false, List, [], ◌∷◌, length, drop, refl, sym, ◌∙◌, ap, subst, arith, inl, inr, lit<, length-take, StandsAt, begins_with, ArePut, AreWholeOrNot, IsSized, IsSizedOrNot, IsTorn, Change, change_size, changes_in, last_size, IsChain, IsLogged, IsUnderCut, TouchByte, chain_end, first_of, IsLogIn, IsMarkOf, IsCutLeft, IsFound, IsLeft, IsLogFound, IsLogHeld, IsLogLeft, IsMarkedFor, LogEnd, Whole, cut_mark, database_mark, log_mark, spelled_tail, Follows, IsAtRest, IsDatabase, IsLogFor, IsLogOf, IsOpen, Represents, All, Effect, Fails, FailsToRestore, Stores, StoresAgain, World, Mark, Log, IsAlone}
+use Rattle.rrd_change.proofs.Names.{◌≡◌, ℕ, ◌+◌, ◌≤◌, max, Bool, true, false, List, [], ◌∷◌, length, drop, refl, sym, ◌∙◌, ap, subst, arith, inl, inr, lit<, length-take, StandsAt, begins_with, ArePut, AreWholeOrNot, IsSized, IsSizedOrNot, IsTorn, Change, change_size, changes_in, last_size, IsChain, IsUnderCut, TouchByte, chain_end, first_of, IsLogIn, IsMarkOf, IsCutLeft, IsFound, IsLeft, IsLogFound, IsLogHeld, IsLogLeft, IsMarkedFor, LogEnd, Whole, cut_mark, database_mark, log_mark, spelled_tail, Follows, IsAtRest, IsDatabase, IsLogFor, IsLogOf, IsOpen, Represents, All, Effect, Fails, FailsToRestore, Stores, StoresAgain, World, Mark, Log, IsAlone}
 use Rattle.rrd_change.proofs.Appending.{logged_all}
 use Rattle.rrd_change.proofs.Chains.{chain_count}
 use Rattle.rrd_change.proofs.Fronts.{front_of}
@@ -9,7 +9,7 @@ use Rattle.rrd_change.proofs.Logs.{tail_in}
 use Rattle.rrd_change.proofs.Reading.{change_stands}
 use Rattle.rrd_change.proofs.Relogging.{IsLogAgain, IsLogCut, again_failed, again_stored, cut_failed, cut_stored, mark_failed, mark_stored}
 use Rattle.rrd_change.proofs.Standing.{begins_other, standing_begins}
-use Rattle.rrd_change.proofs.Stopping.{left_held, under_left}
+use Rattle.rrd_change.proofs.Stopping.{left_held}
 use Rattle.rrd_change.specs.declared.finding.Mark.TheVariants as marks
 
 -- ---- which mark a file has
@@ -145,8 +145,7 @@ cut_leaves log u v f end other now h =
 
 log_reach : (end : LogEnd) (other now : List ℕ) (log : Log) (w : World) (h : IsLogFound end other now log w) →
     max log.tail log.end ≡ chain_end h.left.tail (first_of h.left.old ∷ h.left.changes)
-log_reach end other now log w h =
-    omega (arith, log_ends end other now log w h, h.found.tail_is, chain_count h.left.tail (first_of h.left.old ∷ h.left.changes))
+log_reach end other now log w h = grind (arith, log_ends end other now log w h, chain_count h.left.tail (first_of h.left.old ∷ h.left.changes))
 
 pub rewrites : (log : Log) (u v w : World) → Cuts log u v → StoresAgain log.tail (max log.tail log.end) v w → Rewrites log u w
 rewrites log u v w cut s end other now h =
@@ -188,15 +187,9 @@ cut_is_log log u v leaves keeps cut end other now h =
 -- ---- after a failure of the power
 
 pub alone_left : (now : List ℕ) (w : World) → IsDatabase now → Represents now w.held → IsAlone w → IsLeft Whole now now w
-alone_left now w is (inl e) alone =
-    inl (record { is = is; world = record { held = e; leave = λ c left. inl (alone.leave c left ∙ e); keep = λ c kept. inl (alone.keep c kept ∙ e) } })
-alone_left now w is (inr (inl under)) alone =
-    let P : List ℕ → Type 0 = λ xs. IsUnderCut now xs in
-    inr (inl (under_left now now w is (record { held = under; leave = λ c left. subst P (sym (alone.leave c left)) under; keep = λ c kept. subst P (sym (alone.keep c kept)) under })))
-alone_left now w is (inr (inr log)) alone =
-    let P : List ℕ → Type 0 = λ xs. IsLogged log.old log.tail log.changes xs in
-    inr (inr (held_left Whole now now log.old log.tail log.changes w log.leads log.fill
-    (record { held = log.logged; leave = λ c left. inl (subst P (sym (alone.leave c left)) log.logged); keep = λ c kept. inl (subst P (sym (alone.keep c kept)) log.logged) })))
+alone_left now w is (inl e) alone = grind arith
+alone_left now w is (inr (inl under)) alone = grind arith
+alone_left now w is (inr (inr log)) alone = grind arith
 
 pub alone_found : (now : List ℕ) (mark : Mark) (w : World) → IsMarkedFor now mark w → IsFound Whole now now mark w
 alone_found now mark w h = record { is = h.is; mark_is = h.mark_is; left = alone_left now w h.is h.represents h.alone }

@@ -29,17 +29,8 @@ put_then at xs ys old mid new p q =
 pub front_any : (at n : ℕ) (bytes old new : List ℕ) → n ≤ length bytes → IsFrontPut at n bytes old new → AreAny at (length bytes) old new
 front_any at n bytes old new few p = elim (cases_lt 0 n) [
   | inl some ↦
-      let size : length (take n bytes) ≡ n = omega (arith, length-take n bytes, few) in
-      let put = p.some some in
-      record {
-        longer = omega (arith, put.len);
-        bound = omega (arith, put.len, size, few);
-        outside = λ k far. grind arith;
-      }
-  | inr low ↦
-      let e = p.none (omega (arith, low)) in
-      let same = ap length e in
-      record { longer = omega (arith, same); bound = omega (arith, same); outside = λ k far. ap (λ xs. get_or xs k 0) e }
+      let size : length (take n bytes) ≡ n = omega (arith, length-take n bytes, few) in grind arith
+  | inr low ↦ grind arith
 ]
 
 -- a part, and then a part of the rest
@@ -54,16 +45,9 @@ front_then at d n bytes old mid new few p q = record {
         elim (cases_lt 0 n) [
           | inl second ↦
               subst (λ (xs : List ℕ). ArePut at xs old new) (sym (take-add d n bytes)) (put_then at (take d bytes) (take n (drop d bytes)) old mid new put (subst (λ (m : ℕ). ArePut (at + m) (take n (drop d bytes)) mid new) (sym size) (q.some second)))
-          | inr none ↦
-              let e : d ≡ d + n = omega (arith, none) in
-              subst (λ (m : ℕ). ArePut at (take m bytes) old new) e (subst (ArePut at (take d bytes) old) (sym (q.none (omega (arith, none)))) put)
+          | inr none ↦ grind arith
         ]
-    | inr none ↦
-        let is_zero : d ≡ 0 = omega (arith, none) in
-        let at_start : IsFrontPut (at + 0) n bytes mid new = subst (λ (m : ℕ). IsFrontPut (at + m) n (drop m bytes) mid new) is_zero q in
-        let e : at + 0 ≡ at = omega arith in
-        let f : n ≡ d + n = omega (arith, is_zero) in
-        subst (λ (m : ℕ). ArePut at (take m bytes) old new) f (subst (λ (xs : List ℕ). ArePut at (take n bytes) xs new) (p.none is_zero) (subst (λ (m : ℕ). ArePut m (take n bytes) mid new) e (at_start.some (omega (arith, more, is_zero)))))
+    | inr none ↦ grind arith
   ];
 }
 
@@ -83,9 +67,4 @@ pub cut_front : (at d : ℕ) (bytes old new : List ℕ) → d ≤ length bytes �
 cut_front at d bytes old new few p = record { any = front_any at d bytes old new few p; front = λ behind. (d, few, p) }
 
 pub put_cut : (at : ℕ) (bytes old new : List ℕ) → 0 < length bytes → ArePut at bytes old new → IsCut at bytes old new
-put_cut at bytes old new more put =
-    let all = take_all (length bytes) bytes (omega arith) in
-    record {
-      any = put_any at bytes old new put;
-      front = λ behind. (length bytes, omega arith, record { none = λ e. absurd (omega (arith, e, more)); some = λ h. subst (λ (xs : List ℕ). ArePut at xs old new) (sym all) put });
-    }
+put_cut at bytes old new more put = grind (arith, take_all)

@@ -1,10 +1,10 @@
 -- Lemmas on bringing the changes of a log into place.
-use Rattle.rrd_change.proofs.Names.{◌≡◌, ℕ, ◌+◌, ◌-◌, ◌<◌, ◌≤◌, List, ◌++◌, length, drop, get_or, refl, sym, ◌∙◌, ap, subst, arith, inl, inr, ◌⊎◌, zero-add, slice_range, cases_lt, length-append, length-take, length-drop, get_or-take, get_or-drop, get_or_append_left, get_or-append_right, get_or_past, ArePut, IsSized, IsSizedOrNot, Change, IsUnderCut, cut_mark, AreAnyIn, ArePutIn, Follows, IsDatabase, IsInPlace, IsLogOf, IsOpen, Represents, cut_of, All, World, Log}
+use Rattle.rrd_change.proofs.Names.{◌≡◌, ℕ, ◌+◌, ◌-◌, ◌<◌, ◌≤◌, List, ◌++◌, length, drop, get_or, refl, sym, ◌∙◌, ap, arith, inl, inr, ◌⊎◌, zero-add, slice_range, cases_lt, length-append, length-take, length-drop, get_or-take, get_or-drop, get_or-append_right, get_or_past, ArePut, IsSized, IsSizedOrNot, Change, IsUnderCut, cut_mark, AreAnyIn, ArePutIn, Follows, IsDatabase, IsInPlace, IsLogOf, IsOpen, Represents, cut_of, All, World, Log}
 use Rattle.rrd_change.proofs.Beginning.{open_stands}
 use Rattle.rrd_change.proofs.Holding.{all_as}
 use Rattle.rrd_change.proofs.Laying.{touched_said}
 use Rattle.rrd_change.proofs.Logs.{others_in_place, write_keeps}
-use Rattle.rrd_change.proofs.Marking.{is_cut_of, put_behind, put_front, under_same}
+use Rattle.rrd_change.proofs.Marking.{is_cut_of, put_behind, put_front}
 
 -- whatever became of the bytes of the spans, the log stays
 pub open_any : (old now : List ℕ) (cs : List Change) (log : Log) (x f : List ℕ) → Follows old now cs log → IsOpen old log.tail cs x → AreAnyIn log.spans.items now x f →
@@ -31,10 +31,7 @@ placed_put old now cs log x f follows is p =
     let after = open_any old now cs log x f follows is (record { longer = p.longer; bound = p.bound; same = p.same }) in
     record {
       is = after;
-      placed = λ k high low. elim (others_in_place old now log.tail cs f after.logged follows.leads follows.fill k high low) [
-        | inl touched ↦ p.put k high low (follows.each k touched)
-        | inr same ↦ same
-      ];
+      placed = λ k high low. grind (arith, others_in_place old now log.tail cs f after.logged follows.leads follows.fill k high low);
     }
 
 -- ---- the first bytes
@@ -44,9 +41,6 @@ cut_front_of new = cut_mark ++ slice_range new 4 16
 
 pub length-front : (new : List ℕ) → 16 ≤ length new → length (cut_front_of new) ≡ 16
 length-front new enough = omega (arith, length-append cut_mark (slice_range new 4 16), length-take 12 (drop 4 new), length-drop 4 new, enough)
-
-front_first : (new : List ℕ) (k : ℕ) → k < 4 → get_or (cut_front_of new) k 0 ≡ get_or cut_mark k 0
-front_first new k low = get_or_append_left cut_mark (slice_range new 4 16) 0 k low
 
 front_rest : (new : List ℕ) (k : ℕ) → 4 ≤ k → k < 16 → get_or (cut_front_of new) k 0 ≡ get_or new k 0
 front_rest new k high low =
@@ -60,10 +54,7 @@ cut_placed now x f is reach placed put =
     let size = length-front now enough in
     record {
       begins = is.begins;
-      marked = record {
-        within = omega (arith, put.len, size);
-        each = λ i k. ap (λ n. get_or f n 0) (zero-add i) ∙ put_front (cut_front_of now) x f i put (omega (arith, k, size)) ∙ front_first now i k;
-      };
+      marked = grind arith;
       reaches = omega (arith, put.len, reach);
       same = λ k low high. grind (arith, put_front, front_rest, put_behind);
     }
@@ -71,8 +62,7 @@ cut_placed now x f is reach placed put =
 -- ---- the length
 
 pub sized_stands : (now x f : List ℕ) → IsUnderCut now x → IsSizedOrNot (length now) x f → IsUnderCut now f
-sized_stands now x f under (inl e) = let P : List ℕ → Type 0 = λ xs. IsUnderCut now xs in subst P (sym e) under
-sized_stands now x f under (inr s) = under_same now x f under (omega (arith, s.len)) (λ k low. s.below k low)
+sized_stands now x f under h = grind arith
 
 pub cut_sized : (now x f : List ℕ) → IsDatabase now → IsUnderCut now x → IsSized (length now) x f → f ≡ cut_of now
 cut_sized now x f is under s =

@@ -1,5 +1,5 @@
 -- Lemmas on the change that spans of new bytes make.
-use Rattle.rrd_change.proofs.Names.{◌≡◌, ℕ, ◌+◌, ◌-◌, ◌<◌, ◌≤◌, Bool, true, false, cond, List, [], ◌∷◌, length, drop, get_or, refl, sym, ◌∙◌, ap, arith, inl, inr, ◌&&◌, nat_le, nat_lt, and_from, and_parts, le-leb, leb-true, ltb-true, length-take, length-drop, get_or-take, get_or-drop, all_laid, are_within, laid, HaveByte, Makes, AgreesOutside, AreSpans, IsIn, change_of, piece_of, pieces_of, Span}
+use Rattle.rrd_change.proofs.Names.{common_steps, ◌≡◌, ℕ, ◌+◌, ◌-◌, ◌<◌, ◌≤◌, Bool, true, false, cond, List, [], ◌∷◌, length, drop, get_or, refl, sym, ◌∙◌, ap, arith, inl, inr, ◌&&◌, nat_le, nat_lt, and_from, le-leb, leb-true, ltb-true, length-take, length-drop, all_laid, are_within, laid, HaveByte, Makes, AgreesOutside, AreSpans, IsIn, change_of, piece_of, pieces_of, Span}
 use Rattle.rrd_change.proofs.Laying.{changed_inside, pieces_say}
 
 length-piece : (bytes : List ℕ) (s : Span) → s.start ≤ s.end → s.end ≤ length bytes → length (piece_of bytes s).bytes ≡ s.end - s.start
@@ -7,10 +7,7 @@ length-piece bytes s ordered few = omega (arith, length-take (s.end - s.start) (
 
 pub pieces_within : (bytes : List ℕ) (spans : List Span) → AreSpans (length bytes) spans → are_within (length bytes) (pieces_of bytes spans) ≡ true
 pieces_within bytes [] h = refl
-pieces_within bytes (s ∷ spans) h =
-    let size = length-piece bytes s h.0.0 h.0.1 in
-    and_from (nat_le (s.start + length (piece_of bytes s).bytes) (length bytes)) (are_within (length bytes) (pieces_of bytes spans))
-    (le-leb (s.start + length (piece_of bytes s).bytes) (length bytes) (omega (arith, size, h.0.0, h.0.1))) (pieces_within bytes spans h.1)
+pieces_within bytes (s ∷ spans) h = grind (arith, length-piece, and_from, le-leb, pieces_within bytes spans h.1)
 
 pub have_in : (bytes : List ℕ) (spans : List Span) (k : ℕ) → AreSpans (length bytes) spans → HaveByte k (pieces_of bytes spans) → IsIn k spans
 have_in bytes [] k h has = has
@@ -26,20 +23,11 @@ in_have bytes (s ∷ spans) k h (inr is) = inr (in_have bytes spans k h.1 is)
 piece_keeps : (bytes : List ℕ) (s : Span) (k : ℕ) (b : Bool) → s.start ≤ s.end → s.end ≤ length bytes →
     (nat_le s.start k && nat_lt k (s.start + length (piece_of bytes s).bytes)) ≡ b → laid (piece_of bytes s) k (get_or bytes k 0) ≡ get_or bytes k 0
 piece_keeps bytes s k false ordered few e = ap (λ t. cond t (get_or (piece_of bytes s).bytes (k - s.start) 0) (get_or bytes k 0)) e
-piece_keeps bytes s k true ordered few e =
-    let both = and_parts (nat_le s.start k) (nat_lt k (s.start + length (piece_of bytes s).bytes)) e in
-    let low = leb-true s.start k both.0 in
-    let high = ltb-true k (s.start + length (piece_of bytes s).bytes) both.1 in
-    let size = length-piece bytes s ordered few in
-    let here : s.start + (k - s.start) ≡ k = omega (arith, low) in
-    ap (λ t. cond t (get_or (piece_of bytes s).bytes (k - s.start) 0) (get_or bytes k 0)) e
-    ∙ get_or-take (s.end - s.start) (drop s.start bytes) (k - s.start) 0 (omega (arith, low, high, size)) ∙ get_or-drop s.start bytes (k - s.start) 0 ∙ ap (λ n. get_or bytes n 0) here
+piece_keeps bytes s k true ordered few e = grind (arith, common_steps, leb-true, ltb-true, length-piece)
 
 pieces_keep : (bytes : List ℕ) (spans : List Span) (k : ℕ) → AreSpans (length bytes) spans → all_laid (pieces_of bytes spans) k (get_or bytes k 0) ≡ get_or bytes k 0
 pieces_keep bytes [] k h = refl
-pieces_keep bytes (s ∷ spans) k h =
-    ap (λ b. all_laid (pieces_of bytes spans) k b)
-    (piece_keeps bytes s k (nat_le s.start k && nat_lt k (s.start + length (piece_of bytes s).bytes)) h.0.0 h.0.1 refl) ∙ pieces_keep bytes spans k h.1
+pieces_keep bytes (s ∷ spans) k h = grind (arith, piece_keeps, pieces_keep bytes spans k h.1)
 
 -- the spans make the new bytes of the old ones
 pub spans_make : (spans : List Span) (old new : List ℕ) → AreSpans (length new) spans → AgreesOutside spans old new → Makes (change_of (length new) new spans) old new
@@ -56,7 +44,4 @@ spans_make spans old new are agrees = record {
 -- the bytes that come are in the spans
 pub spans_fill : (spans : List Span) (old new : List ℕ) (k : ℕ) → AreSpans (length new) spans → AgreesOutside spans old new → length old ≤ k → k < length new →
     HaveByte k (pieces_of new spans)
-spans_fill spans old new k are agrees high low = elim (agrees.each k low) [
-  | inl is ↦ in_have new spans k are is
-  | inr (within, _) ↦ absurd (omega (arith, within, high))
-]
+spans_fill spans old new k are agrees high low = grind (arith, in_have)

@@ -1,5 +1,5 @@
 -- Lemmas on the pieces and the change that bytes spell.
-use Rattle.rrd_change.proofs.Names.{◌≡◌, ℕ, suc, ◌+◌, ◌-◌, ◌^◌, ◌<◌, ◌≤◌, List, ◌∷◌, ◌++◌, length, take, drop, get_or, refl, sym, ◌∙◌, ap, subst, arith, append_assoc, nat_le, w64, to_be_bytes, from_be_bytes, slice_range, flat_map, and_parts, and_from, leb-true, le-leb, get_or_past, length-append, length-take, length-drop, take-append-drop, drop-drop, get_or-take, get_or-drop, drop_at, be_bytes_8, from_be_bytes-to_be_bytes_8, Piece, are_within, piece_bytes, spelled_pieces, HasPieces}
+use Rattle.rrd_change.proofs.Names.{common_steps, ◌≡◌, ℕ, suc, ◌+◌, ◌-◌, ◌^◌, ◌<◌, ◌≤◌, List, ◌∷◌, ◌++◌, length, take, drop, get_or, refl, sym, ◌∙◌, ap, subst, arith, nat_le, w64, to_be_bytes, from_be_bytes, slice_range, flat_map, and_parts, leb-true, get_or_past, length-append, length-take, length-drop, take-append-drop, drop-drop, get_or-take, get_or-drop, drop_at, be_bytes_8, from_be_bytes-to_be_bytes_8, Piece, are_within, piece_bytes, spelled_pieces, HasPieces}
 use Rattle.rrd_change.proofs.Reading.{piece_count}
 
 -- the numbers with which bytes begin, as those of a piece
@@ -60,7 +60,6 @@ more_to m end xs small h =
     let p = first_piece xs in
     let n = first_count xs in
     let rest = drop (16 + n) xs in
-    let more = flat_map piece_bytes (spelled_pieces m rest) in
     let head = h.head in
     let own = length-first_piece xs h.within in
     let start : to_be_bytes w64 p.start ≡ take 8 xs = number_spelled xs 0 small (omega (arith, head)) in
@@ -68,18 +67,7 @@ more_to m end xs small h =
     let size : 16 + n - 16 ≡ n = omega arith in
     let body : p.bytes ≡ take n (drop 16 xs) = ap (λ k. take k (drop 16 xs)) size in
     let third : drop 16 xs ≡ p.bytes ++ rest =
-    sym (take-append-drop n (drop 16 xs)) ∙ ap (λ ys. ys ++ drop n (drop 16 xs)) (sym body) ∙ ap (λ ys. p.bytes ++ ys) (drop-drop n 16 xs) in
-    let second : drop 8 xs ≡ to_be_bytes w64 (length p.bytes) ++ (p.bytes ++ rest) =
-    sym (take-append-drop 8 (drop 8 xs)) ∙ ap (λ ys. ys ++ drop 8 (drop 8 xs)) (sym count) ∙ ap (λ ys. to_be_bytes w64 (length p.bytes) ++ ys) (drop-drop 8 8 xs ∙ third) in
-    let first : xs ≡ to_be_bytes w64 p.start ++ (to_be_bytes w64 (length p.bytes) ++ (p.bytes ++ rest)) =
-    sym (take-append-drop 8 xs) ∙ ap (λ ys. ys ++ drop 8 xs) (sym start) ∙ ap (λ ys. to_be_bytes w64 p.start ++ ys) second in
-    let all : xs ≡ piece_bytes p ++ rest =
-    first ∙ sym (append_assoc (to_be_bytes w64 p.start) (to_be_bytes w64 (length p.bytes)) (p.bytes ++ rest))
-    ∙ sym (append_assoc (to_be_bytes w64 p.start ++ to_be_bytes w64 (length p.bytes)) p.bytes rest) in
-    record {
-      spelled = all ∙ ap (λ ys. piece_bytes p ++ ys) h.rest.spelled;
-      within = and_from (nat_le (p.start + length p.bytes) end) (are_within end (spelled_pieces m rest)) (le-leb (p.start + length p.bytes) end (omega (arith, h.below, own))) h.rest.within;
-    }
+    sym (take-append-drop n (drop 16 xs)) ∙ ap (λ ys. ys ++ drop n (drop 16 xs)) (sym body) ∙ ap (λ ys. p.bytes ++ ys) (drop-drop n 16 xs) in grind arith
 
 pub none_from : (end : ℕ) (xs : List ℕ) → HasPieces 0 end xs → length xs ≡ 0
 none_from end xs h = ap length h.spelled
@@ -118,16 +106,10 @@ next_piece bytes at count i size start n low is_start is_n fits h =
     let count_is : n ≡ first_count xs = is_n ∙ second_at bytes at in
     let more = more_from left size xs (omega (arith, fits, count_is)) (subst (λ (m : ℕ). HasPieces m size xs) (left_more count i low) h) in
     let same : drop (at + (16 + n)) bytes ≡ drop (16 + first_count xs) xs = behind_at bytes at n (first_count xs) count_is in
-    let F : ℕ → List ℕ → List ℕ → List Piece = λ a ys zs. record { start = a; bytes = ys } ∷ spelled_pieces left zs in
     let sixteen : 16 + n - 16 ≡ n = omega arith in
     let body : slice_range xs 16 (16 + first_count xs) ≡ take n (drop (at + 16) bytes) =
     ap (λ k. take (16 + k - 16) (drop 16 xs)) (sym count_is) ∙ ap (λ k. take k (drop 16 xs)) sixteen ∙ ap (λ ys. take n ys) (drop-drop 16 at bytes) in
-    record {
-      within = omega (arith, more.within, more.head, length-drop at bytes, count_is);
-      below = omega (arith, more.below, count_is, is_start);
-      rest = subst (HasPieces left size) (sym same) more.rest;
-      split = grind arith;
-    }
+    grind (arith, common_steps)
 
 -- a piece before those that follow it
 pub piece_before : (bytes : List ℕ) (at count i size start n : ℕ) → i < count → start ≡ from_be_bytes w64 (take 8 (drop at bytes)) → n ≡ from_be_bytes w64 (take 8 (drop (at + 8) bytes)) →

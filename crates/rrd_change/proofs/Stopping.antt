@@ -1,7 +1,7 @@
 -- Lemmas on what is left of a file when a change stops.
-use Rattle.rrd_change.proofs.Names.{◌≡◌, ◌⊎◌, ℕ, ◌+◌, ◌<◌, ◌≤◌, List, [], ◌∷◌, ◌++◌, length, take, get_or, refl, sym, ◌∙◌, ap, subst, arith, inl, inr, length_push, length-take, StandsAt, ArePut, AreWholeOrNot, IsTorn, Change, changes_in, AreSaid, ChangesTell, Fill, IsLogged, IsUnderCut, Leads, first_of, IsCutLeft, IsLeft, IsLogLeft, IsLoose, IsOnDisk, IsStopped, IsTornLog, IsUnlogged, LogEnd, Whole, log_mark, Follows, IsBroken, IsDatabase, IsLogOf, IsMarked, IsOpen, IsPlain, IsReady, Represents, RepresentsEither, Tells, cut_of, All, World, Log, Fails, Option, IsKept, Some, None}
+use Rattle.rrd_change.proofs.Names.{◌≡◌, ◌⊎◌, ℕ, ◌<◌, ◌≤◌, List, [], ◌∷◌, ◌++◌, length, take, get_or, refl, sym, ◌∙◌, ap, subst, arith, inl, inr, length_push, length-take, StandsAt, ArePut, AreWholeOrNot, IsTorn, Change, changes_in, AreSaid, ChangesTell, Fill, IsLogged, IsUnderCut, Leads, first_of, IsCutLeft, IsLeft, IsLogLeft, IsLoose, IsOnDisk, IsStopped, IsTornLog, IsUnlogged, LogEnd, Whole, log_mark, Follows, IsBroken, IsDatabase, IsLogOf, IsMarked, IsOpen, IsPlain, Represents, RepresentsEither, Tells, cut_of, All, World, Log, Fails, Option, IsKept, Some, None}
 use Rattle.rrd_change.proofs.Appending.{first_of_more, logged_all}
-use Rattle.rrd_change.proofs.Beginning.{IsReadyOrOpen, open_stands}
+use Rattle.rrd_change.proofs.Beginning.{IsReadyOrOpen}
 use Rattle.rrd_change.proofs.Chains.{chain_count}
 use Rattle.rrd_change.proofs.Holding.{all_as, held_all, held_left, marks_all}
 use Rattle.rrd_change.proofs.Logs.{log_read, torn_counts}
@@ -31,8 +31,7 @@ plain_left end other now w is a = elim a.held [
 
 pub open_left : (end : LogEnd) (other now old : List ℕ) (tail : ℕ) (cs : List Change) (w : World) → Leads old cs now → Fill (length old) cs → All (IsOpen old tail cs) w →
     IsLogLeft end other now w
-open_left end other now old tail cs w leads fill a =
-    held_left end other now old tail cs w leads fill (record { held = a.held.logged; leave = λ c left. inl (a.leave c left).logged; keep = λ c kept. inl (a.keep c kept).logged })
+open_left end other now old tail cs w leads fill a = grind arith
 
 pub log_left : (end : LogEnd) (other now : List ℕ) (log : Log) (w : World) → IsLogOf now log w → IsLogLeft end other now w
 log_left end other now log w h = open_left end other now h.old log.tail h.changes w h.follows.leads h.follows.fill h.world
@@ -43,24 +42,12 @@ kept_left end other now (Some log) w h = inr (inr (log_left end other now log w 
 
 -- ---- the first change of a log
 
-ready_unlogged : (old new : List ℕ) (tail : ℕ) (cs : List Change) (f : List ℕ) → IsReady old tail cs f → IsUnlogged old new old tail cs f
-ready_unlogged old new tail cs f ready = record {
-  base = old;
-  either = inl refl;
-  below = ready.prepared.below;
-  under = ready.prepared.under;
-  reaches = ready.prepared.under.reaches;
-  kept = λ k high low. inl (ready.prepared.under.same k (omega (arith, high)) low);
-}
-
 begun_on_disk : (end : LogEnd) (old new : List ℕ) (tail : ℕ) (cs : List Change) (f : List ℕ) → IsReadyOrOpen old tail cs f → IsOnDisk end old new old tail cs f
-begun_on_disk end old new tail cs f (inl ready) = inr (inl (ready_unlogged old new tail cs f ready))
-begun_on_disk end old new tail cs f (inr (is, placed)) = inl is.logged
+begun_on_disk end old new tail cs f h = grind arith
 
 begun_loose : (old new : List ℕ) (tail : ℕ) (cs : List Change) (f : List ℕ) → Leads old cs new → Fill (length old) cs → length old ≤ tail → IsReadyOrOpen old tail cs f → IsLoose new old f
 begun_loose old new tail cs f leads fill below (inl ready) = under_loose new old f ready.prepared.under
-begun_loose old new tail cs f leads fill below (inr (is, placed)) =
-    record { reaches = omega (arith, below, is.logged.log.begun); placed = placed; stands = inl (open_stands old new tail cs f leads fill is) }
+begun_loose old new tail cs f leads fill below (inr (is, placed)) = grind arith
 
 -- the log mark was written, or was not
 pub begun_stopped : (end : LogEnd) (old new : List ℕ) (tail : ℕ) (cs : List Change) (w : World) → IsDatabase old → length old ≤ tail → Leads old cs new → Fill (length old) cs →
@@ -87,13 +74,7 @@ IsPlacedOrCut old now cs log f = IsPlaced old now cs log f ⊎ IsCutPlaced old n
 
 front_put : (old now : List ℕ) (cs : List Change) (log : Log) (x f : List ℕ) → Follows old now cs log → length old ≤ log.tail → IsPlaced old now cs log x → ArePut 0 (cut_front_of now) x f →
     IsCutPlaced old now cs f
-front_put old now cs log x f follows below p put =
-    let size = length-front now follows.is.enough in
-    record {
-      under = cut_placed now x f follows.is (reach_placed old now cs log x follows p) p.placed put;
-      reaches = omega (arith, put.len, below, p.is.logged.log.begun);
-      kept = λ k high low. grind (arith, put_behind);
-    }
+front_put old now cs log x f follows below p put = grind (arith, length-front now follows.is.enough, cut_placed now x f follows.is (reach_placed old now cs log x follows p) p.placed put, reach_placed old now cs log x follows p, put_behind)
 
 pub placed_marked : (old now : List ℕ) (cs : List Change) (log : Log) (u v : World) → Follows old now cs log → length old ≤ log.tail →
     Fails (AreWholeOrNot 0 (cut_front_of now)) (IsTorn 0 (cut_front_of now)) u v → All (IsPlaced old now cs log) u → All (IsPlacedOrCut old now cs log) v
@@ -101,12 +82,10 @@ placed_marked old now cs log u v follows below f a = marks_all (IsPlaced old now
     (λ x p. omega (arith, length-front now follows.is.enough, p.is.logged.log.begun, follows.below, follows.is.enough)) (λ x y p put. inr (front_put old now cs log x y follows below p put)) f a
 
 placed_on_disk : (end : LogEnd) (other old now : List ℕ) (cs : List Change) (log : Log) (f : List ℕ) → Follows old now cs log → IsPlacedOrCut old now cs log f → IsOnDisk end other now old log.tail cs f
-placed_on_disk end other old now cs log f follows (inl p) = inl p.is.logged
-placed_on_disk end other old now cs log f follows (inr c) = inr (inl (record { base = now; either = inr refl; below = follows.below; under = c.under; reaches = c.reaches; kept = c.kept }))
+placed_on_disk end other old now cs log f follows h = grind arith
 
 placed_loose : (other old now : List ℕ) (cs : List Change) (log : Log) (f : List ℕ) → Follows old now cs log → IsPlacedOrCut old now cs log f → IsLoose other now f
-placed_loose other old now cs log f follows (inl p) =
-    record { reaches = reach_placed old now cs log f follows p; placed = p.placed; stands = inr (open_stands old now log.tail cs f follows.leads follows.fill p.is) }
+placed_loose other old now cs log f follows (inl p) = grind arith
 placed_loose other old now cs log f follows (inr c) = under_loose other now f c.under
 
 -- the first bytes were written, or were not
@@ -137,11 +116,7 @@ torn_either other now old tail cs h f leads fill held t tells =
     let all = first_of old ∷ t.sure in
     let log = t.logged.log in
     let count = chain_count tail all in
-    let room = log.room in
-    let marked : StandsAt f 0 (log_mark tail) = record {
-      within = omega (arith, t.reaches, count, room);
-      each = λ i k. t.same (0 + i) (omega arith) (omega (arith, k, count, room)) ∙ log.marked.each i k;
-    } in
+    let marked : StandsAt f 0 (log_mark tail) = grind arith in
     let told = tells tail (log_read tail f log.fits marked) in
     let read : changes_in tail f ≡ take told.0 (first_of old ∷ cs) = told.1 ∙ ap (λ xs. take told.0 xs) (logged_all old tail cs h held) in
     let P : List Change → Type 0 = λ xs. IsLogged old tail xs f in
@@ -157,10 +132,7 @@ torn_either other now old tail cs h f leads fill held t tells =
           ]
       | inr (c, e, is_led, filled) ↦
           let tell : ChangesTell tail (all ++ c ∷ []) f = (told.0, read ∙ ap (λ xs. take told.0 (first_of old ∷ xs)) e) in
-          elim (torn_counts old tail t.sure c t.whole f t.logged t.same t.reaches tell) [
-            | inl none ↦ inl (inr (inr (record { old = old; tail = tail; changes = t.sure; logged = none; leads = is_led; fill = filled })))
-            | inr one ↦ inr (inr (inr (record { old = old; tail = tail; changes = cs; logged = subst P (sym e) one; leads = leads; fill = fill })))
-          ]
+          grind (arith, torn_counts old tail t.sure c t.whole f t.logged t.same t.reaches tell)
     ]
 
 disk_either : (other now old : List ℕ) (tail : ℕ) (cs : List Change) (f : List ℕ) → Leads old cs now → Fill (length old) cs → IsOnDisk Whole other now old tail cs f → RepresentsEither other now f
@@ -197,8 +169,7 @@ left_told end other now w (inr (inr l)) = record {
 }
 
 turned : (a b f : List ℕ) → RepresentsEither a b f → RepresentsEither b a f
-turned a b f (inl h) = inr h
-turned a b f (inr h) = inl h
+turned a b f h = grind arith
 
 pub stopped_either : (old new : List ℕ) (w : World) → IsStopped Whole old new w → All (RepresentsEither old new) w
 stopped_either old new w (inl h) = all_as (RepresentsEither new old) (RepresentsEither old new) w (λ f is. turned new old f is) (left_either new old w h)
@@ -215,8 +186,7 @@ stopped_broken end old new w (inl h) =
 stopped_broken end old new w (inr h) = left_told end old new w h
 
 represented : (now f : List ℕ) → RepresentsEither now now f → Represents now f
-represented now f (inl h) = h
-represented now f (inr h) = h
+represented now f h = grind arith
 
 pub left_one : (now : List ℕ) (w : World) → IsLeft Whole now now w → All (Represents now) w
 left_one now w h = all_as (RepresentsEither now now) (Represents now) w (λ f is. represented now f is) (left_either now now w h)

@@ -1,5 +1,5 @@
 -- What `rrd_change` and `rrd_store` are asked of a file, by what the record says.
-use Rattle.rrd_disk.proofs.Names.{◌≡◌, ℕ, suc, true, false, not, List, [], ◌∷◌, ◌++◌, length, take, drop, IsTrue, inl, inr, refl, sym, ◌∙◌, ap, subst, drop-append_seam, take-append_seam, and_from, and_parts, cases_Bool, true≢false, Held, Missing, Bytes, FallsAsked, code_by, code_of, content_of, held_of, is_asked, is_honest_in, kind_of, start_by, world_in, world_of, Event, World, bytes_of, held_after, is_honest_after, is_there, left, part_after}
+use Rattle.rrd_disk.proofs.Names.{arith, ◌≡◌, ℕ, suc, true, false, not, List, [], ◌∷◌, ◌++◌, length, take, drop, IsTrue, inl, inr, refl, sym, ◌∙◌, ap, subst, drop-append_seam, take-append_seam, and_from, and_parts, cases_Bool, true≢false, Held, Missing, Bytes, FallsAsked, code_by, code_of, content_of, held_of, is_asked, is_honest_in, kind_of, start_by, world_in, world_of, Event, World, bytes_of, held_after, is_honest_after, is_there, left, part_after}
 
 -- whatever is asked, the record is honest
 pub honest_in : (s : List ℕ) (events : List Event) → IsTrue (is_honest_in s events) → IsTrue (is_honest_after (world_of s) events)
@@ -22,28 +22,21 @@ start_back Missing = refl
 start_back (Bytes bytes) = refl
 
 pub world_of_code : (w : World) → world_of (code_of w) ≡ w
-world_of_code w =
-    ap (λ (b : List ℕ). world (start_by (kind_of w.start) b) (take (length w.parts) (w.parts ++ content_of w.start))) (content_back w)
-    ∙ ap (λ (p : List ℕ). world (start_by (kind_of w.start) (content_of w.start)) p) (parts_back w)
-    ∙ ap (λ (h : Held). world h w.parts) (start_back w.start)
+world_of_code w = grind (arith, content_back, parts_back, start_back)
 
 pub world_in_held : (w : World) → world_in (held_of w) ≡ w
 world_in_held = world_of_code
 
 -- a world without a file, of which this is asked too
 missing_of_code : (asked : ℕ) (w : World) → w.start ≡ Missing → world_of (code_by (suc asked) w) ≡ w
-missing_of_code asked w none =
-    ap (λ (p : List ℕ). world Missing p) (parts_back w) ∙ ap (λ (h : Held). world h w.parts) (sym none)
+missing_of_code asked w none = grind (arith, parts_back)
 
 plainly_asked : (start : Held) (rest : List ℕ) (there : _) → is_asked (kind_of start ∷ rest) there ≡ true
 plainly_asked Missing rest there = refl
 plainly_asked (Bytes bytes) rest there = refl
 
 pub code_honest : (w : World) (events : List Event) → IsTrue (is_honest_after w events) → IsTrue (is_honest_in (code_of w) events)
-code_honest w events h =
-    and_from (is_honest_after (world_of (code_of w)) events) (is_asked (code_of w) (is_there (held_after (world_of (code_of w)) events)))
-    (subst (λ (v : World). IsTrue (is_honest_after v events)) (sym (world_of_code w)) h)
-    (plainly_asked w.start (length w.parts ∷ w.parts ++ content_of w.start) (is_there (held_after (world_of (code_of w)) events)))
+code_honest w events h = grind (arith, and_from, world_of_code, plainly_asked)
 
 -- ---- what an answer to each question says
 
@@ -68,9 +61,7 @@ asked_before : (old new : List Event) (asked : ℕ) (w : World) → FallsAsked o
 asked_before old new asked w falls none h is =
     let code = code_by (suc asked) w in
     let same = missing_of_code asked w none in
-    let now : IsTrue (is_honest_in code new) = and_from (is_honest_after (world_of code) new) (is_asked code (is_there (held_after (world_of code) new)))
-    (subst (λ (v : World). IsTrue (is_honest_after v new)) (sym same) h)
-    (subst (λ (v : World). IsTrue (is_asked (suc asked ∷ []) (is_there (held_after v new)))) (sym same) is) in
+    let now : IsTrue (is_honest_in code new) = grind arith in
     subst (λ (v : World). IsTrue (is_asked (suc asked ∷ []) (is_there (held_after v old)))) same
     (and_parts (is_honest_after (world_of code) old) (is_asked code (is_there (held_after (world_of code) old))) (falls code now)).1
 

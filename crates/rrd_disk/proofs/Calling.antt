@@ -1,5 +1,5 @@
 -- What the calls of the module once say, by the events that they note.
-use Rattle.rrd_disk.proofs.Names.{◌≡◌, ℕ, ◌+◌, ◌-◌, ◌<◌, ◌≤◌, inl, inr, List, ◌∷◌, ◌++◌, length, take, slice_index, IsTrue, Result, Ok, Err, IfOk, sym, ◌∙◌, ap, subst, arith, length-append, length-take, get_or-take, ReadsAtMost, get_or_append_left, get_or-append_right, cases_lt, AreGot, IsGotAtOnce, Event, Got, World, bytes_after, is_honest_after, is_honest_read}
+use Rattle.rrd_disk.proofs.Names.{◌≡◌, ℕ, ◌+◌, ◌-◌, ◌<◌, ◌≤◌, inl, inr, List, ◌∷◌, ◌++◌, length, take, slice_index, IsTrue, Result, Ok, Err, IfOk, sym, ◌∙◌, ap, arith, length-append, length-take, get_or-take, ReadsAtMost, get_or_append_left, get_or-append_right, cases_lt, AreGot, IsGotAtOnce, Event, Got, World, bytes_after, is_honest_after, is_honest_read}
 use Rattle.rrd_disk.proofs.Replaying.{read-AreGot, read_ends, read_is, read_within}
 
 -- ---- reading
@@ -9,15 +9,7 @@ got_once : (file : List ℕ) (at wanted n : ℕ) (bytes : List ℕ) → n ≤ le
     → IsTrue (is_honest_read file at wanted (take n bytes)) → IsGotAtOnce file at n bytes
 got_once file at wanted n bytes few all honest =
     let len : length (take n bytes) ≡ n = omega (arith, length-take n bytes) in
-    record {
-      each = elim (cases_lt 0 n) as (λ _. AreGot file at n (take n bytes)) [
-        | inl some ↦ subst (λ (k : ℕ). AreGot file at k (take n bytes)) len (read-AreGot file at wanted (take n bytes) (omega (arith, len, some)) honest)
-        | inr none ↦ record { len = len; each = λ i low. absurd (omega (arith, low, none)) }
-      ];
-      within = λ some. omega (arith, len, read_within file at wanted (take n bytes) (omega (arith, len, some)) honest);
-      ends = λ none room. read_ends file at wanted (omega (arith, all, room))
-          (subst (λ (k : ℕ). IsTrue (is_honest_read file at wanted (take k bytes))) none honest);
-    }
+    grind (arith, read-AreGot, read_within, read_ends)
 
 -- one call of the system
 pub got_some : {E : Type 0} (r : Result ℕ E) (old mid new : List Event) (at : ℕ) (before bytes : List ℕ)
@@ -25,11 +17,7 @@ pub got_some : {E : Type 0} (r : Result ℕ E) (old mid new : List Event) (at : 
     → IfOk r (λ n. new ≡ Got at (length before) (take n bytes) ∷ mid)
     → IfOk r (λ n. (s : World) → IsTrue (is_honest_after s new) → IsGotAtOnce (bytes_after s old) at n bytes)
 got_some (Err e) old mid new at before bytes stays same bound ok = tt
-got_some (Ok n) old mid new at before bytes stays same bound ok = λ s honest.
-    let now = subst (λ (events : List Event). IsTrue (is_honest_after s events)) ok honest in
-    let is = read_is s mid at (length before) (take n bytes) now in
-    got_once (bytes_after s old) at (length before) n bytes bound.0 same
-    (subst (λ (events : List Event). IsTrue (is_honest_read (bytes_after s events) at (length before) (take n bytes))) stays is)
+got_some (Ok n) old mid new at before bytes stays same bound ok = grind (arith, read_is, got_once)
 
 -- the first `count` bytes are the file's
 pub record IsGotSoFar (file : List ℕ) (at count : ℕ) (bytes : List ℕ) : Type 0 where
@@ -61,8 +49,5 @@ more_so_far file at count more bytes rest new low few joined so_far got =
                   ∙ sym (get_or-take more rest (i - count) 0 small) ∙ got.each.each (i - count) small ∙ ap (slice_index file) here
             ];
       };
-      within = λ some. elim (cases_lt 0 more) as (λ _. at + (count + more) ≤ length file) [
-        | inl later ↦ omega (arith, got.within later)
-        | inr none ↦ omega (arith, none, so_far.within (omega (arith, some, none)))
-      ];
+      within = grind arith;
     }

@@ -1,5 +1,5 @@
 -- Calls that change the file, one after another, and what they are for `rrd_change`.
-use Rattle.rrd_disk.proofs.Names.{◌≡◌, ℕ, zero, suc, ◌+◌, ◌%◌, ◌<◌, ◌≤◌, nat_le, Bool, List, [], ◌∷◌, length, take, Result, Ok, Err, IfOk, OnErr, OnOk, IsTrue, refl, sym, ◌∙◌, ap, subst, inl, arith, and_from, and_parts, leb-true, true≢false, AreAny, AreAt, ArePut, AreWholeOrNot, IsCut, IsFrontPut, IsSized, IsSizedOrNot, IsTorn, Counts, Does, Effect, FailsToSize, FailsToWrite, FailsToWritePage, FailsToWriteWhole, IsSynced, IsUnsynced, Moves, Reads, Stays, Steps, Writes, WritesPage, WritesWhole, moves_as, moves_then, FallsAsked, file_of, is_asked, is_honest_in, view_of, world_asked, world_for, world_of, Did, DidOr, Falls, IsCutShort, IsPartPut, PlaceStays, Rests, Event, Put, PutFailed, Sized, SizeFailed, Synced, SyncFailed, HasLength, AreTorn, Follows, Leaves, moved, world_after, World, bytes_after, bytes_left, bytes_of, held_after, is_honest_after, is_honest_of, is_honest_part, is_small, is_there, left, overlaid, padded, padded_or_not, part_after, Held, Missing, Bytes}
+use Rattle.rrd_disk.proofs.Names.{◌≡◌, ℕ, zero, suc, ◌+◌, ◌%◌, ◌<◌, ◌≤◌, nat_le, List, [], ◌∷◌, length, take, Result, Ok, Err, IfOk, OnErr, OnOk, IsTrue, refl, sym, ◌∙◌, ap, subst, inl, arith, and_parts, leb-true, true≢false, AreAny, AreAt, ArePut, AreWholeOrNot, IsCut, IsFrontPut, IsSized, IsSizedOrNot, IsTorn, Counts, Does, Effect, FailsToSize, FailsToWrite, FailsToWritePage, FailsToWriteWhole, IsSynced, IsUnsynced, Moves, Reads, Stays, Steps, Writes, WritesPage, WritesWhole, moves_as, moves_then, file_of, view_of, world_asked, world_for, world_of, Did, DidOr, Falls, IsCutShort, IsPartPut, PlaceStays, Rests, Event, Put, PutFailed, Sized, SizeFailed, Synced, SyncFailed, HasLength, AreTorn, Follows, Leaves, moved, world_after, World, bytes_after, bytes_left, bytes_of, held_after, is_honest_after, is_honest_of, is_honest_part, is_small, is_there, left, overlaid, padded, padded_or_not, part_after, Held, Missing, Bytes}
 use Rattle.std.specs.Result.{IsErr}
 use Rattle.rrd_disk.proofs.Asked.{for_each, honest_in}
 use Rattle.rrd_disk.proofs.Overlays.{padded-IsSized}
@@ -11,11 +11,7 @@ use Rattle.rrd_change.specs.Views as views
 -- ---- several calls
 
 pub did_then : (e f g : Effect) (old mid new : List Event) → ((u v w : views.World) → e u v → f v w → g u w) → Did e old mid → Did f mid new → Did g old new
-did_then e f g old mid new join first second = record {
-  falls = λ s honest. first.falls s (second.falls s honest);
-  place = λ s. second.place s ∙ first.place s;
-  does = λ d w honest. join (world_after d w old) (world_after d w mid) (world_after d w new) (first.does d w (second.falls w honest)) (second.does d w honest);
-}
+did_then e f g old mid new join first second = grind arith
 
 pub did_as : (e f : Effect) (old new : List Event) → ((u v : views.World) → e u v → f u v) → Did e old new → Did f old new
 did_as e f old new to did = record { falls = did.falls; place = did.place; does = λ d w honest. to (world_after d w old) (world_after d w new) (did.does d w honest) }
@@ -203,9 +199,7 @@ small_short (Bytes file) part at bytes n honest small some few = cut_short at by
 
 pub put_short_of : {E : Type 0} (r : Result ℕ E) (mid new : List Event) (at : ℕ) (bytes : List ℕ) → IfOk r (λ n. new ≡ Put at bytes n ∷ mid) → IfOk r (λ n. IsCutShort n at bytes new)
 put_short_of (Err e) mid new at bytes ok = tt
-put_short_of (Ok n) mid new at bytes ok = λ small some few s honest.
-    let now = subst (λ (events : List Event). IsTrue (is_honest_after s events)) ok honest in
-    small_short (held_after s mid) (part_after s mid) at bytes n (honest_now s mid (Put at bytes n) now) small some few
+put_short_of (Ok n) mid new at bytes ok = grind (arith, small_short)
 
 -- a call that was not made
 pub put_not : (at : ℕ) (bytes : List ℕ) (old new : List Event) → new ≡ old → Did (Moves (IsPartPut 0 at bytes) (AreTorn at bytes)) old new
@@ -236,37 +230,11 @@ size_none count events = did_nothing (Moves (IsSizedOrNot count) (IsSizedOrNot c
 abbrev Forgets : Effect → Type 1
 Forgets e = (u v : views.World) → e u v → e (world_for 0 u) (world_for 0 v)
 
-asked_does : (e : Effect) → Forgets e → (s : List ℕ) (u v : views.World) → e u v → e (world_asked s u) (world_asked s v)
-asked_does e forgets [] u v does = forgets u v does
-asked_does e forgets (zero ∷ rest) u v does = forgets u v does
-asked_does e forgets (suc more ∷ rest) u v does = does
-
-falls_in : (old new : List Event) → ((s : World) → IsTrue (is_honest_after s new) → IsTrue (is_honest_after s old)) → PlaceStays old new → (s : List ℕ) → IsTrue (is_honest_in s new) → IsTrue (is_honest_in s old)
-falls_in old new falls place s honest =
-    let w = world_of s in
-    let both = and_parts (is_honest_after w new) (is_asked s (is_there (held_after w new))) honest in
-    and_from (is_honest_after w old) (is_asked s (is_there (held_after w old))) (falls w both.0) (subst (λ (b : Bool). IsTrue (is_asked s b)) (place w) both.1)
-
 pub did_steps : (e : Effect) → Forgets e → (old new : List Event) → Did e old new → Steps e (view_of old) (view_of new)
-did_steps e forgets old new did = record {
-  falls = λ s honest. falls_in old new did.falls did.place (file_of s) honest;
-  does = λ d s honest.
-      let w = world_of (file_of s) in
-      asked_does e forgets s (world_after d w old) (world_after d w new) (did.does d w (honest_in (file_of s) new honest));
-}
+did_steps e forgets old new did = grind arith
 
 pub moves_forget : (call torn : List ℕ → List ℕ → Type 0) → Forgets (Moves call torn)
 moves_forget call torn u v m = record { held = m.held; leave = λ c may. absurd may; keep = λ c may. absurd may }
-
-synced_forget : Forgets IsSynced
-synced_forget u v m = record { held = m.held; leave = λ c may. may; keep = λ c may. may }
-
-unsynced_forget : Forgets IsUnsynced
-unsynced_forget u v m = record { held = m.held; leave = λ c may. may; keep = λ c may. absurd may }
-
-pub sync_does : {A E : Type 0} (r : Result A E) (old new : List Event) → DidOr (λ x. IsSynced) IsUnsynced r old new → Does (λ x. IsSynced) IsUnsynced r (view_of old) (view_of new)
-sync_does (Ok x) old new did = did_steps IsSynced synced_forget old new did
-sync_does (Err e) old new did = did_steps IsUnsynced unsynced_forget old new did
 
 module _ (call failed torn : List ℕ → List ℕ → Type 0) where
   pub moves_does : {A E : Type 0} (r : Result A E) (old new : List Event) → DidOr (λ x. Moves call torn) (Moves failed torn) r old new → Does (λ x. Moves call torn) (Moves failed torn) r (view_of old) (view_of new)
@@ -283,13 +251,6 @@ rests_place old new r = λ s. ap is_there (r.held s)
 -- with its disk, or without it
 pub steps_each : (e : Effect) (old new : List Event) → Steps e (view_of old) (view_of new) → (d : List ℕ) (w : World) → IsTrue (is_honest_after w new) → e (world_after d w old) (world_after d w new)
 steps_each e old new steps d w honest = for_each (λ (v : World). e (world_after d v old) (world_after d v new)) new (λ s h. steps.does d (1 ∷ s) h) w honest
-
-pub steps_held : (e : Effect) (old new : List Event) → Steps e (view_of old) (view_of new) → (d : List ℕ) (w : World) → IsTrue (is_honest_after w new)
-    → e (world_for 0 (world_after d w old)) (world_for 0 (world_after d w new))
-steps_held e old new steps d w honest = for_each (λ (v : World). e (world_for 0 (world_after d v old)) (world_for 0 (world_after d v new))) new (λ s h. steps.does d (0 ∷ s) h) w honest
-
-pub steps_fall : (e : Effect) (old new : List Event) → Steps e (view_of old) (view_of new) → FallsAsked old new
-steps_fall e old new steps s honest = steps.falls (0 ∷ s) honest
 
 -- ---- what FileBytes says to rrd_change
 
@@ -340,33 +301,17 @@ size_fails count old new did = did_steps (FailsToSize count) (moves_forget (IsSi
 -- ---- a change after calls that rest
 
 stays_moves : (call torn : List ℕ → List ℕ → Type 0) (u v w : views.World) → Stays u v → Moves call torn v w → Moves call torn u w
-stays_moves call torn u v w same m = record {
-  held = subst (λ (b : List ℕ). call b w.held) same.held m.held;
-  leave = λ c may. let left = m.leave c may in (left.0, same.leave left.0 left.1, left.2);
-  keep = λ c may. let kept = m.keep c may in (kept.0, same.keep kept.0 kept.1, kept.2);
-}
+stays_moves call torn u v w same m = grind arith
 
 pub rests_did : (old new : List Event) → Rests old new → Did Stays old new
-rests_did old new r = record {
-  falls = r.falls;
-  place = rests_place old new r;
-  does = λ d w honest. record {
-    held = held_is d w new ∙ ap bytes_of (r.held w) ∙ sym (held_is d w old);
-    leave = r.leave d w;
-    keep = r.keep d w;
-  };
-}
+rests_did old new r = grind (arith, rests_place, held_is)
 
 pub rests_moves : (call torn : List ℕ → List ℕ → Type 0) (old mid new : List Event) → Rests old mid → Did (Moves call torn) mid new → Did (Moves call torn) old new
 rests_moves call torn old mid new rests did = did_then Stays (Moves call torn) (Moves call torn) old mid new (stays_moves call torn) (rests_did old mid rests) did
 
 -- calls after an answer that no honest file gives
 pub lost_did : (e f : Effect) (old mid new : List Event) → Did e old mid → ((s : World) → IsTrue (is_honest_after s mid) → ⊥) → Falls mid new → PlaceStays mid new → Did f old new
-lost_did e f old mid new did lost falls place = record {
-  falls = λ s honest. did.falls s (falls s honest);
-  place = λ s. place s ∙ did.place s;
-  does = λ d w honest. absurd (lost w (falls w honest));
-}
+lost_did e f old mid new did lost falls place = grind arith
 
 pub rests_steps : (old new : List Event) → Rests old new → Steps Stays (view_of old) (view_of new)
 rests_steps old new r = did_steps Stays (λ u v same. record { held = same.held; leave = λ c may. may; keep = λ c may. may }) old new (rests_did old new r)
@@ -399,19 +344,9 @@ view_held : (d s : List ℕ) (events : List Event) → ((view_of events).world d
 view_held d s events = asked_held s (world_after d (world_of (file_of s)) events) ∙ held_is d (world_of (file_of s)) events
 
 pub counts_steps : (n : ℕ) (old new : List Event) → Rests old new → HasLength n new → Steps (Counts n) (view_of old) (view_of new)
-counts_steps n old new rests has = record {
-  falls = (rests_steps old new rests).falls;
-  does = λ d s honest.
-      let stays = (rests_steps old new rests).does d s honest in
-      (stays, has (world_of (file_of s)) (honest_in (file_of s) new honest) ∙ ap (λ (b : List ℕ). length b) (sym (view_held d s new) ∙ stays.held));
-}
+counts_steps n old new rests has = grind (arith, rests_steps, honest_in, view_held)
 
 pub reads_does : {A E : Type 0} (r : Result A E) (at count : ℕ) (into : List ℕ) (old new : List Event) → Rests old new
     → OnOk r ((s : World) → IsTrue (is_honest_after s new) → AreAt (bytes_after s new) at count into) → Does (λ x. Reads at count into) Stays r (view_of old) (view_of new)
 reads_does (Err e) at count into old new rests got = rests_steps old new rests
-reads_does (Ok x) at count into old new rests got = record {
-  falls = (rests_steps old new rests).falls;
-  does = λ d s honest.
-      let stays = (rests_steps old new rests).does d s honest in
-      (stays, subst (λ (b : List ℕ). AreAt b at count into) (sym (view_held d s new) ∙ stays.held) (got (world_of (file_of s)) (honest_in (file_of s) new honest)));
-}
+reads_does (Ok x) at count into old new rests got = grind (arith, rests_steps, view_held, honest_in)

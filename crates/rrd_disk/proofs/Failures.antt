@@ -1,5 +1,5 @@
 -- A failure of the power after any call of a change, or in the next one.
-use Rattle.rrd_disk.proofs.Names.{left_represents, alone_left, ◌≡◌, ◌⊎◌, ◌∙◌, ℕ, ◌<◌, ◌≤◌, Bool, IsTrue, List, [], ◌∷◌, ◌++◌, length, Result, Ok, Err, OnOk, inl, inr, refl, sym, ap, subst, arith, and_parts, true≢false, append_assoc, IsLogged, IsUnderCut, AllStandAsTold, IsEither, IsLeft, IsLoose, IsOnDisk, IsStopped, LogEnd, Whole, settled, IsAtRest, IsDatabase, Represents, Tells, Stays, Syncs, Ordered, broken_stand, left_told, file_end, Held, Missing, Bytes, IsAnyFile, Event, Put, PutFailed, Sized, SizeFailed, Synced, SyncFailed, are_failed, interrupted, is_failed, moved, world_after, world_before, World, bytes_after, bytes_left, bytes_of, failures, held_after, is_honest_after, is_there, part_after, Laws, Becomes, BecomesOrNot, DoesOr, IsChange, IsChanged, Survives, SurvivesFailure, SurvivesPower, found_after}
+use Rattle.rrd_disk.proofs.Names.{left_represents, alone_left, ◌≡◌, ◌⊎◌, ◌∙◌, ℕ, ◌<◌, ◌≤◌, Bool, IsTrue, List, [], ◌∷◌, ◌++◌, length, Result, Ok, Err, OnOk, inl, inr, refl, sym, ap, subst, arith, and_parts, true≢false, IsLogged, IsUnderCut, AllStandAsTold, IsEither, IsLeft, IsStopped, LogEnd, Whole, settled, IsAtRest, IsDatabase, Represents, Tells, Stays, Syncs, Ordered, broken_stand, left_told, file_end, Held, Missing, Bytes, IsAnyFile, Event, Put, PutFailed, Sized, SizeFailed, Synced, SyncFailed, are_failed, interrupted, is_failed, moved, world_after, world_before, World, bytes_after, bytes_left, bytes_of, failures, held_after, is_honest_after, is_there, part_after, Laws, Becomes, BecomesOrNot, DoesOr, IsChange, IsChanged, Survives, SurvivesFailure, SurvivesPower, found_after}
 use Rattle.rrd_disk.proofs.Asked.{bytes_there, stays_there}
 use Rattle.rrd_disk.proofs.Kills.{counted_same, cut, cut_held, cut_honest, is_counted, interrupted_as, missed_held, missed_honest, no_part_after, nothing_laid}
 use Rattle.rrd_disk.proofs.Parts.{torn_none}

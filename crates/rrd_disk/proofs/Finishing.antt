@@ -1,5 +1,5 @@
 -- The end of the runs on a file that stayed open: what is prepared represents what it represented.
-use Rattle.rrd_disk.proofs.Names.{◌≡◌, ◌∙◌, List, Option, Some, None, Result, Ok, Err, ap, subst, sym, Base, Log, Falls, Rests, IsSound, represented, Event, Finishes, IsKept, IsReload, LeavesSound, Settles, bytes_of, held_after, IsPrepared, Prepares, StaysAs, Found, Kept, Open, Encoded, Stored, Bytes, Held}
+use Rattle.rrd_disk.proofs.Names.{arith, ◌≡◌, List, Option, Some, None, Result, Ok, Err, ap, subst, sym, Base, Log, Falls, Rests, IsSound, represented, Event, Finishes, IsKept, IsReload, LeavesSound, Settles, IsPrepared, Prepares, Found, Kept, Open, Encoded, Stored, Held}
 use Rattle.rrd_disk.proofs.Storing.{sound_as, sound_at}
 
 -- what was prepared is sound
@@ -17,23 +17,15 @@ rests_settles old new rests = λ w honest sound there. (subst IsSound (sym (rest
 
 -- the file was prepared, after calls that change nothing
 pub prepared_settles : {E : Type 0} (result : Result (Option Base) E) (old mid new : List Event) → Rests old mid → Prepares mid new result → Settles old new
-prepared_settles result old mid new rests prepares = λ w honest sound there.
-    let same = rests.held w in
-    let before = subst IsSound (sym same) sound in
-    let one = prepared_same result (held_after w mid) (held_after w new) before
-    (prepares w honest before (same ∙ there ∙ ap (λ (h : Held). Bytes (bytes_of h)) (sym same))) in
-    (one.0, one.1 ∙ ap represented same)
+prepared_settles result old mid new rests prepares = grind (arith, prepared_same)
 
 pub finished : (found : Found) (base : Base) (log : Option Log) → found ≡ Kept base log → (old new : List Event) → Settles old new → Finishes found old new
-finished found base log kept old new settles w honest sound =
-    let is : StaysAs (Kept base log) (held_after w old) = sound_at found (Kept base log) (held_after w old) kept sound in
-    settles w honest (sound_as (Kept base log) (held_after w old) is) is.there
+finished found base log kept old new settles w honest sound = grind (arith, sound_at, sound_as)
 
 -- what is in memory was kept up to the end, so the calls of the end changed nothing that the file represents
 pub reloaded : (found : Found) (old new : List Event) (database : Option Stored) (encoded : Option Encoded) → Falls old new → Finishes found old new
     → IsKept found old database encoded → IsReload old new
-reloaded found old new database encoded falls same kept w honest is =
-    (falls w honest, (same w honest (kept w (falls w honest) is).sound).1)
+reloaded found old new database encoded falls same kept w honest is = grind arith
 
 pub finished_sound : (found : Found) (old new : List Event) (database : Option Stored) (encoded : Option Encoded) → Falls old new → Finishes found old new
     → IsKept found old database encoded → LeavesSound new

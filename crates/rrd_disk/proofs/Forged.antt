@@ -1,5 +1,5 @@
 -- What the first bytes of a file with a cut mark say of the database under it.
-use Rattle.rrd_disk.proofs.Names.{◌≡◌, ◌∙◌, ◌++◌, ◌<◌, ◌≤◌, ℕ, Bool, false, List, Option, Some, None, Err, IfNone, IfSome, length, drop, take, slice_index, true, refl, sym, ap, subst, inl, inr, arith, get_or-take, cases_lt, take-append_seam, get_or_append_left, take-append-drop, take-append-le, take_all, front_from_reads, begins_with, database_of, IsUnderCut, IsMarkOf, cut_mark, mark_of, settled, unmarked, Represents, FoundDatabase, Mark, begins_from, front_of, cut_stands, is_cut, log_read, settled_cut, file_end, FrontHasTheFault, HasOneAnswer, FileFault, Bytes, Decodes, IsAnyFile, StandFor, Begins, IsForged, Laws}
+use Rattle.rrd_disk.proofs.Names.{common_steps, ◌≡◌, ◌∙◌, ◌++◌, ◌<◌, ◌≤◌, ℕ, Bool, false, List, Option, Some, None, Err, IfNone, IfSome, length, drop, take, slice_index, true, refl, sym, ap, subst, inl, inr, arith, get_or-take, cases_lt, get_or_append_left, take-append-drop, take-append-le, take_all, front_from_reads, begins_with, database_of, IsUnderCut, IsMarkOf, cut_mark, mark_of, settled, unmarked, Represents, FoundDatabase, Mark, begins_from, front_of, cut_stands, is_cut, log_read, settled_cut, file_end, FrontHasTheFault, HasOneAnswer, FileFault, Bytes, Decodes, IsAnyFile, StandFor, Begins, IsForged, Laws}
 use Rattle.std.proofs.Common.{append_assoc}
 use Rattle.rrd_disk.proofs.Loaded.{no_file, reads_judged}
 use Rattle.rrd_disk.proofs.Storing.{any_database, database_unmarked}
@@ -26,15 +26,13 @@ front_file : (file front : List ℕ) → Begins file front → file ≡ front ++
 front_file file front begins = front_from_reads 0 file front begins.within (λ i low. sym (begins.each i low))
 
 front_cut : (file front : List ℕ) → Begins file front → begins_with front cut_mark ≡ true → begins_with file cut_mark ≡ true
-front_cut file front begins cut = begins_from file cut_mark (drop 4 front ++ drop (length front) file)
-    (front_file file front begins ∙ ap (λ (xs : List ℕ). xs ++ drop (length front) file) (front_of front cut_mark cut) ∙ assoc cut_mark (drop 4 front) (drop (length front) file))
+front_cut file front begins cut = grind (arith, begins_from file cut_mark (drop 4 front ++ drop (length front) file), front_file file front begins, front_of front cut_mark cut, assoc cut_mark (drop 4 front) (drop (length front) file))
 
 -- so are they with the mark of a database
 unmarked_file : (file front : List ℕ) → Begins file front → begins_with front cut_mark ≡ true → unmarked file ≡ unmarked front ++ drop (length front) file
 unmarked_file file front begins cut =
     let r = drop (length front) file in
-    let all : file ≡ cut_mark ++ (drop 4 front ++ r) = front_file file front begins ∙ ap (λ (xs : List ℕ). xs ++ r) (front_of front cut_mark cut) ∙ assoc cut_mark (drop 4 front) r in
-    ap unmarked all
+    grind (arith, front_file file front begins, front_of front cut_mark cut, assoc cut_mark (drop 4 front) r)
 
 module _ (laws : Laws) (one : (bytes : List ℕ) → HasOneAnswer bytes) (law : (front rest : List ℕ) (fault : FileFault) → FrontHasTheFault front rest fault) where
   -- the database ends behind the first bytes, which are its beginning
@@ -76,13 +74,11 @@ cut_found laws file front now q begins cut (d, is_file) found stand =
     let split : A ≡ q ++ drop (file_end A) A = sym (take-append-drop (file_end A) A) ∙ ap (λ (xs : List ℕ). xs ++ drop (file_end A) A) found in
     let whole : A ++ rest ≡ q ++ (drop (file_end A) A ++ rest) = ap (λ (xs : List ℕ). xs ++ rest) split ∙ assoc q (drop (file_end A) A) rest in
     let one : length q ≡ length now = sym (laws.ends q d is_file (drop (file_end A) A ++ rest)) ∙ ap file_end (sym whole) ∙ ap file_end all ∙ laws.ends now stand.is.0 stand.is.1 (drop (length now) (A ++ rest)) in
-    let first : take (length q) (A ++ rest) ≡ q = ap (λ (xs : List ℕ). take (length q) xs) whole ∙ take-append_seam q (drop (file_end A) A ++ rest) in
-    sym first ∙ ap (λ (n : ℕ). take n (A ++ rest)) one ∙ same
+    grind (arith, common_steps)
 
 pub cut_database : Laws → (file front now : List ℕ) (found : FoundDatabase) → Begins file front → begins_with front cut_mark ≡ true → IsAnyFile (database_of found) → database_of found ≡ settled file_end front
     → StandFor now file → database_of found ≡ now
-cut_database laws file front now found begins cut any is stand =
-    cut_found laws file front now (database_of found) begins cut any (sym (settled_cut file_end front cut) ∙ sym is) stand
+cut_database laws file front now found begins cut any is stand = grind (arith, cut_found laws file front now (database_of found) begins cut any (sym (settled_cut file_end front cut) ∙ sym is) stand, settled_cut file_end front cut)
 
 -- the mark of the file is that of its first bytes
 not_both : (b : Bool) → b ≡ true → b ≡ false → ⊥

@@ -16,9 +16,7 @@ log_of laws now file any fourth (inr (inl under)) = let other : slice_index file
 log_of laws now file any fourth (inr (inr log)) = log
 
 fourth_of : (file first : List ℕ) → first ≡ take 16 file → begins_with first log_word ≡ true → slice_index file 3 ≡ 76
-fourth_of file first is begins =
-    let front : slice_index first 3 ≡ 76 = ap (λ (xs : List ℕ). slice_index xs 3) (front_of first log_word begins) in
-    sym (get_or-take 16 file 3 0 (lit< tt)) ∙ ap (λ (xs : List ℕ). slice_index xs 3) (sym is) ∙ front
+fourth_of file first is begins = grind (arith, front_of first log_word begins)
 
 -- the offset that the mark says
 log_front : (now file : List ℕ) (h : IsLogFor now file) → take 16 file ≡ log_mark h.tail

@@ -188,8 +188,7 @@ pub interrupted_as : (P : List Event → Type 0) → ((later last : List Event) 
     → P (missed ++ events) → P (interrupted missed ++ events)
 interrupted_as P without missed events are all =
     let parts = split missed are in
-    without parts.later (interrupted missed ++ events) parts.failed
-    (subst P (ap (λ (l : List Event). l ++ events) parts.all ∙ append_assoc parts.later (interrupted missed) events) all)
+    grind (arith, append_assoc)
 
 pub interrupted_run : (missed events : List Event) (run : runs.Run) → IsTrue (are_failed missed) → IsRun (missed ++ events) run → IsKilledRun (interrupted missed ++ events) run
 interrupted_run missed events run are did =

@@ -1,21 +1,11 @@
 -- What is known in memory of a file, after its calls.
-use Rattle.rrd_disk.proofs.Names.{◌≡◌, ℕ, ◌+◌, ◌-◌, ◌<◌, ◌≤◌, ◌++◌, max, List, Option, Some, None, IsTrue, IfOk, Result, Ok, Err, length, take, slice_index, option_map, refl, sym, ◌∙◌, ap, subst, inl, inr, arith, length-append, ReadsAtMost, take-append-add, cases_lt, get_or_append_left, get_or-append_right, length-take-le, take-take, Event, Falls, IsGot, Begins, Measures, Guards, KeepsGuard, LockedFile, World, bytes_after, is_honest_after, ArePut}
-
--- the length, if a known one became longer
-longer_is : (known : Option ℕ) (end n old new : ℕ) → option_map (λ m. max m end) known ≡ Some n → ((m : ℕ) → known ≡ Some m → m ≡ old) → new ≡ max old end → n ≡ new
-longer_is None end n old new is was more = absurd cc
-longer_is (Some m) end n old new is was more =
-    let same : max m end ≡ n = cc in
-    let before : m ≡ old = was m refl in
-    sym same ∙ ap (λ k. max k end) before ∙ sym more
+use Rattle.rrd_disk.proofs.Names.{◌≡◌, ℕ, ◌+◌, ◌-◌, ◌<◌, ◌≤◌, ◌++◌, max, List, Option, Some, IsTrue, IfOk, Result, Ok, Err, length, take, slice_index, option_map, refl, sym, ◌∙◌, ap, inl, inr, arith, length-append, ReadsAtMost, take-append-add, cases_lt, get_or_append_left, get_or-append_right, length-take-le, take-take, Event, Falls, IsGot, Begins, Measures, Guards, KeepsGuard, LockedFile, World, bytes_after, is_honest_after, ArePut}
 
 pub measures_longer : (known result : Option ℕ) (at end : ℕ) (bytes : List ℕ) (old new : List Event)
     → result ≡ option_map (λ m. max m end) known → end ≡ at + length bytes → Falls old new → Measures known old
     → ((s : World) → IsTrue (is_honest_after s new) → ArePut at bytes (bytes_after s old) (bytes_after s new))
     → Measures result new
-measures_longer known result at end bytes old new is ends falls was put s h n e =
-    longer_is known end n (length (bytes_after s old)) (length (bytes_after s new)) (sym is ∙ e) (was s (falls s h))
-    ((put s h).len ∙ ap (λ k. max (length (bytes_after s old)) k) (sym ends))
+measures_longer known result at end bytes old new is ends falls was put s h n e = grind arith
 
 -- ---- the bytes that were read after those in memory
 
@@ -32,10 +22,7 @@ more_shown file bytes part n begins got =
     let had = length bytes in
     let long : length (bytes ++ take n part) ≡ had + n = length-append bytes (take n part) ∙ ap (λ k. had + k) got.each.len in
     record {
-      within = elim (cases_lt 0 n) as (λ _. length (bytes ++ take n part) ≤ length file) [
-        | inl some ↦ let inside = got.within some in omega (arith, long, inside)
-        | inr none ↦ let inside = begins.within in omega (arith, long, inside, none)
-      ];
+      within = grind arith;
       each = λ i low. elim (cases_lt i had) as (λ _. slice_index (bytes ++ take n part) i ≡ slice_index file i) [
         | inl front ↦ get_or_append_left bytes (take n part) 0 i front ∙ begins.each i front
         | inr behind ↦
@@ -53,8 +40,7 @@ shown_behind file old part x had n room few joined begins got =
     let long : length front ≡ had = length-take-le had old room in
     let put : take (length front + length part) x ≡ front ++ part = ap (λ k. take (k + length part) x) long ∙ joined in
     let came = more_came front part x (take (had + n) x) n few put (ap (λ k. take (k + n) x) (sym long)) in
-    let got_there = subst (λ (k : ℕ). IsGot file k n part) (sym long) got in
-    subst (λ (b : List ℕ). Begins file b) (sym came) (more_shown file front part n begins got_there)
+    grind (arith, more_shown)
 
 pub got_behind : {E : Type 0} (r : Result ℕ E) (old part x : List ℕ) (had : ℕ) (file : World → List ℕ) (Honest : World → Type 0)
     → had ≤ length old → ReadsAtMost r part → take (had + length part) x ≡ take had old ++ part

@@ -1,5 +1,5 @@
 -- What a run keeps for a failure of the power: of a file that had a database, or of one that had none.
-use Rattle.rrd_disk.proofs.Names.{◌≡◌, ◌∙◌, ◌⊎◌, ℕ, zero, suc, Bool, IsErr, IsOk, IsTrue, OnErr, List, [], ◌∷◌, ◌++◌, Option, Some, None, Result, Ok, Err, inl, inr, refl, sym, ap, subst, arith, false≢true, append_assoc, IsEmpty, IsUnmade, Whole, mark_of, All, Stays, Syncs, Ordered, FileSpan, IsFile, Bytes, Held, IsAnyFile, NoFile, Stored, TaskFault, held_of, world_in, contents_after, is_honest_by, IsSound, represented, Event, are_failed, interrupted, world_after, World, bytes_after, bytes_of, failures, held_after, is_honest_after, DoesSafely, PutsSafely, Reopens, StoresRun, SurvivesAs, SurvivesRun, IsSoundAs, Laws, LoadsAs, MayDiffer, StaysAs, is_sound_by, Survives, SurvivesFailure, SurvivesPower, found_after, Had, HadNone, IsBare, IsGone, IsLacking, IsMadeOf, IsSafeAs, IsUnmadeOr, IsUnwritable, Lacks, MakesSafely, MayLoad, StaysUnmarked, StoresMaking, SurvivesMade, SurvivesMaking, SurvivesMakingFailure, is_safe_by, plain_represents, Found, Unopened, Unwritable, Open, Kept}
+use Rattle.rrd_disk.proofs.Names.{◌≡◌, ◌∙◌, ◌⊎◌, ℕ, zero, suc, Bool, IsOk, IsTrue, OnErr, List, [], ◌∷◌, ◌++◌, Option, Some, None, Result, Ok, Err, inl, inr, refl, sym, ap, subst, arith, false≢true, IsEmpty, Whole, All, Stays, Syncs, Ordered, FileSpan, IsFile, Bytes, Held, IsAnyFile, NoFile, Stored, TaskFault, held_of, world_in, contents_after, is_honest_by, IsSound, represented, Event, are_failed, interrupted, world_after, World, bytes_of, failures, held_after, is_honest_after, DoesSafely, PutsSafely, Reopens, StoresRun, SurvivesAs, SurvivesRun, IsSoundAs, Laws, LoadsAs, MayDiffer, StaysAs, is_sound_by, Survives, found_after, HadNone, IsBare, IsGone, IsLacking, IsMadeOf, IsSafeAs, IsUnmadeOr, IsUnwritable, Lacks, MakesSafely, MayLoad, StaysUnmarked, StoresMaking, SurvivesMade, SurvivesMaking, SurvivesMakingFailure, is_safe_by, plain_represents, Found, Unopened, Unwritable, Open, Kept}
 use Rattle.rrd_disk.proofs.Asked.{world_in_held}
 use Rattle.rrd_disk.proofs.Failures.{failure_survived, found_survives, cut_off, stays_surviving}
 use Rattle.rrd_disk.proofs.Kills.{cut, interrupted_as, never_there, there_is}
@@ -154,10 +154,7 @@ had_lacking laws P d w had =
       | inl is ↦ subst (IsMadeOf P) (sym is) had.disk
       | inr is ↦ subst (IsMadeOf P) (sym is) bare
     ] in
-    let gone : w.start ≡ NoFile → (c : List ℕ) → (c ≡ d) ⊎ (c ≡ bytes_of w.start) → c ≡ [] = λ missing c may. elim may as (λ _. c ≡ []) [
-      | inl is ↦ is ∙ had.missing missing
-      | inr is ↦ is ∙ ap bytes_of missing
-    ] in
+    let gone : w.start ≡ NoFile → (c : List ℕ) → (c ≡ d) ⊎ (c ≡ bytes_of w.start) → c ≡ [] = grind arith in
     record { none = had.none; lacks = had.bare; gone = λ missing. record { held = ap bytes_of missing; leave = gone missing; keep = gone missing }; all = record { held = bare; leave = either; keep = either } }
 
 lacking_made : Laws → (P : List ℕ → Type 0) (f : Found) (h : Held) (v : views.World) → SurvivesAs P f v ⊎ IsLacking P f h v → SurvivesMade P v

@@ -1,14 +1,13 @@
 -- A file that is made, for a failure of the power: whatever is left of it stands for its database, or for none.
-use Rattle.rrd_disk.proofs.Names.{◌≡◌, ◌∙◌, ◌⊎◌, ◌&&◌, ℕ, Bool, List, [], ◌∷◌, ◌++◌, Option, Some, None, Result, Ok, Err, IsErr, IsSome, IsTrue, OnOk, length, slice_index, arith, inl, inr, refl, sym, ap, subst, and_parts, true≢false, append_assoc, rest_stands, IsSizedOrNot, IsEmpty, IsUnmade, AllStand, mark_of, settled, IsAtRest, All, Stays, Steps, seen, Syncs, Ordered, Base, file_end, Bytes, Held, IsAnyFile, IsFile, IsNoFile, NoFile, view_of, Falls, RestsFor, IsSound, Event, Made, NotFound, are_failed, interrupted, TellsMark, IsThere, world_after, World, bytes_after, bytes_of, failures, held_after, is_honest_after, is_honest_of, left, part_after, IsPrepared, Laws, Prepares, DoesOr, IsMade, IsMadeOrNone, IsMaking, Opening, Make, BeganAs, IsLeftAs, IsOpen, Found, Unopened, Unwritable, Open, Kept, Whole, Had, IsBare, IsMadeAs, IsUnmadeOr, Lacks, Makes, MakesOrNot, MakesSafely, StaysUnmarked, IsOk}
+use Rattle.rrd_disk.proofs.Names.{common_steps, ◌≡◌, ◌∙◌, ℕ, Bool, List, [], ◌∷◌, ◌++◌, Option, Some, None, Result, Ok, Err, IsErr, IsTrue, OnOk, slice_index, arith, inl, inr, refl, sym, ap, subst, and_parts, true≢false, rest_stands, IsSizedOrNot, IsEmpty, IsUnmade, AllStand, mark_of, settled, IsAtRest, All, Stays, Steps, seen, Syncs, Ordered, Base, file_end, Bytes, Held, IsAnyFile, IsFile, IsNoFile, NoFile, view_of, Falls, RestsFor, IsSound, Event, Made, NotFound, are_failed, interrupted, TellsMark, IsThere, world_after, World, bytes_after, bytes_of, failures, held_after, is_honest_after, is_honest_of, left, part_after, IsPrepared, Laws, Prepares, DoesOr, IsMade, IsMadeOrNone, IsMaking, Opening, Make, BeganAs, IsLeftAs, IsOpen, Found, Unopened, Unwritable, Open, Kept, Whole, Had, IsBare, IsMadeAs, IsUnmadeOr, Lacks, Makes, MakesOrNot, MakesSafely, StaysUnmarked}
 use Rattle.rrd_disk.proofs.Doing.{steps_each}
 use Rattle.rrd_disk.proofs.Failures.{cut_off}
 use Rattle.rrd_disk.proofs.Kills.{cut, interrupted_as, left_missing, there_is}
 use Rattle.rrd_disk.proofs.Powering.{rests_stay}
 use Rattle.rrd_disk.proofs.Resting.{held_is}
-use Rattle.rrd_disk.proofs.Safe.{as_left, became_as}
-use Rattle.rrd_disk.proofs.Storing.{any_database, file_database, sound_unmarked, unmarked_itself, whole_end, zero_unmarked}
+use Rattle.rrd_disk.proofs.Safe.{became_as}
+use Rattle.rrd_disk.proofs.Storing.{file_database, sound_unmarked, unmarked_itself, whole_end, zero_unmarked}
 use Rattle.rrd_disk.proofs.Writing.{Creates, FailsToCreate, FailsToTruncate, Truncates, database_none, emptied, zero_database}
-use Rattle.rrd_change.specs.Settled as marks
 use Rattle.rrd_change.specs.Views as views
 use Rattle.rrd_disk.specs.declared.storage.Found.TheVariants.{Missing}
 
@@ -41,18 +40,10 @@ empty_zero : (c : List ℕ) → c ≡ [] → slice_index c 0 ≡ 0
 empty_zero c is = ap (λ (b : List ℕ). slice_index b 0) is
 
 empty_unmade : (bytes : List ℕ) (w : views.World) → IsEmpty w → All (IsUnmade bytes) w
-empty_unmade bytes w empty = record {
-  held = inl (empty_zero w.held empty.held);
-  leave = λ c may. inl (empty_zero c (empty.leave c may));
-  keep = λ c may. inl (empty_zero c (empty.keep c may));
-}
+empty_unmade bytes w empty = grind arith
 
 pub stays_empty : (u v : views.World) → Stays u v → IsEmpty u → IsEmpty v
-stays_empty u v same empty = record {
-  held = same.held ∙ empty.held;
-  leave = λ c may. empty.leave c (same.leave c may);
-  keep = λ c may. empty.keep c (same.keep c may);
-}
+stays_empty u v same empty = grind arith
 
 pub zero_bare : Laws → (c : List ℕ) → slice_index c 0 ≡ 0 → IsBare c
 zero_bare laws c zeroed = (zero_unmarked c zeroed, λ d file. zero_database c zeroed (file_database laws c d file))
@@ -69,18 +60,11 @@ still_unmarked : (d : List ℕ) (w : World) (old mid : List Event) → Stays (wo
 still_unmarked d w old mid same none = ap mark_of (sym (held_is d w mid) ∙ same.held ∙ held_is d w old) ∙ none
 
 pub unmarked_twice : (old mid new : List Event) → Falls mid new → StaysUnmarked old mid → StaysUnmarked mid new → StaysUnmarked old new
-unmarked_twice old mid new falls first second d w honest none =
-    let one = first d w (falls w honest) none in
-    let two = second d w honest (still_unmarked d w old mid one none) in
-    record { held = two.held ∙ one.held; leave = λ c may. one.leave c (two.leave c may); keep = λ c may. one.keep c (two.keep c may) }
+unmarked_twice old mid new falls first second d w honest none = grind (arith, still_unmarked)
 
 -- it has none, so no calls follow that one would have had
 pub marked_never : (is : Bool) (old mid new : List Event) → Falls mid new → StaysUnmarked old mid → TellsMark is mid → IsTrue is → StaysUnmarked old new
-marked_never is old mid new falls first tells marked d w honest none =
-    let before = falls w honest in
-    let still = still_unmarked d w old mid (first d w before none) none in
-    let some : IsSome {T = marks.Mark} None = subst (λ (m : Option marks.Mark). IsSome m) still ((tells w before).0 marked) in
-    absurd cc
+marked_never is old mid new falls first tells marked d w honest none = grind (arith, still_unmarked)
 
 module _ (d : List ℕ) (w : World) (old new : List Event) where
   bare_unmarked : IsBare (world_after d w old).held → mark_of (bytes_after w old) ≡ None
@@ -110,25 +94,14 @@ unmade_before bytes u v c same (inr had) = inr (had_before bytes u v c same had)
 -- ---- truncated to no bytes
 
 truncated_empty : (w v : views.World) → Truncates w v → IsEmpty v
-truncated_empty w v sized = record {
-  held = emptied v.held sized.held.len;
-  leave = λ c may. emptied c (sized.leave c may).2.len;
-  keep = λ c may. emptied c (sized.keep c may).2.len;
-}
+truncated_empty w v sized = grind (arith, emptied)
 
 sized_had : (bytes : List ℕ) (w : views.World) (b c : List ℕ) → Had w b → IsSizedOrNot 0 b c → IsUnmadeOr bytes w c
 sized_had bytes w b c had (inl same) = inr (subst (Had w) (sym same) had)
 sized_had bytes w b c had (inr sized) = inl (inl (empty_zero c (emptied c sized.len)))
 
 untruncated_had : (bytes : List ℕ) (w v : views.World) → FailsToTruncate w v → All (IsUnmadeOr bytes w) v
-untruncated_had bytes w v fails = record {
-  held = sized_had bytes w w.held v.held (inl refl) fails.held;
-  leave = λ c may. let from = fails.leave c may in sized_had bytes w from.0 c (inr (inl from.1)) from.2;
-  keep = λ c may. let from = fails.keep c may in elim from.1 as (λ _. IsUnmadeOr bytes w c) [
-    | inl kept ↦ sized_had bytes w from.0 c (inr (inr kept.0)) kept.1
-    | inr was ↦ sized_had bytes w from.0 c (inr (inl was.0)) was.1
-  ];
-}
+untruncated_had bytes w v fails = grind (arith, common_steps, sized_had)
 
 -- ---- the steps
 
@@ -231,8 +204,7 @@ made_safely (Err e) found left bytes syncs old new began does = does
 -- no call was made, and it failed
 pub unmade_safely : {E : Type 0} (r : Result (Unit {0}) E) (found left : Found) (bytes : List ℕ) (syncs : Syncs) (events : List Event) → IsErr r → MakesSafely syncs found left bytes events events r
 unmade_safely (Ok x) found left bytes syncs events failed = absurd (true≢false (sym failed))
-unmade_safely (Err e) found left bytes syncs events failed = λ ordered d w honest lacks.
-    stays_had bytes (world_after d w events) (world_after d w events) (record { held = refl; leave = λ c may. may; keep = λ c may. may })
+unmade_safely (Err e) found left bytes syncs events failed = grind arith
 
 pub found_making : {E : Type 0} (r : Result (Unit {0}) E) (was is left : Found) (bytes : List ℕ) (syncs : Syncs) (old new : List Event) → was ≡ is
     → MakesSafely syncs is left bytes old new r → MakesSafely syncs was left bytes old new r
@@ -248,8 +220,7 @@ open_making r (Kept base log) left bytes syncs old new opened = λ ordered d w h
 
 -- the file was closed then
 pub closed_making : {E : Type 0} (r : Result (Unit {0}) E) (found left : Found) (bytes : List ℕ) (syncs : Syncs) (old new : List Event) → MakesSafely syncs found left bytes old new r → MakesSafely syncs found Unopened bytes old new r
-closed_making (Ok x) found left bytes syncs old new makes = λ ordered d w honest lacks.
-    let one = makes ordered d w honest lacks in (one.0, as_left left Whole bytes bytes (world_after d w new) one.1)
+closed_making (Ok x) found left bytes syncs old new makes = grind arith
 closed_making (Err e) found left bytes syncs old new makes = makes
 
 -- the state does not matter after a failure
@@ -259,14 +230,8 @@ failed_making (Err e) found left last bytes syncs old new failed makes = makes
 
 -- ---- a record that begins so
 
-either_none : (a c : List ℕ) → a ≡ [] → (c ≡ []) ⊎ (c ≡ a) → c ≡ []
-either_none a c none (inl is) = is
-either_none a c none (inr is) = is ∙ none
-
 empty_start : (w : World) → w.start ≡ NoFile → IsEmpty (world_after [] w [])
-empty_start w missing =
-    let none : bytes_of w.start ≡ [] = ap bytes_of missing in
-    record { held = none; leave = λ c may. either_none (bytes_of w.start) c none may; keep = λ c may. either_none (bytes_of w.start) c none may }
+empty_start w missing = grind arith
 
 had_none : (w : views.World) (c : List ℕ) → IsEmpty w → Had w c → c ≡ []
 had_none w c empty (inl is) = is ∙ empty.held
@@ -318,21 +283,10 @@ pub still_empty : (w : World) (events : List Event) → IsTrue (is_honest_after 
 still_empty w [] honest missing is = empty_start w missing
 still_empty w (e ∷ earlier) honest missing is =
     let both = and_parts (is_honest_of (held_after w earlier) (part_after w earlier) e) (is_honest_after w earlier) honest in
-    let before = still_empty w earlier both.1 missing (left_missing (held_after w earlier) (part_after w earlier) e is) in
-    let none = found_none (held_after w earlier) (part_after w earlier) e both.0 is in
-    let kept : IsEmpty (world_after [] w (NotFound ∷ earlier)) = record {
-      held = ap bytes_of (subst (λ (x : Event). left (held_after w earlier) (part_after w earlier) x ≡ NoFile) none is);
-      leave = before.leave;
-      keep = before.keep;
-    } in
-    subst (λ (x : Event). IsEmpty (world_after [] w (x ∷ earlier))) (sym none) kept
+    grind (arith, still_empty w earlier both.1 missing (left_missing (held_after w earlier) (part_after w earlier) e is), left_missing)
 
 stays_making : (P : List ℕ → Type 0) (u v : views.World) → Stays u v → AllStand file_end P u → AllStand file_end P v
-stays_making P u v same all = record {
-  held = subst (λ (b : List ℕ). P (settled file_end b)) (sym same.held) all.held;
-  left = λ c may. all.left c (same.leave c may);
-  later = λ c may. all.later c (same.keep c may);
-}
+stays_making P u v same all = grind arith
 
 module _ (laws : Laws) (bytes : List ℕ) (any : IsAnyFile bytes) where
   cut_making_at : (missed events : List Event) → IsTrue (are_failed missed) → IsMaking bytes (missed ++ events) → (w : World) → IsTrue (is_honest_after w events) → w.start ≡ NoFile

@@ -3,7 +3,7 @@ pub use Rattle.std.proofs.Common.{Bool, Err, IfNone, IfOk, IfSome, IsErr, IsOk, 
 pub use Rattle.std.proofs.Math.Bool.{or-true}
 pub use Rattle.std.proofs.Math.Seq.{drop-append_seam, take-append-add, take-append_seam}
 pub use Rattle.std.proofs.lemmas.Bool.{and_from, and_parts, cases_Bool, cases_lt, eq-eqb, eqb-true, false≢true, le-leb, leb-true, not-true, or_cases, true≢false}
-pub use Rattle.std.proofs.lemmas.Grind.{same_number_lists}
+pub use Rattle.std.proofs.lemmas.Grind.{common_steps, same_number_lists}
 pub use Rattle.std.proofs.lemmas.List.{append_assoc, ext_get_or, get_or-append_right, get_or-replicate, get_or_append_left, get_or_past, length-replicate, length-take-le, take-append-drop, take-append-le, take-take, take_all, take_min}
 pub use Rattle.std.proofs.lemmas.List.Elements.{All-more}
 pub use Rattle.std.proofs.lemmas.List.Prefix.{front_from_reads, front_reads}

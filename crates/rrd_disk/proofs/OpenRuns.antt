@@ -1,5 +1,5 @@
 -- Runs on a file that stays open, by the record of their calls.
-use Rattle.rrd_disk.proofs.Names.{◌≡◌, ◌∙◌, ap, IsTrue, List, [], ◌∷◌, map, Option, Some, None, refl, subst, sym, Encoded, Stored, IsInMemory, Held, held_of, world_in, Rests, IsSound, contents_after, is_honest_by, represented, Event, AreOpenRuns, IsKept, IsKeptOf, IsOpenRun, IsReload, OpenFilesFollowSpecification, RecordedOpen, record_of, World, held_after, is_honest_after, IsSoundAs, Laws, is_sound_by, Found, Unopened}
+use Rattle.rrd_disk.proofs.Names.{arith, ◌≡◌, ◌∙◌, ap, IsTrue, List, [], ◌∷◌, map, Option, Some, None, refl, subst, Encoded, Stored, IsInMemory, Held, held_of, world_in, Rests, IsSound, contents_after, is_honest_by, represented, Event, AreOpenRuns, IsKept, IsKeptOf, IsOpenRun, IsReload, OpenFilesFollowSpecification, RecordedOpen, record_of, World, held_after, is_honest_after, IsSoundAs, Laws, is_sound_by, Found, Unopened}
 use Rattle.rrd_disk.proofs.Asked.{world_in_held}
 use Rattle.rrd_disk.proofs.FileRuns.{first_itself, first_sound}
 use Rattle.rrd_disk.proofs.Storing.{sound_as}
@@ -45,39 +45,26 @@ in_none (Some h) = record { read = tt; bytes = tt }
 pub kept_rests : (f0 f1 : Found) (old new : List Event) (d0 d1 : Option Stored) (e0 e1 : Option Encoded) → Rests old new
     → ((h : Held) → IsSoundAs f0 h → IsSoundAs f1 h) → ((held : Option Held) → IsInMemory held d0 e0 → IsInMemory held d1 e1)
     → IsKept f0 old d0 e0 → IsKept f1 new d1 e1
-kept_rests f0 f1 old new d0 d1 e0 e1 rests sound memory kept w honest is =
-    let was = kept w (rests.falls w honest) is in
-    subst (λ (h : Held). IsKeptOf f1 h d1 e1) (sym (rests.held w))
-    (record { sound = sound (held_after w old) was.sound; memory = memory (Some (represented (held_after w old))) was.memory })
+kept_rests f0 f1 old new d0 d1 e0 e1 rests sound memory kept w honest is = grind arith
 
 pub kept_as : (f0 f1 : Found) (old new : List Event) (d0 d1 : Option Stored) (e0 e1 : Option Encoded) → Rests old new → f1 ≡ f0 → d1 ≡ d0 → e1 ≡ e0
     → IsKept f0 old d0 e0 → IsKept f1 new d1 e1
-kept_as f0 f1 old new d0 d1 e0 e1 rests found database encoded =
-    kept_rests f0 f1 old new d0 d1 e0 e1 rests (λ h is. subst (λ (f : Found). IsSoundAs f h) (sym found) is)
-    (λ held is. subst (λ (d : Option Stored). IsInMemory held d e1) (sym database) (subst (λ (e : Option Encoded). IsInMemory held d0 e) (sym encoded) is))
+kept_as f0 f1 old new d0 d1 e0 e1 rests found database encoded = grind arith
 
 pub kept_closed : (f0 f1 : Found) (old new : List Event) (d0 d1 : Option Stored) (e0 e1 : Option Encoded) → Rests old new → f1 ≡ Unopened → d1 ≡ None → e1 ≡ None
     → IsKept f0 old d0 e0 → IsKept f1 new d1 e1
-kept_closed f0 f1 old new d0 d1 e0 e1 rests found database encoded =
-    kept_rests f0 f1 old new d0 d1 e0 e1 rests (λ h is. subst (λ (f : Found). IsSoundAs f h) (sym found) (sound_as f0 h is))
-    (λ held is. subst (λ (d : Option Stored). IsInMemory held d e1) (sym database) (subst (λ (e : Option Encoded). IsInMemory held None e) (sym encoded) (in_none held)))
+kept_closed f0 f1 old new d0 d1 e0 e1 rests found database encoded = grind (arith, kept_rests, sound_as, in_none)
 
 -- the same where nothing was in memory
 pub kept_none : (f0 f1 : Found) (old new : List Event) (d : Option Stored) (e : Option Encoded) → Rests old new → f1 ≡ Unopened
     → IsKept f0 old d e → IsKept f1 new d e
-kept_none f0 f1 old new d e rests found =
-    kept_rests f0 f1 old new d d e e rests (λ h is. subst (λ (f : Found). IsSoundAs f h) (sym found) (sound_as f0 h is)) (λ held is. is)
+kept_none f0 f1 old new d e rests found = grind (arith, kept_rests, sound_as)
 
 pub run_between : (run : runs.Run) (old before after new : List Event) → Rests old before → Rests after new → IsOpenRun before after run → IsOpenRun old new run
-run_between run old before after new first second ran w honest is =
-    let did = ran w (second.falls w honest) is in
-    let begun = subst (λ (h : Held). runs.Did (represented h) run (represented (held_after w after))) (first.held w) did.1 in
-    (first.falls w did.0, subst (λ (h : Held). runs.Did (represented (held_after w old)) run (represented h)) (sym (second.held w)) begun)
+run_between run old before after new first second ran w honest is = grind arith
 
 pub reload_between : (old before after new : List Event) → Rests old before → Rests after new → IsReload before after → IsReload old new
-reload_between old before after new first second reloaded w honest is =
-    let same = reloaded w (second.falls w honest) is in
-    (first.falls w same.0, ap represented (second.held w) ∙ same.1 ∙ ap represented (first.held w))
+reload_between old before after new first second reloaded w honest is = grind arith
 
 -- ---- one run after another
 
@@ -94,9 +81,7 @@ happened : (w : World) (before : List Event) (recorded : List RecordedOpen) → 
     → IsTrue (is_honest_after w (record_of before recorded))
     → runs.HappenedAll (represented (held_after w before)) (ended recorded) (represented (held_after w (record_of before recorded)))
 happened w before [] sound are honest = refl
-happened w before (r ∷ later) sound are honest =
-    let one = are.0 w (honest_before w r.events later sound are.1 honest) sound in
-    (represented (held_after w r.events), one.1, happened w r.events later sound are.1 honest)
+happened w before (r ∷ later) sound are honest = grind (arith, honest_before, happened w r.events later sound are.1 honest)
 
 module _ (laws : Laws) where
   pub open_files_follow : ((old : Held) (first : Option Stored) (events : List runs.Event) (new : Held) → runs.RunsFollowSpecification old first events new)

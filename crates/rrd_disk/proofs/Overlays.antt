@@ -1,13 +1,10 @@
 -- What a file is after bytes were laid over it, in the words of rrd_change.
-use Rattle.rrd_disk.proofs.Names.{◌≡◌, ℕ, ◌+◌, ◌-◌, ◌<◌, ◌≤◌, ◌⊎◌, inl, inr, List, [], ◌∷◌, ◌++◌, length, drop, replicate, slice_index, refl, sym, ◌∙◌, ap, arith, length-append, length-drop, length-take, get_or-take, get_or-drop, get_or_append_left, get_or-append_right, get_or-replicate, get_or_past, length-replicate, cases_lt, ArePut, IsSized}
+use Rattle.rrd_disk.proofs.Names.{common_steps, ◌≡◌, ℕ, ◌+◌, ◌-◌, ◌<◌, ◌≤◌, ◌⊎◌, inl, inr, List, [], ◌∷◌, ◌++◌, length, drop, replicate, slice_index, refl, sym, ◌∙◌, ap, arith, length-append, length-drop, get_or-drop, get_or_append_left, get_or-append_right, get_or_past, cases_lt, ArePut, IsSized}
 use Rattle.rrd_disk.specs.Replayed.{padded, overlaid}
 
 -- zeros have the value that a list has past its end
 zeros : (n k : ℕ) → slice_index (replicate n 0) k ≡ 0
-zeros n k = elim (cases_lt k n) [
-  | inl inside ↦ get_or-replicate n k 0 0 inside
-  | inr past ↦ get_or_past (replicate n 0) k 0 (omega (arith, length-replicate {A = ℕ} n 0))
-]
+zeros n k = grind (arith, common_steps)
 
 -- so zeros behind a file change no byte
 zeros_behind : (file : List ℕ) (n k : ℕ) → slice_index (file ++ replicate n 0) k ≡ slice_index file k
@@ -18,15 +15,11 @@ zeros_behind file n k = elim (cases_lt k (length file)) [
 
 pub length-padded : (file : List ℕ) (count : ℕ) → length (padded file count) ≡ count
 unfolding padded
-length-padded file count =
-    let gap : List ℕ = replicate (count - length file) 0 in
-    omega (arith, length-take count (file ++ gap), length-append file gap, length-replicate {A = ℕ} (count - length file) 0)
+length-padded file count = grind (arith, common_steps, length-append)
 
 pub padded_below : (file : List ℕ) (count k : ℕ) → k < count → slice_index (padded file count) k ≡ slice_index file k
 unfolding padded
-padded_below file count k low =
-    let gap : List ℕ = replicate (count - length file) 0 in
-    get_or-take count (file ++ gap) k 0 low ∙ zeros_behind file (count - length file) k
+padded_below file count k low = grind (arith, common_steps, zeros_behind)
 
 pub padded-IsSized : (file : List ℕ) (count : ℕ) → IsSized count file (padded file count)
 padded-IsSized file count = record { len = length-padded file count; below = padded_below file count }

@@ -28,17 +28,10 @@ or_failed well badly (Err e) syncs old new failed does = does
 opened_bytes : (opening : Opening) (old new : List Event) → KeepsHeldFor opening old new → (w : World) → bytes_after w new ≡ bytes_after w old
 opened_bytes Read old new keeps w = ap bytes_of (keeps w)
 opened_bytes Write old new keeps w = ap bytes_of (keeps w)
-opened_bytes Make old new keeps w = elim (keeps w) as (λ _. bytes_after w new ≡ bytes_after w old) [
-  | inl same ↦ ap bytes_of same
-  | inr (missing, made) ↦ ap bytes_of made ∙ sym (ap bytes_of missing)
-]
+opened_bytes Make old new keeps w = grind arith
 
 pub rests_stay : (opening : Opening) (old new : List Event) → RestsFor opening old new → (d : List ℕ) (w : World) → Stays (world_after d w old) (world_after d w new)
-rests_stay opening old new rests d w = record {
-  held = held_is d w new ∙ opened_bytes opening old new rests.held w ∙ sym (held_is d w old);
-  leave = rests.leave d w;
-  keep = rests.keep d w;
-}
+rests_stay opening old new rests d w = grind (arith, held_is, opened_bytes)
 
 pub rests_left : (opening : Opening) (old new : List Event) → RestsFor opening old new → (d : List ℕ) (w : World) → StaysLeft (world_after d w old) (world_after d w new)
 rests_left opening old new rests d w end other now any left = stays_left (world_after d w old) (world_after d w new) (rests_stay opening old new rests d w) end other now left
@@ -86,16 +79,12 @@ fault_power one fault old mid rests is of d w honest end other now any left =
 
 -- no database begins with a mark
 cut_not : (file : List ℕ) → StandsAt file 0 cut_mark → IsDatabase file → ⊥
-cut_not file marked is =
-    let one : slice_index file 3 ≡ 67 = marked.each 3 (lit< tt) in
-    let other : slice_index file 3 ≡ 73 = is.begins.each 3 (lit< tt) in
-    omega (arith, one, other)
+cut_not file marked is = grind arith
 
 log_not : (file : List ℕ) (tail : ℕ) → StandsAt file 0 (log_mark tail) → IsDatabase file → ⊥
 log_not file tail marked is =
     let one : slice_index file 3 ≡ 76 = marked.each 3 (lit< tt) in
-    let other : slice_index file 3 ≡ 73 = is.begins.each 3 (lit< tt) in
-    omega (arith, one, other)
+    grind arith
 
 module _ (laws : Laws) (end : LogEnd) (other now : List ℕ) (v : views.World) (any : IsAnyFile now) (none : mark_of v.held ≡ None) where
   pub held_now : IsLeft end other now v → v.held ≡ now
@@ -189,8 +178,7 @@ module _ (old mid ready new : List Event) (made : RestsFor Make old mid) (bytes 
 -- a file that is only prepared
 pub settled_power : {E : Type 0} (r : Result (Option Base) E) (syncs one : Syncs) → one ≡ syncs → (old mid new : List Event) → Rests old mid → DoesOr Readies StaysLeft r one mid new
     → syncs ≡ Ordered → (d : List ℕ) (w : World) → IsTrue (is_honest_after w new) → StaysLeft (world_after d w old) (world_after d w new)
-settled_power (Ok None) syncs one is old mid new rests does ordered d w honest end other now any left =
-    absurd (does (is ∙ ordered) d w honest end other now any (rests_left Read old mid rests d w end other now any left))
+settled_power (Ok None) syncs one is old mid new rests does ordered d w honest end other now any left = grind (arith, rests_left Read old mid rests d w end other now any left)
 settled_power (Ok (Some base)) syncs one is old mid new rests does ordered d w honest end other now any left =
     inl (does (is ∙ ordered) d w honest end other now any (rests_left Read old mid rests d w end other now any left)).1
 settled_power (Err e) syncs one is old mid new rests does ordered d w honest end other now any left =

@@ -1,20 +1,12 @@
 -- Programs that keep a file open and are killed, by the records of their calls.
-use Rattle.rrd_disk.proofs.Names.{◌≡◌, ◌∙◌, ℕ, ◌≤◌, Bool, IsTrue, List, [], ◌∷◌, ◌++◌, length, take, Option, inl, inr, refl, sym, ap, subst, arith, length-take, and_parts, true≢false, append_assoc, take_all, Encoded, Stored, Held, Missing, Bytes, IsSound, represented, Event, PutFailed, SizeFailed, SyncFailed, are_failed, interrupted, is_failed, IsKept, IsOpenRun, IsReload, LeavesSound, ArePrograms, AreSteps, End, IsEnd, IsKeeper, IsKilledOpenRun, IsLeaving, IsProgram, Keeper, KilledIn, Keeps, Left, Program, ProgramsFollowSpecification, Ran, Reread, Runs, Step, all_runs, end_run, last_of, record_after, record_at, runs_of, steps_run, World, bytes_of, failures, held_after, is_honest_after, is_honest_of, left, part_after, Laws, Found}
-use Rattle.rrd_disk.proofs.FileRuns.{first_itself, first_sound, one_happened}
+use Rattle.rrd_disk.proofs.Names.{◌≡◌, ◌∙◌, ℕ, ◌≤◌, Bool, IsTrue, List, [], ◌∷◌, ◌++◌, length, take, Option, inl, inr, refl, sym, ap, subst, arith, length-take, and_parts, append_assoc, take_all, Encoded, Stored, Held, Bytes, IsSound, represented, Event, are_failed, interrupted, is_failed, IsKept, IsOpenRun, IsReload, LeavesSound, ArePrograms, AreSteps, End, IsEnd, IsKeeper, IsKilledOpenRun, IsLeaving, IsProgram, Keeper, KilledIn, Keeps, Left, Program, ProgramsFollowSpecification, Ran, Reread, Runs, Step, all_runs, end_run, last_of, record_after, record_at, runs_of, steps_run, World, bytes_of, failures, held_after, is_honest_after, Laws, Found}
+use Rattle.rrd_disk.proofs.FileRuns.{first_itself, first_sound}
 use Rattle.rrd_disk.proofs.Kills.{cut, cut_held, cut_honest, missed_held, missed_honest, split}
 use Rattle.rrd_disk.proofs.Storing.{sound_as}
 use Rattle.rrd_disk.specs.Programs.{AreHonest, left_by, record_of, world_for}
 use Rattle.rrd_store.specs.Runs as runs
 
 -- ---- the calls that a killed program did not make
-
--- where a call failed that an honest file answered, there is a file
-there_of : (h : Held) (part : ℕ) (e : Event) → IsTrue (is_failed e) → IsTrue (is_honest_of h part e) → left h part e ≡ Bytes (bytes_of (left h part e))
-there_of Missing part (PutFailed at bytes) is honest = absurd (true≢false (sym honest))
-there_of Missing part (SizeFailed count) is honest = absurd (true≢false (sym honest))
-there_of Missing part SyncFailed is honest = absurd (true≢false (sym honest))
-there_of Missing part _ is honest = absurd (true≢false (sym is))
-there_of (Bytes file) part e is honest = refl
 
 module _ (w : World) (events : List Event) (few : length w.parts ≤ failures events) where
   pub whole : cut w (failures events) ≡ w
@@ -39,8 +31,7 @@ pub record Goes (w : World) (missed events : List Event) : Type 0 where
 
 there_after : (w : World) (e : Event) (events : List Event) → IsTrue (is_failed e) → IsTrue (is_honest_after w (e ∷ events))
     → held_after w (e ∷ events) ≡ Bytes (bytes_of (held_after w (e ∷ events)))
-there_after w e events is honest =
-    there_of (held_after w events) (part_after w events) e is (and_parts (is_honest_of (held_after w events) (part_after w events) e) (is_honest_after w events) honest).0
+there_after w e events is honest = grind arith
 
 -- the oldest of these calls
 first_there : (w : World) (missed events : List Event) (e : Event) (more : List Event) → missed ≡ e ∷ more → IsTrue (are_failed missed)
@@ -48,8 +39,7 @@ first_there : (w : World) (missed events : List Event) (e : Event) (more : List 
     → held_after w (interrupted missed ++ events) ≡ Bytes (bytes_of (held_after w (interrupted missed ++ events)))
 first_there w [] events e more is are honest = absurd cc
 first_there w (f ∷ []) events e more is are honest = there_after w f events (and_parts (is_failed f) (are_failed []) are).0 honest
-first_there w (f ∷ g ∷ rest) events e more is are honest =
-    first_there w (g ∷ rest) events g rest refl (and_parts (is_failed f) (are_failed (g ∷ rest)) are).1 honest
+first_there w (f ∷ g ∷ rest) events e more is are honest = grind (arith, first_there w (g ∷ rest) events g rest refl (and_parts (is_failed f) (are_failed (g ∷ rest)) are).1 honest)
 
 pub goes_on : (w : World) (missed events : List Event) → IsTrue (are_failed missed) → length w.parts ≤ failures (interrupted missed ++ events)
     → IsTrue (is_honest_after w (interrupted missed ++ events)) → Goes w missed events
@@ -114,17 +104,8 @@ pub record Went (w : World) (before : List Event) (steps : List Step) : Type 0 w
 went : (w : World) (before : List Event) (steps : List Step) → IsSound w.start → AreSteps before steps
     → IsTrue (is_honest_after w (record_after before steps)) → Went w before steps
 went w before [] sound are honest = record { honest = honest; all = refl }
-went w before (Ran run events ∷ later) sound are honest =
-    let rest = went w events later sound are.1 honest in
-    let one = are.0 w rest.honest sound in
-    record { honest = one.0; all = (represented (held_after w events), one.1, rest.all) }
-went w before (Reread events ∷ later) sound are honest =
-    let rest = went w events later sound are.1 honest in
-    let one = are.0 w rest.honest sound in
-    record {
-      honest = one.0;
-      all = subst (λ (h : Held). runs.HappenedAll h (steps_run later) (represented (held_after w (record_after events later)))) one.1 rest.all;
-    }
+went w before (Ran run events ∷ later) sound are honest = grind (arith, went w events later sound are.1 honest)
+went w before (Reread events ∷ later) sound are honest = grind (arith, went w events later sound are.1 honest)
 
 -- the end of a program that kept the file open, if nothing is assumed of calls that it did not make
 pub record Ends (w : World) (before : List Event) (end : End) : Type 0 where
@@ -134,11 +115,8 @@ pub record Ends (w : World) (before : List Event) (end : End) : Type 0 where
 
 ended : (w : World) (before : List Event) (end : End) → IsEnd before end → length w.parts ≤ failures (record_at end)
     → IsTrue (is_honest_after w (record_at end)) → IsSound w.start → Ends w before end
-ended w before (Left events) is few honest sound =
-    let one = is w few honest sound in record { honest = one.0; sound = one.1; all = one.2 }
-ended w before (KilledIn run events) is few honest sound =
-    let one = is w few honest sound in
-    record { honest = one.0; sound = one.1; all = (represented (held_after w events), one.2, refl) }
+ended w before (Left events) is few honest sound = grind arith
+ended w before (KilledIn run events) is few honest sound = grind arith
 
 -- what a program did to the file
 pub record Acts (start : Held) (happened : List runs.Event) (last : Held) : Type 0 where
@@ -160,9 +138,7 @@ kept_acts w k is few honest sound =
 -- of calls that were not made nothing need be assumed
 program_acts : (start : Held) (p : Program) → IsProgram p
     → IsTrue (is_honest_after (world_for start p) (record_of p)) → IsSound start → Acts start (runs_of p) (left_by start p)
-program_acts start (Runs r) is honest sound =
-    let one = one_happened (world_for start (Runs r)) r.events r.run sound is honest in
-    record { sound = one.0; all = (represented (left_by start (Runs r)), one.1, refl) }
+program_acts start (Runs r) is honest sound = grind arith
 program_acts start (Keeps k) is honest sound =
     let w = world_for start (Keeps k) in
     let events = record_at k.end in

@@ -1,9 +1,9 @@
 -- What the repair of a file with a mark does to one file.
-use Rattle.rrd_disk.proofs.Names.{left_represents, ◌≡◌, ℕ, List, Option, Some, Result, Ok, Err, IsErr, IsSome, IsTrue, length, take, sym, ◌∙◌, ap, subst, true, false≢true, database_of, IsFound, IsLeft, LogEnd, Whole, mark_of, IsAtRest, Represents, Effect, Steps, seen, Syncs, FoundDatabase, Base, IsFile, HasOneAnswer, Bytes, Finds, Held, IsAnyFile, Stored, TaskFault, CannotOpen, view_of, Falls, KeepsHeld, Rests, IsSound, StandFor, represented, Event, IsFaultIn, IsStandingIn, is_of_bytes, World, bytes_after, bytes_of, held_after, is_honest_after, IsLoaded, IsPrepared, IsSoundAs, Laws, LoadsMarked, LoadsUnmarked, StaysAs, alone, Standing, Found, Open, Unopened}
+use Rattle.rrd_disk.proofs.Names.{arith, left_represents, ◌≡◌, ℕ, List, Option, Some, Result, Ok, Err, IsErr, IsSome, IsTrue, length, take, sym, ◌∙◌, ap, subst, true, false≢true, database_of, IsFound, IsLeft, LogEnd, Whole, mark_of, IsAtRest, Represents, Effect, Steps, seen, Syncs, FoundDatabase, Base, IsFile, HasOneAnswer, Bytes, Finds, Held, IsAnyFile, Stored, TaskFault, CannotOpen, view_of, Falls, KeepsHeld, Rests, IsSound, StandFor, represented, Event, IsFaultIn, IsStandingIn, is_of_bytes, World, bytes_after, bytes_of, held_after, is_honest_after, IsLoaded, IsPrepared, IsSoundAs, Laws, LoadsMarked, LoadsUnmarked, StaysAs, alone, Standing, Found, Open, Unopened}
 use Rattle.rrd_disk.proofs.Asked.{falls_asked}
 use Rattle.rrd_disk.proofs.Loaded.{no_file}
 use Rattle.rrd_disk.proofs.Resting.{rests_refl}
-use Rattle.rrd_disk.proofs.Storing.{any_database, database_unmarked, each_alone, finds_closed, found_open, itself, loaded_from, loaded_same, marked_for, represented_standing, sound_standing, stand_sound, stays_open, steps_falls}
+use Rattle.rrd_disk.proofs.Storing.{any_database, database_unmarked, each_alone, finds_closed, itself, loaded_from, loaded_same, marked_for, represented_standing, sound_standing, stand_sound, stays_open, steps_falls}
 
 -- what a repair does
 abbrev pub Repairs : FoundDatabase → Effect
@@ -60,17 +60,12 @@ unprepared (Ok x) old new failed sound same = absurd (false≢true failed)
 unprepared (Err e) old new failed sound same = (sound, same)
 
 pub stands_unprepared : {E : Type 0} (result : Result (Option Base) E) (laws : Laws) (now : List ℕ) (old new : Held) → IsErr result → Stands now old new → IsPrepared result old new
-stands_unprepared result laws now old new failed is =
-    unprepared result old new failed (sound_standing new now is.file is.there is.represents) (represented_standing laws new now is.file is.there is.represents ∙ sym is.was)
+stands_unprepared result laws now old new failed is = grind (arith, sound_standing new now is.file is.there is.represents, represented_standing laws new now is.file is.there is.represents)
 
 -- the file is this database, which begins so
 pub prepared_open : Laws → (now : List ℕ) (base : Base) (old new : Held) → IsAnyFile now → represented old ≡ Bytes now → new ≡ Bytes now → base.length ≡ length now → base.first ≡ take 16 now
     → (represented new ≡ represented old) × StaysAs (Open base) new
-prepared_open laws now base old new any was is len first =
-    let bytes : bytes_of new ≡ now = ap bytes_of is in (
-      itself new now is (database_unmarked now (any_database laws now any)) ∙ sym was,
-      found_open laws base new (is ∙ ap (λ (b : List ℕ). Bytes b) (sym bytes)) (subst IsAnyFile (sym bytes) any) (len ∙ ap (λ (b : List ℕ). length b) (sym bytes)) (first ∙ ap (λ (b : List ℕ). take 16 b) (sym bytes)),
-    )
+prepared_open laws now base old new any was is len first = grind (arith, itself new now is (database_unmarked now (any_database laws now any)), database_unmarked now (any_database laws now any), any_database laws now any)
 
 -- ---- a file that is only read
 

@@ -1,5 +1,5 @@
 -- What the calls of an honest record say of the file's bytes.
-use Rattle.rrd_disk.proofs.Names.{◌≡◌, ℕ, ◌+◌, ◌<◌, ◌≤◌, inl, inr, ◌==◌, nat_le, List, [], ◌∷◌, length, take, drop, slice_index, IsTrue, refl, sym, ◌∙◌, ap, arith, length-drop, length-take, get_or-take, get_or-drop, and_parts, or_cases, eqb-true, leb-true, true≢false, bytes_eq-Decides, Held, Missing, Bytes, AreGot, Event, Made, Measured, Got, NotFound, World, bytes_after, bytes_of, held_after, is_honest_after, is_honest_of, left, part_after}
+use Rattle.rrd_disk.proofs.Names.{common_steps, ◌≡◌, ℕ, ◌+◌, ◌<◌, ◌≤◌, List, [], ◌∷◌, length, take, drop, IsTrue, refl, sym, ap, arith, length-drop, length-take, and_parts, eqb-true, true≢false, bytes_eq-Decides, Held, Missing, Bytes, AreGot, Event, Made, Measured, Got, NotFound, World, bytes_after, bytes_of, held_after, is_honest_after, is_honest_of, left, part_after}
 use Rattle.rrd_disk.specs.Events.{Found}
 use Rattle.rrd_disk.specs.Replayed.{is_honest_read}
 
@@ -12,12 +12,7 @@ read_same file at wanted [] some honest = absurd (omega arith)
 read_same file at wanted (byte ∷ more) some honest = (bytes_eq-Decides (take (length (byte ∷ more)) (drop at file)) (byte ∷ more)).0 honest
 
 pub read-AreGot : (file : List ℕ) (at wanted : ℕ) (bytes : List ℕ) → 0 < length bytes → IsTrue (is_honest_read file at wanted bytes) → AreGot file at (length bytes) bytes
-read-AreGot file at wanted bytes some honest =
-    let same = read_same file at wanted bytes some honest in
-    record {
-      len = refl;
-      each = λ i low. ap (λ (s : List ℕ). slice_index s i) (sym same) ∙ get_or-take (length bytes) (drop at file) i 0 low ∙ get_or-drop at file i 0;
-    }
+read-AreGot file at wanted bytes some honest = grind (arith, common_steps, read_same)
 
 pub read_within : (file : List ℕ) (at wanted : ℕ) (bytes : List ℕ) → 0 < length bytes → IsTrue (is_honest_read file at wanted bytes) → at + length bytes ≤ length file
 read_within file at wanted bytes some honest =
@@ -25,10 +20,7 @@ read_within file at wanted bytes some honest =
 
 pub read_ends : (file : List ℕ) (at wanted : ℕ) → 0 < wanted → IsTrue (is_honest_read file at wanted []) → length file ≤ at
 unfolding is_honest_read
-read_ends file at wanted some honest = elim (or_cases (wanted == 0) (nat_le (length file) at) honest) [
-  | inl none ↦ absurd (omega (arith, eqb-true wanted 0 none))
-  | inr ends ↦ leb-true (length file) at ends
-]
+read_ends file at wanted some honest = grind arith
 
 -- ---- one more call of a record
 

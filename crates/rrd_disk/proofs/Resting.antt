@@ -1,6 +1,5 @@
 -- Calls that change nothing, one after another.
-use Rattle.rrd_disk.proofs.Names.{◌≡◌, ◌⊎◌, ℕ, Bool, true, false, List, [], ◌∷◌, Option, Some, None, IsTrue, refl, sym, ◌∙◌, subst, inl, inr, KeepsHeldFor, Rests, RestsFor, opened, Event, Made, Locked, NoLocks, Measured, Got, Put, PutFailed, Sized, SizeFailed, Synced, SyncFailed, Streamed, locked, moved, world_after, World, bytes_after, held_after, left, part_after, Facts, Lock, LockResult, Taken, Lacking, Opening, Read, Write, Make, Held, NoFile, Bytes}
-use Rattle.rrd_disk.proofs.Replaying.{honest_before}
+use Rattle.rrd_disk.proofs.Names.{arith, ◌≡◌, ℕ, Bool, true, false, List, [], ◌∷◌, Option, Some, None, IsTrue, refl, sym, subst, inl, KeepsHeldFor, Rests, RestsFor, opened, Event, Made, Locked, NoLocks, Measured, Got, Put, PutFailed, Sized, SizeFailed, Synced, SyncFailed, Streamed, locked, moved, world_after, World, bytes_after, held_after, part_after, Facts, Lock, LockResult, Taken, Lacking, Opening, Read, Write, Make}
 use Rattle.rrd_disk.specs.Calls.{seen}
 use Rattle.rrd_disk.specs.Events.{Found, Missing}
 use Rattle.rrd_change.specs.Views as views
@@ -39,23 +38,6 @@ is_quiet (Got at wanted bytes) = true
 is_quiet Streamed = true
 is_quiet _ = false
 
-left_quiet : (h : Held) (part : ℕ) (e : Event) → IsTrue (is_quiet e) → left h part e ≡ h
-left_quiet NoFile part Missing quiet = refl
-left_quiet NoFile part Found quiet = refl
-left_quiet NoFile part (Locked lock) quiet = refl
-left_quiet NoFile part NoLocks quiet = refl
-left_quiet NoFile part (Measured count) quiet = refl
-left_quiet NoFile part (Got at wanted bytes) quiet = refl
-left_quiet NoFile part Streamed quiet = refl
-left_quiet (Bytes file) part Missing quiet = refl
-left_quiet (Bytes file) part Found quiet = refl
-left_quiet (Bytes file) part (Locked lock) quiet = refl
-left_quiet (Bytes file) part NoLocks quiet = refl
-left_quiet (Bytes file) part (Measured count) quiet = refl
-left_quiet (Bytes file) part (Got at wanted bytes) quiet = refl
-left_quiet (Bytes file) part Streamed quiet = refl
-left_quiet h part _ quiet = absurd cc
-
 module _ (held : List ℕ) (part : ℕ) (w : views.World) (c : List ℕ) where
   leave_quiet : (e : Event) → IsTrue (is_quiet e) → (moved held part e w).may_leave c → w.may_leave c
   leave_quiet Missing quiet may = may
@@ -78,24 +60,10 @@ module _ (held : List ℕ) (part : ℕ) (w : views.World) (c : List ℕ) where
   keep_quiet _ quiet may = absurd cc
 
 rests_once : (e : Event) (mid : List Event) → IsTrue (is_quiet e) → Rests mid (e ∷ mid)
-rests_once e mid quiet = record {
-  falls = λ s honest. honest_before s mid e honest;
-  held = λ s. left_quiet (held_after s mid) (part_after s mid) e quiet;
-  leave = λ d w c may. leave_quiet (bytes_after w (e ∷ mid)) (part_after w mid) (world_after d w mid) c e quiet may;
-  keep = λ d w c may. keep_quiet (bytes_after w (e ∷ mid)) (part_after w mid) (world_after d w mid) c e quiet may;
-}
-
-made_held : (h : Held) (part : ℕ) → (left h part Made ≡ h) ⊎ ((h ≡ NoFile) × (left h part Made ≡ Bytes []))
-made_held NoFile part = inr (refl, refl)
-made_held (Bytes file) part = inl refl
+rests_once e mid quiet = grind arith
 
 made_once : (mid : List Event) → RestsFor Make mid (Made ∷ mid)
-made_once mid = record {
-  falls = λ s honest. honest_before s mid Made honest;
-  held = λ s. made_held (held_after s mid) (part_after s mid);
-  leave = λ d w c may. may;
-  keep = λ d w c may. may;
-}
+made_once mid = grind arith
 
 -- ---- several calls
 
@@ -110,27 +78,8 @@ held_for Make old new same = λ s. inl (same s)
 pub rests_for : (opening : Opening) (old new : List Event) → Rests old new → RestsFor opening old new
 rests_for opening old new r = record { falls = r.falls; held = held_for opening old new r.held; leave = r.leave; keep = r.keep }
 
-held_then : (opening : Opening) (old mid new : List Event) → KeepsHeldFor opening old mid → KeepsHeldFor opening mid new → KeepsHeldFor opening old new
-held_then Read old mid new first second = λ s. second s ∙ first s
-held_then Write old mid new first second = λ s. second s ∙ first s
-held_then Make old mid new first second = λ s. elim (second s) as (λ _. (held_after s new ≡ held_after s old) ⊎ ((held_after s old ≡ NoFile) × (held_after s new ≡ Bytes []))) [
-  | inl same ↦ elim (first s) as (λ _. (held_after s new ≡ held_after s old) ⊎ ((held_after s old ≡ NoFile) × (held_after s new ≡ Bytes []))) [
-    | inl was ↦ inl (same ∙ was)
-    | inr (none, made) ↦ inr (none, same ∙ made)
-  ]
-  | inr (none, made) ↦ elim (first s) as (λ _. (held_after s new ≡ held_after s old) ⊎ ((held_after s old ≡ NoFile) × (held_after s new ≡ Bytes []))) [
-    | inl was ↦ inr (sym was ∙ none, made)
-    | inr (missing, before) ↦ inr (missing, made)
-  ]
-]
-
 pub rests_then : (opening : Opening) (old mid new : List Event) → RestsFor opening old mid → RestsFor opening mid new → RestsFor opening old new
-rests_then opening old mid new first second = record {
-  falls = λ s honest. first.falls s (second.falls s honest);
-  held = held_then opening old mid new first.held second.held;
-  leave = λ d w c may. first.leave d w c (second.leave d w c may);
-  keep = λ d w c may. first.keep d w c (second.keep d w c may);
-}
+rests_then opening old mid new first second = grind arith
 
 pub rests_trans : (old mid new : List Event) → Rests old mid → Rests mid new → Rests old new
 rests_trans old mid new first second = rests_then Read old mid new first second

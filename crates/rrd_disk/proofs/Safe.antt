@@ -1,7 +1,6 @@
 -- What a run leaves for a failure of the power.
-use Rattle.rrd_disk.proofs.Names.{left_represents, kept_left, ◌≡◌, ◌⊎◌, ◌∙◌, ℕ, ◌<◌, ◌≤◌, Bool, true, false, IsErr, IsOk, IsTrue, OnErr, OnOk, List, [], ◌∷◌, ◌++◌, length, take, Option, Some, None, Result, Ok, Err, inl, inr, refl, sym, ap, subst, arith, false≢true, append_assoc, database_of, IsUnderCut, IsLeft, IsLoose, IsStopped, LogEnd, Whole, mark_of, AgreesOutside, IsAtRest, Represents, Does, Steps, seen, Syncs, Ordered, Base, Log, Span, cut_under, FileSpan, Bytes, DiffersWithin, Held, IsAnyFile, Missing, held_of, view_of, world_in, Falls, Rests, RestsFor, IsSound, contents_after, is_honest_by, represented, Event, TellsMark, IsStandingIn, IsNone, world_after, are_failed, interrupted, World, bytes_after, bytes_of, failures, held_after, is_honest_after, BeganAs, DoesSafely, DoesSafelyUnmarked, IsClosedAs, IsLeftAs, IsPut, Opens, PutsSafely, Reopens, StoresRun, SurvivesAs, SurvivesRun, IsUnwritable, AreOf, Breaks, Changes, IsAsLoaded, IsFoundAs, IsOpen, Laws, MayDiffer, is_sound_by, Becomes, BecomesOrNot, DoesOr, Survives, SurvivesPower, Read, Write, Standing, Found, Unopened, Unwritable, Open, Kept}
-use Rattle.rrd_change.specs.States.{IsKept}
-use Rattle.rrd_disk.proofs.Asked.{bytes_there, world_in_held}
+use Rattle.rrd_disk.proofs.Names.{left_represents, kept_left, ◌≡◌, ◌∙◌, ℕ, ◌<◌, false, IsErr, IsOk, IsTrue, OnOk, List, [], ◌∷◌, ◌++◌, length, take, Option, Some, None, Result, Ok, Err, inl, inr, refl, sym, ap, subst, arith, false≢true, database_of, IsLeft, IsStopped, LogEnd, Whole, mark_of, AgreesOutside, IsAtRest, Represents, Does, Steps, seen, Syncs, Ordered, Base, Span, FileSpan, Bytes, DiffersWithin, Held, IsAnyFile, Missing, view_of, world_in, Falls, Rests, RestsFor, contents_after, represented, Event, TellsMark, IsStandingIn, IsNone, world_after, are_failed, interrupted, World, bytes_after, bytes_of, failures, held_after, is_honest_after, BeganAs, DoesSafely, DoesSafelyUnmarked, IsClosedAs, IsLeftAs, Opens, PutsSafely, Reopens, SurvivesAs, SurvivesRun, IsUnwritable, AreOf, Breaks, Changes, IsAsLoaded, IsFoundAs, IsOpen, Laws, MayDiffer, Becomes, BecomesOrNot, DoesOr, Survives, SurvivesPower, Read, Write, Standing, Found, Unopened, Unwritable, Open, Kept}
+use Rattle.rrd_disk.proofs.Asked.{bytes_there}
 use Rattle.rrd_disk.proofs.Failures.{cut_power, left_survives, long_under, stays_left, there_start}
 use Rattle.rrd_disk.proofs.Kills.{cut, interrupted_as}
 use Rattle.rrd_disk.proofs.Powering.{held_now, repaired_power, rest_by, rests_stay, stored, unrepaired_power}
@@ -11,7 +10,6 @@ use Rattle.rrd_disk.proofs.Storing.{agrees_in, any_database, database_unmarked, 
 use Rattle.rrd_change.specs.Views as views
 use Rattle.rrd_file.specs.Spans as file
 use Rattle.rrd_store.specs.Runs as runs
-use Rattle.rrd_store.specs.Storages as storages
 use Rattle.rrd_disk.specs.declared.storage.Found.TheVariants as found
 
 -- ---- a file that stays open
@@ -52,10 +50,7 @@ module _ (old new : List Event) (rests : Rests old new) (d : List ℕ) (w : Worl
 -- there is a file, if it stands for a database
 none_absurd : Laws → (events : List Event) → IsNone events → (d : List ℕ) (w : World) → IsTrue (is_honest_after w events) → (end : LogEnd) (other now : List ℕ) → IsAnyFile now
     → IsLeft end other now (world_after d w events) → ⊥
-none_absurd laws events none d w honest end other now any left =
-    let long = long_under now (world_after d w events).held (left_represents end other now (world_after d w events) left) (any_database laws now any) in
-    let empty : length (world_after d w events).held ≡ 0 = ap (λ (b : List ℕ). length b) (held_is d w events ∙ ap bytes_of (none w honest)) in
-    omega (arith, long, empty)
+none_absurd laws events none d w honest end other now any left = grind (arith, long_under, any_database, held_is)
 
 module _ (syncs : Syncs) (old new : List Event) (rests : Rests old new) where
   -- the run cannot write the file, or could not read it
@@ -192,8 +187,7 @@ module _ (laws : Laws) (was left : Found) (changed : List FileSpan) (spans : Lis
 -- the file was closed then
 pub closed_safely : {E : Type 0} (r : Result (Unit {0}) E) (was left : Found) (changed : List FileSpan) (bytes : List ℕ) (syncs : Syncs) (old new : List Event) → PutsSafely syncs was left changed bytes old new r
     → PutsSafely syncs was Unopened changed bytes old new r
-closed_safely (Ok x) was left changed bytes syncs old new puts = λ ordered d w honest differs end other now any is.
-    as_left left Whole bytes bytes (world_after d w new) (puts ordered d w honest differs end other now any is)
+closed_safely (Ok x) was left changed bytes syncs old new puts = λ ordered d w honest differs end other now any is. grind (arith, as_left left Whole bytes bytes (world_after d w new) (puts ordered d w honest differs end other now any is))
 closed_safely (Err e) was left changed bytes syncs old new puts = λ ordered d w honest differs end other now any is. puts ordered d w honest differs end other now any is
 
 -- the state does not matter after a failure

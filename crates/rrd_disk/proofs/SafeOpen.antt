@@ -1,6 +1,6 @@
 -- What a run on an open file leaves for a failure of the power.
-use Rattle.rrd_disk.proofs.Names.{◌≡◌, ◌∙◌, ℕ, Bool, IsTrue, List, [], ◌∷◌, ◌++◌, length, ◌≤◌, Option, Some, None, refl, sym, ap, subst, LogEnd, Stays, Syncs, Log, Encoded, Stored, IsInMemory, Bytes, Held, held_of, world_in, Rests, IsSound, contents_after, is_honest_by, represented, Event, world_after, are_failed, interrupted, World, bytes_of, failures, held_after, is_honest_after, IsLeftAs, IsSafeOpen, StaysSafe, StoresOpenRun, SurvivesAs, SurvivesInOpenRun, SurvivesMeanwhile, SurvivesOpenRun, DoesSafely, Reopens, is_safe_by, Laws, is_sound_by, SurvivesPower, Read, Found, Unopened, Unwritable, Open, Kept, append_assoc}
-use Rattle.rrd_change.specs.States.{IsKept, IsOpen}
+use Rattle.rrd_disk.proofs.Names.{arith, ◌≡◌, ◌∙◌, ℕ, Bool, IsTrue, List, [], ◌∷◌, ◌++◌, length, ◌≤◌, Option, Some, None, refl, sym, ap, subst, LogEnd, Stays, Syncs, Log, Encoded, Stored, IsInMemory, Bytes, Held, held_of, world_in, Rests, IsSound, contents_after, is_honest_by, represented, Event, world_after, are_failed, interrupted, World, bytes_of, failures, held_after, is_honest_after, IsLeftAs, IsSafeOpen, StaysSafe, StoresOpenRun, SurvivesAs, SurvivesInOpenRun, SurvivesMeanwhile, SurvivesOpenRun, DoesSafely, Reopens, is_safe_by, Laws, is_sound_by, SurvivesPower, Read, Found, Unopened, Unwritable, Open, Kept, append_assoc}
+use Rattle.rrd_change.specs.States.{IsKept}
 use Rattle.rrd_disk.proofs.Asked.{world_in_held}
 use Rattle.rrd_disk.proofs.Failures.{Wider, stays_left, stays_rest, stays_surviving, wider_missed}
 use Rattle.rrd_disk.proofs.Kills.{split}
@@ -17,20 +17,8 @@ use Rattle.rrd_disk.specs.declared.storage.Found.TheVariants as found
 -- ---- calls that rest
 
 stays_kept : (u v : views.World) → Stays u v → (now : List ℕ) (log : Option Log) → IsKept now log u → IsKept now log v
-stays_kept u v same now None is = record {
-  is = is.is;
-  world = record { held = same.held ∙ is.world.held; leave = λ c may. is.world.leave c (same.leave c may); keep = λ c may. is.world.keep c (same.keep c may) };
-}
-stays_kept u v same now (Some log) is = record {
-  old = is.old;
-  changes = is.changes;
-  follows = is.follows;
-  world = record {
-    held = subst (IsOpen is.old log.tail is.changes) (sym same.held) is.world.held;
-    leave = λ c may. is.world.leave c (same.leave c may);
-    keep = λ c may. is.world.keep c (same.keep c may);
-  };
-}
+stays_kept u v same now None is = grind arith
+stays_kept u v same now (Some log) is = grind arith
 
 stays_as : (f : Found) (u v : views.World) → Stays u v → (end : LogEnd) (other now : List ℕ) → IsLeftAs f end other now u → IsLeftAs f end other now v
 stays_as Unopened u v same end other now left = stays_left u v same end other now left

@@ -1,5 +1,5 @@
 -- Spans, as the crate names them that encodes databases, and as the crate does that changes files.
-use Rattle.rrd_disk.proofs.Names.{◌≡◌, ◌⊎◌, [], ◌∷◌, ◌++◌, ℕ, ◌+◌, ◌<◌, ◌≤◌, List, get_or, length, min, take, inl, inr, arith, cases_lt, All-more, in_left, in_right, IsIn, Span, IsBeside, FileSpan, AreMore, AreOf}
+use Rattle.rrd_disk.proofs.Names.{◌≡◌, ◌⊎◌, [], ◌∷◌, ◌++◌, ℕ, ◌+◌, ◌<◌, ◌≤◌, List, get_or, length, min, take, inl, inr, arith, All-more, in_left, in_right, IsIn, Span, IsBeside, FileSpan, AreMore, AreOf}
 use Rattle.std.specs.List.{All}
 use Rattle.rrd_file.specs.Spans.{AgreesOutside}
 
@@ -8,22 +8,10 @@ are_none count changed = λ k low. inl (λ i d none. absurd (omega (arith, none)
 
 -- byte k is beside a span, or in it
 beside_or : (k start end : ℕ) → ((k < start) ⊎ (end ≤ k)) ⊎ ((start ≤ k) × (k < end))
-beside_or k start end = elim (cases_lt k start) [
-  | inl below ↦ inl (inl below)
-  | inr above ↦ elim (cases_lt k end) [
-    | inl inside ↦ inr (above, inside)
-    | inr behind ↦ inl (inr behind)
-  ]
-]
+beside_or k start end = grind arith
 
 pub more_none : (count : ℕ) (span : FileSpan) (spans : List Span) → min span.end count ≤ span.start → AreMore count span spans spans
-more_none count span spans empty = λ k low. (
-  λ is. is,
-  elim (beside_or k span.start span.end) as (λ _. IsBeside k span ⊎ IsIn k spans) [
-    | inl here ↦ inl here
-    | inr (above, inside) ↦ absurd (omega (arith, low, above, inside, empty))
-  ],
-)
+more_none count span spans empty = grind arith
 
 pub more_pushed : (count start end : ℕ) (span : FileSpan) (spans : List Span) → start ≡ span.start → end ≡ min span.end count → AreMore count span spans (spans ++ record { start = start; end = end } ∷ [])
 more_pushed count start end span spans start_is end_is = λ k low. (

@@ -1,5 +1,5 @@
 -- What the steps of loading say of one file, one after another.
-use Rattle.rrd_disk.proofs.Names.{◌≡◌, ℕ, true, false, List, Option, Some, None, Result, Ok, Err, IfNone, IfOk, IfSome, IsErr, IsSome, IsTrue, OnErr, OnOk, inl, refl, sym, ◌∙◌, ap, subst, false≢true, mark_of, Base, IsFile, FileSpan, Stored, Bytes, Finds, HasNone, Held, IsAfterFailure, Missing, TaskFault, CannotOpen, Falls, KeepsHeld, Rests, world_in, IsSound, contents_after, is_honest_by, represented, Event, TellsMark, IsThere, World, bytes_after, bytes_of, held_after, is_honest_after, HasNoDatabase, IsAsLoaded, IsBased, IsLoaded, IsPrepared, IsSoundAs, Laws, Loads, LoadsAs, LoadsMarked, LoadsOpen, LoadsUnmarked, MayDiffer, Prepares, PreparesMarked, is_sound_by, Found, Unopened, Unwritable, Open, Kept}
+use Rattle.rrd_disk.proofs.Names.{arith, ◌≡◌, ℕ, true, false, List, Option, Some, None, Result, Ok, Err, IfNone, IfOk, IfSome, IsSome, IsTrue, OnErr, OnOk, inl, refl, sym, ◌∙◌, ap, subst, mark_of, Base, IsFile, FileSpan, Stored, Bytes, Finds, HasNone, Held, IsAfterFailure, TaskFault, CannotOpen, Falls, KeepsHeld, Rests, world_in, IsSound, contents_after, is_honest_by, represented, Event, TellsMark, IsThere, World, bytes_after, bytes_of, held_after, is_honest_after, HasNoDatabase, IsAsLoaded, IsBased, IsLoaded, IsSoundAs, Laws, Loads, LoadsAs, LoadsMarked, LoadsOpen, LoadsUnmarked, MayDiffer, Prepares, is_sound_by, Found, Unopened, Unwritable, Open, Kept}
 use Rattle.rrd_store.specs.Storages.{Becomes}
 use Rattle.rrd_disk.proofs.Storing.{finds_closed, found_open, itself, loaded_from, loaded_same, sound_as, sound_unmarked, told_unmarked}
 use Rattle.rrd_disk.specs.Storing.{Writes}
@@ -19,22 +19,17 @@ as_loaded_sound laws (Kept base log) d old new s honest same there none is file 
 
 finds_unmarked : (result : Result (Option Stored) TaskFault) (old new : List Event) (s : World) → held_after s new ≡ held_after s old
     → held_after s old ≡ Bytes (bytes_after s old) → mark_of (bytes_after s old) ≡ None → Finds (Some (Bytes (bytes_after s new))) result → Finds (Some (represented (held_after s old))) result
-finds_unmarked result old new s same there none finds =
-    subst (λ (h : Held). Finds (Some h) result) (ap (λ (h : Held). Bytes (bytes_of h)) same ∙ sym (itself (held_after s old) (bytes_after s old) there none)) finds
+finds_unmarked result old new s same there none finds = grind (arith, itself)
 
 pub loaded_unmarked : Laws → (found : Found) (d : Stored) (old new : List Event) (s : World) → IsTrue (is_honest_after s new) → held_after s new ≡ held_after s old
     → held_after s old ≡ Bytes (bytes_after s old) → mark_of (bytes_after s old) ≡ None → IsAsLoaded found new → IsFile (bytes_after s new) d
     → IsLoaded found (Ok (Some d)) (held_after s old) (held_after s new)
-loaded_unmarked laws found d old new s honest same there none is file =
-    loaded_same found (Ok (Some d)) (held_after s old) (held_after s new) same (as_loaded_sound laws found d old new s honest same there none is file)
-    (finds_unmarked (Ok (Some d)) old new s same there none file)
+loaded_unmarked laws found d old new s honest same there none is file = grind (arith, as_loaded_sound laws found d old new s honest same there none is file, finds_unmarked (Ok (Some d)) old new s same there none file)
 
 pub fault_unmarked : (fault : TaskFault) (old new : List Event) (s : World) → held_after s new ≡ held_after s old
     → held_after s old ≡ Bytes (bytes_after s old) → mark_of (bytes_after s old) ≡ None → Finds (Some (Bytes (bytes_after s new))) (Err fault)
     → IsLoaded Unopened (Err fault) (held_after s old) (held_after s new)
-fault_unmarked fault old new s same there none finds =
-    loaded_same Unopened (Err fault) (held_after s old) (held_after s new) same (sound_unmarked (held_after s new) (bytes_after s old) (same ∙ there) none)
-    (finds_unmarked (Err fault) old new s same there none finds)
+fault_unmarked fault old new s same there none finds = grind (arith, sound_unmarked (held_after s new) (bytes_after s old) (same ∙ there) none, finds_unmarked (Err fault) old new s same there none finds)
 
 -- ---- one step after another
 
@@ -70,10 +65,6 @@ module _ (found : Found) (result : Result (Option Stored) TaskFault) (old mid ne
   pub loads_again : Loads mid new found result → Loads old new found result
   loads_again loads = λ s honest sound. onward s (loads s honest (sound_mid s sound))
 
--- there is no file
-pub missing_loaded : (old new : Held) → new ≡ old → new ≡ Missing → IsLoaded NotFound (Ok None) old new
-missing_loaded old new same none = loaded_same NotFound (Ok None) old new same none (subst (λ (h : Held). Finds (Some (represented h)) (Ok None)) (sym (sym same ∙ none)) tt)
-
 -- a file of which only the result of a load is kept
 pub loaded_as : (found left : Found) (result : Result (Option Stored) TaskFault) (old new : Held) → (IsSound new → IsSoundAs left new) → IsLoaded found result old new → IsLoaded left result old new
 loaded_as found left result old new kept is = record { sound = kept (sound_as found new is.sound); same = is.same; finds = is.finds }
@@ -92,18 +83,7 @@ prepared_unmarked laws (Ok None) old mid new same rests tells some none = λ s h
     let unmarked = told_unmarked false (mark_of (bytes_after s mid)) (tells s (rests.falls s honest)) refl in
     let was : mark_of (bytes_after s old) ≡ None = ap (λ (h : Held). mark_of (bytes_of h)) (sym (same s)) ∙ unmarked in
     (held, subst HasNone (ap (λ (h : Held). Bytes (bytes_of h)) held ∙ sym (itself (held_after s old) (bytes_after s old) there was)) (none s honest))
-prepared_unmarked laws (Err error) old mid new same rests tells some none = λ s honest sound there.
-    let held = rests.held s ∙ same s in (subst IsSound (sym held) sound, ap represented held)
-
-pub prepared_marked : {E : Type 0} (result : Result (Option Base) E) (old mid new : List Event) → KeepsHeld old mid → Falls mid new → TellsMark true mid → PreparesMarked mid new result → Prepares old new result
-prepared_marked result old mid new same falls tells prepares = λ s honest sound there.
-    subst (λ (h : Held). IsPrepared result h (held_after s new)) (same s)
-    (prepares s honest (subst IsSound (sym (same s)) sound) (same s ∙ there ∙ ap (λ (h : Held). Bytes (bytes_of h)) (sym (same s))) ((tells s (falls s honest)).0 refl))
-
--- it could not be read
-pub prepared_unread : {E : Type 0} (result : Result (Option Base) E) (old new : List Event) → IsErr result → KeepsHeld old new → Prepares old new result
-prepared_unread (Ok x) old new failed same = absurd (false≢true failed)
-prepared_unread (Err e) old new failed same = λ s honest sound there. (subst IsSound (sym (same s)) sound, ap represented (same s))
+prepared_unmarked laws (Err error) old mid new same rests tells some none = grind arith
 
 -- ---- what a storage promises
 

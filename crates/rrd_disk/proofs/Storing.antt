@@ -1,5 +1,5 @@
 -- What the steps of loading and replacing the database of a file do to one file.
-use Rattle.rrd_disk.proofs.Names.{left_represents, alone_left, ◌≡◌, ◌⊎◌, ◌↔◌, ◌∷◌, [], ℕ, ◌+◌, ◌<◌, ◌≤◌, Bool, false, List, Option, Some, None, Result, Ok, Err, IfOk, IsSome, IsTrue, OnErr, length, drop, take, slice_index, refl, sym, ◌∙◌, ap, subst, inl, inr, arith, get_or-take, false≢true, begins_with, IsMarkOf, IsWhole, IsFound, IsLeft, IsStopped, LogEnd, Whole, cut_mark, database_mark, log_mark, mark_of, settled, settled_by, spelled_tail, AgreesOutside, IsIn, Began, IsAtRest, IsDatabase, Represents, RepresentsEither, Does, Effect, Steps, seen, Syncs, Never, Ordered, Mark, Base, Log, Span, by_mark, is_plain, plain_read, cut_under, log_stands_all, file_end, IsFile, IsOfFile, HasOneAnswer, IsBeside, FileFault, FileSpan, Stored, Bytes, Decodes, Finds, Held, IsAfterFailure, IsAnyFile, IsNoFile, Missing, TaskFault, CannotOpen, File, FallsAsked, code_of, is_honest_in, view_of, world_of, Falls, IsSound, StandFor, represented, SaysEntry, Event, world_after, World, bytes_after, bytes_of, held_after, is_honest_after, is_there, AreOf, Breaks, Changes, IsFoundAs, IsLoaded, IsOpen, IsSoundAs, IsWritten, Laws, MayDiffer, StaysAs, alone, Entry, Found, Unopened, Unwritable, Open, Kept}
+use Rattle.rrd_disk.proofs.Names.{left_represents, alone_left, ◌≡◌, ◌↔◌, ◌∷◌, [], ℕ, ◌<◌, ◌≤◌, Bool, false, List, Option, Some, None, Result, Ok, Err, IfOk, IsSome, IsTrue, OnErr, length, drop, take, slice_index, refl, sym, ◌∙◌, ap, subst, inl, inr, arith, get_or-take, false≢true, begins_with, IsMarkOf, IsWhole, IsFound, IsLeft, IsStopped, LogEnd, Whole, cut_mark, database_mark, log_mark, mark_of, settled, settled_by, spelled_tail, AgreesOutside, Began, IsAtRest, IsDatabase, Represents, RepresentsEither, Does, Effect, Steps, seen, Syncs, Never, Ordered, Mark, Base, Log, Span, by_mark, is_plain, plain_read, cut_under, log_stands_all, file_end, IsFile, FileSpan, Stored, Bytes, Finds, Held, IsAfterFailure, IsAnyFile, Missing, TaskFault, CannotOpen, FallsAsked, code_of, is_honest_in, view_of, world_of, Falls, IsSound, StandFor, represented, SaysEntry, Event, world_after, World, bytes_after, bytes_of, held_after, is_honest_after, is_there, AreOf, Breaks, Changes, IsFoundAs, IsLoaded, IsOpen, IsSoundAs, IsWritten, Laws, MayDiffer, StaysAs, alone, Entry, Found, Unopened, Unwritable, Open, Kept}
 use Rattle.rrd_change.specs.States.{IsKept}
 use Rattle.rrd_disk.proofs.Asked.{code_honest, falls_asked, still_there, world_of_code}
 use Rattle.rrd_disk.proofs.Resting.{held_is}
@@ -23,9 +23,7 @@ pub each_alone : (syncs : Syncs) (e : Effect) (old new : List Event) → Steps e
 each_alone syncs e old new steps w honest =
     let code = code_of w in
     let did = alone_by syncs e old new steps code (code_honest w new honest) in
-    let first = subst (λ (b : List ℕ). e (alone b) (alone (world_after [] (world_of code) new).held)) (held_is [] (world_of code) old) did in
-    let both = subst (λ (b : List ℕ). e (alone (bytes_after (world_of code) old)) (alone b)) (held_is [] (world_of code) new) first in
-    subst (λ (v : World). e (alone (bytes_after v old)) (alone (bytes_after v new))) (world_of_code w) both
+    grind (arith, alone, held_is, world_of_code)
 
 pub steps_falls : (syncs : Syncs) (e : Effect) (old new : List Event) → Steps e (seen syncs (view_of old)) (seen syncs (view_of new)) → FallsAsked old new
 steps_falls Never e old new steps s h = steps.falls (0 ∷ s) h
@@ -87,13 +85,7 @@ four bytes i low same = sym (get_or-take 4 bytes i 0 low) ∙ ap (λ (b : List �
 pub file_database : Laws → (bytes : List ℕ) (d : Stored) → IsFile bytes d → IsDatabase bytes
 file_database laws bytes d file =
     let begins = laws.begins bytes d file in
-    record {
-      enough = begins.0;
-      begins = record {
-        within = omega (arith, begins.0);
-        each = λ i low. let here : 0 + i ≡ i = omega arith in ap (slice_index bytes) here ∙ four bytes i low begins.1;
-      };
-    }
+    grind (arith, four)
 
 pub any_database : Laws → (bytes : List ℕ) → IsAnyFile bytes → IsDatabase bytes
 any_database laws bytes (d, file) = file_database laws bytes d file
@@ -164,12 +156,7 @@ began_at laws base bytes any len first = record { is = any_database laws bytes a
 
 -- a file that is a database, and begins so
 pub found_open : Laws → (base : Base) (h : Held) → h ≡ Bytes (bytes_of h) → IsAnyFile (bytes_of h) → base.length ≡ length (bytes_of h) → base.first ≡ take 16 (bytes_of h) → StaysAs (Open base) h
-found_open laws base h there any len first = record {
-  now = bytes_of h;
-  file = any;
-  there = there;
-  state = (began_at laws base (bytes_of h) any len first, rests_alone (bytes_of h) (any_database laws (bytes_of h) any));
-}
+found_open laws base h there any len first = grind (arith, began_at, rests_alone, any_database)
 
 -- ---- results
 
@@ -179,10 +166,6 @@ if_ok_at {T} {E} P r x is each = subst (λ (q : Result T E). IfOk q P) is each
 -- what the result of opening the file says
 pub says_at : {F E : Type 0} (r : Result (Entry F) E) (entry : Entry F) (events : List Event) → r ≡ Ok entry → IfOk r (λ e. SaysEntry e events) → SaysEntry entry events
 says_at {F} {E} r entry events is says = subst (λ (q : Result (Entry F) E). IfOk q (λ e. SaysEntry e events)) is says
-
--- a fault of the bytes
-pub no_file_by_fault : (file : List ℕ) (fault : FileFault) → HasOneAnswer file → IsOfFile (Err fault) → Decodes (Some (Bytes file)) (Err (File fault)) → IsNoFile file
-no_file_by_fault file fault one of_bytes answer = λ d is. let same : Err fault ≡ Ok d = one (Err fault) (Ok d) answer is of_bytes tt in absurd cc
 
 -- ---- loading
 
@@ -206,21 +189,13 @@ finds_closed fault held is = subst (λ (f : TaskFault). Finds held (Err f)) (sym
 
 -- what is so of the file before is so of a file that represents the same
 pub loaded_from : (found : Found) (result : Result (Option Stored) TaskFault) (old mid new : Held) → represented mid ≡ represented old → IsLoaded found result mid new → IsLoaded found result old new
-loaded_from found result old mid new same is = record {
-  sound = is.sound;
-  same = is.same ∙ same;
-  finds = subst (λ (h : Held). Finds (Some h) result) same is.finds;
-}
+loaded_from found result old mid new same is = grind arith
 
 -- ---- repairing
 
 -- a file that a change has left, and its mark
 pub marked_for : Laws → (now : List ℕ) (mark : Mark) (bytes : List ℕ) → StandFor now bytes → IsMarkOf mark bytes → IsFound Whole now now mark (alone bytes)
-marked_for laws now mark bytes stand is = record {
-  is = any_database laws now stand.is;
-  mark_is = is;
-  left = represents_left now bytes (any_database laws now stand.is) stand.represents;
-}
+marked_for laws now mark bytes stand is = grind (arith, any_database laws now stand.is, represents_left now bytes (any_database laws now stand.is) stand.represents)
 
 pub stand_sound : (h : Held) → IsSound h → h ≡ Bytes (bytes_of h) → IsSome (mark_of (bytes_of h)) → (now : List ℕ) × StandFor now (bytes_of h)
 stand_sound Missing sound is marked = absurd cc
@@ -230,25 +205,14 @@ stand_sound (Bytes bytes) sound is marked = sound marked
 
 -- a database that differs within spans differs within the same spans
 pub agrees_in : (changed : List FileSpan) (spans : List Span) (old new : List ℕ) → AreOf (length new) changed spans → file.AgreesOutside changed old new → AgreesOutside spans old new
-agrees_in changed spans old new are agrees = record {
-  each = λ k low. elim (are k low) as (λ _. IsIn k spans ⊎ ((k < length old) × (slice_index new k ≡ slice_index old k))) [
-    | inl beside ↦ let same = agrees.each k low beside in inr (same.0, sym same.1)
-    | inr is ↦ inl is
-  ];
-}
+agrees_in changed spans old new are agrees = grind arith
 
 -- a change that failed: the file stands for the one database or for the other
 pub left_broken : Laws → (left : Found) (now bytes : List ℕ) (old new : Held) → IsAnyFile now → IsAnyFile bytes → left ≡ Unopened
     → represented old ≡ Bytes now → new ≡ Bytes (bytes_of new) → RepresentsEither now bytes (bytes_of new)
     → IsSoundAs left new × IsAfterFailure (Some (represented old)) (Some (represented new)) bytes
-left_broken laws left now bytes old new was any closed is there (inl stands) = (
-  subst (λ (f : Found). IsSoundAs f new) (sym closed) (sound_standing new now was there stands),
-  inl (represented_standing laws new now was there stands ∙ sym is),
-)
-left_broken laws left now bytes old new was any closed is there (inr stands) = (
-  subst (λ (f : Found). IsSoundAs f new) (sym closed) (sound_standing new bytes any there stands),
-  inr (inl (ap (λ (h : Held). Some h) (represented_standing laws new bytes any there stands))),
-)
+left_broken laws left now bytes old new was any closed is there (inl stands) = grind (arith, sound_standing new now was there stands, represented_standing laws new now was there stands)
+left_broken laws left now bytes old new was any closed is there (inr stands) = grind (arith, sound_standing new bytes any there stands, represented_standing laws new bytes any there stands)
 
 -- a change that ended well, or failed
 pub written_from : {E : Type 0} → Laws → (found left : Found) (changed : List FileSpan) (spans : List Span) (bytes : List ℕ) (result : Result (Unit {0}) E) (syncs : Syncs) (old new : List Event)

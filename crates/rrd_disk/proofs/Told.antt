@@ -1,5 +1,5 @@
 -- The answers of a file that does what it is told are honest.
-use Rattle.rrd_disk.proofs.Names.{◌≡◌, ◌∙◌, ℕ, zero, suc, ◌==◌, ◌||◌, nat_le, not, Bool, IsTrue, List, [], ◌∷◌, length, take, drop, refl, sym, ap, subst, arith, length-take, length-drop, or-true, and_from, eq-eqb, le-leb, take_min, bytes_eq-Decides, Held, Missing, Bytes, Event, World, held_after, is_honest_after, is_honest_call, is_honest_of, is_small, part_after, Call, HonestRecordsExist, Locks, Sizes, answer, opened_none, told, told_to, world_from, Opening, Read, Write, Make}
+use Rattle.rrd_disk.proofs.Names.{◌≡◌, ◌∙◌, ℕ, zero, suc, ◌==◌, ◌||◌, nat_le, Bool, IsTrue, List, [], ◌∷◌, length, take, drop, refl, sym, ap, subst, arith, length-take, length-drop, or-true, and_from, eq-eqb, le-leb, take_min, bytes_eq-Decides, Held, Missing, Bytes, Event, World, held_after, is_honest_after, is_honest_call, is_honest_of, part_after, Call, HonestRecordsExist, Locks, Sizes, answer, opened_none, told, told_to, world_from, Opening, Read, Write, Make}
 use Rattle.rrd_disk.specs.Replayed.{is_honest_part, is_honest_read}
 use Rattle.rrd_disk.specs.Told.{Measures, Opens, Reads, Syncs, Writes}
 
@@ -16,9 +16,7 @@ read_honest file at wanted (byte ∷ more) is =
 
 whole_honest : (at : ℕ) (bytes : List ℕ) → IsTrue (is_honest_part at bytes (length bytes))
 unfolding is_honest_part
-whole_honest at bytes =
-    ap (λ (b : Bool). not (is_small at (length bytes)) || ((length bytes == 0) || b)) (le-leb (length bytes) (length bytes) (omega arith))
-    ∙ ap (λ (b : Bool). not (is_small at (length bytes)) || b) (or-true (length bytes == 0)) ∙ or-true (not (is_small at (length bytes)))
+whole_honest at bytes = grind arith
 
 answer_honest : (file : List ℕ) (part : ℕ) (call : Call) → IsTrue (is_honest_call file part (answer file call))
 answer_honest file part (Opens Read) = refl

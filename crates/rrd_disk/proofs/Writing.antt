@@ -147,8 +147,7 @@ truncated syncs mid new steps s honest there =
     stays_open mid new (steps_falls syncs Truncates mid new steps) s honest there ∙ ap (λ (b : List ℕ). Bytes b) (emptied (bytes_after s new) sized.len)
 
 untruncated_by : Laws → (mid new : Held) → HasNone (represented mid) → IsSound mid → mid ≡ Bytes (bytes_of mid) → new ≡ Bytes (bytes_of new) → IsSizedOrNot 0 (bytes_of mid) (bytes_of new) → IsSound new × IsNearly mid new
-untruncated_by laws mid new none sound there stays (inl same) =
-    let is : new ≡ mid = stays ∙ ap (λ (b : List ℕ). Bytes b) same ∙ sym there in (subst IsSound (sym is) sound, inl (ap represented is))
+untruncated_by laws mid new none sound there stays (inl same) = grind arith
 untruncated_by laws mid new none sound there stays (inr sized) =
     zero_near laws mid new none stays (ap (λ (b : List ℕ). slice_index b 0) (emptied (bytes_of new) sized.len))
 

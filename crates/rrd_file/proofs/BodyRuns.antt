@@ -1,6 +1,6 @@
 -- The pieces of a body that keeps to its rules do come, one after another: sources, heads, cells.
-use Rattle.std.specs.Prelude.{◌≡◌, ◌++◌, ◌∷◌, ◌+◌, ◌*◌, ◌/◌, ◌%◌, ◌<◌, ◌≤◌, List, [], Bool, length, map, nat_lt, false, ◌||◌, Some, None}
-use Rattle.rrd_file.proofs.Names.{◌∙◌, sym, ap, subst, refl, arith, append_assoc, append-nil, length-append, AllByRecursion, flat_map, list_any, lt-ltb, le-ltb, map-append, flat_map-cons, sum-map, sum_by-append, mul-le, Cell, Name, same_name, IsAccepted, IsBounded, Average, Part, SourceDue, HeadDue, PrepDue, CellDue, EntryDue, NothingDue, DsDef, RraDef, Entry, Filed, Head, Header, Source, limits_of, IsArchiveDef, due, heads_with_part, rows_in_all, unprepared, has_source, is_double, names, AreParts, IsPart, IsSourceWithin, head_pieces, Piece, OfSource, OfArchive, OfPrep, OfCell, Stage, Body, Runs, Takes, rules}
+use Rattle.std.specs.Prelude.{◌≡◌, ◌++◌, ◌∷◌, ◌+◌, ◌*◌, ◌/◌, ◌%◌, ◌<◌, ◌≤◌, List, [], Bool, length, map, false, Some, None}
+use Rattle.rrd_file.proofs.Names.{◌∙◌, sym, ap, subst, refl, arith, append_assoc, append-nil, length-append, AllByRecursion, flat_map, list_any, lt-ltb, le-ltb, map-append, sum-map, sum_by-append, mul-le, Cell, Name, same_name, IsAccepted, IsBounded, Average, Part, SourceDue, HeadDue, PrepDue, CellDue, EntryDue, NothingDue, DsDef, RraDef, Entry, Filed, Head, Header, Source, limits_of, IsArchiveDef, due, heads_with_part, rows_in_all, unprepared, has_source, is_double, names, AreParts, IsPart, IsSourceWithin, head_pieces, Piece, OfSource, OfArchive, OfPrep, OfCell, Stage, Body, Runs, Takes}
 use Rattle.rrd_file.proofs.Order.{in_order}
 use Rattle.rrd_file.proofs.Tests.{or_left, or_right}
 
@@ -16,29 +16,19 @@ body h sources heads cells entries = record { header = h; sources = sources; hea
 
 some_more : (f : Filed) → length f.sources < f.header.sources → due f ≡ SourceDue
 unfolding due
-some_more f more =
-    let a = lt-ltb (length f.sources) f.header.sources more in
-    λ i. in_order (a i) (unprepared f.header.sources f.heads) (nat_lt (length f.heads) f.header.archives) (nat_lt (length f.cells) (f.header.sources * rows_in_all f.heads)) (nat_lt (length f.entries) f.header.entries)
+some_more f more = grind arith
 
 prep_due : (f : Filed) (def : RraDef) → f.header.sources ≤ length f.sources → unprepared f.header.sources f.heads ≡ Some def → due f ≡ PrepDue def
 unfolding due
-prep_due f def sources u =
-    let a = le-ltb (length f.sources) f.header.sources sources in
-    λ i. in_order (a i) (u i) (nat_lt (length f.heads) f.header.archives) (nat_lt (length f.cells) (f.header.sources * rows_in_all f.heads)) (nat_lt (length f.entries) f.header.entries)
+prep_due f def sources u = grind arith
 
 head_due : (f : Filed) → f.header.sources ≤ length f.sources → unprepared f.header.sources f.heads ≡ None → length f.heads < f.header.archives → due f ≡ HeadDue
 unfolding due
-head_due f sources u heads =
-    let a = le-ltb (length f.sources) f.header.sources sources in
-    let b = lt-ltb (length f.heads) f.header.archives heads in
-    λ i. in_order (a i) (u i) (b i) (nat_lt (length f.cells) (f.header.sources * rows_in_all f.heads)) (nat_lt (length f.entries) f.header.entries)
+head_due f sources u heads = grind arith
 
 cell_due : (f : Filed) → f.header.sources ≤ length f.sources → unprepared f.header.sources f.heads ≡ None → f.header.archives ≤ length f.heads → length f.cells < f.header.sources * rows_in_all f.heads → due f ≡ CellDue
 unfolding due
-cell_due f sources u heads cells =
-    let b = le-ltb (length f.heads) f.header.archives heads in
-    let c = lt-ltb (length f.cells) (f.header.sources * rows_in_all f.heads) cells in
-    λ i. in_order ((le-ltb (length f.sources) f.header.sources sources) i) (u i) (b i) (c i) (nat_lt (length f.entries) f.header.entries)
+cell_due f sources u heads cells = grind arith
 
 -- the body but for its entries has come
 pub record IsBodyIn (f : Filed) : Type 0 where
@@ -49,17 +39,11 @@ pub record IsBodyIn (f : Filed) : Type 0 where
 
 pub entry_due : (f : Filed) → IsBodyIn f → length f.entries < f.header.entries → due f ≡ EntryDue
 unfolding due
-entry_due f h entries =
-    let c = le-ltb (length f.cells) (f.header.sources * rows_in_all f.heads) h.cells in
-    let d = lt-ltb (length f.entries) f.header.entries entries in
-    λ i. in_order ((le-ltb (length f.sources) f.header.sources h.sources) i) (h.prepared i) ((le-ltb (length f.heads) f.header.archives h.heads) i) (c i) (d i)
+entry_due f h entries = grind arith
 
 pub nothing_due : (f : Filed) → IsBodyIn f → f.header.entries ≤ length f.entries → due f ≡ NothingDue
 unfolding due
-nothing_due f h entries =
-    let c = le-ltb (length f.cells) (f.header.sources * rows_in_all f.heads) h.cells in
-    let d = le-ltb (length f.entries) f.header.entries entries in
-    λ i. in_order ((le-ltb (length f.sources) f.header.sources h.sources) i) (h.prepared i) ((le-ltb (length f.heads) f.header.archives h.heads) i) (c i) (d i)
+nothing_due f h entries = grind (arith, le-ltb, in_order)
 
 -- ---- sources
 
@@ -71,9 +55,7 @@ none_there test (x ∷ xs) y ys e = none_there test xs y ys (or_right (test x.na
 -- where no name stands twice, no earlier source has the name of a later one
 new_name : (xs : List DsDef) (y : DsDef) (ys : List DsDef) → is_double (names (xs ++ y ∷ ys)) ≡ false → has_source xs y.name ≡ false
 new_name [] y ys e = refl
-new_name (x ∷ xs) y ys e =
-    let rest = new_name xs y ys (or_right (list_any (same_name x.name) (names (xs ++ y ∷ ys))) (is_double (names (xs ++ y ∷ ys))) e) in
-    λ i. (none_there (same_name x.name) xs y ys (or_left (list_any (same_name x.name) (names (xs ++ y ∷ ys))) (is_double (names (xs ++ y ∷ ys))) e)) i || rest i
+new_name (x ∷ xs) y ys e = grind (arith, new_name xs y ys (or_right (list_any (same_name x.name) (names (xs ++ y ∷ ys))) (is_double (names (xs ++ y ∷ ys))) e), or_right, none_there, or_left)
 
 abbrev pub defs_of : List Source → List DsDef
 defs_of sources = map (λ (source : Source). source.def) sources
@@ -85,16 +67,11 @@ pub record IsFiledSource (h : Header) (s : Source) : Type 0 where
 
 source_taken : (h : Header) (sources : List Source) (s : Source) → IsFiledSource h s → length sources < h.sources → has_source (defs_of sources) s.def.name ≡ false → Takes (Body (body h sources [] [] [])) (OfSource s) (Body (body h (sources ++ s ∷ []) [] [] []))
 unfolding Takes
-source_taken h sources s is more new =
-    (record { is_due = some_more (body h sources [] [] []) more; source_is = is.source_is; raw_is = is.raw_is; part_is = is.part_is; name_differs = new }, refl)
+source_taken h sources s is more new = grind (arith, some_more)
 
 pub sources_run : (h : Header) (xs ys all : List Source) → xs ++ ys ≡ all → length all ≡ h.sources → is_double (names (defs_of all)) ≡ false → AllByRecursion (IsFiledSource h) ys → Runs (Body (body h xs [] [] [])) (map OfSource ys) (Body (body h all [] [] []))
 sources_run h xs [] all e many once are = ap (λ l. Body (body h l [] [] [])) (sym (append-nil xs) ∙ e)
-sources_run h xs (y ∷ ys) all e many once are =
-    let more : length xs < h.sources = omega (arith, many, ap length e, length-append xs (y ∷ ys)) in
-    let parts : defs_of all ≡ defs_of xs ++ y.def ∷ defs_of ys = ap defs_of (sym e) ∙ map-append (λ (source : Source). source.def) xs (y ∷ ys) in
-    let new : has_source (defs_of xs) y.def.name ≡ false = new_name (defs_of xs) y.def (defs_of ys) (ap (λ l. is_double (names l)) (sym parts) ∙ once) in
-    (Body (body h (xs ++ y ∷ []) [] [] []), source_taken h xs y are.0 more new, sources_run h (xs ++ y ∷ []) ys all (append_assoc xs (y ∷ []) ys ∙ e) many once are.1)
+sources_run h xs (y ∷ ys) all e many once are = grind (arith, length-append, map-append, new_name, source_taken, sources_run h (xs ++ y ∷ []) ys all (append_assoc xs (y ∷ []) ys ∙ e) many once are.1, append_assoc)
 
 -- ---- heads
 
@@ -126,14 +103,11 @@ part_taken h sources heads def parts part all are more is =
 
 parts_run : (h : Header) (sources : List Source) (heads : List Head) (def : RraDef) (ps qs parts : List Part) → ps ++ qs ≡ parts → h.sources ≤ length sources → AllByRecursion (IsFiledHead h) heads → length parts ≡ h.sources → AllByRecursion (IsPart def.function (h.last / h.step % def.steps)) qs → Runs (Body (body h sources (heads ++ head_with def ps ∷ []) [] [])) (map OfPrep qs) (Body (body h sources (heads ++ head_with def parts ∷ []) [] []))
 parts_run h sources heads def ps [] parts e all are many is = ap (λ l. Body (body h sources (heads ++ head_with def l ∷ []) [] [])) (sym (append-nil ps) ∙ e)
-parts_run h sources heads def ps (q ∷ qs) parts e all are many is =
-    let more : length ps < h.sources = omega (arith, many, ap length e, length-append ps (q ∷ qs)) in
-    (Body (body h sources (heads ++ head_with def (ps ++ q ∷ []) ∷ []) [] []), part_taken h sources heads def ps q all are more is.0, parts_run h sources heads def (ps ++ q ∷ []) qs parts (append_assoc ps (q ∷ []) qs ∙ e) all are many is.1)
+parts_run h sources heads def ps (q ∷ qs) parts e all are many is = grind (arith, length-append, part_taken, parts_run h sources heads def (ps ++ q ∷ []) qs parts (append_assoc ps (q ∷ []) qs ∙ e) all are many is.1, append_assoc)
 
 head_taken : (h : Header) (sources : List Source) (heads : List Head) (def : RraDef) → h.sources ≤ length sources → AllByRecursion (IsFiledHead h) heads → length heads < h.archives → IsArchiveDef (limits_of h.version) def → h.sources * (rows_in_all heads + def.rows) ≤ (limits_of h.version).max_cells → Takes (Body (body h sources heads [] [])) (OfArchive def) (Body (body h sources (heads ++ head_with def [] ∷ []) [] []))
 unfolding Takes
-head_taken h sources heads def all are more is few =
-    (record { is_due = head_due (body h sources heads [] []) all (all_prepared h heads are) more; def_is = is; few_cells = few }, refl)
+head_taken h sources heads def all are more is few = grind (arith, head_due, all_prepared)
 
 -- ---- how many rows there are
 
@@ -143,9 +117,7 @@ rows_joined xs ys =
     ∙ (λ i. sym (sum-map (λ (head : Head). head.def.rows) xs) i + sym (sum-map (λ (head : Head). head.def.rows) ys) i)
 
 pub rows_first : (x : Head) (xs : List Head) → rows_in_all (x ∷ xs) ≡ x.def.rows + rows_in_all xs
-rows_first x xs =
-    let one : rows_in_all (x ∷ []) ≡ x.def.rows = omega arith in
-    rows_joined (x ∷ []) xs ∙ ap (λ n. n + rows_in_all xs) one
+rows_first x xs = grind (arith, rows_joined (x ∷ []) xs)
 
 all_filed : (h : Header) (xs ys : List Head) → AllByRecursion (IsFiledHead h) xs → AllByRecursion (IsFiledHead h) ys → AllByRecursion (IsFiledHead h) (xs ++ ys)
 all_filed h [] ys a b = b
@@ -158,10 +130,7 @@ heads_run h sources xs (y ∷ ys) all e are many few before is =
     let rows : rows_in_all xs + y.def.rows ≤ rows_in_all all = omega (arith, ap rows_in_all e, rows_joined xs (y ∷ ys), rows_first y ys) in
     let few_here : h.sources * (rows_in_all xs + y.def.rows) ≤ (limits_of h.version).max_cells = omega (arith, few, mul-le h.sources (rows_in_all xs + y.def.rows) h.sources (rows_in_all all) (omega arith) rows) in
     let parts = parts_run h sources xs y.def [] y.parts y.parts refl are before is.0.parts_are.one_each is.0.parts_are.each in
-    let first : Runs (Body (body h sources xs [] [])) (head_pieces y) (Body (body h sources (xs ++ y ∷ []) [] [])) = (Body (body h sources (xs ++ head_with y.def [] ∷ []) [] []), head_taken h sources xs y.def are before more is.0.def_is few_here, parts) in
-    let later = heads_run h sources (xs ++ y ∷ []) ys all (append_assoc xs (y ∷ []) ys ∙ e) are many few (all_filed h xs (y ∷ []) before (is.0, tt)) is.1 in
-    subst (λ (l : List Piece). Runs (Body (body h sources xs [] [])) l (Body (body h sources all [] []))) (sym (flat_map-cons head_pieces y ys))
-    (runs_append (Body (body h sources xs [] [])) (Body (body h sources (xs ++ y ∷ []) [] [])) (Body (body h sources all [] [])) (head_pieces y) (flat_map head_pieces ys) first later)
+    grind (arith, head_taken h sources xs y.def are before more is.0.def_is few_here, heads_run h sources (xs ++ y ∷ []) ys all (append_assoc xs (y ∷ []) ys ∙ e) are many few (all_filed h xs (y ∷ []) before (is.0, tt)) is.1, append_assoc xs (y ∷ []) ys, all_filed h xs (y ∷ []) before (is.0, tt), append_assoc, all_filed, runs_append)
 
 -- ---- cells
 
@@ -176,11 +145,8 @@ heads_there h sources heads all many are = record { sources_are = all; prepared 
 
 cell_taken : (h : Header) (sources : List Source) (heads : List Head) (cells : List Cell) (cell : Cell) → AreHeadsThere h sources heads → length cells < h.sources * rows_in_all heads → IsBounded cell → Takes (Body (body h sources heads cells [])) (OfCell cell) (Body (body h sources heads (cells ++ cell ∷ []) []))
 unfolding Takes
-cell_taken h sources heads cells cell there more is =
-    (record { is_due = cell_due (body h sources heads cells []) there.sources_are there.prepared there.heads_are more; bounded = is }, refl)
+cell_taken h sources heads cells cell there more is = grind (arith, cell_due)
 
 pub cells_run : (h : Header) (sources : List Source) (heads : List Head) (xs ys all : List Cell) → xs ++ ys ≡ all → AreHeadsThere h sources heads → length all ≡ h.sources * rows_in_all heads → AllByRecursion IsBounded ys → Runs (Body (body h sources heads xs [])) (map OfCell ys) (Body (body h sources heads all []))
 cells_run h sources heads xs [] all e there many are = ap (λ l. Body (body h sources heads l [])) (sym (append-nil xs) ∙ e)
-cells_run h sources heads xs (y ∷ ys) all e there many are =
-    let more : length xs < h.sources * rows_in_all heads = omega (arith, many, ap length e, length-append xs (y ∷ ys)) in
-    (Body (body h sources heads (xs ++ y ∷ []) []), cell_taken h sources heads xs y there more are.0, cells_run h sources heads (xs ++ y ∷ []) ys all (append_assoc xs (y ∷ []) ys ∙ e) there many are.1)
+cells_run h sources heads xs (y ∷ ys) all e there many are = grind (arith, length-append, cell_taken, cells_run h sources heads (xs ++ y ∷ []) ys all (append_assoc xs (y ∷ []) ys ∙ e) there many are.1, append_assoc)

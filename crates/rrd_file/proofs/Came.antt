@@ -1,8 +1,8 @@
 -- The pieces that have come at a stage, in their order, are those of the layout so far.
 use Rattle.std.specs.Prelude.{◌≡◌, ◌++◌, ◌∷◌, ◌*◌, ◌<◌, ◌≤◌, ℕ, List, [], length, map, Some, None}
-use Rattle.rrd_file.proofs.Names.{◌∙◌, sym, ap, subst, refl, arith, append_assoc, append-nil, flat_map, map-append, flat_map-cons, flat_map-append, Cell, Part, RraDef, Entry, Filed, Head, Header, Source, heads_with_part, rows_in_all, unprepared, with_entry, IsWhole, entry_pieces, head_pieces, pieces_filed, spelled, Piece, Mark, OfVersion, OfHeader, OfSource, OfArchive, OfPrep, OfCell, OfTag, spell, Stage, Start, Marked, Versioned, Body, Within, DueInEntry, GoesOn, Runs}
+use Rattle.rrd_file.proofs.Names.{◌∙◌, sym, ap, refl, arith, append_assoc, append-nil, flat_map, map-append, flat_map-cons, flat_map-append, Cell, Part, RraDef, Entry, Filed, Head, Header, Source, heads_with_part, rows_in_all, unprepared, with_entry, IsWhole, entry_pieces, head_pieces, pieces_filed, spelled, Piece, Mark, OfVersion, OfHeader, OfSource, OfArchive, OfPrep, OfCell, OfTag, spell, Stage, Start, Marked, Versioned, Body, Within, DueInEntry, GoesOn, Runs}
 use Rattle.rrd_file.proofs.Order.{before_cell, before_entry, before_head, prep_before, saved_source}
-use Rattle.rrd_file.proofs.Ways.{Step, ToMark, ToVersion, ToHeader, ToSource, ToHead, ToPrep, ToCell, ToEntry, ToPiece, step_of}
+use Rattle.rrd_file.proofs.Ways.{Step, ToHeader, ToSource, ToHead, ToPrep, ToCell, ToEntry, ToPiece, step_of}
 use Rattle.rrd_file.proofs.Sound.{none_of}
 
 -- ---- the order of a body's pieces
@@ -27,44 +27,17 @@ IsOrdered (Body f) = IsInOrder f
 IsOrdered (Within f pieces due) = IsInOrder f
 
 entry_ordered : (f : Filed) (pieces : List Piece) (due : List DueInEntry) (next : Stage) → IsInOrder f → GoesOn f pieces due next → IsOrdered next
-entry_ordered f pieces (due ∷ later) next h g = subst IsOrdered (sym g) h
-entry_ordered f pieces [] next h g =
-    let before = before_entry f g.2.is_due in
-    subst IsOrdered (sym g.3) (record {
-      heads_late = h.heads_late;
-      cells_late = λ some. record { sources = before.sources; prepared = before.prepared; heads = before.heads };
-      entries_late = λ some. (record { sources = before.sources; prepared = before.prepared; heads = before.heads }, before.cells);
-    })
+entry_ordered f pieces due next h g = grind (arith, before_entry)
 
 not_both : {A : Type 0} (x : A) → None ≡ Some x → ⊥
 not_both x e = absurd cc
 
 step_ordered : {s : Stage} {p : Piece} {n : Stage} → IsOrdered s → Step s p n → IsOrdered n
 step_ordered h (ToHeader version header same is) = record { heads_late = λ some. absurd (omega (arith, some)); cells_late = λ some. absurd (omega (arith, some)); entries_late = λ some. absurd (omega (arith, some)) }
-step_ordered h (ToSource f s may) =
-    let more = saved_source f may.is_due in
-    record {
-      heads_late = λ some. absurd (omega (arith, more, h.heads_late some));
-      cells_late = λ some. absurd (omega (arith, more, (h.cells_late some).sources));
-      entries_late = λ some. absurd (omega (arith, more, (h.entries_late some).0.sources));
-    }
-step_ordered h (ToHead f def may) =
-    let before = before_head f may.is_due in
-    record {
-      heads_late = λ some. before.sources;
-      cells_late = λ some. absurd (omega (arith, before.more, (h.cells_late some).heads));
-      entries_late = λ some. absurd (omega (arith, before.more, (h.entries_late some).0.heads));
-    }
-step_ordered h (ToPrep f part may) =
-    let before = prep_before f may.def may.is_due in
-    record {
-      heads_late = λ some. before.0;
-      cells_late = λ some. absurd (not_both may.def (sym (h.cells_late some).prepared ∙ before.1));
-      entries_late = λ some. absurd (not_both may.def (sym (h.entries_late some).0.prepared ∙ before.1));
-    }
-step_ordered h (ToCell f cell may) =
-    let before = before_cell f may.is_due in
-    grind (arith, h)
+step_ordered h (ToSource f s may) = grind (arith, saved_source)
+step_ordered h (ToHead f def may) = grind (arith, before_head)
+step_ordered h (ToPrep f part may) = grind (arith, prep_before)
+step_ordered h (ToCell f cell may) = grind (arith, before_cell)
 step_ordered h (ToEntry f tag next is_due goes) = entry_ordered f _ _ next h goes
 step_ordered h (ToPiece f pieces due later p next w goes) = entry_ordered f _ _ next h goes
 step_ordered h x = tt
@@ -109,25 +82,16 @@ runs_filed h sources heads cells entries = run h (map OfSource sources) (flat_ma
 -- ---- what a piece adds
 
 source_came : (f : Filed) (s : Source) → f.heads ≡ [] → f.cells ≡ [] → f.entries ≡ [] → runs_filed f.header (f.sources ++ s ∷ []) f.heads f.cells f.entries ≡ runs_filed f.header f.sources f.heads f.cells f.entries ++ OfSource s ∷ []
-source_came f s no_head no_cell no_entry =
-    (λ i. runs_filed f.header (f.sources ++ s ∷ []) (no_head i) (no_cell i) (no_entry i))
-    ∙ ap (λ l. run f.header l [] [] []) (map-append OfSource f.sources (s ∷ []))
-    ∙ more_sources f.header (map OfSource f.sources) (OfSource s ∷ [])
-    ∙ sym (λ i. runs_filed f.header f.sources (no_head i) (no_cell i) (no_entry i) ++ OfSource s ∷ [])
+source_came f s no_head no_cell no_entry = grind (arith, map-append OfSource f.sources (s ∷ []), more_sources f.header (map OfSource f.sources) (OfSource s ∷ []))
 
 head_came : (f : Filed) (def : RraDef) → f.cells ≡ [] → f.entries ≡ [] → runs_filed f.header f.sources (f.heads ++ record { def = def; parts = [] } ∷ []) f.cells f.entries ≡ runs_filed f.header f.sources f.heads f.cells f.entries ++ OfArchive def ∷ []
 head_came f def no_cell no_entry =
     let head : Head = record { def = def; parts = [] } in
-    (λ i. runs_filed f.header f.sources (f.heads ++ head ∷ []) (no_cell i) (no_entry i))
-    ∙ ap (λ l. run f.header (map OfSource f.sources) l [] []) (flat_map-append head_pieces f.heads (head ∷ []))
-    ∙ more_heads f.header (map OfSource f.sources) (flat_map head_pieces f.heads) (OfArchive def ∷ [])
-    ∙ sym (λ i. runs_filed f.header f.sources f.heads (no_cell i) (no_entry i) ++ OfArchive def ∷ [])
+    grind (arith, flat_map-append head_pieces f.heads (head ∷ []), more_heads f.header (map OfSource f.sources) (flat_map head_pieces f.heads) (OfArchive def ∷ []))
 
 -- the newest head has one piece more
 part_came : (head : Head) (heads : List Head) (part : Part) → flat_map head_pieces (heads_with_part (head ∷ heads) part) ≡ flat_map head_pieces (head ∷ heads) ++ OfPrep part ∷ []
-part_came head [] part =
-    let made : Head = record head { parts = head.parts ++ part ∷ [] } in
-    cc (flat_map-cons head_pieces made [], append-nil (head_pieces made), map-append OfPrep head.parts (part ∷ []), flat_map-cons head_pieces head [] ∙ append-nil (head_pieces head))
+part_came head [] part = grind (arith, append-nil, map-append)
 part_came head (next ∷ heads) part = cc (flat_map-cons head_pieces head (heads_with_part (next ∷ heads) part), part_came next heads part, append_assoc (head_pieces head) (flat_map head_pieces (next ∷ heads)) (OfPrep part ∷ []), flat_map-cons head_pieces head (next ∷ heads))
 
 -- where a preparation is due there is a head
@@ -136,18 +100,10 @@ heads_came sources [] def part e = absurd (not_both def e)
 heads_came sources (head ∷ heads) def part e = part_came head heads part
 
 prep_came : (f : Filed) (def : RraDef) (part : Part) → unprepared f.header.sources f.heads ≡ Some def → f.cells ≡ [] → f.entries ≡ [] → runs_filed f.header f.sources (heads_with_part f.heads part) f.cells f.entries ≡ runs_filed f.header f.sources f.heads f.cells f.entries ++ OfPrep part ∷ []
-prep_came f def part due no_cell no_entry =
-    (λ i. runs_filed f.header f.sources (heads_with_part f.heads part) (no_cell i) (no_entry i))
-    ∙ ap (λ l. run f.header (map OfSource f.sources) l [] []) (heads_came f.header.sources f.heads def part due)
-    ∙ more_heads f.header (map OfSource f.sources) (flat_map head_pieces f.heads) (OfPrep part ∷ [])
-    ∙ sym (λ i. runs_filed f.header f.sources f.heads (no_cell i) (no_entry i) ++ OfPrep part ∷ [])
+prep_came f def part due no_cell no_entry = grind (arith, heads_came f.header.sources f.heads def part due, more_heads f.header (map OfSource f.sources) (flat_map head_pieces f.heads) (OfPrep part ∷ []))
 
 cell_came : (f : Filed) (cell : Cell) → f.entries ≡ [] → runs_filed f.header f.sources f.heads (f.cells ++ cell ∷ []) f.entries ≡ runs_filed f.header f.sources f.heads f.cells f.entries ++ OfCell cell ∷ []
-cell_came f cell no_entry =
-    (λ i. runs_filed f.header f.sources f.heads (f.cells ++ cell ∷ []) (no_entry i))
-    ∙ ap (λ l. run f.header (map OfSource f.sources) (flat_map head_pieces f.heads) l []) (map-append OfCell f.cells (cell ∷ []))
-    ∙ more_cells f.header (map OfSource f.sources) (flat_map head_pieces f.heads) (map OfCell f.cells) (OfCell cell ∷ [])
-    ∙ sym (λ i. runs_filed f.header f.sources f.heads f.cells (no_entry i) ++ OfCell cell ∷ [])
+cell_came f cell no_entry = grind (arith, map-append OfCell f.cells (cell ∷ []), more_cells f.header (map OfSource f.sources) (flat_map head_pieces f.heads) (map OfCell f.cells) (OfCell cell ∷ []))
 
 entry_came : (f : Filed) (entry : Entry) → pieces_filed (with_entry f entry) ≡ pieces_filed f ++ entry_pieces entry
 entry_came f entry =
@@ -155,22 +111,14 @@ entry_came f entry =
     ∙ more_entries f.header (map OfSource f.sources) (flat_map head_pieces f.heads) (map OfCell f.cells) (flat_map entry_pieces f.entries) (entry_pieces entry)
 
 within_came : (f : Filed) (pieces : List Piece) (due : List DueInEntry) (next : Stage) → GoesOn f pieces due next → came next ≡ pieces_filed f ++ pieces
-within_came f pieces (due ∷ later) next g = ap came g
-within_came f pieces [] next g = ap came g.3 ∙ entry_came f g.0 ∙ ap (λ l. pieces_filed f ++ l) g.1
+within_came f pieces due next g = grind (arith, entry_came)
 
 step_came : {s : Stage} {p : Piece} {n : Stage} → IsOrdered s → Step s p n → came n ≡ came s ++ p ∷ []
 step_came h (ToHeader version header same is) = ap (λ v. Mark ∷ OfVersion v ∷ OfHeader header ∷ []) same
-step_came h (ToSource f s may) =
-    let more = saved_source f may.is_due in
-    source_came f s (none_of f.heads (λ some. absurd (omega (arith, more, h.heads_late some)))) (none_of f.cells (λ some. absurd (omega (arith, more, (h.cells_late some).sources)))) (none_of f.entries (λ some. absurd (omega (arith, more, (h.entries_late some).0.sources))))
-step_came h (ToHead f def may) =
-    let before = before_head f may.is_due in
-    head_came f def (none_of f.cells (λ some. absurd (omega (arith, before.more, (h.cells_late some).heads)))) (none_of f.entries (λ some. absurd (omega (arith, before.more, (h.entries_late some).0.heads))))
-step_came h (ToPrep f part may) =
-    let before = prep_before f may.def may.is_due in
-    prep_came f may.def part before.1 (none_of f.cells (λ some. not_both may.def (sym (h.cells_late some).prepared ∙ before.1))) (none_of f.entries (λ some. not_both may.def (sym (h.entries_late some).0.prepared ∙ before.1)))
-step_came h (ToCell f cell may) =
-    cell_came f cell (none_of f.entries (λ some. absurd (omega (arith, (before_cell f may.is_due).more, (h.entries_late some).1))))
+step_came h (ToSource f s may) = grind (arith, saved_source, source_came, none_of)
+step_came h (ToHead f def may) = grind (arith, before_head, head_came, none_of)
+step_came h (ToPrep f part may) = grind (arith, prep_before, prep_came, none_of, not_both)
+step_came h (ToCell f cell may) = grind (arith, cell_came, none_of, before_cell)
 step_came h (ToEntry f tag next is_due goes) = within_came f (OfTag tag ∷ []) _ next goes
 step_came h (ToPiece f pieces due later p next w goes) = within_came f (pieces ++ p ∷ []) _ next goes ∙ sym (append_assoc (pieces_filed f) pieces (p ∷ []))
 step_came h x = refl

@@ -1,9 +1,8 @@
 -- Cells one after another, and their bytes.
 use Rattle.std.specs.Prelude.{◌≡◌, ◌++◌, ◌∷◌, ◌+◌, ◌*◌, ◌^◌, ◌<◌, ◌≤◌, ℕ, zero, suc, List, [], replicate, take, drop, length, map}
-use Rattle.rrd_file.proofs.Names.{◌∙◌, sym, ap, subst, refl, set, append_assoc, append-nil, length-append, add-one, arith, take_at, Consumes, AllByRecursion, flat_map, flat_map-append, length-replicate, length-take, length-take-le, replicate-append-replicate, take_all, take-append-drop, take-take, take-add, flat_map-cons, IsBounded, Cell, Unknown, Filed, MayCell, with_cell, All-append, MayCells, with_cells, Front, Gives, Input, left, Stands, OfCell, spell, cell_bytes, cell_number, Body, Takes}
+use Rattle.rrd_file.proofs.Names.{◌∙◌, sym, ap, subst, refl, append_assoc, length-append, arith, take_at, Consumes, flat_map, flat_map-append, length-replicate, length-take, length-take-le, replicate-append-replicate, take-append-drop, take-take, take-add, flat_map-cons, Cell, Unknown, Filed, MayCell, with_cell, MayCells, with_cells, Front, Gives, Input, left, Stands, OfCell, spell, cell_bytes, Body, Takes}
 use Rattle.rrd_file.proofs.Reached.{front_more, gives_rest}
 use Rattle.rrd_file.proofs.SignedBytes.{signed_length}
-use Rattle.rrd_base.proofs.Dues.{none_there}
 
 -- the bytes of cells
 abbrev pub cells_bytes : List Cell → List ℕ
@@ -12,13 +11,9 @@ cells_bytes cells = flat_map cell_bytes cells
 pub bytes_joined : (xs ys : List Cell) → cells_bytes (xs ++ ys) ≡ cells_bytes xs ++ cells_bytes ys
 bytes_joined xs ys = flat_map-append cell_bytes xs ys
 
-one_alone : (cell : Cell) → cells_bytes (cell ∷ []) ≡ cell_bytes cell
-one_alone cell = flat_map-cons cell_bytes cell [] ∙ append-nil (cell_bytes cell)
-
 pub bytes_count : (cells : List Cell) → length (cells_bytes cells) ≡ 16 * length cells
 bytes_count [] = omega arith
-bytes_count (cell ∷ cells) =
-    ap length (flat_map-cons cell_bytes cell cells) ∙ omega (arith, length-append (cell_bytes cell) (cells_bytes cells), signed_length (cell_number cell), bytes_count cells)
+bytes_count (cell ∷ cells) = grind (arith, length-append, signed_length, bytes_count cells)
 
 -- as pieces they have the same bytes
 pub spelled_so : (cells : List Cell) → flat_map spell (map OfCell cells) ≡ cells_bytes cells
@@ -34,23 +29,6 @@ first_bytes cells n bytes h is =
     let whole : cells_bytes cells ≡ front ++ back = ap cells_bytes (sym (take-append-drop n cells)) ∙ bytes_joined (take n cells) (drop n cells) in
     ap (take (16 * n)) (is ∙ whole) ∙ take_at front back (16 * n) (bytes_count (take n cells) ∙ ap (λ (k : ℕ). 16 * k) (length-take-le n cells h))
 
--- one more that was read
-take_set : (xs : List Cell) (i : ℕ) (cell : Cell) → i < length xs → take (suc i) (set xs i cell) ≡ take i xs ++ cell ∷ []
-take_set [] i cell h = absurd (omega arith)
-take_set (x ∷ xs) zero cell h = refl
-take_set (x ∷ xs) (suc i) cell h = ap (λ (l : List Cell). x ∷ l) (take_set xs i cell (omega arith))
-
-pub one_read : (xs : List Cell) (i : ℕ) (cell : Cell) (bytes rest more : List ℕ) → i < length xs → bytes ≡ cells_bytes (take i xs) ++ rest → rest ≡ cell_bytes cell ++ more → bytes ≡ cells_bytes (take (i + 1) (set xs i cell)) ++ more
-one_read xs i cell bytes rest more h before here =
-    let same : cells_bytes (take (i + 1) (set xs i cell)) ≡ cells_bytes (take i xs) ++ cell_bytes cell =
-    ap (λ (n : ℕ). cells_bytes (take n (set xs i cell))) (add-one i) ∙ ap cells_bytes (take_set xs i cell h) ∙ bytes_joined (take i xs) (cell ∷ []) ∙ ap (λ (l : List ℕ). cells_bytes (take i xs) ++ l) (one_alone cell) in
-    before ∙ ap (λ (l : List ℕ). cells_bytes (take i xs) ++ l) here ∙ sym (append_assoc (cells_bytes (take i xs)) (cell_bytes cell) more) ∙ ap (λ (l : List ℕ). l ++ more) (sym same)
-
-pub one_bounded : (xs : List Cell) (i : ℕ) (cell : Cell) → i < length xs → AllByRecursion IsBounded (take i xs) → IsBounded cell → AllByRecursion IsBounded (take (i + 1) (set xs i cell))
-one_bounded xs i cell h before here =
-    let next : take (i + 1) (set xs i cell) ≡ take i xs ++ cell ∷ [] = ap (λ (n : ℕ). take n (set xs i cell)) (add-one i) ∙ take_set xs i cell h in
-    subst (AllByRecursion IsBounded) (sym next) (All-append IsBounded (take i xs) (cell ∷ []) before (here, tt))
-
 -- the bytes of unknown ones
 pub unknown_flat : (n : ℕ) → flat_map (λ (bytes : List ℕ). bytes) (replicate n (cell_bytes Unknown)) ≡ cells_bytes (replicate n Unknown)
 unknown_flat zero = refl
@@ -64,10 +42,6 @@ pub unknown_read : (count : ℕ) (bytes rest : List ℕ) → bytes ≡ cells_byt
 unknown_read count bytes rest is =
     let front = cells_bytes (replicate count Unknown) in
     ap (take (16 * count)) is ∙ take_at front rest (16 * count) (bytes_count (replicate count Unknown) ∙ ap (λ (k : ℕ). 16 * k) (length-replicate count Unknown))
-
-pub all_read : (xs : List Cell) (i : ℕ) (bytes rest : List ℕ) → length xs ≤ i → length rest + 16 * i ≡ 16 * length xs → bytes ≡ cells_bytes (take i xs) ++ rest → bytes ≡ cells_bytes xs
-all_read xs i bytes rest le room is =
-    is ∙ ap (λ (l : List ℕ). cells_bytes (take i xs) ++ l) (none_there rest (omega (arith, room, le))) ∙ append-nil (cells_bytes (take i xs)) ∙ ap cells_bytes (take_all i xs le)
 
 -- ---- cells as pieces
 
@@ -90,20 +64,11 @@ cell_spelled cell = refl
 front_cells : (bytes : List ℕ) (f : Filed) (cells : List Cell) (rest : List ℕ) → Front bytes (Body f) (cells_bytes cells ++ rest) → MayCells f cells → Front bytes (Body (with_cells f cells)) rest
 front_cells bytes f [] rest front may = front
 front_cells bytes f (cell ∷ cells) rest front may =
-    let same : cells_bytes (cell ∷ cells) ++ rest ≡ spell (OfCell cell) ++ (cells_bytes cells ++ rest) =
-    ap (λ (l : List ℕ). l ++ rest) (flat_map-cons cell_bytes cell cells) ∙ append_assoc (cell_bytes cell) (cells_bytes cells) rest ∙ ap (λ (l : List ℕ). l ++ (cells_bytes cells ++ rest)) (sym (cell_spelled cell)) in
+    let same : cells_bytes (cell ∷ cells) ++ rest ≡ spell (OfCell cell) ++ (cells_bytes cells ++ rest) = grind (arith, append_assoc, cell_spelled) in
     front_cells bytes (with_cell f cell) cells rest (front_more bytes (Body f) (Body (with_cell f cell)) (OfCell cell) (cells_bytes cells ++ rest) (subst (Front bytes (Body f)) same front) (takes_cell f cell may.0)) may.1
 
 pub cells_taken : (bytes piece : List ℕ) (old new : Input) (f to : Filed) (cells : List Cell) → Stands bytes (Body f) old → Gives old piece new → piece ≡ cells_bytes cells → MayCells f cells → to ≡ with_cells f cells → Stands bytes (Body to) new
-cells_taken bytes piece old new f to cells st g is may to_is =
-    let after = gives_rest (left old) (left new) piece st.rest st.left_is g.consumed in
-    let same : st.rest ≡ cells_bytes cells ++ after.0 = after.2 ∙ ap (λ (l : List ℕ). l ++ after.0) is in
-    record {
-      rest = after.0;
-      front = subst (λ (g : Filed). Front bytes (Body g) after.0) (sym to_is) (front_cells bytes f cells after.0 (subst (Front bytes (Body f)) same st.front) may);
-      left_is = after.1;
-      place = omega (arith, st.place, g.advanced, ap length after.2, length-append piece after.0);
-    }
+cells_taken bytes piece old new f to cells st g is may to_is = grind (arith, gives_rest (left old) (left new) piece st.rest st.left_is g.consumed, front_cells, length-append)
 
 -- the first of the cells that wait were taken
 pub some_taken : (bytes : List ℕ) (old new : Input) (f to : Filed) (cells : List Cell) (taken n size : ℕ) (front : List ℕ) → Stands bytes (Body f) old → front ≡ take size old.waiting → take (16 * n) front ≡ cells_bytes cells → length cells ≡ n → taken ≤ n

@@ -1,6 +1,6 @@
 -- Cells in the order of a file, as a database shows them.
-use Rattle.std.specs.Prelude.{◌≡◌, ◌*◌, ◌<◌, ◌≤◌, ◌++◌, ℕ, zero, suc, List, [], ◌∷◌, Some, length, map, slice_get}
-use Rattle.rrd_file.proofs.Names.{◌∙◌, sym, ap, subst, arith, refl, flat_map, flat_map-append, flat_map-cons, mul-le, Cell, RraDef, resolution, Rra, Content, IsValid, spelled, OfCell, spell}
+use Rattle.std.specs.Prelude.{◌≡◌, ◌<◌, ◌≤◌, ◌++◌, ℕ, zero, suc, List, [], ◌∷◌, Some, length, map, slice_get}
+use Rattle.rrd_file.proofs.Names.{◌∙◌, sym, ap, arith, refl, flat_map, flat_map-append, flat_map-cons, Cell, RraDef, resolution, Rra, Content, IsValid, spelled, OfCell, spell}
 use Rattle.rrd_file.proofs.Told.{archive_at, some_is}
 use Rattle.rrd_spec.proofs.ContentLemmas.{mul_positive}
 
@@ -42,9 +42,7 @@ pub record IsSmallDef (def : RraDef) : Type 0 where
   pub few_rows : def.rows ≤ 1000000
 
 pub small_def : (d : Content) (n : ℕ) (def : RraDef) → IsValid d → IsDefOf d n def → IsSmallDef def
-small_def d n def v f =
-    let archive = archive_at d n f.archive v f.there in
-    subst IsSmallDef f.def_is (record { some_steps = archive.some_steps; few_steps = archive.few_steps; some_rows = archive.some_rows; few_rows = archive.few_rows })
+small_def d n def v f = grind (arith, archive_at d n f.archive v f.there)
 
 pub rows_are : (d : Content) (n : ℕ) (def : RraDef) (a : Rra) → IsValid d → IsDefOf d n def → slice_get d.archives n ≡ Some a → length a.rows ≡ def.rows
 rows_are d n def a v f e = (archive_at d n a v e).rows_are ∙ ap (λ (x : RraDef). x.rows) (same_def d n def a f e)

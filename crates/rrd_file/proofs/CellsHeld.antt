@@ -1,6 +1,6 @@
 -- The cells of all archives at an earlier time, of which those of the first archives were written over.
 use Rattle.std.specs.Prelude.{◌≡◌, ◌+◌, ◌*◌, ◌≤◌, ◌++◌, ℕ, List, Some, length, take, drop, map, slice_get}
-use Rattle.rrd_file.proofs.Names.{◌∙◌, sym, ap, subst, arith, refl, AllByRecursion, flat_map, append-nil, drop_all, take_all, Cell, cells_by_slot, Rra, Content, HasOneEach, StandsInPlace, IsLater, MovesOn, rows_wide, IsValid, HoldsCells, HoldsSlots, spelled, OfCell}
+use Rattle.rrd_file.proofs.Names.{◌∙◌, sym, ap, subst, arith, AllByRecursion, flat_map, append-nil, drop_all, take_all, Cell, cells_by_slot, Rra, Content, HasOneEach, StandsInPlace, IsLater, MovesOn, rows_wide, IsValid, HoldsCells, HoldsSlots, spelled, OfCell}
 use Rattle.rrd_file.specs.Encoded.{cell_bytes}
 use Rattle.rrd_file.proofs.CellsFiled.{cells_spelled}
 use Rattle.rrd_file.proofs.Overwritten.{is_next, so_far}

@@ -1,15 +1,14 @@
 -- The pieces of an entry, one after another.
 use Rattle.std.specs.Prelude.{◌≡◌, ◌≢◌, ◌++◌, ◌∷◌, ◌+◌, ◌<◌, ℕ, suc, List, [], length}
-use Rattle.rrd_file.proofs.Names.{◌∙◌, sym, ap, subst, refl, length-append, arith, take_at, get_or, flat_map, EntryDue, Entry, Filed, MayEntry, due, limits, outline_left, with_entry, FileFault, BadEntry, Front, IsBad, IsFault, bad_in_body, Gives, Input, IsCut, left, entry_pieces, ARemoval, AResize, ATune, AnAddition, AnUpdate, OfTag, Piece, Tag, spell, tag_byte, IsShaped, BeforeDue, Body, CountDue, DueInEntry, NamedDue, NumberDue, OldRowsDue, RemovedHeadDue, RemovedNumberDue, RowCellDue, RowPrepDue, RowsDue, TimeDue, GoesOn, IsTagWithin, MayTag, Stage, Takes, Within, behind, body_size, first_due, size, size_due, Comes, Stands}
+use Rattle.rrd_file.proofs.Names.{◌∙◌, sym, ap, subst, refl, length-append, arith, take_at, get_or, flat_map, EntryDue, Entry, Filed, MayEntry, due, limits, outline_left, with_entry, FileFault, BadEntry, Front, IsBad, IsFault, bad_in_body, Gives, Input, IsCut, left, entry_pieces, OfTag, Piece, Tag, spell, tag_byte, IsShaped, Body, DueInEntry, GoesOn, IsTagWithin, MayTag, Stage, Takes, Within, behind, body_size, first_due, size, size_due, Comes, Stands}
 use Rattle.rrd_file.specs.Stages.{Keeps}
 use Rattle.rrd_file.proofs.OneShape.{shaped_one, undo_shaped}
 use Rattle.rrd_file.proofs.Reached.{cut, front_more, gives_rest, refused}
-use Rattle.rrd_file.proofs.Ways.{Step, ToSource, ToHead, ToPrep, ToCell, ToEntry, step_of}
+use Rattle.rrd_file.proofs.Ways.{Step, step_of}
 use Rattle.rrd_file.proofs.OneSpelling.{tag_one}
 
 some_due : (d : DueInEntry) → 0 < size_due d
-some_due TimeDue = omega arith
-some_due x = omega arith
+some_due x = grind arith
 
 -- the stage, where something is due
 pub inside : (bytes : List ℕ) (f : Filed) (pieces : List Piece) (d : DueInEntry) (later : List DueInEntry) (input : Input) → Comes bytes f pieces (d ∷ later) input → Stands bytes (Within f pieces (d ∷ later)) input
@@ -25,21 +24,7 @@ pub came : (bytes : List ℕ) (f : Filed) (pieces : List Piece) (d : DueInEntry)
 unfolding Takes size
 came bytes f pieces d later old new p piece c g e len k one =
     let st = inside bytes f pieces d later old c in
-    let after = gives_rest (left old) (left new) piece st.rest st.left_is g.consumed in
-    let is : st.rest ≡ spell p ++ after.0 = after.2 ∙ ap (λ l. l ++ after.0) (sym e) in
-    record {
-      rest = after.0;
-      stage = Within f pieces (d ∷ later);
-      last = p;
-      some = omega (arith, ap length e, len, some_due d);
-      front = subst (Front bytes (Within f pieces (d ∷ later))) is st.front;
-      whole = ap length e ∙ sym len;
-      goes_on = λ next goes. (k, goes);
-      only = λ q next t same. subst (λ (x : Piece). GoesOn f (pieces ++ x ∷ []) (behind f.header.step (outline_left f) d x ++ later) next) (one q t.0 same) t.1;
-      fault_is = λ at. refl;
-      left_is = after.1;
-      place = omega (arith, st.place, g.advanced, ap length after.2, length-append piece after.0);
-    }
+    grind (arith, gives_rest (left old) (left new) piece st.rest st.left_is g.consumed, some_due, length-append)
 
 -- none that keeps to the rule is spelled so
 pub wrong : (bytes : List ℕ) (f : Filed) (pieces : List Piece) (d : DueInEntry) (later : List DueInEntry) (old new : Input) (piece : List ℕ)
@@ -58,11 +43,7 @@ cut_within bytes f pieces d later old n fault c len is = cut bytes (Within f pie
 
 -- where an entry is due, a piece is its tag
 tag_step : {f : Filed} {q : Piece} {next : Stage} → due f ≡ EntryDue → Step (Body f) q next → (u : Tag) × (q ≡ OfTag u) × IsTagWithin (limits f) u × GoesOn f (OfTag u ∷ []) (first_due u) next
-tag_step e (ToSource f s k) = absurd (let both = sym e ∙ k.is_due in cc)
-tag_step e (ToHead f def k) = absurd (let both = sym e ∙ k.is_due in cc)
-tag_step e (ToPrep f part k) = absurd (let both = sym e ∙ k.is_due in cc)
-tag_step e (ToCell f cell k) = absurd (let both = sym e ∙ k.is_due in cc)
-tag_step e (ToEntry f u next may goes) = (u, refl, may.within, goes)
+tag_step e h = grind arith
 
 byte_of : (t u : Tag) → spell (OfTag u) ≡ spell (OfTag t) → tag_byte u ≡ tag_byte t
 unfolding spell

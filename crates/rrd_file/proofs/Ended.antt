@@ -1,6 +1,6 @@
 -- The end of a database is found: its numbers lead over its records to what follows them.
 use Rattle.std.specs.Prelude.{◌≡◌, ◌+◌, ◌*◌, ◌-◌, ◌/◌, ◌^◌, ◌<◌, ◌≤◌, ◌++◌, ◌∷◌, [], ℕ, zero, suc, List, length, map, take, drop, unsigned_abs}
-use Rattle.rrd_file.proofs.Names.{◌∙◌, ap, refl, sym, arith, append_assoc, length-append, length-drop, AllByRecursion, flat_map, drop_at, length-map, length-take, map-append, flat_map-append, Cell, HasWidth, SavedSource, Outline, RraDef, Version, One, Two, Header, filed, head_of, header_of, cells_by_slot, Content, Rra, definitions, BeforeUpdate, Entry, SavedArchive, UpdateEntry, TuneEntry, ResizeEntry, AddedEntry, RemovedEntry, MayRemove, MayResize, MaySaveEach, MayTune, MayUndo, MayUpdate, outline_of, outline_undone, with_row_number, Stored, MayUndoEach, OutlinesAreNeeded, DatabaseIsWithin, All-append, All-drop, All-take, Limits, present, resolution, IsValidArchive, IsValidDatabase, after_all_saved, after_body, after_cells, after_database, after_entries, after_rows, after_tag, after_version, archives_before, file_end, four_in, head_size, parts_size, rows_size, two_in, IsValidIn, EndIsFound, body_pieces, entry_pieces, head_pieces, layout_in, raws_and_parts, row_pieces, saved_pieces, spelled, counts, Piece, Tag, OfCell, OfPrep, OfRows, OfSavedSource, OfSource, AnUpdate, ATune, AResize, AnAddition, ARemoval, header_bytes, spell, archive_bytes, eight_bytes, four_bytes, function_byte, two_bytes}
+use Rattle.rrd_file.proofs.Names.{◌∙◌, ap, refl, sym, arith, append_assoc, length-append, length-drop, AllByRecursion, flat_map, drop_at, length-map, length-take, map-append, flat_map-append, Cell, HasWidth, SavedSource, Outline, RraDef, Version, One, Two, Header, filed, head_of, header_of, cells_by_slot, Content, Rra, definitions, BeforeUpdate, Entry, SavedArchive, UpdateEntry, TuneEntry, ResizeEntry, AddedEntry, RemovedEntry, MayRemove, MayResize, MaySaveEach, MayTune, MayUndo, MayUpdate, outline_of, outline_undone, with_row_number, Stored, MayUndoEach, OutlinesAreNeeded, DatabaseIsWithin, All-append, All-drop, All-take, Limits, present, IsValidArchive, IsValidDatabase, after_all_saved, after_body, after_cells, after_database, after_entries, after_rows, after_tag, after_version, archives_before, file_end, four_in, parts_size, rows_size, two_in, IsValidIn, EndIsFound, body_pieces, entry_pieces, head_pieces, layout_in, raws_and_parts, row_pieces, saved_pieces, spelled, counts, Piece, Tag, OfCell, OfPrep, OfSavedSource, AnUpdate, ATune, AResize, AnAddition, ARemoval, header_bytes, spell, archive_bytes, eight_bytes, four_bytes, function_byte, two_bytes}
 use Rattle.rrd_file.proofs.OneAnswer.{file_is_layout}
 use Rattle.rrd_file.proofs.Sound.{resized_length}
 use Rattle.rrd_file.proofs.Told.{accepted_length}
@@ -18,12 +18,7 @@ split ps qs x = ap (λ l. l ++ x) (flat_map-append spell ps qs) ∙ append_assoc
 -- a number of rows after the bytes `p`, and then the bytes `r`, which end with the rows
 rows_end : (n at more k : ℕ) (p r x : List ℕ) → length p ≡ at → k < 2 ^ 32 → length r ≡ more + rows_size n k → after_rows n at more ((p ++ (four_bytes k ++ r)) ++ x) ≡ x
 unfolding after_rows
-rows_end n at more k p r x before small behind =
-    let all = (p ++ (four_bytes k ++ r)) ++ x in
-    let tail : drop at all ≡ four_bytes k ++ (r ++ x) = ap (λ l. drop at l) (append_assoc p (four_bytes k ++ r) x) ∙ drop_at p ((four_bytes k ++ r) ++ x) at before in
-    let number : four_in (drop at all) ≡ k = ap four_in tail ∙ four_first k (r ++ x) small in
-    let size : length (p ++ (four_bytes k ++ r)) ≡ at + 4 + more + rows_size n k = omega (arith, length-append p (four_bytes k ++ r), before, behind) in
-    ap (λ z. drop (at + 4 + more + rows_size n z) all) number ∙ drop_at (p ++ (four_bytes k ++ r)) x (at + 4 + more + rows_size n k) size
+rows_end n at more k p r x before small behind = grind (arith, append_assoc, drop_at, four_first, length-append)
 
 -- ---- entries
 
@@ -32,12 +27,7 @@ HasFewRows def = def.rows ≤ 1000000
 
 saved_end : (n : ℕ) (old : SavedArchive) (x : List ℕ) → length old.parts ≡ n → HasWidth n old.rows → length old.rows < 2 ^ 32 → after_rows n (parts_size n) 0 (spelled (saved_pieces old) ++ x) ≡ x
 unfolding spell
-saved_end n old x parts wide few =
-    let k = length old.rows in
-    let p = spelled (map OfPrep old.parts) in
-    let r = spelled (row_pieces old.rows) in
-    let is : spelled (saved_pieces old) ≡ p ++ (four_bytes k ++ r) = flat_map-append spell (map OfPrep old.parts) (OfRows k ∷ row_pieces old.rows) in
-    cc (is, rows_end n (parts_size n) 0 k p r x (omega (arith, preps_have old.parts, parts)) few (omega (arith, rows_have n old.rows wide)))
+saved_end n old x parts wide few = grind (arith, flat_map-append, rows_end, preps_have, rows_have)
 
 all_saved_end : (step from to n : ℕ) (defs : List RraDef) (olds : List SavedArchive) (x : List ℕ) → AllByRecursion HasFewRows defs → MaySaveEach step from to n defs olds
     → after_all_saved n (length defs) (spelled (flat_map saved_pieces olds) ++ x) ≡ x
@@ -52,25 +42,11 @@ all_saved_end step from to n y z x few may = absurd may
 update_end : (step : ℕ) (now : Outline) (old : BeforeUpdate) (x : List ℕ) → AllByRecursion HasFewRows now.archives → MayUpdate step now old
     → after_tag (length now.sources) (length now.archives) AnUpdate (eight_bytes old.last ++ (spelled (raws_and_parts old.raws old.parts ++ flat_map saved_pieces old.archives) ++ x)) ≡ x
 unfolding after_tag
-update_end step now old x few may =
-    let n = length now.sources in
-    let m = length now.archives in
-    let before = raws_and_parts old.raws old.parts in
-    let archives = flat_map saved_pieces old.archives in
-    let raws = accepted_length now.sources old.raws may.raws_are in
-    let long = raws_have old.raws old.parts (raws ∙ sym may.parts_are.one_each) in
-    let size : length (eight_bytes old.last ++ spelled before) ≡ 8 + 36 * n = omega (arith, long, raws) in
-    let skip : drop (8 + 36 * n) (eight_bytes old.last ++ (spelled before ++ (spelled archives ++ x))) ≡ spelled archives ++ x = drop_at (eight_bytes old.last ++ spelled before) (spelled archives ++ x) (8 + 36 * n) size in
-    cc (split before archives x, skip, all_saved_end step old.last now.last n now.archives old.archives x few may.archives_are)
+update_end step now old x few may = grind (arith, accepted_length, raws_have, drop_at, split, all_saved_end)
 
 tune_end : (n m : ℕ) (now : Outline) (olds : List SavedSource) (x : List ℕ) → MayTune present now olds → after_tag n m ATune (two_bytes (length olds) ++ (spelled (map OfSavedSource olds) ++ x)) ≡ x
 unfolding after_tag
-tune_end n m now olds x may =
-    let k = length olds in
-    let bytes = two_bytes k ++ (spelled (map OfSavedSource olds) ++ x) in
-    let number = two_first k (spelled (map OfSavedSource olds) ++ x) (omega (arith, may.few)) in
-    let size : length (two_bytes k ++ spelled (map OfSavedSource olds)) ≡ 2 + 79 * k = omega (arith, olds_have olds may.each) in
-    ap (λ z. drop (2 + 79 * z) bytes) number ∙ drop_at (two_bytes k ++ spelled (map OfSavedSource olds)) x (2 + 79 * k) size
+tune_end n m now olds x may = grind (arith, two_bytes, two_first, olds_have, drop_at)
 
 resize_end : (m : ℕ) (now : Outline) (archive : ℕ) (rows : List (List Cell)) (x : List ℕ) → MayResize present now archive rows
     → after_tag (length now.sources) m AResize (two_bytes archive ++ (four_bytes (length rows) ++ (spelled (row_pieces rows) ++ x))) ≡ x
@@ -115,8 +91,7 @@ entry_end step now k (RemovedEntry number archive) x few may = ap (after_entries
 -- ---- the outline after an entry is undone
 
 sources_undone : (now : Outline) (e : Entry) → length (outline_undone now e).sources ≡ length now.sources
-sources_undone now (TuneEntry olds) = sources_count now.sources olds
-sources_undone now x = refl
+sources_undone now x = grind (arith, sources_count)
 
 archives_undone : (step : ℕ) (now : Outline) (e : Entry) → MayUndo present step now e → length (outline_undone now e).archives ≡ archives_before (length now.archives) (tag_for e)
 archives_undone step now (ResizeEntry archive rows) may = resized_length now.archives archive (length rows)
@@ -147,12 +122,7 @@ no_entries n m x = refl
 entries_end : (step : ℕ) (now : Outline) (es : List Entry) (x : List ℕ) → AllByRecursion HasFewRows now.archives → MayUndoEach present step now es
     → after_entries (length now.sources) (length now.archives) (length es) (spelled (flat_map entry_pieces es) ++ x) ≡ x
 entries_end step now [] x few may = no_entries (length now.sources) (length now.archives) x
-entries_end step now (e ∷ es) x few may =
-    let y = spelled (flat_map entry_pieces es) ++ x in
-    ap (after_entries (length now.sources) (length now.archives) (suc (length es))) (split (entry_pieces e) (flat_map entry_pieces es) x)
-    ∙ entry_end step now (length es) e y few may.0
-    ∙ (λ i. after_entries (sym (sources_undone now e) i) (sym (archives_undone step now e may.0) i) (length es) y)
-    ∙ entries_end step (outline_undone now e) es x (few_undone step now e few may.0) may.1
+entries_end step now (e ∷ es) x few may = grind (arith, split, entry_end, sources_undone, archives_undone, entries_end step (outline_undone now e) es x (few_undone step now e few may.0) may.1, few_undone)
 
 -- ---- cells
 
@@ -164,24 +134,7 @@ cells_end : ManyCells → (n step last steps : ℕ) (archives : List Rra) (x y :
     → after_cells n (length archives) (spelled (flat_map head_pieces (map head_of archives)) ++ x) (spelled (map OfCell (flat_map (cells_by_slot step last) archives)) ++ y) ≡ y
 unfolding after_cells
 cells_end many n step last steps [] x y some are = refl
-cells_end many n step last steps (a ∷ archives) x y some are =
-    let own = cells_by_slot step last a in
-    let others = flat_map (cells_by_slot step last) archives in
-    let head = spelled (head_pieces (head_of a)) in
-    let heads = spelled (flat_map head_pieces (map head_of archives)) ++ x in
-    let cells = spelled (map OfCell others) ++ y in
-    let m = length archives in
-    let next = λ (rows : ℕ) (hs cs : List ℕ). after_cells n m (drop (head_size n) hs) (drop (rows_size n rows) cs) in
-    let split_heads = split (head_pieces (head_of a)) (flat_map head_pieces (map head_of archives)) x in
-    let split_cells = ap (λ l. spelled l ++ y) (map-append OfCell own others) ∙ split (map OfCell own) (map OfCell others) y in
-    let rows : four_in (drop 9 (head ++ heads)) ≡ a.def.rows = rows_first a heads (omega (arith, are.0.few_rows)) in
-    let long : length own ≡ length a.rows * n = many (resolution step a.def) last n a.rows (some_seconds step a.def.steps some are.0.some_steps) (one_each n a.rows are.0.each_row) in
-    let size : length (spelled (map OfCell own)) ≡ rows_size n a.def.rows = cells_have own ∙ ap (λ k. k * 16) (long ∙ ap (λ k. k * n) are.0.rows_are) in
-    let past_head = drop_at head heads (head_size n) (omega (arith, head_has a, are.0.parts_are.one_each)) in
-    (λ i. next (four_in (drop 9 (split_heads i))) (split_heads i) (split_cells i))
-    ∙ ap (λ k. next k (head ++ heads) (spelled (map OfCell own) ++ cells)) rows
-    ∙ (λ i. after_cells n m (past_head i) ((drop_at (spelled (map OfCell own)) cells (rows_size n a.def.rows) size) i))
-    ∙ cells_end many n step last steps archives x y some are.1
+cells_end many n step last steps (a ∷ archives) x y some are = grind (arith, split (head_pieces (head_of a)) (flat_map head_pieces (map head_of archives)) x, map-append, split, rows_first, some_seconds, one_each, cells_have, drop_at, head_has, cells_end many n step last steps archives x y some are.1)
 
 -- ---- the whole
 
@@ -205,39 +158,14 @@ journal_end laws c j x valid =
 body_end : Ending → (v : Version) (c : Content) (j : List Entry) (x : List ℕ) → IsValidDatabase c j → let d : Stored = record { content = c; journal = j } in
     after_body (length c.sources) (length c.archives) (length j) (spelled (body_pieces (filed v d) ++ flat_map entry_pieces j) ++ x) ≡ x
 unfolding after_body
-body_end laws v c j x valid =
-    let d : Stored = record { content = c; journal = j } in
-    let f = filed v d in
-    let n = length c.sources in
-    let m = length c.archives in
-    let k = length j in
-    let is = valid.content_is in
-    let sources = map OfSource f.sources in
-    let heads = flat_map head_pieces f.heads in
-    let cells = map OfCell f.cells in
-    let entries = flat_map entry_pieces j in
-    let e = spelled entries ++ x in
-    let ce = spelled cells ++ e in
-    let hce = spelled heads ++ ce in
-    let parts = split ((sources ++ heads) ++ cells) entries x ∙ split (sources ++ heads) cells e ∙ split sources heads ce in
-    let past_sources : drop (97 * n) (spelled sources ++ hce) ≡ hce = drop_at (spelled sources) hce (97 * n) (omega (arith, sources_have c.sources c.raws c.parts is.sources_are is.raws_are is.parts_are.one_each)) in
-    let past_heads : drop (m * head_size n) hce ≡ ce = drop_at (spelled heads) ce (m * head_size n) (heads_have n (c.last / c.step) c.archives is.archives_are) in
-    cc (parts, past_sources, past_heads, cells_end laws.many n c.step c.last (c.last / c.step) c.archives ce e is.some_step is.archives_are, journal_end laws c j x valid)
+body_end laws v c j x valid = grind (arith, split, drop_at, sources_have, heads_have, cells_end, journal_end)
 
 version_end : (v : Version) (h : Header) (z : List ℕ) → h.sources < 2 ^ 16 → h.archives < 2 ^ 16 → h.entries < counts v → after_version v (header_bytes v h ++ z) ≡ after_body h.sources h.archives h.entries z
 unfolding after_version
-version_end One h z sources archives entries =
-    let last = two_bytes h.entries ++ z in
-    let c = two_first h.entries z entries in
-    λ i. after_body ((two_first h.sources (two_bytes h.archives ++ last) sources) i) ((two_first h.archives last archives) i) (c i) z
-version_end Two h z sources archives entries =
-    let last = four_bytes h.entries ++ z in
-    let c = four_first h.entries z entries in
-    λ i. after_body ((two_first h.sources (two_bytes h.archives ++ last) sources) i) ((two_first h.archives last archives) i) (c i) z
+version_end v h z sources archives entries = grind (arith, two_bytes, two_first, four_first)
 
 few_entries : (v : Version) (d : Stored) → IsValidIn v d → length d.journal < counts v
-few_entries One d valid = omega (arith, valid.few, valid.content_is.small_depth)
-few_entries Two d valid = omega (arith, valid.few, valid.content_is.small_depth)
+few_entries v d valid = grind arith
 
 mark_end : (v : Version) (d : Stored) (x : List ℕ) → let f = filed v d in
     after_database (layout_in v d ++ x) ≡ after_version v (header_bytes v f.header ++ (spelled (body_pieces f ++ flat_map entry_pieces f.entries) ++ x))
@@ -258,6 +186,4 @@ layout_end laws v d x valid =
 
 pub end_is_found : Ending → (bytes : List ℕ) (d : Stored) → EndIsFound bytes d
 unfolding file_end
-end_is_found laws bytes d file rest =
-    let after : after_database (bytes ++ rest) ≡ rest = ap (λ l. after_database (l ++ rest)) (file_is_layout bytes d file) ∙ layout_end laws file.version d rest file.valid in
-    omega (arith, length-append bytes rest, ap length after)
+end_is_found laws bytes d file rest = grind (arith, file_is_layout bytes d file, layout_end laws file.version d rest file.valid, length-append bytes rest)

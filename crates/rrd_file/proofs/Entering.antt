@@ -1,8 +1,6 @@
 -- What an entry of a valid database keeps to.
-use Rattle.std.specs.Prelude.{◌≡◌, ◌<◌, ◌≤◌, ◌^◌, ◌+◌, ◌/◌, ℕ, zero, suc, List, [], ◌∷◌, Some, length, slice_get}
-use Rattle.rrd_file.proofs.Names.{ap, subst, get_or, arith, AllByRecursion, insert, SavedSource, Rra, Content, Entry, RemovedEntry, undone, IsValid, IsValidArchive, IsValidJournal, IsValidDatabase, Fits, Rise, newest, present, FitsArchive, HasSmallNumber, IsEntryOfSome}
-use Rattle.rrd_file.proofs.OneSpelling.{archive_fits}
-use Rattle.rrd_file.proofs.Sound.{small_limits}
+use Rattle.std.specs.Prelude.{◌≡◌, ◌<◌, ◌≤◌, ◌^◌, ◌+◌, ℕ, zero, suc, List, [], ◌∷◌, Some, length, slice_get}
+use Rattle.rrd_file.proofs.Names.{ap, subst, get_or, arith, AllByRecursion, SavedSource, Rra, Content, Entry, RemovedEntry, undone, IsValid, IsValidJournal, IsValidDatabase, Fits, Rise, FitsArchive, HasSmallNumber, IsEntryOfSome}
 use Rattle.rrd_file.proofs.Told.{some_is}
 use Rattle.rrd_spec.proofs.ArchiveTunes.{inserted}
 
@@ -28,13 +26,4 @@ small_numbers lowest limit [] few r = tt
 small_numbers lowest limit (old ∷ olds) few r = (omega (arith, r.1), small_numbers (old.number + 1) limit olds few r.2)
 
 pub removed_fits : (now : Content) (number : ℕ) (archive : Rra) → number ≤ length now.archives → IsValid (undone now (RemovedEntry number archive)) → FitsArchive archive.def
-removed_fits now number archive there is =
-    let a = inserted (IsValidArchive (length now.sources) (now.last / now.step)) now.archives number archive there is.archives_are in
-    archive_fits present archive.def (small_limits newest) (record {
-      some_steps = a.some_steps;
-      few_steps = a.few_steps;
-      some_rows = a.some_rows;
-      few_rows = a.few_rows;
-      xff_low = a.xff_low;
-      xff_high = a.xff_high;
-    })
+removed_fits now number archive there is = grind (arith, inserted)

@@ -14,8 +14,7 @@ Meets l step now (due ∷ later) (p ∷ pieces) = Keeps l step now due p × Meet
 
 both_meet : (l : Limits) (step : ℕ) (now : Outline) (due later : List DueInEntry) (ps qs : List Piece) → Meets l step now due ps → Meets l step now later qs → Meets l step now (due ++ later) (ps ++ qs)
 both_meet l step now [] later [] qs h k = k
-both_meet l step now (d ∷ due) later (p ∷ ps) qs h k =
-    (h.0, subst (λ (x : List DueInEntry). Meets l step now x (ps ++ qs)) (append_assoc (behind step now d p) due later) (both_meet l step now (behind step now d p ++ due) later ps qs h.1 k))
+both_meet l step now (d ∷ due) later (p ∷ ps) qs h k = grind (arith, append_assoc, both_meet l step now (behind step now d p ++ due) later ps qs h.1 k)
 both_meet l step now x later y qs h k = absurd h
 
 -- where nothing is due behind what a piece makes due
@@ -37,9 +36,7 @@ cells_meet l step now (suc n) [] e h = absurd (omega (arith, e))
 cells_meet l step now (suc n) (c ∷ cells) e h = (h.0, cells_meet l step now n cells (omega (arith, e)) h.1)
 
 rows_meet : (l : Limits) (step : ℕ) (now : Outline) (rows : List (List Cell)) → AllByRecursion (IsRow (length now.sources)) rows → Meets l step now (cells_due (length rows) now) (row_pieces rows)
-rows_meet l step now [] h =
-    let none : zero ≡ zero * length now.sources = omega arith in
-    subst (λ (n : ℕ). Meets l step now (replicate n RowCellDue) []) none tt
+rows_meet l step now [] h = grind arith
 rows_meet l step now (row ∷ rows) h =
     let width = length now.sources in
     let count : width + length rows * width ≡ suc (length rows) * width = omega (arith, suc-mul (length rows) width) in
@@ -61,8 +58,7 @@ raws_meet l step now last x y parts h e k = absurd h
 
 named_meet : (l : Limits) (step : ℕ) (now : Outline) (lowest : ℕ) (olds : List SavedSource) → Rise lowest (length now.sources) olds → AllByRecursion (IsSavedSource l) olds → Meets l step now (named_due lowest (length olds)) (map OfSavedSource olds)
 named_meet l step now lowest [] r h = tt
-named_meet l step now lowest (old ∷ olds) r h =
-    ((r.0, r.1, h.0), alone l step now (named_due (old.number + 1) (length olds)) (map OfSavedSource olds) (named_meet l step now (old.number + 1) olds r.2 h.1))
+named_meet l step now lowest (old ∷ olds) r h = grind (arith, alone, named_meet l step now (old.number + 1) olds r.2 h.1)
 
 saved_meet : (l : Limits) (step : ℕ) (now : Outline) (last : ℕ) (defs : List RraDef) (olds : List SavedArchive) → MaySaveEach step last now.last (length now.sources) defs olds → Meets l step now (flat_map (archive_due step now last) defs) (flat_map saved_pieces olds)
 saved_meet l step now last [] [] h = tt
@@ -71,11 +67,7 @@ saved_meet l step now last (def ∷ defs) (old ∷ olds) h =
     let preps = preps_meet l step now last def n old.parts h.0.parts_are.one_each h.0.parts_are.each in
     let rows = as_many_meet l step now _ old.rows h.0.as_many h.0.each_row in
     let first : Meets l step now (archive_due step now last def) (saved_pieces old) = both_meet l step now (replicate n (RowPrepDue last def)) _ (map OfPrep old.parts) (OfRows (length old.rows) ∷ row_pieces old.rows) preps (h.0.as_many, rows) in
-    let due : archive_due step now last def ++ flat_map (archive_due step now last) defs ≡ flat_map (archive_due step now last) (def ∷ defs) = sym (flat_map-cons (archive_due step now last) def defs) in
-    let pieces : saved_pieces old ++ flat_map saved_pieces olds ≡ flat_map saved_pieces (old ∷ olds) = sym (flat_map-cons saved_pieces old olds) in
-    subst (λ (x : List DueInEntry). Meets l step now x (flat_map saved_pieces (old ∷ olds))) due
-    (subst (Meets l step now (archive_due step now last def ++ flat_map (archive_due step now last) defs)) pieces
-    (both_meet l step now (archive_due step now last def) (flat_map (archive_due step now last) defs) (saved_pieces old) (flat_map saved_pieces olds) first (saved_meet l step now last defs olds h.1)))
+    grind (arith, both_meet, saved_meet l step now last defs olds h.1)
 saved_meet l step now last x y h = absurd h
 
 -- ---- entries
@@ -89,11 +81,7 @@ pieces_behind AddedEntry = []
 pieces_behind (RemovedEntry number archive) = OfNumber number ∷ OfArchive archive.def ∷ (map OfPrep archive.parts ++ row_pieces archive.rows)
 
 update_meets : (l : Limits) (step : ℕ) (now : Outline) (old : BeforeUpdate) → MayUpdate step now old → Meets l step now (first_due AnUpdate) (OfTime old.last ∷ raws_and_parts old.raws old.parts ++ flat_map saved_pieces old.archives)
-update_meets l step now old h =
-    let raws = raws_meet l step now old.last now.sources old.raws old.parts h.raws_are h.parts_are.one_each h.parts_are.each in
-    let archives = saved_meet l step now old.last now.archives old.archives h.archives_are in
-    let due = map (BeforeDue old.last) now.sources ++ flat_map (archive_due step now old.last) now.archives in
-    (h.earlier, alone l step now due (raws_and_parts old.raws old.parts ++ flat_map saved_pieces old.archives) (both_meet l step now (map (BeforeDue old.last) now.sources) (flat_map (archive_due step now old.last) now.archives) (raws_and_parts old.raws old.parts) (flat_map saved_pieces old.archives) raws archives))
+update_meets l step now old h = grind (arith, raws_meet l step now old.last now.sources old.raws old.parts h.raws_are h.parts_are.one_each h.parts_are.each, saved_meet l step now old.last now.archives old.archives h.archives_are, alone, both_meet)
 
 tune_meets : (l : Limits) (step : ℕ) (now : Outline) (olds : List SavedSource) → MayTune l now olds → Meets l step now (first_due ATune) (OfCount (length olds) ∷ map OfSavedSource olds)
 tune_meets l step now olds h = ((h.some, h.few), alone l step now (named_due 0 (length olds)) (map OfSavedSource olds) (named_meet l step now 0 olds h.rise h.each))
@@ -104,10 +92,7 @@ resize_meets l step now archive rows h = (h.there, (h.old_rows, alone l step now
 removed_meets : (l : Limits) (step : ℕ) (now : Outline) (number : ℕ) (archive : Rra) → MayRemove l step now number archive → Meets l step now (first_due ARemoval) (OfNumber number ∷ OfArchive archive.def ∷ (map OfPrep archive.parts ++ row_pieces archive.rows))
 removed_meets l step now number archive h =
     let n = length now.sources in
-    let preps = preps_meet l step now now.last archive.def n archive.parts h.parts_are.one_each h.parts_are.each in
-    let rows = as_many_meet l step now archive.def.rows archive.rows h.rows_are h.each_row in
-    let due = replicate n (RowPrepDue now.last archive.def) ++ cells_due archive.def.rows now in
-    (h.number_is, (h.settings_are, alone l step now due (map OfPrep archive.parts ++ row_pieces archive.rows) (both_meet l step now (replicate n (RowPrepDue now.last archive.def)) (cells_due archive.def.rows now) (map OfPrep archive.parts) (row_pieces archive.rows) preps rows)))
+    grind (arith, preps_meet l step now now.last archive.def n archive.parts h.parts_are.one_each h.parts_are.each, as_many_meet l step now archive.def.rows archive.rows h.rows_are h.each_row, alone, both_meet)
 
 -- ---- runs
 
@@ -122,18 +107,13 @@ unfolding Takes
 within f pieces due later p next keeps goes = (keeps, goes)
 
 goes_on : (f : Filed) (entry : Entry) → MayEntry f entry → (pieces : List Piece) (due : List DueInEntry) (more : List Piece) → Meets (limits f) f.header.step (outline_left f) due more → pieces ++ more ≡ entry_pieces entry → Goes f entry pieces due more
-goes_on f entry may pieces [] [] h e =
-    record { stage = Body (with_entry f entry); goes = (entry, sym e ∙ append-nil pieces, may, refl); runs = refl }
-goes_on f entry may pieces (due ∷ later) (p ∷ more) h e =
-    let next = goes_on f entry may (pieces ++ p ∷ []) (behind f.header.step (outline_left f) due p ++ later) more h.1 (append_assoc pieces (p ∷ []) more ∙ e) in
-    record { stage = Within f pieces (due ∷ later); goes = refl; runs = (next.stage, within f pieces due later p next.stage h.0 next.goes, next.runs) }
+goes_on f entry may pieces [] [] h e = grind (arith, append-nil)
+goes_on f entry may pieces (due ∷ later) (p ∷ more) h e = grind (arith, goes_on f entry may (pieces ++ p ∷ []) (behind f.header.step (outline_left f) due p ++ later) more h.1 (append_assoc pieces (p ∷ []) more ∙ e), append_assoc, within)
 goes_on f entry may pieces x y h e = absurd h
 
 tag_runs : (f : Filed) (entry : Entry) (tag : Tag) (more : List Piece) → MayEntry f entry → IsTagWithin (limits f) tag → Meets (limits f) f.header.step (outline_left f) (first_due tag) more → OfTag tag ∷ more ≡ entry_pieces entry → Runs (Body f) (OfTag tag ∷ more) (Body (with_entry f entry))
 unfolding Takes
-tag_runs f entry tag more may within h e =
-    let next = goes_on f entry may (OfTag tag ∷ []) (first_due tag) more h e in
-    (next.stage, (record { is_due = may.is_due; within = within }, next.goes), next.runs)
+tag_runs f entry tag more may within h e = grind (arith, goes_on f entry may (OfTag tag ∷ []) (first_due tag) more h e, within)
 
 pub entry_runs : (f : Filed) (entry : Entry) → MayEntry f entry → Runs (Body f) (entry_pieces entry) (Body (with_entry f entry))
 entry_runs f (UpdateEntry old) may = tag_runs f (UpdateEntry old) AnUpdate (pieces_behind (UpdateEntry old)) may tt (update_meets (limits f) f.header.step (outline_left f) old may.fits) refl

@@ -1,8 +1,7 @@
 -- The fault of a first part is the fault of the whole; and how the file of a database begins.
 use Rattle.std.specs.Prelude.{◌≡◌, ◌+◌, ◌≤◌, ◌++◌, ◌∷◌, [], ℕ, List, length, take}
-use Rattle.rrd_file.proofs.Names.{◌∙◌, ap, refl, subst, sym, arith, length-append, append_assoc, flat_map, take-append-le, flat_map-cons, Filed, filed, Stored, One, FileFault, NotOurs, Truncated, BadBlock, BadEntry, Trailing, Read, OutOfMemory, Front, IsBad, IsTrailing, FileBegins, FrontHasTheFault, body_pieces, entry_pieces, layout_in, pieces_filed, spelled, Piece, Mark, OfHeader, OfVersion, spell, Stage, size}
+use Rattle.rrd_file.proofs.Names.{◌∙◌, ap, arith, length-append, append_assoc, flat_map, take-append-le, Filed, filed, Stored, One, FileFault, NotOurs, Truncated, BadBlock, BadEntry, Trailing, Read, OutOfMemory, Front, IsBad, IsTrailing, FileBegins, FrontHasTheFault, layout_in, pieces_filed, spelled, spell, Stage, size}
 use Rattle.rrd_file.specs.declared.fault.FileFault.TheVariants.{Version as WrongVersion}
-use Rattle.rrd_file.proofs.Lengths.{header_length}
 use Rattle.rrd_file.proofs.OneAnswer.{file_is_layout}
 
 -- ---- more bytes
@@ -55,34 +54,14 @@ module _ (front rest : List ℕ) where
 
 -- ---- the first bytes
 
--- the first three pieces, before what follows them
-begin_so : (version header : Piece) (more : List Piece)
-    → spelled (Mark ∷ version ∷ header ∷ more) ≡ spell Mark ++ (spell version ++ (spell header ++ spelled more))
-begin_so version header more = cc (flat_map-cons spell Mark (version ∷ header ∷ more), flat_map-cons spell version (header ∷ more) ∙ ap (λ (l : List ℕ). spell version ++ l) (flat_map-cons spell header more))
-
-long_so : (mark version header more : List ℕ) → length mark ≡ 4 → length version ≡ 2 → 16 ≤ length header
-    → 16 ≤ length (mark ++ (version ++ (header ++ more)))
-long_so mark version header more a b c =
-    omega (arith, c, length-append mark (version ++ (header ++ more)), length-append version (header ++ more), length-append header more)
-
 filed_begins : (f : Filed) → (16 ≤ length (spelled (pieces_filed f))) × (take 4 (spelled (pieces_filed f)) ≡ 82 ∷ 82 ∷ 68 ∷ 73 ∷ [])
 unfolding spell
-filed_begins f =
-    let more = body_pieces f ++ flat_map entry_pieces f.entries in
-    let so = begin_so (OfVersion f.header.version) (OfHeader f.header) more in
-    let header = header_length f.header.version f.header in
-    let long = long_so (spell Mark) (spell (OfVersion f.header.version)) (spell (OfHeader f.header)) (spelled more) refl refl (omega (arith, header)) in
-    (subst (λ (l : List ℕ). 16 ≤ length l) (sym so) long, ap (take 4) so)
+filed_begins f = grind arith
 
 pub file_begins : (bytes : List ℕ) (d : Stored) → FileBegins bytes d
-file_begins bytes d file =
-    let same = file_is_layout bytes d file in
-    let begins = filed_begins (filed file.version d) in
-    (subst (λ (l : List ℕ). 16 ≤ length l) (sym same) begins.0, ap (take 4) same ∙ begins.1)
+file_begins bytes d file = grind (arith, file_is_layout bytes d file, filed_begins (filed file.version d))
 
 -- the first bytes of a file of the first version
 pub first_begins : (d : Stored) → take 6 (layout_in One d) ≡ 82 ∷ 82 ∷ 68 ∷ 73 ∷ 0 ∷ 1 ∷ []
 unfolding spell
-first_begins d =
-    let f = filed One d in
-    ap (take 6) (begin_so (OfVersion One) (OfHeader f.header) (body_pieces f ++ flat_map entry_pieces f.entries))
+first_begins d = grind arith

@@ -1,4 +1,5 @@
 -- Runs of bytes and of pieces, one behind another.
+use Rattle.std.proofs.Common.{arith}
 use Rattle.std.specs.Prelude.{◌≡◌, ◌++◌, ◌∷◌, [], List, ℕ, map, length}
 use Rattle.rrd_file.proofs.Names.{◌∙◌, sym, ap, append_assoc, append-nil, refl, flat_map, flat_map-append, SavedArchive, newest, Filed, filed, head_of, header_of, Rra, Stored, body_pieces, saved_pieces, entry_pieces, head_pieces, layout, row_pieces, spelled, front_bytes, journal_bytes, Piece, Mark, OfVersion, OfHeader, OfSource, OfArchive, OfPrep, OfRows, OfCell, spell}
 use Rattle.rrd_file.specs.Encoded.{cell_bytes}
@@ -53,7 +54,4 @@ joined_layout d =
     let heads = spelled (flat_map head_pieces f.heads) in
     let cells = cell_bytes d.content in
     let journal = journal_bytes d in
-    joined_whole d
-    ∙ ap (λ l. head ++ (l ++ journal)) (joined_body f)
-    ∙ ap (λ l. head ++ l) (append_assoc sources (heads ++ cells) journal ∙ ap (λ l. sources ++ l) (append_assoc heads cells journal) ∙ sym (append_assoc sources heads (cells ++ journal)))
-    ∙ sym (append_assoc head (sources ++ heads) (cells ++ journal))
+    grind (arith, joined_whole d, joined_body f, append_assoc sources (heads ++ cells) journal, append_assoc heads cells journal, append_assoc sources heads (cells ++ journal), append_assoc head (sources ++ heads) (cells ++ journal))

@@ -1,33 +1,29 @@
 -- Pieces of the body that came whole: taken, or refused.
 use Rattle.std.specs.Prelude.{◌≡◌, ◌≢◌, ◌^◌, ◌<◌, ℕ, List, [], length, Bool, Some, false, not, true}
-use Rattle.rrd_file.proofs.Names.{◌∙◌, sym, ap, subst, refl, arith, Cell, Part, PieceFault, SourceDue, HeadDue, PrepDue, CellDue, NothingDue, RraDef, Version, One, Two, Filed, Header, Source, IsHeader, MayCell, MayHead, MayPrep, MaySource, begun, due, limits, with_cell, with_head, with_prep, with_source, FileFault, NotOurs, BadBlock, BadEntry, pointwise, Decides-eqb, slice_eq-Decides, eqb, Front, IsBad, IsFault, IsTrailing, IsWhole, bad_in_body, Gives, Input, IsCut, left, Mark, OfArchive, OfCell, OfHeader, OfPrep, OfSource, OfVersion, Piece, spell, version_number, two_bytes, Body, Marked, Stage, Start, Takes, Versioned, body_size, header_size, size, Stands, fault_in_block, fault_in_entry, FitsArchive, FitsCell, FitsHeader, FitsPart, FitsSource}
+use Rattle.rrd_file.proofs.Names.{◌∙◌, sym, ap, subst, refl, arith, Cell, Part, PieceFault, SourceDue, HeadDue, PrepDue, CellDue, NothingDue, RraDef, Version, Filed, Header, Source, IsHeader, MayCell, MayHead, MayPrep, MaySource, begun, due, limits, with_cell, with_head, with_prep, with_source, FileFault, NotOurs, BadBlock, BadEntry, pointwise, Decides-eqb, slice_eq-Decides, eqb, IsBad, IsFault, IsTrailing, IsWhole, bad_in_body, Gives, Input, IsCut, left, Mark, OfArchive, OfCell, OfHeader, OfPrep, OfSource, OfVersion, Piece, spell, version_number, two_bytes, Body, Marked, Stage, Start, Takes, Versioned, body_size, header_size, size, Stands, fault_in_block, fault_in_entry, FitsArchive, FitsCell, FitsHeader, FitsPart, FitsSource}
 use Rattle.rrd_file.specs.declared.fault.FileFault.TheVariants.{Version as WrongVersion}
 use Rattle.rrd_file.proofs.OneSpelling.{archive_fits, cell_fits, header_fits, prep_fits, source_fits}
 use Rattle.rrd_file.proofs.Reached.{cut, refused, taken}
 use Rattle.rrd_file.proofs.Sound.{IsSound, reached_sound, small_limits}
 use Rattle.rrd_file.proofs.Spelled.{archive_one, cell_one, header_one, part_one, source_one, two_one}
-use Rattle.rrd_file.proofs.Ways.{Step, ToMark, ToVersion, ToHeader, ToSource, ToHead, ToPrep, ToCell, ToEntry, step_of}
+use Rattle.rrd_file.proofs.Ways.{Step, ToMark, ToVersion, ToHeader, step_of}
 use Rattle.rrd_base.specs.declared.rebuild.PieceFault.TheVariants as refusal
 
 -- ---- refusals
 
 pub refusal_is : (bytes : List ℕ) (at : ℕ) (fault : PieceFault) → (fault ≡ refusal.Bad → IsBad bytes (BadBlock at)) → IsFault bytes (fault_in_block at fault)
-refusal_is bytes at refusal.Bad h = h refl
-refusal_is bytes at refusal.OutOfMemory h = tt
+refusal_is bytes at fault h = grind arith
 
 pub entry_refusal_is : (bytes : List ℕ) (number : ℕ) (fault : PieceFault) → (fault ≡ refusal.Bad → IsBad bytes (BadEntry number)) → IsFault bytes (fault_in_entry number fault)
-entry_refusal_is bytes number refusal.Bad h = h refl
-entry_refusal_is bytes number refusal.OutOfMemory h = tt
+entry_refusal_is bytes number fault h = grind arith
 
 -- ---- the mark
 
 was_same : (b : Bool) → false ≡ not b → b ≡ true
-was_same true e = refl
-was_same false e = absurd cc
+was_same b e = grind arith
 
 was_other : (b : Bool) → true ≡ not b → b ≡ true → ⊥
-was_other true e h = absurd cc
-was_other false e h = absurd cc
+was_other b e h = grind arith
 
 -- the bytes are compared by `!=`
 pub same_bytes : (xs ys : List ℕ) → false ≡ not (pointwise eqb xs ys) → xs ≡ ys
@@ -71,15 +67,13 @@ version_step : {q : Piece} {n : Stage} → Step Marked q n → (version : Versio
 version_step (ToVersion v) = (v, refl)
 
 small_number : (version : Version) → version_number version < 2 ^ 16
-small_number One = omega arith
-small_number Two = omega arith
+small_number version = grind arith
 
 pub version_refused : (bytes piece : List ℕ) (old new : Input) (number : ℕ) → Stands bytes Marked old → Gives old piece new → length piece ≡ 2 → two_bytes number ≡ piece → number < 2 ^ 16 → ((version : Version) → version_number version ≢ number) → IsBad bytes WrongVersion
 unfolding size
 version_refused bytes piece old new number st g len is small never =
     refused bytes Marked piece old new WrongVersion st g (sym len) (omega (arith, len))
-    (λ q n t e. let v = version_step (step_of Marked q n t) in
-    never v.0 (sym (two_one number (version_number v.0) small (small_number v.0) (is ∙ sym e ∙ ap spell v.1 ∙ version_is v.0)))) refl
+    (λ q n t e. grind (arith, version_step, step_of, two_one, small_number, version_is)) refl
 
 -- ---- the header
 
@@ -120,11 +114,7 @@ unfolding Takes
 source_taken bytes piece old new f to s st g is m = taken bytes (Body f) (Body to) (OfSource s) piece old new st g is (m.0, ap Body m.1)
 
 source_step : {f : Filed} {q : Piece} {n : Stage} → due f ≡ SourceDue → Step (Body f) q n → (s : Source) × (q ≡ OfSource s) × MaySource f s
-source_step e (ToSource f s k) = (s, refl, k)
-source_step e (ToHead f def k) = absurd (let both = sym e ∙ k.is_due in cc)
-source_step e (ToPrep f part k) = absurd (let both = sym e ∙ k.is_due in cc)
-source_step e (ToCell f cell k) = absurd (let both = sym e ∙ k.is_due in cc)
-source_step e (ToEntry f u next k goes) = absurd (let both = sym e ∙ k.is_due in cc)
+source_step e h = grind arith
 
 source_same : (x y : Source) → FitsSource x → FitsSource y → spell (OfSource x) ≡ spell (OfSource y) → x ≡ y
 unfolding spell
@@ -152,11 +142,7 @@ unfolding Takes
 head_taken bytes piece old new f to def st g is m = taken bytes (Body f) (Body to) (OfArchive def) piece old new st g is (m.0, ap Body m.1)
 
 head_step : {f : Filed} {q : Piece} {n : Stage} → due f ≡ HeadDue → Step (Body f) q n → (def : RraDef) × (q ≡ OfArchive def) × MayHead f def
-head_step e (ToHead f def k) = (def, refl, k)
-head_step e (ToSource f s k) = absurd (let both = sym e ∙ k.is_due in cc)
-head_step e (ToPrep f part k) = absurd (let both = sym e ∙ k.is_due in cc)
-head_step e (ToCell f cell k) = absurd (let both = sym e ∙ k.is_due in cc)
-head_step e (ToEntry f u next k goes) = absurd (let both = sym e ∙ k.is_due in cc)
+head_step e h = grind arith
 
 archive_same : (x y : RraDef) → FitsArchive x → FitsArchive y → spell (OfArchive x) ≡ spell (OfArchive y) → x ≡ y
 unfolding spell
@@ -166,9 +152,7 @@ pub head_unread : (bytes piece : List ℕ) (old new : Input) (f : Filed) → due
 unfolding size
 head_unread bytes piece old new f d st g len none =
     refused bytes (Body f) piece old new (BadBlock old.at) st g (ap body_size d ∙ sym len) (omega (arith, len))
-    (λ q n t e.
-    let it = head_step d (step_of (Body f) q n t) in
-    none it.0 (sym (ap spell it.1) ∙ e)) (sym (ap (bad_in_body f old.at) d))
+    (λ q n t e. grind (arith, head_step, step_of)) (sym (ap (bad_in_body f old.at) d))
 
 pub head_refused : (bytes piece : List ℕ) (old new : Input) (f : Filed) (def : RraDef) → due f ≡ HeadDue → Stands bytes (Body f) old → Gives old piece new → length piece ≡ 13 → spell (OfArchive def) ≡ piece → FitsArchive def → (MayHead f def → ⊥) → IsBad bytes (BadBlock old.at)
 unfolding size
@@ -183,11 +167,7 @@ unfolding Takes
 prep_taken bytes piece old new f to part st g is m = taken bytes (Body f) (Body to) (OfPrep part) piece old new st g is (m.0, ap Body m.1)
 
 prep_step : {f : Filed} {q : Piece} {n : Stage} (def : RraDef) → due f ≡ PrepDue def → Step (Body f) q n → (part : Part) × (q ≡ OfPrep part) × MayPrep f part
-prep_step def e (ToPrep f part k) = (part, refl, k)
-prep_step def e (ToSource f s k) = absurd (let both = sym e ∙ k.is_due in cc)
-prep_step def e (ToHead f x k) = absurd (let both = sym e ∙ k.is_due in cc)
-prep_step def e (ToCell f cell k) = absurd (let both = sym e ∙ k.is_due in cc)
-prep_step def e (ToEntry f u next k goes) = absurd (let both = sym e ∙ k.is_due in cc)
+prep_step def e h = grind arith
 
 prep_same : (x y : Part) → FitsPart x → FitsPart y → spell (OfPrep x) ≡ spell (OfPrep y) → x ≡ y
 unfolding spell
@@ -207,11 +187,7 @@ unfolding Takes
 cell_taken bytes piece old new f to cell st g is m = taken bytes (Body f) (Body to) (OfCell cell) piece old new st g is (m.0, ap Body m.1)
 
 cell_step : {f : Filed} {q : Piece} {n : Stage} → due f ≡ CellDue → Step (Body f) q n → (cell : Cell) × (q ≡ OfCell cell) × MayCell f cell
-cell_step e (ToCell f cell k) = (cell, refl, k)
-cell_step e (ToSource f s k) = absurd (let both = sym e ∙ k.is_due in cc)
-cell_step e (ToHead f x k) = absurd (let both = sym e ∙ k.is_due in cc)
-cell_step e (ToPrep f part k) = absurd (let both = sym e ∙ k.is_due in cc)
-cell_step e (ToEntry f u next k goes) = absurd (let both = sym e ∙ k.is_due in cc)
+cell_step e h = grind arith
 
 cell_same : (x y : Cell) → FitsCell x → FitsCell y → spell (OfCell x) ≡ spell (OfCell y) → x ≡ y
 unfolding spell
@@ -229,10 +205,7 @@ cell_refused bytes piece old new f cell d st g len is fits never =
 
 pub ended : (bytes : List ℕ) (f : Filed) (old : Input) → due f ≡ NothingDue → Stands bytes (Body f) old → ((rest : List ℕ) → left old ≡ Some rest → rest ≡ []) → IsWhole bytes f
 unfolding size
-ended bytes f old d st none = record {
-  front = subst (Front bytes (Body f)) (none st.rest st.left_is) st.front;
-  done = ap body_size d;
-}
+ended bytes f old d st none = grind arith
 
 pub trails : (bytes : List ℕ) (f : Filed) (old : Input) → due f ≡ NothingDue → Stands bytes (Body f) old → ((rest : List ℕ) → left old ≡ Some rest → 0 < length rest) → IsTrailing bytes old.at
 unfolding size

@@ -1,10 +1,10 @@
 -- Pieces of an entry that came whole: kept, or refused.
-use Rattle.std.specs.Prelude.{◌≡◌, ◌≢◌, ◌++◌, ◌∷◌, ◌/◌, ◌%◌, ◌^◌, ◌<◌, ◌≤◌, ℕ, suc, List, [], length}
-use Rattle.rrd_file.proofs.Names.{◌∙◌, sym, ap, subst, refl, arith, Cell, Raw, Average, Part, SavedSource, Outline, DsDef, RraDef, Filed, Limits, limits_of, IsSavedSource, IsPart, limits, outline_left, EntryValidator, validator, BadEntry, IsBad, Gives, Input, OfArchive, OfCell, OfCount, OfNumber, OfPrep, OfRawAndPart, OfRows, OfSavedSource, OfTime, Piece, spell, BeforeDue, CountDue, DueInEntry, NamedDue, NumberDue, OldRowsDue, RemovedHeadDue, RemovedNumberDue, RowCellDue, RowPrepDue, RowsDue, TimeDue, Within, behind, size_due, Comes, FitsArchive, FitsCell, FitsPart, FitsRaw, FitsSavedSource}
+use Rattle.std.specs.Prelude.{◌≡◌, ◌≢◌, ◌++◌, ◌∷◌, ◌%◌, ◌^◌, ◌<◌, ℕ, suc, List, [], length}
+use Rattle.rrd_file.proofs.Names.{◌∙◌, sym, ap, subst, refl, arith, Cell, Raw, Average, Part, SavedSource, Outline, DsDef, RraDef, Filed, Limits, limits_of, limits, outline_left, EntryValidator, validator, BadEntry, IsBad, Gives, Input, OfArchive, OfCell, OfCount, OfNumber, OfPrep, OfRawAndPart, OfRows, OfSavedSource, OfTime, Piece, spell, BeforeDue, CountDue, DueInEntry, NamedDue, NumberDue, OldRowsDue, RemovedHeadDue, RemovedNumberDue, RowCellDue, RowPrepDue, RowsDue, TimeDue, behind, size_due, Comes, FitsArchive, FitsCell, FitsPart, FitsRaw, FitsSavedSource}
 use Rattle.rrd_file.specs.Stages.{Keeps}
 use Rattle.rrd_file.proofs.Coming.{came, inside, wrong}
-use Rattle.rrd_file.proofs.OneSpelling.{IsHere, archive_fits, cell_fits, def_fits, part_fits, raw_fits, here, row_part_fits, saved_source_fits}
-use Rattle.rrd_file.proofs.Sound.{AreSmall, AreSound, HasSomeSteps, IsSound, IsSoundDue, reached_sound, small_limits}
+use Rattle.rrd_file.proofs.OneSpelling.{IsHere, archive_fits, cell_fits, part_fits, raw_fits, here, row_part_fits, saved_source_fits}
+use Rattle.rrd_file.proofs.Sound.{IsSoundDue, reached_sound}
 use Rattle.rrd_file.proofs.Spelled.{archive_one, cell_one, eight_one, four_one, part_one, raw_and_part_one, saved_source_one, two_one}
 use Rattle.rrd_file.proofs.Ways.{Way, ByTime, ByRawAndPart, ByRowPrep, ByRows, ByRowCell, ByCount, ByNamed, ByNumber, ByOldRows, ByRemovedNumber, ByRemovedHead, way}
 use native.Mathlib.Nat as nat
@@ -29,8 +29,7 @@ unfolding spell
 read_one l step now h s (ReadTime t f) (ByTime u k) e = ap OfTime (eight_one u t (omega (arith, k, h.sound.last)) f e)
 read_one l step now h s (ReadRawAndPart last def r x fr fx) (ByRawAndPart _ _ v y kr ky) e =
     let few : last % step < 2 ^ 32 = omega (arith, nat.mod-lt last h.some_step, h.small_step) in
-    let both = raw_and_part_one v r y x (raw_fits def.kind v kr) fr (part_fits Average (last % step) y few ky) fx e in
-    λ i. OfRawAndPart (both.0 i) (both.1 i)
+    grind (arith, raw_and_part_one v r y x (raw_fits def.kind v kr) fr (part_fits Average (last % step) y few ky) fx e, raw_fits def.kind v kr, part_fits Average (last % step) y few ky)
 read_one l step now h s (ReadRowPrep last def x f) (ByRowPrep _ _ y k) e = ap OfPrep (part_one y x (row_part_fits step last def y s k) f e)
 read_one l step now h s (ReadRows rows x small f) (ByRows _ y k) e = ap OfRows (four_one y x (omega (arith, k, small)) f e)
 read_one l step now h s (ReadRowCell x f) (ByRowCell y k) e = ap OfCell (cell_one y x (cell_fits y k) f e)
@@ -46,10 +45,7 @@ record IsHereNow (f : Filed) (d : DueInEntry) : Type 0 where
   due_is : IsSoundDue d
 
 sound_within : (bytes : List ℕ) (f : Filed) (pieces : List Piece) (d : DueInEntry) (later : List DueInEntry) (input : Input) → Comes bytes f pieces (d ∷ later) input → IsHereNow f d
-sound_within bytes f pieces d later input c =
-    let front = (inside bytes f pieces d later input c).front in
-    let sound = reached_sound front.pieces (Within f pieces (d ∷ later)) front.runs in
-    record { here_is = here f sound.0; due_is = sound.1.0 }
+sound_within bytes f pieces d later input c = grind (arith, inside bytes f pieces d later input c, reached_sound, here)
 
 -- it keeps to its rule by the validator of entries of the file
 pub validated : (f : Filed) (j : EntryValidator) (d : DueInEntry) (p : Piece) → j ≡ validator f → Keeps (limits_of j.version) j.step j.outline d p → Keeps (limits f) f.header.step (outline_left f) d p
@@ -94,10 +90,4 @@ unread bytes f pieces lowest more later old new piece c g len none =
 pub unread_head : (bytes : List ℕ) (f : Filed) (pieces : List Piece) (later : List DueInEntry) (old new : Input) (piece : List ℕ)
     → Comes bytes f pieces (RemovedHeadDue ∷ later) old → Gives old piece new → 13 ≡ length piece → ((def : RraDef) → spell (OfArchive def) ≢ piece)
     → IsBad bytes (BadEntry (suc (length f.entries)))
-unread_head bytes f pieces later old new piece c g len none =
-    wrong bytes f pieces RemovedHeadDue later old new piece c g len
-    (λ q m same.
-    let it = head_way (way (limits f) f.header.step (outline_left f) RemovedHeadDue q m) in
-    none it.0 (sym (ap spell it.1) ∙ same)) where
-      head_way : {l : Limits} {step : ℕ} {now : Outline} {q : Piece} → Way l step now RemovedHeadDue q → (def : RraDef) × (q ≡ OfArchive def)
-      head_way (ByRemovedHead def is) = (def, refl)
+unread_head bytes f pieces later old new piece c g len none = grind (arith, wrong bytes f pieces RemovedHeadDue later old new piece c g len)

@@ -1,6 +1,6 @@
 -- How many bytes the values of a piece have.
-use Rattle.std.specs.Prelude.{◌≡◌, ◌++◌, ◌∷◌, ◌+◌, ◌-◌, ◌≤◌, ℕ, List, length, replicate, nat_lt, true}
-use Rattle.rrd_file.proofs.Names.{refl, arith, length-append, list_all, leb-true, length-replicate, Name, is_good, is_letter, Part, DsDef, Version, One, Two, Header, bound_bytes, eight_bytes, name_bytes, kind_byte, part_bytes, bound_number, source_bytes, header_bytes, header_size}
+use Rattle.std.specs.Prelude.{◌≡◌, ◌++◌, ◌+◌, ◌-◌, ◌≤◌, ℕ, List, length, replicate, nat_lt, true}
+use Rattle.rrd_file.proofs.Names.{arith, length-append, list_all, leb-true, length-replicate, Name, is_good, is_letter, Part, DsDef, Version, Header, name_bytes, part_bytes, source_bytes, header_bytes, header_size}
 use Rattle.rrd_file.proofs.SignedBytes.{signed_length}
 use Rattle.rrd_file.proofs.Tests.{and_left, and_right}
 
@@ -12,15 +12,13 @@ pub name_length : (name : Name) → length name ≤ 19 → length (name_bytes na
 name_length name short = omega (arith, length-append name (replicate (19 - length name) 0), length-replicate {A = ℕ} (19 - length name) 0)
 
 pub source_length : (def : DsDef) → length def.name ≤ 19 → length (source_bytes def) ≡ 61
-source_length def short =
-    omega (arith, name_length def.name short, length-append (name_bytes def.name ++ (kind_byte def.kind ∷ (eight_bytes def.heartbeat)) ++ bound_bytes def.min) (bound_bytes def.max), length-append (name_bytes def.name ++ (kind_byte def.kind ∷ eight_bytes def.heartbeat)) (bound_bytes def.min), length-append (name_bytes def.name) (kind_byte def.kind ∷ eight_bytes def.heartbeat), signed_length (bound_number def.min), signed_length (bound_number def.max))
+source_length def short = grind (arith, name_length, length-append, signed_length)
 
 pub part_length : (part : Part) → length (part_bytes part) ≡ 20
 part_length part = omega (arith, signed_length part.value)
 
 pub header_length : (version : Version) (h : Header) → length (header_bytes version h) ≡ header_size version
-header_length One h = refl
-header_length Two h = refl
+header_length version h = grind arith
 
 pub length_source : (def : DsDef) (a b : List ℕ) → length def.name ≤ 19 → length (source_bytes def ++ a ++ b) ≡ 61 + length a + length b
 length_source def a b short = omega (arith, source_length def short, length-append (source_bytes def ++ a) b, length-append (source_bytes def) a)

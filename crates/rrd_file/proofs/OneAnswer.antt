@@ -1,7 +1,6 @@
 -- An input has one answer, but for failures of the reader and of memory.
-use Rattle.std.specs.Prelude.{◌≡◌, ◌++◌, ◌+◌, ◌-◌, ◌<◌, ℕ, List, [], Bool, length, take, if◌then◌else◌, nat_lt, Result, Ok, Err}
-use Rattle.rrd_file.proofs.Names.{◌∙◌, sym, ap, subst, arith, lt-ltb, le-ltb, take_all, Version, Filed, filed, DatabaseChange, Entry, FiledOnce, Content, RevertTakesBack, Limits, limits_of, IsValidWithin, Stored, FileFault, NotOurs, Truncated, BadBlock, BadEntry, Trailing, Read, OutOfMemory, Front, IsAnswer, IsBad, IsFault, IsFile, IsTrailing, IsTruncated, IsWhole, bad_at, RevertRestoresBytes, RevertRestoresBytesButOldest, IsOfFile, layout, layout_in, Stage, Start, Body, size}
-use Rattle.rrd_file.specs.declared.fault.FileFault.TheVariants.{Version as WrongVersion}
+use Rattle.std.specs.Prelude.{◌≡◌, ◌++◌, ◌+◌, ◌-◌, ◌<◌, ℕ, List, [], Bool, length, if◌then◌else◌, nat_lt, Result, Ok, Err}
+use Rattle.rrd_file.proofs.Names.{◌∙◌, sym, ap, subst, arith, lt-ltb, le-ltb, take_all, Version, Filed, filed, DatabaseChange, Entry, FiledOnce, Content, RevertTakesBack, Limits, limits_of, IsValidWithin, Stored, FileFault, NotOurs, Truncated, Trailing, Front, IsAnswer, IsBad, IsFault, IsFile, IsTrailing, IsTruncated, IsWhole, bad_at, RevertRestoresBytes, RevertRestoresBytesButOldest, IsOfFile, layout, layout_in, Stage, Start, Body, size}
 use Rattle.rrd_file.specs.Laws.{IsValidIn}
 use Rattle.rrd_file.proofs.Came.{whole_is_layout}
 use Rattle.rrd_file.proofs.OneEnd.{EndsAt, ends_bad, ends_done, ends_short, one_end, one_layout, same_body}
@@ -26,42 +25,17 @@ record Stops (bytes : List ℕ) (fault : FileFault) : Type 0 where
   pub fault_is : fault ≡ fault_of stage rest (length bytes)
 
 bad_stops : (bytes : List ℕ) (fault : FileFault) → IsBad bytes fault → Stops bytes fault
-bad_stops bytes fault h =
-    let some = lt-ltb 0 (size h.stage) h.is_due in
-    let whole = le-ltb (length h.rest) (size h.stage) h.whole in
-    let at : h.at ≡ length bytes - length h.rest = omega (arith, h.place) in
-    let cut = Truncated (length bytes) in
-    let more = Trailing (length bytes - length h.rest) in
-    let is : choose (nat_lt 0 (size h.stage)) (nat_lt (length h.rest) (size h.stage)) cut (bad_at h.stage (length bytes - length h.rest)) more ≡ bad_at h.stage h.at = λ i. choose (some i) (whole i) cut (bad_at h.stage (sym at i)) more in
-    record { stage = h.stage; rest = h.rest; front = h.front; ends = ends_bad h.stage h.rest h.none; more = omega (arith, h.is_due); fault_is = h.fault_is ∙ sym is }
+bad_stops bytes fault h = grind (arith, lt-ltb 0 (size h.stage) h.is_due, le-ltb (length h.rest) (size h.stage) h.whole, ends_bad h.stage h.rest h.none)
 
 truncated_stops : (bytes : List ℕ) (at : ℕ) → IsTruncated bytes at → Stops bytes (Truncated at)
-truncated_stops bytes at h =
-    let some = lt-ltb 0 (size h.stage) (omega (arith, h.short)) in
-    let short = lt-ltb (length h.rest) (size h.stage) h.short in
-    let bad = bad_at h.stage (length bytes - length h.rest) in
-    let more = Trailing (length bytes - length h.rest) in
-    let is : choose (nat_lt 0 (size h.stage)) (nat_lt (length h.rest) (size h.stage)) (Truncated (length bytes)) bad more ≡ Truncated at = λ i. choose (some i) (short i) (Truncated (sym h.at_is i)) bad more in
-    record { stage = h.stage; rest = h.rest; front = h.front; ends = ends_short h.stage h.rest h.short; more = omega (arith, h.short); fault_is = sym is }
+truncated_stops bytes at h = grind (arith, lt-ltb (length h.rest) (size h.stage) h.short, ends_short h.stage h.rest h.short)
 
 trailing_stops : (bytes : List ℕ) (at : ℕ) → IsTrailing bytes at → Stops bytes (Trailing at)
-trailing_stops bytes at h =
-    let none = le-ltb 0 (size h.stage) (omega (arith, h.done)) in
-    let place : at ≡ length bytes - length h.rest = omega (arith, h.place) in
-    let short = nat_lt (length h.rest) (size h.stage) in
-    let cut = Truncated (length bytes) in
-    let bad = bad_at h.stage (length bytes - length h.rest) in
-    let is : choose (nat_lt 0 (size h.stage)) (nat_lt (length h.rest) (size h.stage)) cut bad (Trailing (length bytes - length h.rest)) ≡ Trailing at = λ i. choose (none i) short cut bad (Trailing (sym place i)) in
-    record { stage = h.stage; rest = h.rest; front = h.front; ends = ends_done h.stage h.rest h.done; more = omega (arith, h.some); fault_is = sym is }
+trailing_stops bytes at h = grind (arith, ends_done h.stage h.rest h.done)
 
 stops : (bytes : List ℕ) (x : FileFault) → IsFault bytes x → IsOfFile (Err x) → Stops bytes x
 stops bytes NotOurs h k = bad_stops bytes NotOurs h
-stops bytes WrongVersion h k = bad_stops bytes WrongVersion h
-stops bytes (Truncated at) h k = truncated_stops bytes at h
-stops bytes (BadBlock at) h k = bad_stops bytes (BadBlock at) h
-stops bytes (BadEntry number) h k = bad_stops bytes (BadEntry number) h
-stops bytes (Trailing at) h k = trailing_stops bytes at h
-stops bytes x h k = absurd k
+stops bytes x h k = grind (arith, bad_stops, truncated_stops, trailing_stops)
 
 -- ---- two answers
 
@@ -70,9 +44,7 @@ same_end : (bytes : List ℕ) (s t : Stage) (a b : List ℕ) → Front bytes s a
 same_end bytes s t a b f g ends end = one_end Start f.pieces g.pieces s t a b tt f.runs g.runs ends end (sym f.parts ∙ g.parts)
 
 one_fault : (bytes : List ℕ) (x y : FileFault) → Stops bytes x → Stops bytes y → x ≡ y
-one_fault bytes x y h k =
-    let same = same_end bytes h.stage k.stage h.rest k.rest h.front k.front h.ends k.ends in
-    h.fault_is ∙ (λ i. fault_of (same.0 i) (same.1 i) (length bytes)) ∙ sym k.fault_is
+one_fault bytes x y h k = grind (arith, same_end bytes h.stage k.stage h.rest k.rest h.front k.front h.ends k.ends)
 
 no_fault : (bytes : List ℕ) (f : Filed) (x : FileFault) → IsWhole bytes f → Stops bytes x → ⊥
 no_fault bytes f x w h =
@@ -122,6 +94,4 @@ pub revert_restores_bytes_but_oldest : ((now : Content) (journal : List Entry) (
 revert_restores_bytes_but_oldest back d command v accepted = ap layout (back d.content d.journal command v accepted)
 
 pub revert_restores_bytes : ((now : Content) (journal : List Entry) (command : DatabaseChange) → RevertTakesBack now journal command) → (d : Stored) (command : DatabaseChange) → RevertRestoresBytes d command
-revert_restores_bytes back d command v accepted room =
-    let all : take (d.content.depth - 1) d.journal ≡ d.journal = take_all (d.content.depth - 1) d.journal (omega (arith, room)) in
-    revert_restores_bytes_but_oldest back d command v accepted ∙ (λ i. layout (record d { journal = all i }))
+revert_restores_bytes back d command v accepted room = grind (arith, take_all, revert_restores_bytes_but_oldest)

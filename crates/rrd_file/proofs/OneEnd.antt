@@ -1,6 +1,6 @@
 -- The pieces of an input come in one way only, as far as they go.
 use Rattle.std.specs.Prelude.{◌≡◌, ◌++◌, ◌∷◌, ◌<◌, ℕ, List, [], length, take, ◌≢◌}
-use Rattle.rrd_file.proofs.Names.{◌∙◌, sym, ap, subst, arith, append_assoc, length-append, take_at, flat_map-cons, Filed, Front, IsWhole, spelled, Piece, Mark, OfVersion, OfHeader, OfSource, OfArchive, OfPrep, OfCell, OfTag, OfTime, OfRawAndPart, OfRows, OfCount, OfSavedSource, OfNumber, spell, cell_number, raw_bytes, part_bytes, Stage, Start, Body, Runs, Takes, size}
+use Rattle.rrd_file.proofs.Names.{◌∙◌, sym, ap, subst, arith, append_assoc, length-append, take_at, flat_map-cons, Filed, Front, IsWhole, spelled, Piece, spell, Stage, Start, Body, Runs, Takes, size}
 use Rattle.rrd_file.proofs.Lengths.{header_length, part_length}
 use Rattle.rrd_file.proofs.OneEntry.{one_next}
 use Rattle.rrd_file.proofs.OneSpelling.{one_at}
@@ -17,11 +17,7 @@ EndsAt s rest = (p : Piece) (n : Stage) (more : List ℕ) → Takes s p n → re
 
 some_bytes : (p : Piece) → 0 < length (spell p)
 unfolding spell
-some_bytes (OfHeader x) = omega (arith, header_length x.version x)
-some_bytes (OfPrep x) = omega (arith, part_length x)
-some_bytes (OfCell x) = omega (arith, signed_length (cell_number x))
-some_bytes (OfRawAndPart x y) = omega (arith, length-append (raw_bytes x) (part_bytes y), part_length y)
-some_bytes x = omega arith
+some_bytes x = grind (arith, header_length, part_length, signed_length, length-append)
 
 -- where no piece is due
 pub ends_done : (s : Stage) (rest : List ℕ) → size s ≡ 0 → EndsAt s rest
@@ -42,10 +38,8 @@ cut p ps a = ap (λ l. l ++ a) (flat_map-cons spell p ps) ∙ append_assoc (spel
 
 pub one_end : (s : Stage) (ps qs : List Piece) (t u : Stage) (a b : List ℕ) → IsSoundStage s → Runs s ps t → Runs s qs u → EndsAt t a → EndsAt u b → spelled ps ++ a ≡ spelled qs ++ b → (t ≡ u) × (a ≡ b)
 one_end s [] [] t u a b h r k ends end e = (sym r ∙ k, e)
-one_end s [] (q ∷ qs) t u a b h r k ends end e =
-    absurd (ends q k.0 (spelled qs ++ b) (subst (λ (x : Stage). Takes x q k.0) r k.1) (e ∙ cut q qs b))
-one_end s (p ∷ ps) [] t u a b h r k ends end e =
-    absurd (end p r.0 (spelled ps ++ a) (subst (λ (x : Stage). Takes x p r.0) k r.1) (sym e ∙ cut p ps a))
+one_end s [] (q ∷ qs) t u a b h r k ends end e = grind (arith, cut)
+one_end s (p ∷ ps) [] t u a b h r k ends end e = grind (arith, cut)
 one_end s (p ∷ ps) (q ∷ qs) t u a b h r k ends end e =
     let long : length (spell p) ≡ length (spell q) = sizes s p r.0 r.1 ∙ sym (sizes s q k.0 k.1) in
     let both = append_same (spell p) (spelled ps ++ a) (spell q) (spelled qs ++ b) long (sym (cut p ps a) ∙ e ∙ cut q qs b) in
@@ -55,9 +49,7 @@ one_end s (p ∷ ps) (q ∷ qs) t u a b h r k ends end e =
 
 -- two fronts of an input and of one that goes on behind it
 pub one_front : (bytes more : List ℕ) (s t : Stage) (a b : List ℕ) → Front bytes s a → Front (bytes ++ more) t b → EndsAt s (a ++ more) → EndsAt t b → (s ≡ t) × (a ++ more ≡ b)
-one_front bytes more s t a b f g ends end =
-    one_end Start f.pieces g.pieces s t (a ++ more) b tt f.runs g.runs ends end
-    (sym (append_assoc (spelled f.pieces) a more) ∙ ap (λ l. l ++ more) (sym f.parts) ∙ g.parts)
+one_front bytes more s t a b f g ends end = grind (arith, one_end Start f.pieces g.pieces s t (a ++ more) b tt f.runs g.runs ends end, append_assoc (spelled f.pieces) a more)
 
 pub same_body : (f g : Filed) → Body f ≡ Body g → f ≡ g
 same_body f g e = cc

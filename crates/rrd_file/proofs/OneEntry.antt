@@ -1,6 +1,7 @@
 -- An entry that may come has pieces that no other such entry has.
-use Rattle.std.specs.Prelude.{◌≡◌, ◌∷◌, List, []}
-use Rattle.rrd_file.proofs.Names.{◌∙◌, sym, ap, refl, Entry, Filed, MayEntry, outline_left, with_entry, entry_pieces, Piece, Stage, Body, DueInEntry, GoesOn, Takes}
+use Rattle.std.proofs.Common.{arith}
+use Rattle.std.specs.Prelude.{◌≡◌, List}
+use Rattle.rrd_file.proofs.Names.{refl, Entry, Filed, MayEntry, outline_left, entry_pieces, Piece, Stage, DueInEntry, GoesOn, Takes}
 use Rattle.rrd_file.proofs.OneShape.{shaped_one, undo_shaped}
 use Rattle.rrd_file.proofs.Ways.{Step, ToMark, ToVersion, ToHeader, ToSource, ToHead, ToPrep, ToCell, ToEntry, ToPiece, step_of}
 
@@ -10,10 +11,7 @@ one_entry f x y h k e = shaped_one (outline_left f) x y (undo_shaped f x h) (und
 -- ---- so a piece leads to one stage
 
 goes_one : (f : Filed) (pieces : List Piece) (due : List DueInEntry) (n m : Stage) → GoesOn f pieces due n → GoesOn f pieces due m → n ≡ m
-goes_one f pieces (due ∷ later) n m g k = g ∙ sym k
-goes_one f pieces [] n m g k =
-    let same : g.0 ≡ k.0 = one_entry f g.0 k.0 g.2 k.2 (g.1 ∙ sym k.1) in
-    g.3 ∙ ap (λ (e : Entry). Body (with_entry f e)) same ∙ sym k.3
+goes_one f pieces due n m g k = grind (arith, one_entry)
 
 step_one : {s : Stage} {p : Piece} {n m : Stage} → Step s p n → Step s p m → n ≡ m
 step_one ToMark ToMark = refl

@@ -1,6 +1,6 @@
 -- Entries with the same pieces are one, where their lists are as long as the outline says.
 use Rattle.std.specs.Prelude.{◌≡◌, ◌++◌, ◌∷◌, ℕ, List, [], length, map}
-use Rattle.rrd_file.proofs.Names.{◌∙◌, sym, ap, refl, get_or, arith, append_assoc, AllByRecursion, flat_map, length-map, flat_map-cons, Cell, Raw, Part, HasWidth, SavedSource, Outline, RraDef, BeforeUpdate, Entry, SavedArchive, UpdateEntry, TuneEntry, ResizeEntry, AddedEntry, RemovedEntry, Rra, Filed, Limits, MaySaveEach, MayUndo, MayEntry, limits, outline_left, IsRow, entry_pieces, raws_and_parts, row_pieces, saved_pieces, Piece, Mark, OfArchive, OfCell, OfCount, OfNumber, OfPrep, OfRawAndPart, OfRows, OfSavedSource, OfTag, OfTime, AnUpdate, ATune, AResize, AnAddition, ARemoval, AreSavedShaped, IsRemovedShaped, IsShaped, IsUpdateShaped}
+use Rattle.rrd_file.proofs.Names.{◌∙◌, sym, ap, refl, get_or, arith, append_assoc, AllByRecursion, flat_map, length-map, flat_map-cons, Cell, Raw, Part, HasWidth, SavedSource, Outline, RraDef, BeforeUpdate, Entry, SavedArchive, UpdateEntry, TuneEntry, ResizeEntry, AddedEntry, RemovedEntry, Rra, Filed, Limits, MaySaveEach, MayUndo, MayEntry, limits, outline_left, IsRow, entry_pieces, raws_and_parts, row_pieces, saved_pieces, Piece, Mark, OfCell, OfPrep, OfRawAndPart, OfRows, OfSavedSource, OfTag, AnUpdate, ATune, AResize, AnAddition, AreSavedShaped, IsRemovedShaped, IsShaped, IsUpdateShaped}
 use Rattle.rrd_file.proofs.Spelled.{append_same}
 use Rattle.rrd_file.proofs.Told.{accepted_length, length_before}
 
@@ -26,17 +26,12 @@ before_same x y e = cc
 
 raws_one : (r s : List Raw) (a b : List Part) → length r ≡ length a → length s ≡ length b → raws_and_parts r a ≡ raws_and_parts s b → (r ≡ s) × (a ≡ b)
 raws_one [] [] [] [] l m e = (refl, refl)
-raws_one [] [] (x ∷ a) b l m e = absurd (omega (arith, l))
-raws_one [] (s ∷ ss) [] (y ∷ b) l m e = absurd (let bad : [] ≡ OfRawAndPart s y ∷ raws_and_parts ss b = e in cc)
-raws_one [] (s ∷ ss) (x ∷ a) b l m e = absurd (omega (arith, l))
+raws_one [] s a b l m e = grind arith
 raws_one (r ∷ rs) ss [] b l m e = absurd (omega (arith, l))
 raws_one (r ∷ rs) [] (x ∷ a) [] l m e = absurd (let bad : OfRawAndPart r x ∷ raws_and_parts rs a ≡ [] = e in cc)
 raws_one (r ∷ rs) (s ∷ ss) (x ∷ a) (y ∷ b) l m e =
-    let raw : r ≡ s = cc in
-    let part : x ≡ y = cc in
     let rest : raws_and_parts rs a ≡ raws_and_parts ss b = cc in
-    let later = raws_one rs ss a b (omega (arith, l)) (omega (arith, m)) rest in
-    (λ i. raw i ∷ later.0 i, λ i. part i ∷ later.1 i)
+    grind (arith, raws_one rs ss a b (omega (arith, l)) (omega (arith, m)) rest)
 raws_one z u x y l m e = absurd (omega (arith, m))
 
 -- ---- rows of one width
@@ -49,8 +44,7 @@ rows_one width [] [] a b h k l e = (refl, e)
 rows_one width (x ∷ rows) (y ∷ olds) a b h k l e =
     let same : length (map OfCell x) ≡ length (map OfCell y) = length-map x OfCell ∙ h.0 ∙ sym k.0 ∙ sym (length-map y OfCell) in
     let both = append_same (map OfCell x) (row_pieces rows ++ a) (map OfCell y) (row_pieces olds ++ b) same (sym (row_cut x rows a) ∙ e ∙ row_cut y olds b) in
-    let later = rows_one width rows olds a b h.1 k.1 (omega (arith, l)) both.1 in
-    (λ i. (map_one OfCell cell_same x y both.0) i ∷ later.0 i, later.1)
+    grind (arith, rows_one width rows olds a b h.1 k.1 (omega (arith, l)) both.1, map_one, cell_same)
 rows_one width x y a b h k l e = absurd (omega (arith, l))
 
 -- ---- what an update saved
@@ -59,8 +53,7 @@ saved_cut : (old : SavedArchive) (olds : List SavedArchive) → flat_map saved_p
 saved_cut old olds = flat_map-cons saved_pieces old olds ∙ append_assoc (map OfPrep old.parts) (OfRows (length old.rows) ∷ row_pieces old.rows) (flat_map saved_pieces olds)
 
 saved_one : (sources : ℕ) (defs : List RraDef) (olds news : List SavedArchive) → AreSavedShaped sources defs olds → AreSavedShaped sources defs news → flat_map saved_pieces olds ≡ flat_map saved_pieces news → olds ≡ news
-saved_one sources [] [] [] h k e = refl
-saved_one sources [] (old ∷ olds) news h k e = absurd h
+saved_one sources [] olds news h k e = grind arith
 saved_one sources (def ∷ defs) [] news h k e = absurd h
 saved_one sources (def ∷ defs) (old ∷ olds) (new ∷ news) h k e =
     let same : length (map OfPrep old.parts) ≡ length (map OfPrep new.parts) = length-map old.parts OfPrep ∙ h.0.one_part_each ∙ sym k.0.one_part_each ∙ sym (length-map new.parts OfPrep) in
@@ -76,16 +69,7 @@ saved_one sources x y z h k e = absurd k
 -- ---- entries
 
 update_one : (now : Outline) (old new : BeforeUpdate) → IsUpdateShaped now old → IsUpdateShaped now new → entry_pieces (UpdateEntry old) ≡ entry_pieces (UpdateEntry new) → old ≡ new
-update_one now old new h k e =
-    let last : old.last ≡ new.last = cc in
-    let rest : raws_and_parts old.raws old.parts ++ flat_map saved_pieces old.archives ≡ raws_and_parts new.raws new.parts ++ flat_map saved_pieces new.archives = cc in
-    let po : length old.raws ≡ length old.parts = h.one_raw_each ∙ sym h.one_part_each in
-    let pn : length new.raws ≡ length new.parts = k.one_raw_each ∙ sym k.one_part_each in
-    let same : length (raws_and_parts old.raws old.parts) ≡ length (raws_and_parts new.raws new.parts) = length_before old.raws old.parts po ∙ h.one_raw_each ∙ sym k.one_raw_each ∙ sym (length_before new.raws new.parts pn) in
-    let both = append_same (raws_and_parts old.raws old.parts) (flat_map saved_pieces old.archives) (raws_and_parts new.raws new.parts) (flat_map saved_pieces new.archives) same rest in
-    let values = raws_one old.raws new.raws old.parts new.parts po pn both.0 in
-    let archives = saved_one (length now.sources) now.archives old.archives new.archives h.archives_are k.archives_are both.1 in
-    λ i. record { last = last i; raws = values.0 i; parts = values.1 i; archives = archives i }
+update_one now old new h k e = grind (arith, length_before, append_same, raws_one, saved_one)
 
 resize_one : (width x y : ℕ) (rows olds : List (List Cell)) → HasWidth width rows → HasWidth width olds → entry_pieces (ResizeEntry x rows) ≡ entry_pieces (ResizeEntry y olds) → ResizeEntry x rows ≡ ResizeEntry y olds
 resize_one width x y rows olds h k e =
@@ -96,9 +80,7 @@ resize_one width x y rows olds h k e =
     λ i. ResizeEntry (number i) (both.0 i)
 
 tune_one : (x y : List SavedSource) → entry_pieces (TuneEntry x) ≡ entry_pieces (TuneEntry y) → TuneEntry x ≡ TuneEntry y
-tune_one x y e =
-    let rest : map OfSavedSource x ≡ map OfSavedSource y = cc in
-    ap TuneEntry (map_one OfSavedSource before_same x y rest)
+tune_one x y e = grind (arith, map_one, before_same)
 
 removed_one : (now : Outline) (x y : ℕ) (a b : Rra) → IsRemovedShaped now a → IsRemovedShaped now b → entry_pieces (RemovedEntry x a) ≡ entry_pieces (RemovedEntry y b) → RemovedEntry x a ≡ RemovedEntry y b
 removed_one now x y a b h k e =
@@ -124,20 +106,12 @@ shaped_one now (TuneEntry x) (UpdateEntry y) h k e = absurd (let bad : OfTag ATu
 shaped_one now (TuneEntry x) (ResizeEntry y olds) h k e = absurd (let bad : OfTag ATune ≡ OfTag AResize = ap (λ l. get_or l 0 Mark) e in cc)
 shaped_one now (ResizeEntry x rows) (UpdateEntry y) h k e = absurd (let bad : OfTag AResize ≡ OfTag AnUpdate = ap (λ l. get_or l 0 Mark) e in cc)
 shaped_one now (ResizeEntry x rows) (TuneEntry y) h k e = absurd (let bad : OfTag AResize ≡ OfTag ATune = ap (λ l. get_or l 0 Mark) e in cc)
-shaped_one now (UpdateEntry x) AddedEntry h k e = absurd (let bad : OfTag AnUpdate ≡ OfTag AnAddition = ap (λ l. get_or l 0 Mark) e in cc)
-shaped_one now (UpdateEntry x) (RemovedEntry y b) h k e = absurd (let bad : OfTag AnUpdate ≡ OfTag ARemoval = ap (λ l. get_or l 0 Mark) e in cc)
-shaped_one now (TuneEntry x) AddedEntry h k e = absurd (let bad : OfTag ATune ≡ OfTag AnAddition = ap (λ l. get_or l 0 Mark) e in cc)
-shaped_one now (TuneEntry x) (RemovedEntry y b) h k e = absurd (let bad : OfTag ATune ≡ OfTag ARemoval = ap (λ l. get_or l 0 Mark) e in cc)
-shaped_one now (ResizeEntry x rows) AddedEntry h k e = absurd (let bad : OfTag AResize ≡ OfTag AnAddition = ap (λ l. get_or l 0 Mark) e in cc)
-shaped_one now (ResizeEntry x rows) (RemovedEntry y b) h k e = absurd (let bad : OfTag AResize ≡ OfTag ARemoval = ap (λ l. get_or l 0 Mark) e in cc)
+shaped_one now (UpdateEntry x) y h k e = grind arith
+shaped_one now (TuneEntry x) y h k e = grind arith
+shaped_one now (ResizeEntry x rows) y h k e = grind arith
 shaped_one now AddedEntry (UpdateEntry y) h k e = absurd (let bad : OfTag AnAddition ≡ OfTag AnUpdate = ap (λ l. get_or l 0 Mark) e in cc)
 shaped_one now AddedEntry (TuneEntry y) h k e = absurd (let bad : OfTag AnAddition ≡ OfTag ATune = ap (λ l. get_or l 0 Mark) e in cc)
-shaped_one now AddedEntry (ResizeEntry y olds) h k e = absurd (let bad : OfTag AnAddition ≡ OfTag AResize = ap (λ l. get_or l 0 Mark) e in cc)
-shaped_one now AddedEntry (RemovedEntry y b) h k e = absurd (let bad : OfTag AnAddition ≡ OfTag ARemoval = ap (λ l. get_or l 0 Mark) e in cc)
-shaped_one now (RemovedEntry x a) (UpdateEntry y) h k e = absurd (let bad : OfTag ARemoval ≡ OfTag AnUpdate = ap (λ l. get_or l 0 Mark) e in cc)
-shaped_one now (RemovedEntry x a) (TuneEntry y) h k e = absurd (let bad : OfTag ARemoval ≡ OfTag ATune = ap (λ l. get_or l 0 Mark) e in cc)
-shaped_one now (RemovedEntry x a) (ResizeEntry y olds) h k e = absurd (let bad : OfTag ARemoval ≡ OfTag AResize = ap (λ l. get_or l 0 Mark) e in cc)
-shaped_one now (RemovedEntry x a) AddedEntry h k e = absurd (let bad : OfTag ARemoval ≡ OfTag AnAddition = ap (λ l. get_or l 0 Mark) e in cc)
+shaped_one now x y h k e = grind arith
 
 -- ---- an entry that fits has such lists
 
@@ -147,15 +121,11 @@ rows_shaped width (row ∷ rows) h = (h.0.one_each, rows_shaped width rows h.1)
 
 saved_shaped : (step from to sources : ℕ) (defs : List RraDef) (olds : List SavedArchive) → MaySaveEach step from to sources defs olds → AreSavedShaped sources defs olds
 saved_shaped step from to sources [] [] h = tt
-saved_shaped step from to sources (def ∷ defs) (old ∷ olds) h =
-    (record { same_function = h.0.same_function; one_part_each = h.0.parts_are.one_each; one_cell_each = rows_shaped sources old.rows h.0.each_row }, saved_shaped step from to sources defs olds h.1)
+saved_shaped step from to sources (def ∷ defs) (old ∷ olds) h = grind (arith, rows_shaped, saved_shaped step from to sources defs olds h.1)
 saved_shaped step from to sources x y h = absurd h
 
 fits_shaped : (l : Limits) (step : ℕ) (now : Outline) (e : Entry) → MayUndo l step now e → IsShaped now e
-fits_shaped l step now (UpdateEntry old) m = assumption (accepted_length now.sources old.raws m.raws_are, m.parts_are, saved_shaped step old.last now.last (length now.sources) now.archives old.archives m.archives_are)
-fits_shaped l step now (ResizeEntry archive rows) m = rows_shaped (length now.sources) rows m.each_row
-fits_shaped l step now (RemovedEntry number archive) m = record { one_part_each = m.1.parts_are.one_each; rows_are = m.1.rows_are; one_cell_each = rows_shaped (length now.sources) archive.rows m.1.each_row }
-fits_shaped l step now x m = tt
+fits_shaped l step now x m = grind (arith, accepted_length, saved_shaped, rows_shaped)
 
 pub undo_shaped : (f : Filed) (e : Entry) → MayEntry f e → IsShaped (outline_left f) e
 undo_shaped f e m = fits_shaped (limits f) f.header.step (outline_left f) e m.fits

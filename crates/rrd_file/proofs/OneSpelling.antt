@@ -1,6 +1,6 @@
 -- Of the pieces that may come at a stage, no two are spelled alike.
-use Rattle.std.specs.Prelude.{◌≡◌, ◌∷◌, ◌+◌, ◌/◌, ◌%◌, ◌^◌, ◌<◌, ◌≤◌, ℕ, List, [], Bool, length, map, ℤ, nat_lt, nat_le, true, false, ◌&&◌, ◌==◌, if◌then◌else◌, unsigned_abs, Option, Some, None}
-use Rattle.rrd_file.proofs.Names.{◌∙◌, sym, ap, refl, subst, arith, AllByRecursion, list_all, lt-ltb, ltb-false, ints, Cell, Raw, Kind, Gauge, Counter, Derive, Absolute, fits, is_good, is_letter, IsAccepted, IsBounded, weight, Function, Average, Min, Max, Last, Part, DsDef, RraDef, Outline, SavedSource, Limits, max_journal_depth_of, Version, One, Two, Filed, Head, Header, Source, IsArchiveDef, IsHeader, MaySource, MayPrep, due, limits, outline_left, unprepared, IsPart, IsSourceWithin, IsSavedSource, is_crossed, is_far, Piece, OfVersion, OfHeader, OfSource, OfArchive, OfPrep, OfCell, Tag, OfTag, AnUpdate, ATune, AResize, AnAddition, ARemoval, OfTime, OfRawAndPart, OfRows, OfCount, OfSavedSource, OfNumber, header_bytes, spell, tag_byte, version_number, two_bytes, Stage, Start, DueInEntry, Runs, Takes, counts, FitsArchive, FitsBound, FitsCell, FitsDef, FitsHeader, FitsSavedSource, FitsPart, FitsRaw, FitsSource}
+use Rattle.std.specs.Prelude.{◌≡◌, ◌∷◌, ◌/◌, ◌%◌, ◌^◌, ◌<◌, ◌≤◌, ℕ, List, [], Bool, length, map, ℤ, nat_lt, true, false, if◌then◌else◌, Option, Some, None}
+use Rattle.rrd_file.proofs.Names.{◌∙◌, sym, ap, refl, subst, arith, AllByRecursion, list_all, lt-ltb, ltb-false, ints, Cell, Raw, Kind, fits, is_good, is_letter, IsAccepted, IsBounded, Function, Average, Part, DsDef, RraDef, Outline, SavedSource, Limits, Version, Filed, Head, Header, Source, IsArchiveDef, IsHeader, MaySource, MayPrep, due, limits, outline_left, unprepared, IsPart, IsSourceWithin, IsSavedSource, is_far, Piece, OfVersion, OfHeader, OfSource, OfArchive, OfPrep, OfCell, Tag, OfTag, OfTime, OfRawAndPart, OfRows, OfCount, OfSavedSource, OfNumber, header_bytes, spell, tag_byte, version_number, two_bytes, Stage, Start, DueInEntry, Runs, Takes, FitsArchive, FitsBound, FitsCell, FitsDef, FitsHeader, FitsSavedSource, FitsPart, FitsRaw, FitsSource}
 use Rattle.rrd_file.proofs.Order.{prep_before}
 use Rattle.rrd_file.proofs.Ways.{Step, ToMark, ToVersion, ToHeader, ToSource, ToHead, ToPrep, ToCell, ToEntry, ToPiece, Way, ByTime, ByRawAndPart, ByRowPrep, ByRows, ByRowCell, ByCount, ByNamed, ByNumber, ByOldRows, ByRemovedNumber, ByRemovedHead, step_of}
 use Rattle.rrd_file.proofs.Sound.{AreSmall, AreSound, HasSomeSteps, IsSound, IsSoundDue, IsSoundStage, reached_sound, small_limits}
@@ -11,19 +11,13 @@ use native.Mathlib.Nat as nat
 -- ---- what keeps to its rule fits its bytes
 
 pub cell_fits : (cell : Cell) → IsBounded cell → FitsCell cell
-cell_fits Cell.Unknown h = tt
-cell_fits (Cell.Known value) h = omega (arith, h)
+cell_fits cell h = grind arith
 
 pub raw_fits : (kind : Kind) (raw : Raw) → IsAccepted kind raw → FitsRaw raw
-raw_fits Gauge (Raw.Known value) h = omega (arith, h)
-raw_fits Absolute (Raw.Known value) h = omega (arith, h)
-raw_fits Counter (Raw.Known value) h = omega (arith, ints, h.0, h.1)
-raw_fits Derive (Raw.Known value) h = omega (arith, ints, h.0, h.1)
-raw_fits x Raw.Unknown h = tt
+raw_fits x raw h = grind arith
 
 bound_fits : (l : Limits) (bound : Option ℤ) → AreSmall l → is_far l bound ≡ false → FitsBound bound
-bound_fits l None small h = tt
-bound_fits l (Some value) small h = omega (arith, small.bound, ltb-false l.max_bound (unsigned_abs value) h)
+bound_fits l bound small h = grind arith
 
 letter_small : (c : ℕ) → is_letter c ≡ true → c < 128
 letter_small c h = grind (arith, h)
@@ -33,44 +27,22 @@ letters_small [] h = refl
 letters_small (c ∷ name) h = rw (lt-ltb c 128 (letter_small c (and_left (is_letter c) _ h))) (letters_small name (and_right (is_letter c) (list_all is_letter name) h))
 
 name_fits : (name : List ℕ) → is_good name ≡ true → fits name ≡ true
-name_fits name h =
-    let short = and_right (nat_lt 0 (length name)) (nat_le (length name) 19) (and_left _ (list_all is_letter name) h) in
-    rw short (letters_small name (and_right (nat_lt 0 (length name) && nat_le (length name) 19) (list_all is_letter name) h))
+name_fits name h = grind (arith, and_right, and_left, letters_small)
 
 pub def_fits : (l : Limits) (def : DsDef) → AreSmall l → IsSourceWithin l def → FitsDef def
-def_fits l def small h = record {
-  name = name_fits def.name h.good_name;
-  heartbeat = omega (arith, small.heartbeat, ltb-false l.max_heartbeat def.heartbeat (or_right (def.heartbeat == 0) _ h.good_heartbeat));
-  min = bound_fits l def.min small (or_left (is_far l def.min) (is_far l def.max) (or_left _ (is_crossed def.min def.max) h.good_bounds));
-  max = bound_fits l def.max small (or_right (is_far l def.min) (is_far l def.max) (or_left _ (is_crossed def.min def.max) h.good_bounds));
-}
-
-small_weight : (function : Function) (known : ℕ) → weight function known ≤ known + 1
-small_weight Average known = omega arith
-small_weight x known = omega arith
+def_fits l def small h = grind (arith, name_fits, ltb-false, or_right, bound_fits, or_left)
 
 pub part_fits : (function : Function) (passed : ℕ) (part : Part) → passed < 2 ^ 32 → IsPart function passed part → FitsPart part
-part_fits function passed part few h =
-    record { known = omega (arith, h.few); value = omega (arith, ints, h.few, h.bounded, (small_weight function part.known)) }
+part_fits function passed part few h = grind arith
 
 pub source_fits : (f : Filed) (s : Source) → IsHeader f.header → MaySource f s → FitsSource s
-source_fits f s h m = record {
-  def = def_fits (limits f) s.def (small_limits f.header.version) m.source_is;
-  raw = raw_fits s.def.kind s.raw m.raw_is;
-  part = part_fits Average (f.header.last % f.header.step) s.part (omega (arith, nat.mod-lt f.header.last h.some_step, h.small_step, (small_limits f.header.version).step)) m.part_is;
-}
+source_fits f s h m = grind (arith, def_fits (limits f) s.def (small_limits f.header.version) m.source_is, small_limits f.header.version, raw_fits s.def.kind s.raw m.raw_is)
 
 pub archive_fits : (l : Limits) (def : RraDef) → AreSmall l → IsArchiveDef l def → FitsArchive def
 archive_fits l def small h = record { steps = omega (arith, h.few_steps, small.steps); xff_low = h.xff_low; xff_high = omega (arith, ints, h.xff_low, h.xff_high, small.share); rows = omega (arith, h.few_rows, small.rows) }
 
-depth_counts : (version : Version) → max_journal_depth_of version < counts version
-depth_counts One = omega arith
-depth_counts Two = omega arith
-
 pub header_fits : (h : Header) → IsHeader h → FitsHeader h
-header_fits h is =
-    let small = small_limits h.version in
-    record { step = omega (arith, is.small_step, small.step); last = omega (arith, is.good_time, small.last); depth = omega (arith, is.small_depth, depth_counts h.version); sources = omega (arith, is.few_sources, small.sources); archives = omega (arith, is.few_archives, small.archives); entries = omega (arith, is.few_entries, is.small_depth, depth_counts h.version) }
+header_fits h is = grind arith
 
 pub row_part_fits : (step last : ℕ) (def : RraDef) (part : Part) → HasSomeSteps def → IsPart def.function (last / step % def.steps) part → FitsPart part
 row_part_fits step last def part h p = part_fits def.function (last / step % def.steps) part (omega (arith, nat.mod-lt (last / step) h.some, h.few)) p
@@ -83,8 +55,7 @@ HasSomeOr None = Unit {0}
 HasSomeOr (Some def) = HasSomeSteps def
 
 either : (b : Bool) (x y : Option RraDef) → HasSomeOr x → HasSomeOr y → HasSomeOr (if b then x else y)
-either Bool.true x y h k = h
-either Bool.false x y h k = k
+either b x y h k = grind arith
 
 unprepared_has : (sources : ℕ) (heads : List Head) → AllByRecursion HasSomeSteps (map (λ (head : Head). head.def) heads) → HasSomeOr (unprepared sources heads)
 unprepared_has sources [] h = tt
@@ -98,12 +69,7 @@ pub prep_fits : (f : Filed) (part : Part) → IsSound f → MayPrep f part → F
 prep_fits f part h m = row_part_fits f.header.step f.header.last m.def part (def_among f.header.sources f.heads m.def (prep_before f m.def m.is_due).1 h.steps) m.part_is
 
 pub tag_one : (t u : Tag) → tag_byte t ≡ tag_byte u → t ≡ u
-tag_one AnUpdate AnUpdate e = refl
-tag_one ATune ATune e = refl
-tag_one AResize AResize e = refl
-tag_one AnAddition AnAddition e = refl
-tag_one ARemoval ARemoval e = refl
-tag_one t u e = absurd (omega (arith, e))
+tag_one t u e = grind arith
 
 -- ---- within an entry
 
@@ -140,18 +106,13 @@ one_way l step now h d (ByRemovedHead x k) (ByRemovedHead y m) e = ap OfArchive 
 
 -- the numbers of two versions differ
 version_one : (v w : Version) → two_bytes (version_number v) ≡ two_bytes (version_number w) → v ≡ w
-version_one One One e = refl
-version_one Two Two e = refl
-version_one One Two e = let n = two_one 1 2 (omega arith) (omega arith) e in absurd (omega (arith, n))
-version_one Two One e = let n = two_one 2 1 (omega arith) (omega arith) e in absurd (omega (arith, n))
+version_one v w e = grind arith
 
 same_header : (x y : Header) → x.version ≡ y.version → IsHeader x → IsHeader y → header_bytes x.version x ≡ header_bytes y.version y → x ≡ y
 same_header x y v a b e = header_one x y v (header_fits x a) (header_fits y b) e
 
 pub here : (f : Filed) → IsSound f → IsHere (limits f) f.header.step (outline_left f)
-here f h =
-    let small = small_limits f.header.version in
-    record { small = small; sound = h.left; some_step = h.header.some_step; small_step = omega (arith, h.header.small_step, small.step) }
+here f h = grind arith
 
 -- two pieces at a stage that a file reaches
 one_step : {s : Stage} {p q : Piece} {n m : Stage} → IsSoundStage s → Step s p n → Step s q m → spell p ≡ spell q → p ≡ q

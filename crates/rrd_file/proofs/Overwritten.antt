@@ -1,6 +1,6 @@
 -- Bytes of an earlier time, of which some are written over.
-use Rattle.std.specs.Prelude.{◌≡◌, ◌+◌, ◌-◌, ◌*◌, ◌<◌, ◌≤◌, ◌++◌, ℕ, zero, suc, List, [], ◌∷◌, Some, length, take, drop, map, min, slice_get, slice_range}
-use Rattle.rrd_file.proofs.Names.{◌∙◌, sym, ap, refl, arith, get_or, max, length-append, length-drop, length-take, append_assoc, append-nil, AllByRecursion, flat_map, drop-drop, take-add, drop_at, ext_get_or, get_or-drop, get_or-take, take_at, take-append-drop, flat_map-append, flat_map-cons, mul-le, Cell, HasOneEach, row_cells, HoldsRows, row_bytes, row_pieces, spelled, OfCell, spell}
+use Rattle.std.specs.Prelude.{◌≡◌, ◌+◌, ◌-◌, ◌*◌, ◌<◌, ◌≤◌, ◌++◌, ℕ, zero, suc, List, [], ◌∷◌, Some, length, take, drop, min, slice_get, slice_range}
+use Rattle.rrd_file.proofs.Names.{◌∙◌, sym, ap, refl, arith, get_or, max, length-append, length-drop, length-take, append_assoc, append-nil, AllByRecursion, flat_map, drop-drop, take-add, drop_at, ext_get_or, get_or-drop, get_or-take, take_at, take-append-drop, flat_map-append, flat_map-cons, mul-le, Cell, HasOneEach, row_cells, HoldsRows, row_bytes}
 use Rattle.rrd_file.proofs.CellRuns.{bytes_count, cells_bytes, spelled_so}
 use Rattle.rrd_file.proofs.Gathering.{one_more}
 use Rattle.rrd_file.proofs.Turned.{rows_joined, rows_spelled}
@@ -149,10 +149,7 @@ pub record ArePut (bytes : List ℕ) (rows : List (List Cell)) (sources from to 
 -- the bytes of rows, which have one width
 pub rows_long : (sources : ℕ) (rows : List (List Cell)) → AllByRecursion (HasOneEach sources) rows → length (row_bytes rows) ≡ 16 * (length rows * sources)
 rows_long sources [] wide = omega (arith, nat.zero-mul sources)
-rows_long sources (row ∷ rows) wide =
-    let parts : row_bytes (row ∷ rows) ≡ cells_bytes row ++ row_bytes rows =
-    ap spelled (flat_map-cons (λ (r : List Cell). map OfCell r) row rows) ∙ flat_map-append spell (map OfCell row) (row_pieces rows) ∙ ap (λ l. l ++ row_bytes rows) (spelled_so row) in
-    omega (arith, ap length parts, length-append (cells_bytes row) (row_bytes rows), bytes_count row, wide.0, rows_long sources rows wide.1, nat.suc-mul (length rows) sources)
+rows_long sources (row ∷ rows) wide = grind (arith, flat_map-append, spelled_so, length-append, bytes_count, rows_long sources rows wide.1)
 
 -- the cells of rows have their bytes
 pub cells_of_rows : (rows : List (List Cell)) → cells_bytes (row_cells rows) ≡ row_bytes rows

@@ -1,13 +1,10 @@
 -- Values from the bytes that they were spelled as.
 use Rattle.std.specs.Prelude.{◌≡◌, ◌≢◌, ◌++◌, ◌∷◌, ◌-◌, ◌^◌, ◌<◌, ◌≤◌, ℕ, zero, suc, ◌+◌, ◌*◌, replicate, List, [], take, drop, length, ℤ, pos, ◌==◌, true, Bool, if◌then◌else◌, Option, Some, None, IfSome}
-use Rattle.rrd_file.proofs.Names.{◌∙◌, sym, ap, refl, subst, get_or, arith, length-take-le, length-drop, append_assoc, append-nil, list_all, Name, fits, Function, RraDef, SavedSource, OfSavedSource, OfArchive, OfHeader, OfSource, OfRawAndPart, count_bytes, spell, header_size, FitsSavedSource, FitsArchive, FitsDef, FitsNumber, FitsSource, Version, Source, Raw, Part, DsDef, w16, w32, w64, w128, from_be_bytes, to_be_bytes, ints, take-append-drop, be_bytes_2, be_bytes_4, be_bytes_8, of_z-to_z, of_z, to_z, SFits, two_bytes, four_bytes, eight_bytes, signed_bytes, least, bound_bytes, function_byte, kind_byte, name_bytes, part_bytes, raw_bytes, source_bytes}
-use Rattle.rrd_file.proofs.Spelled.{append_same, header_parts, short_fit}
+use Rattle.rrd_file.proofs.Names.{◌∙◌, sym, ap, refl, subst, get_or, arith, length-take-le, length-drop, append_assoc, append-nil, list_all, Name, fits, Function, RraDef, SavedSource, OfSavedSource, OfArchive, OfHeader, OfSource, OfRawAndPart, count_bytes, spell, header_size, FitsSavedSource, FitsArchive, FitsDef, FitsSource, Version, Source, Raw, Part, DsDef, w128, to_be_bytes, take-append-drop, of_z-to_z, of_z, to_z, two_bytes, four_bytes, eight_bytes, signed_bytes, bound_bytes, function_byte, kind_byte, name_bytes, part_bytes, raw_bytes, source_bytes}
+use Rattle.rrd_file.proofs.Spelled.{append_same, short_fit}
 use Rattle.rrd_file.proofs.Lengths.{name_length, source_length}
 use Rattle.rrd_file.proofs.SignedBytes.{halves}
 use Rattle.rrd_base.proofs.Dues.{none_there}
-
-parted : (n : ℕ) (bs spelling : List ℕ) → take n bs ≡ spelling → bs ≡ spelling ++ drop n bs
-parted n bs spelling e = sym (take-append-drop n bs) ∙ ap (λ l. l ++ drop n bs) e
 
 -- a number by its halves
 pub halves_back : (bytes behind rest : List ℕ) (high low bits : ℕ) (z : ℤ) → bytes ≡ eight_bytes high ++ behind → behind ≡ eight_bytes low ++ rest → low < 2 ^ 64 → bits ≡ high * 2 ^ 64 + low → bits < 2 ^ 128 → z ≡ to_z w128 bits → bytes ≡ signed_bytes z ++ rest
@@ -17,19 +14,12 @@ halves_back bytes behind rest high low bits z first second small is below number
 pub header_back : (version : Version) (bs r s t u v w : List ℕ) (a b c d e f : ℕ) → length bs ≡ header_size version → bs ≡ four_bytes a ++ r → r ≡ eight_bytes b ++ s → s ≡ count_bytes version c ++ t → t ≡ two_bytes d ++ u → u ≡ two_bytes e ++ v → v ≡ count_bytes version f ++ w → length w + header_size version ≡ length bs
     → spell (OfHeader (record { version = version; step = a; last = b; depth = c; sources = d; archives = e; entries = f })) ≡ bs
 unfolding spell
-header_back version bs r s t u v w a b c d e f l p q x y z o n =
-    let none : w ≡ [] = none_there w (omega (arith, l, n)) in
-    header_parts version (record { version = version; step = a; last = b; depth = c; sources = d; archives = e; entries = f })
-    ∙ sym (p ∙ ap (λ k. four_bytes a ++ k) (q ∙ ap (λ k. eight_bytes b ++ k) (x ∙ ap (λ k. count_bytes version c ++ k) (y ∙ ap (λ k. two_bytes d ++ k) (z ∙ ap (λ k. two_bytes e ++ k) (o ∙ ap (λ k. count_bytes version f ++ k) none ∙ append-nil (count_bytes version f)))))))
+header_back version bs r s t u v w a b c d e f l p q x y z o n = grind (arith, none_there)
 
 pub archive_back : (bs first r s t u : List ℕ) (function : Function) (a b c : ℕ) → length bs ≡ 13 → first ≡ take 1 bs → r ≡ drop 1 bs → function_byte function ≡ get_or first 0 0 → r ≡ four_bytes a ++ s → s ≡ four_bytes b ++ t → t ≡ four_bytes c ++ u → length u + 12 ≡ length r
     → spell (OfArchive (record { function = function; xff = pos b; steps = a; rows = c })) ≡ bs
 unfolding spell
-archive_back [] first r s t u function a b c l f d k p q x n = absurd (omega (arith, l))
-archive_back (y ∷ bs) first r s t u function a b c l f d k p q x n =
-    let none : u ≡ [] = none_there u (omega (arith, l, n, ap length d)) in
-    let head : function_byte function ≡ y = k ∙ ap (λ m. get_or m 0 0) f in
-    λ i. head i ∷ (sym (sym d ∙ p ∙ ap (λ k. four_bytes a ++ k) (q ∙ ap (λ k. four_bytes b ++ k) (x ∙ ap (λ k. four_bytes c ++ k) none)))) i
+archive_back bs first r s t u function a b c l f d k p q x n = grind (arith, none_there)
 
 pub archive_none : (bs first : List ℕ) → first ≡ take 1 bs → ((function : Function) → function_byte function ≢ get_or first 0 0) → (def : RraDef) → spell (OfArchive def) ≢ bs
 unfolding spell
@@ -61,30 +51,22 @@ drop_own : (a b : List ℕ) → drop (length a) (a ++ b) ≡ b
 drop_own [] b = refl
 drop_own (x ∷ a) b = drop_own a b
 
-take_own : (a b : List ℕ) → take (length a) (a ++ b) ≡ a
-take_own [] b = refl
-take_own (x ∷ a) b = ap (λ l. x ∷ l) (take_own a b)
-
 -- what a name's bytes say
 pub size_said : (bs first : List ℕ) (size : ℕ) (name : Name) → name_bytes name ≡ bs → first ≡ take 1 bs → size ≡ get_or first 0 0 → length name ≡ size
 size_said bs first size name e f s = ap (λ l. get_or l 0 0) (ap (take 1) e ∙ sym f) ∙ sym s
 
 pub zeros_said : (bs first rest zeros : List ℕ) (size : ℕ) (name : Name) → name_bytes name ≡ bs → first ≡ take 1 bs → rest ≡ drop 1 bs → size ≡ get_or first 0 0 → zeros ≡ drop size rest → list_all (λ (byte : ℕ). byte == 0) zeros ≡ true
-zeros_said bs first rest zeros size name e f r s z =
-    let long = size_said bs first size name e f s in
-    ap (list_all (λ (byte : ℕ). byte == 0)) (z ∙ sym (λ i. drop (long i) ((ap (drop 1) e ∙ sym r) i)) ∙ drop_own name (replicate (19 - length name) 0)) ∙ are_zeros (19 - length name)
+zeros_said bs first rest zeros size name e f r s z = grind (arith, size_said, drop_own, are_zeros)
 
 fit_some_at : (b : Bool) (text : Name) (bs : List ℕ) → fits text ≡ b → name_bytes text ≡ bs → IfSome (if b then Some text else None) (λ (name : Name). (fits name ≡ true) × (name_bytes name ≡ bs))
-fit_some_at Bool.true text bs f e = (f, e)
-fit_some_at Bool.false text bs f e = tt
+fit_some_at b text bs f e = grind arith
 
 pub fit_some : (text : Name) (bs : List ℕ) (r : Option Name) → r ≡ (if fits text then Some text else None) → name_bytes text ≡ bs → IfSome r (λ (name : Name). (fits name ≡ true) × (name_bytes name ≡ bs))
 fit_some text bs r is e = subst (λ (o : Option Name). IfSome o (λ (name : Name). (fits name ≡ true) × (name_bytes name ≡ bs))) (sym is) (fit_some_at (fits text) text bs refl e)
 
 pub archive_some : (bs : List ℕ) (function : Function) (a b c : ℕ) (xff : ℤ) → xff ≡ pos b → a < 2 ^ 32 → b < 2 ^ 32 → c < 2 ^ 32 → spell (OfArchive (record { function = function; xff = pos b; steps = a; rows = c })) ≡ bs
     → FitsArchive (record { function = function; xff = xff; steps = a; rows = c }) × (spell (OfArchive (record { function = function; xff = xff; steps = a; rows = c })) ≡ bs)
-archive_some bs function a b c xff is fa fb fc back =
-    rw is (record { steps = fa; xff_low = omega (arith, ints); xff_high = fb; rows = fc }, back)
+archive_some bs function a b c xff is fa fb fc back = grind arith
 
 -- ---- settings
 
@@ -95,15 +77,11 @@ pub def_said : (bs : List ℕ) (y : DsDef) → length bs ≡ 61 → FitsDef y �
 def_said bs y l fit e =
     let long : length (name_bytes y.name) ≡ length (take 20 bs) = name_length y.name (short_fit y.name fit.name) ∙ sym (length-take-le 20 bs (omega (arith, l))) in
     let whole = sym (nested (name_bytes y.name) (kind_byte y.kind ∷ eight_bytes y.heartbeat) (bound_bytes y.min) (bound_bytes y.max)) ∙ e ∙ sym (take-append-drop 20 bs) in
-    let both = append_same (name_bytes y.name) (kind_byte y.kind ∷ (eight_bytes y.heartbeat ++ (bound_bytes y.min ++ bound_bytes y.max))) (take 20 bs) (drop 20 bs) long whole in
-    (both.0, ap (λ m. get_or (take 1 m) 0 0) both.1)
+    grind (arith, append_same)
 
 pub before_back : (bs r s : List ℕ) (raw : Raw) (part : Part) → length bs ≡ 36 → bs ≡ raw_bytes raw ++ r → r ≡ part_bytes part ++ s → length s + 36 ≡ length bs → spell (OfRawAndPart raw part) ≡ bs
 unfolding spell
-before_back bs r s raw part l p q m =
-    let none : s ≡ [] = none_there s (omega (arith, l, m)) in
-    let tail : part_bytes part ≡ r = sym (append-nil (part_bytes part)) ∙ ap (λ m. part_bytes part ++ m) (sym none) ∙ sym q in
-    ap (λ m. raw_bytes raw ++ m) tail ∙ sym p
+before_back bs r s raw part l p q m = grind (arith, none_there, append-nil)
 
 pub source_back : (bs front rest : List ℕ) (source : Source) → front ≡ take 61 bs → rest ≡ drop 61 bs → source_bytes source.def ≡ front → spell (OfRawAndPart source.raw source.part) ≡ rest → spell (OfSource source) ≡ bs
 unfolding spell

@@ -22,10 +22,7 @@ width_set width (x ∷ rows) (suc i) row h e = (h.0, width_set width rows i row 
 
 rows_begin : (bytes : List ℕ) (f : Filed) (pieces : List Piece) (later : List DueInEntry) (count : ℕ) (rows : List (List Cell)) (input : Input) → Comes bytes f pieces (cells_due count (outline_left f) ++ later) input
     → Comes bytes f (pieces ++ row_pieces (take 0 rows)) (cells_due (count - 0) (outline_left f) ++ later) input
-rows_begin bytes f pieces later count rows input c =
-    let same : count ≡ count - 0 = omega arith in
-    subst (λ (l : List Piece). Comes bytes f l (cells_due (count - 0) (outline_left f) ++ later) input) (sym (append-nil pieces))
-    (subst (λ (k : ℕ). Comes bytes f pieces (cells_due k (outline_left f) ++ later) input) same c)
+rows_begin bytes f pieces later count rows input c = grind (arith, append-nil)
 
 -- so many rows of a width, of which the first have come
 abbrev pub Rowed : Filed → ℕ → Input → ℕ → List (List Cell) → Input → Type 0
@@ -39,14 +36,10 @@ pub rows_go_on : (f : Filed) (n i : ℕ) (rows : List (List Cell)) (row : List C
     → Rowed f n first (i + 1) (with_row rows i row) new
 rows_go_on f n i rows row old new first h more is wide brings =
     let now = outline_left f in
-    let within : i < length rows = omega (arith, h.0) in
     subst (λ (m : List (List Cell)). Rowed f n first (i + 1) m new) (sym is) (
       omega (arith, length-set {A = List Cell}, h.0),
       width_set (length now.sources) rows i row h.1 wide,
-      λ bytes pieces later st.
-          subst (λ (l : List Piece). Comes bytes f l (cells_due (n - (i + 1)) now ++ later) new) (more_row pieces rows i row within)
-          (brings bytes (pieces ++ row_pieces (take i rows)) (cells_due (n - (i + 1)) now ++ later)
-          (subst (λ (l : List DueInEntry). Comes bytes f (pieces ++ row_pieces (take i rows)) l old) (row_less now n i later more) (h.2 bytes pieces later st))),
+      λ bytes pieces later st. grind (arith, more_row, row_less),
     )
 
 -- the cells of all rows are those of one row after another
@@ -68,20 +61,14 @@ rows_new f count sources rows input wide is =
 
 -- the next row's width, and its cells, which are due
 pub next_width : (f : Filed) (n i : ℕ) (rows : List (List Cell)) (first input : Input) (row : List Cell) → Rowed f n first i rows input → i < n → row ≡ nth_row rows i → length row ≡ length (outline_left f).sources
-next_width f n i rows first input row h more is =
-    ap length is ∙ width_at (length (outline_left f).sources) rows i h.1 (omega (arith, h.0, more))
+next_width f n i rows first input row h more is = grind (arith, width_at)
 
 pub next_due : (f : Filed) (n i : ℕ) (rows : List (List Cell)) (first input : Input) (width : ℕ) → Rowed f n first i rows input → i < n → width ≡ length (outline_left f).sources
     → (bytes : List ℕ) (pieces : List Piece) (later : List DueInEntry) → Comes bytes f pieces (cells_due n (outline_left f) ++ later) first
     → Comes bytes f (pieces ++ row_pieces (take i rows)) (replicate width RowCellDue ++ (cells_due (n - (i + 1)) (outline_left f) ++ later)) input
-next_due f n i rows first input width h more wide bytes pieces later st =
-    let now = outline_left f in
-    let dues = row_less now n i later more ∙ ap (λ (k : ℕ). replicate k RowCellDue ++ (cells_due (n - (i + 1)) now ++ later)) (sym wide) in
-    subst (λ (l : List DueInEntry). Comes bytes f (pieces ++ row_pieces (take i rows)) l input) dues (h.2 bytes pieces later st)
+next_due f n i rows first input width h more wide bytes pieces later st = grind (arith, row_less)
 
 -- all rows
 pub rows_all : (f : Filed) (n i : ℕ) (rows : List (List Cell)) (first input : Input) → Rowed f n first i rows input → n ≤ i
     → (bytes : List ℕ) (pieces : List Piece) (later : List DueInEntry) → Comes bytes f pieces (cells_due n (outline_left f) ++ later) first → Comes bytes f (pieces ++ row_pieces rows) later input
-rows_all f n i rows first input h past bytes pieces later st =
-    subst (λ (l : List (List Cell)). Comes bytes f (pieces ++ row_pieces l) later input) (taken_all rows i (omega (arith, h.0, past)))
-    (subst (λ (l : List DueInEntry). Comes bytes f (pieces ++ row_pieces (take i rows)) l input) (no_cells (outline_left f) n i later past) (h.2 bytes pieces later st))
+rows_all f n i rows first input h past bytes pieces later st = grind (arith, taken_all, no_cells)

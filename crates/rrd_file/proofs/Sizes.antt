@@ -3,7 +3,7 @@ use Rattle.std.specs.Prelude.{◌≡◌, ℕ, length}
 use Rattle.rrd_file.proofs.Names.{◌∙◌, sym, ap, refl, arith, length-append, Outline, Limits, part_bytes, raw_bytes, raw_number, cell_number, source_bytes, Piece, spell, Stage, DueInEntry, Takes, body_size, header_size, size, size_due}
 use Rattle.rrd_file.proofs.SignedBytes.{signed_length}
 use Rattle.rrd_file.proofs.Lengths.{header_length, length_source, part_length, short_name, source_length}
-use Rattle.rrd_file.proofs.Ways.{Step, ToMark, ToVersion, ToHeader, ToSource, ToHead, ToPrep, ToCell, ToEntry, ToPiece, Way, ByTime, ByRawAndPart, ByRowPrep, ByRows, ByRowCell, ByCount, ByNamed, ByNumber, ByOldRows, ByRemovedNumber, ByRemovedHead, step_of}
+use Rattle.rrd_file.proofs.Ways.{Step, ToHeader, ToSource, ToHead, ToPrep, ToCell, ToEntry, ToPiece, Way, ByRawAndPart, ByRowPrep, ByRowCell, ByNamed, step_of}
 
 way_size : (l : Limits) (step : ℕ) (now : Outline) {due : DueInEntry} {p : Piece} → Way l step now due p → length (spell p) ≡ size_due due
 unfolding spell

@@ -1,8 +1,8 @@
 -- At each stage that a file reaches, the settings keep to their limits.
 use Rattle.std.specs.Prelude.{◌≡◌, ◌++◌, ◌∷◌, ◌+◌, ◌<◌, ◌≤◌, ℕ, zero, suc, List, [], length, map, ◌-◌, drop, take, replicate, slice_set}
-use Rattle.rrd_file.proofs.Names.{◌∙◌, sym, ap, refl, subst, arith, length-append, length-drop, AllByRecursion, flat_map, fold, length-map, length-take, fold-append, flat_map-cons, top, Part, DsDef, RraDef, Outline, SavedSource, Limits, limits_of, max_archives_of, Entry, UpdateEntry, TuneEntry, ResizeEntry, AddedEntry, RemovedEntry, Version, One, Two, Filed, Head, Source, All-append, All-drop, All-replicate, All-take, IsHeader, begun, heads_with_part, limits, outline_filed, outline_left, with_head, with_source, MayUndo, outline_undone, with_row_number, with_sources, Piece, Tag, OfTag, AnUpdate, ATune, AResize, AnAddition, ARemoval, Stage, Start, Marked, Versioned, Body, Within, DueInEntry, TimeDue, BeforeDue, RowPrepDue, RowsDue, RowCellDue, CountDue, NamedDue, NumberDue, OldRowsDue, RemovedNumberDue, RemovedHeadDue, GoesOn, Runs, Takes, archive_due, behind, first_due, named_due}
+use Rattle.rrd_file.proofs.Names.{sym, ap, refl, subst, arith, length-append, length-drop, AllByRecursion, flat_map, fold, length-map, length-take, fold-append, flat_map-cons, top, Part, DsDef, RraDef, Outline, Limits, limits_of, max_archives_of, Entry, UpdateEntry, TuneEntry, ResizeEntry, AddedEntry, RemovedEntry, Version, Filed, Head, Source, All-append, All-drop, All-replicate, All-take, IsHeader, heads_with_part, limits, outline_filed, outline_left, with_head, with_source, MayUndo, outline_undone, with_row_number, Piece, Tag, OfTag, Stage, Start, Marked, Versioned, Body, Within, DueInEntry, TimeDue, BeforeDue, RowPrepDue, RowsDue, RowCellDue, CountDue, NamedDue, NumberDue, OldRowsDue, RemovedNumberDue, RemovedHeadDue, GoesOn, Runs, Takes, archive_due, behind, first_due, named_due}
 use Rattle.rrd_file.proofs.Order.{before_entry, before_head, saved_source}
-use Rattle.rrd_file.proofs.Ways.{Step, ToMark, ToVersion, ToHeader, ToSource, ToHead, ToPrep, ToCell, ToEntry, ToPiece, Way, ByTime, ByRawAndPart, ByRowPrep, ByRows, ByRowCell, ByCount, ByNamed, ByNumber, ByOldRows, ByRemovedNumber, ByRemovedHead, step_of}
+use Rattle.rrd_file.proofs.Ways.{Step, ToHeader, ToSource, ToHead, ToPrep, ToCell, ToEntry, ToPiece, Way, ByTime, ByCount, ByNamed, ByNumber, ByOldRows, ByRemovedNumber, ByRemovedHead, step_of}
 use Rattle.rrd_spec.proofs.Outlined.{sources_count}
 
 -- limits that no version exceeds
@@ -18,8 +18,7 @@ pub record AreSmall (l : Limits) : Type 0 where
   pub rows : l.max_rows ≤ 1000000
 
 few_archives : (version : Version) → max_archives_of version ≤ 128
-few_archives One = omega arith
-few_archives Two = omega arith
+few_archives version = grind arith
 
 pub small_limits : (version : Version) → AreSmall (limits_of version)
 small_limits version = grind (arith, few_archives version)
@@ -135,26 +134,13 @@ sources_sound last [] = tt
 sources_sound last (def ∷ defs) = (tt, sources_sound last defs)
 
 named_sound : (lowest more : ℕ) → AllByRecursion IsSoundDue (named_due lowest more)
-named_sound lowest zero = tt
-named_sound lowest (suc more) = (tt, tt)
+named_sound lowest more = grind arith
 
 first_sound : (tag : Tag) → AllByRecursion IsSoundDue (first_due tag)
-first_sound AnAddition = tt
-first_sound x = (tt, tt)
+first_sound x = grind arith
 
 goes_sound : (f : Filed) (pieces : List Piece) (due : List DueInEntry) (next : Stage) → IsSound f → AllByRecursion IsSoundDue due → GoesOn f pieces due next → IsSoundStage next
-goes_sound f pieces (due ∷ later) next h k g = subst IsSoundStage (sym g) (h, k)
-goes_sound f pieces [] next h k g =
-    let before = before_entry f g.2.is_due in
-    let left = undone_sound (limits f) f.header.step (outline_left f) g.0 (small_limits f.header.version) h.left g.2.fits in
-    subst IsSoundStage (sym g.3) (record {
-      header = h.header;
-      sources = h.sources;
-      heads = h.heads;
-      steps = h.steps;
-      late = λ some. (before.sources, before.heads);
-      left = subst AreSound (sym (fold-append outline_undone (outline_filed f) f.entries (g.0 ∷ []))) left;
-    })
+goes_sound f pieces due next h k g = grind (arith, before_entry, undone_sound, small_limits, fold-append)
 
 -- ---- what a piece adds
 
@@ -182,10 +168,7 @@ behind_sound l step now small h x = tt
 
 -- what a piece leads to
 step_sound : {s : Stage} {p : Piece} {n : Stage} → IsSoundStage s → Step s p n → IsSoundStage n
-step_sound h (ToHeader version header same is) =
-    let few : 0 ≤ header.sources = omega arith in
-    let none : 0 ≤ header.archives = omega arith in
-    record { header = is; sources = few; heads = none; steps = tt; late = λ some. absurd (omega (arith, some)); left = filed_sound (begun header) is few none tt }
+step_sound h (ToHeader version header same is) = grind arith
 step_sound h (ToSource f s may) =
     let more = saved_source f may.is_due in
     let new = with_source f s in
@@ -201,17 +184,7 @@ step_sound h (ToHead f def may) =
     let steps = head_steps f.heads head h.steps (record { some = may.def_is.some_steps; few = omega (arith, may.def_is.few_steps, small.steps) }) in
     let none = none_of f.entries (λ some. absurd (omega (arith, before.more, (h.late some).1))) in
     record { header = h.header; sources = h.sources; heads = heads; steps = steps; late = λ some. absurd (omega (arith, some, ap length none)); left = none_left new none (filed_sound new h.header h.sources heads steps) }
-step_sound h (ToPrep f part may) =
-    let defs = part_same f.heads part in
-    let count = part_length f.heads part in
-    record {
-      header = h.header;
-      sources = h.sources;
-      heads = omega (arith, h.heads, count);
-      steps = subst (AllByRecursion HasSomeSteps) (sym defs) h.steps;
-      late = λ some. ((h.late some).0, omega (arith, (h.late some).1, count));
-      left = subst (λ (ds : List RraDef). AreSound (fold outline_undone (record { last = f.header.last; sources = map (λ (source : Source). source.def) f.sources; archives = ds }) f.entries)) (sym defs) h.left;
-    }
+step_sound h (ToPrep f part may) = grind (arith, part_same f.heads part, part_length f.heads part)
 step_sound h (ToCell f cell may) = record { header = h.header; sources = h.sources; heads = h.heads; steps = h.steps; late = h.late; left = h.left }
 step_sound h (ToEntry f tag next may goes) = goes_sound f (OfTag tag ∷ []) (first_due tag) next h (first_sound tag) goes
 step_sound h (ToPiece f pieces due later p next w goes) =

@@ -1,12 +1,11 @@
 -- Bytes that are in none of some spans stay as they were.
-use Rattle.std.specs.Prelude.{◌≡◌, ◌⊎◌, ◌+◌, ◌-◌, ◌<◌, ◌≤◌, ◌++◌, ℕ, List, [], ◌∷◌, length, take, drop, Some, Result, Ok, Err, OnOk}
+use Rattle.std.specs.Prelude.{◌≡◌, ◌⊎◌, ◌+◌, ◌-◌, ◌<◌, ◌≤◌, ◌++◌, ℕ, List, [], ◌∷◌, length, take, drop, Some, Result, OnOk}
 use Rattle.rrd_file.proofs.Names.{◌∙◌, sym, ap, subst, inl, inr, arith, get_or, length-append, length-take, refl, All, get_or-append_right, get_or-drop, get_or-take, get_or_append_left, get_or_past, All-pop, cases_lt, AgreesOutside, IsBeside, Span}
 
 -- ---- results
 
 pub on_ok : {T E : Type 0} (result : Result T E) (P Q : Type 0) → (P → Q) → OnOk result P → OnOk result Q
-on_ok (Ok x) P Q f p = f p
-on_ok (Err e) P Q f p = tt
+on_ok result P Q f p = grind arith
 
 -- ---- a part that is written over
 
@@ -50,18 +49,15 @@ add_span P spans span all = All-pop P (spans ++ span ∷ []) spans (Some span) r
 
 -- a byte beside a span that is so many bytes later
 pub beside_earlier : (k at before : ℕ) (span : Span) → at ≤ k → (before + k < span.start + (before + at)) ⊎ (span.end + (before + at) ≤ before + k) → IsBeside (k - at) span
-beside_earlier k at before span high (inl low) = inl (omega arith)
-beside_earlier k at before span high (inr past) = inr (omega arith)
+beside_earlier k at before span high h = grind arith
 
 -- ---- a file after an update
 
 below_end : (k end long : ℕ) → k < long → (k < end) ⊎ (long ≤ k) → k < end
-below_end k end long inside (inl low) = low
-below_end k end long inside (inr past) = omega arith
+below_end k end long inside h = grind arith
 
 from_cells : (k at : ℕ) → (k < 0) ⊎ (at ≤ k) → at ≤ k
-from_cells k at (inl low) = omega arith
-from_cells k at (inr past) = past
+from_cells k at h = grind arith
 
 abbrev pub span : ℕ → ℕ → Span
 span start end = record { start = start; end = end }

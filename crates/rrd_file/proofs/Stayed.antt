@@ -1,6 +1,6 @@
 -- The rows of an archive by slot, at an earlier time and now.
 use Rattle.std.specs.Prelude.{◌≡◌, ◌+◌, ◌-◌, ◌%◌, ◌/◌, ◌<◌, ◌≤◌, ◌++◌, ℕ, zero, suc, List, [], ◌∷◌, Some, length, take, drop, map, slice_get}
-use Rattle.rrd_file.proofs.Names.{◌∙◌, sym, ap, subst, refl, arith, get_or, length-take, range_with_len, div-mul-le_self, get_or-drop, get_or-take, length-map, get_or-map-range_with_len, length-range_with_len, le-div, Cell, place_in, row_in, Rra, StandsInPlace, StaysInSlot, MoveOn, MovesOn, dropped, resolution}
+use Rattle.rrd_file.proofs.Names.{◌∙◌, sym, ap, refl, arith, get_or, length-take, range_with_len, div-mul-le_self, get_or-drop, get_or-take, length-map, get_or-map-range_with_len, length-range_with_len, le-div, Cell, place_in, row_in, Rra, StandsInPlace, StaysInSlot, MoveOn, MovesOn, dropped, resolution}
 use Rattle.rrd_file.proofs.Turned.{turn}
 
 -- the rows of an archive in the order of their slots
@@ -72,12 +72,8 @@ pub record HasMoved (step from to : ℕ) (olds : List Rra) (i : ℕ) (new : Rra)
 
 pub moved_at : (step from to : ℕ) (olds news : List Rra) (i : ℕ) (new : Rra) → MoveOn step from to olds news → slice_get news i ≡ Some new → HasMoved step from to olds i new
 moved_at step from to [] [] i new all there = absurd cc
-moved_at step from to (old ∷ olds) (x ∷ news) zero new all there =
-    let same : x ≡ new = cc in
-    record { old = old; there = refl; moved = subst (MovesOn step from to old) same all.0 }
-moved_at step from to (old ∷ olds) (x ∷ news) (suc i) new all there =
-    let rest = moved_at step from to olds news i new all.1 there in
-    record { old = rest.old; there = rest.there; moved = rest.moved }
+moved_at step from to (old ∷ olds) (x ∷ news) zero new all there = grind arith
+moved_at step from to (old ∷ olds) (x ∷ news) (suc i) new all there = grind (arith, moved_at step from to olds news i new all.1 there)
 moved_at step from to y x i new all there = absurd all
 
 pub as_many_archives : (step from to : ℕ) (olds news : List Rra) → MoveOn step from to olds news → length news ≡ length olds

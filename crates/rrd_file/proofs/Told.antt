@@ -1,6 +1,6 @@
 -- What a database's readers tell, as items of its lists.
-use Rattle.std.specs.Prelude.{◌≡◌, ◌<◌, ◌^◌, ℕ, zero, suc, ℤ, List, [], ◌∷◌, Some, length, map, ◌/◌, slice_get, slice_index_or, unsigned_abs}
-use Rattle.rrd_file.proofs.Names.{◌∙◌, sym, ap, refl, subst, get_or, arith, AllByRecursion, ints, Unknown, Raw, Part, nothing, DsDef, RraDef, Source, sources_of, Rra, Content, length-map, Consolidating, row_at, cell_in, prep_in, AreAccepted, IsValid, IsValidArchive, raws_and_parts, OfSource, OfRawAndPart}
+use Rattle.std.specs.Prelude.{◌≡◌, ◌<◌, ◌^◌, ℕ, zero, suc, List, [], ◌∷◌, Some, length, map, ◌/◌, slice_get, slice_index_or, unsigned_abs}
+use Rattle.rrd_file.proofs.Names.{◌∙◌, sym, ap, refl, subst, get_or, arith, AllByRecursion, Raw, Part, nothing, DsDef, RraDef, Source, sources_of, Rra, Content, length-map, prep_in, AreAccepted, IsValid, IsValidArchive, raws_and_parts, OfSource, OfRawAndPart}
 
 pub some_is : {A : Type 0} (x y : A) → Some x ≡ Some y → x ≡ y
 some_is x y e = cc
@@ -29,9 +29,7 @@ pub record HasSmallNumbers (def : RraDef) : Type 0 where
 
 pub small_numbers : (sources passed : ℕ) (archives : List Rra) (i : ℕ) (def : RraDef) → AllByRecursion (IsValidArchive sources passed) archives → Some def ≡ slice_get (map (λ (archive : Rra). archive.def) archives) i → HasSmallNumbers def
 small_numbers sources passed [] i def all e = absurd cc
-small_numbers sources passed (a ∷ archives) zero def all e =
-    let same : def ≡ a.def = some_is def a.def e in
-    rw same (record { steps = omega (arith, all.0.few_steps); xff = omega (arith, ints, all.0.xff_low, all.0.xff_high); rows = omega (arith, all.0.few_rows) })
+small_numbers sources passed (a ∷ archives) zero def all e = grind arith
 small_numbers sources passed (a ∷ archives) (suc i) def all e = small_numbers sources passed archives i def all.1 e
 
 -- ---- lengths
@@ -86,9 +84,7 @@ length_before (raw ∷ raws) (part ∷ parts) same = ap suc (length_before raws 
 
 pub prep_is : (archives : List Rra) (number source : ℕ) (a : Rra) → slice_get archives number ≡ Some a → prep_in archives number source ≡ record { function = a.def.function; part = slice_index_or a.parts source nothing }
 prep_is [] number source a e = absurd cc
-prep_is (b ∷ archives) zero source a e =
-    let same : b ≡ a = some_is b a e in
-    ap (λ (x : Rra). let made : Consolidating = record { function = x.def.function; part = slice_index_or x.parts source nothing } in made) same
+prep_is (b ∷ archives) zero source a e = grind arith
 prep_is (b ∷ archives) (suc number) source a e = prep_is archives number source a e
 
 pub parts_length : (d : Content) (number : ℕ) (a : Rra) → IsValid d → slice_get d.archives number ≡ Some a → length a.parts ≡ length d.sources

@@ -1,12 +1,11 @@
 -- An archive's rows in the order of its slots: those from the place of the first slot on, and then those before it.
-use Rattle.std.specs.Prelude.{◌≡◌, ◌+◌, ◌-◌, ◌%◌, ◌/◌, ◌*◌, ◌<◌, ◌≤◌, ◌⊎◌, ◌++◌, ℕ, zero, suc, List, [], Some, length, take, drop, map, min, replicate, slice_get, slice_range}
-use Rattle.rrd_file.proofs.Names.{◌∙◌, sym, ap, arith, inl, inr, get_or, length-append, length-drop, flat_map, range_with_len, drop-drop, take-add, cases_lt, flat_map-append, drop-replicate, drop-take, ext_get_or, get_or-append_right, get_or-drop, get_or-take, get_or_append_left, length-map, length-take, map-append, replicate-append-replicate, take-replicate, take_all, take_rest, flat_map-cons, flat_map-map, get_or-map-range_with_len, length-range_with_len, Cell, Unknown, StandsInPlace, RraDef, Rra, Content, resolution, by_slot, cells_by_slot, row_in, place_in, IsValid, row_pieces, spelled, OfCell, spell}
+use Rattle.std.specs.Prelude.{◌≡◌, ◌+◌, ◌-◌, ◌%◌, ◌/◌, ◌*◌, ◌<◌, ◌≤◌, ◌++◌, ℕ, zero, suc, List, [], Some, length, take, drop, map, min, replicate, slice_get, slice_range}
+use Rattle.rrd_file.proofs.Names.{◌∙◌, sym, ap, arith, inl, inr, get_or, length-append, length-drop, flat_map, range_with_len, drop-drop, take-add, cases_lt, flat_map-append, drop-replicate, drop-take, ext_get_or, get_or-append_right, get_or-drop, get_or-take, get_or_append_left, length-map, length-take, map-append, replicate-append-replicate, take-replicate, take_all, take_rest, flat_map-map, get_or-map-range_with_len, length-range_with_len, Cell, Unknown, StandsInPlace, RraDef, Rra, Content, resolution, by_slot, cells_by_slot, row_in, place_in, IsValid, row_pieces, spelled, OfCell, spell}
 use Rattle.std.proofs.Math.Seq.{take-take}
 use Rattle.rrd_file.proofs.CellsFiled.{IsDefOf, cells_spelled, rows_are, same_def, small_def, some_size}
 use Rattle.rrd_file.proofs.CellRuns.{cells_bytes, spelled_so}
 use Rattle.rrd_file.proofs.Gathering.{flat_flat}
 use native.Mathlib.Nat as nat
-use Rattle.rrd_spec.proofs.Slotted.{mod_once}
 
 -- ---- the place of a slot, from that of the first
 
@@ -17,16 +16,7 @@ pub record IsTurn (rows first slot place : ℕ) : Type 0 where
   pub round : rows - first ≤ slot → place ≡ slot - (rows - first)
 
 pub turn : (left rows slot : ℕ) → left < rows → slot < rows → IsTurn rows ((0 + rows - left) % rows) slot ((slot + rows - left) % rows)
-turn left rows slot l s = elim (mod_once (0 + rows - left) rows (omega (arith, l)) (omega (arith, l))) [
-  | inl some ↦ elim (mod_once (slot + rows - left) rows (omega (arith, l)) (omega (arith, l, s))) [
-    | inl low ↦ record { inside = omega (arith, some.0, some.1); up = λ h. omega (arith, l, s, some.0, some.1, low.0, low.1, h); round = λ h. omega (arith, l, s, some.0, some.1, low.0, low.1, h) }
-    | inr high ↦ record { inside = omega (arith, some.0, some.1); up = λ h. omega (arith, l, s, some.0, some.1, high.0, high.1, h); round = λ h. omega (arith, l, s, some.0, some.1, high.0, high.1, h) }
-  ]
-  | inr none ↦ elim (mod_once (slot + rows - left) rows (omega (arith, l)) (omega (arith, l, s))) [
-    | inl low ↦ record { inside = omega (arith, l, none.0, none.1); up = λ h. omega (arith, l, s, none.0, none.1, low.0, low.1, h); round = λ h. omega (arith, l, s, none.0, none.1, low.0, low.1, h) }
-    | inr high ↦ record { inside = omega (arith, l, none.0, none.1); up = λ h. omega (arith, l, s, none.0, none.1, high.0, high.1, h); round = λ h. omega (arith, l, s, none.0, none.1, high.0, high.1, h) }
-  ]
-]
+turn left rows slot l s = grind arith
 
 -- ---- rows, turned
 
@@ -75,24 +65,13 @@ slots_spelled stands size last rows some_size some_rows =
     let f = row_in size last rows in
     let flat : flat_map f (range_with_len 0 n) ≡ flat_map (λ (row : List Cell). row) (drop first rows ++ take first rows) =
     sym (flat_map-map (λ (row : List Cell). row) f (range_with_len 0 n)) ∙ ap (flat_map (λ (row : List Cell). row)) (turned stands size last rows some_size some_rows) in
-    let front : slice_range rows first n ≡ drop first rows = take_rest rows first in
-    let all : first - 0 ≡ first = omega arith in
-    let back : slice_range rows 0 first ≡ take first rows = ap (λ k. take k rows) all in
-    ap (λ cells. spelled (map OfCell cells)) flat ∙ rows_spelled (drop first rows ++ take first rows) ∙ rows_joined (drop first rows) (take first rows)
-    ∙ (λ i. spelled (row_pieces (sym front i)) ++ spelled (row_pieces (sym back i)))
+    grind (arith, take_rest, rows_spelled, rows_joined)
 
 -- the same of the archive of a number
 pub archive_spelled : ((resolution last : ℕ) (rows : List (List Cell)) (slot : ℕ) → StandsInPlace resolution last rows slot) → (d : Content) (n : ℕ) (def : RraDef) (size last first : ℕ) (a : Rra)
     → IsValid d → IsDefOf d n def → slice_get d.archives n ≡ Some a → size ≡ resolution d.step def → last ≡ d.last → first ≡ place_in size last def.rows 0
     → spelled (map OfCell (cells_by_slot d.step d.last a)) ≡ spelled (row_pieces (slice_range a.rows first def.rows)) ++ spelled (row_pieces (slice_range a.rows 0 first))
-archive_spelled stands d n def size last first a valid is e size_is last_is first_is =
-    let rows : length a.rows ≡ def.rows = rows_are d n def a valid is e in
-    let same : a.def ≡ def = same_def d n def a is e in
-    let some_rows : 0 < length a.rows = omega (arith, rows, (small_def d n def valid is).some_rows) in
-    let sized : resolution d.step a.def ≡ size = ap (λ (x : RraDef). resolution d.step x) same ∙ sym size_is in
-    let placed : place_in (resolution d.step a.def) d.last (length a.rows) 0 ≡ first = (λ i. place_in (sized i) (sym last_is i) (rows i) 0) ∙ sym first_is in
-    slots_spelled stands (resolution d.step a.def) d.last a.rows (some_size d n a valid e) some_rows
-    ∙ (λ i. spelled (row_pieces (slice_range a.rows (placed i) (rows i))) ++ spelled (row_pieces (slice_range a.rows 0 (placed i))))
+archive_spelled stands d n def size last first a valid is e size_is last_is first_is = grind (arith, rows_are d n def a valid is e, same_def, small_def, slots_spelled, some_size)
 
 -- ---- rows that were never written
 
@@ -105,20 +84,13 @@ unknown_more n m = cc (flat_map-append spell (map OfCell (replicate n Unknown)) 
 -- their cells
 unknown_rows : (rows sources : ℕ) → spelled (row_pieces (replicate rows (replicate sources Unknown))) ≡ unknown (rows * sources)
 unknown_rows zero sources = ap unknown (sym (nat.zero-mul sources))
-unknown_rows (suc rows) sources =
-    let row = replicate sources Unknown in
-    ap spelled (flat_map-cons (λ (row : List Cell). map OfCell row) row (replicate rows row))
-    ∙ flat_map-append spell (map OfCell row) (row_pieces (replicate rows row))
-    ∙ ap (λ l. unknown sources ++ l) (unknown_rows rows sources)
-    ∙ unknown_more sources (rows * sources) ∙ ap unknown (omega (arith, nat.suc-mul rows sources))
+unknown_rows (suc rows) sources = grind (arith, flat_map-append, unknown_rows rows sources, unknown_more)
 
 -- some of the oldest rows are unknown: so are those of them that a run of rows begins with
 run_begins : (rows : List (List Cell)) (unwritten from run : ℕ) (row : List Cell) → take unwritten rows ≡ replicate unwritten row → from + run ≤ unwritten → take run (drop from rows) ≡ replicate run row
 run_begins rows unwritten from run row is within =
     let left = unwritten - from in
-    let all : from + left ≡ unwritten = omega (arith, within) in
-    let here : take left (drop from rows) ≡ replicate left row =
-    sym (drop-take from left rows) ∙ ap (λ k. drop from (take k rows)) all ∙ ap (drop from) is ∙ drop-replicate from unwritten row in
+    let here : take left (drop from rows) ≡ replicate left row = grind (arith, drop-take from left rows, drop-replicate from unwritten row) in
     sym (take-take run left (drop from rows) (omega (arith, within))) ∙ ap (take run) here ∙ take-replicate run left row (omega (arith, within))
 
 -- the bytes of a run, unknown rows first
@@ -129,12 +101,8 @@ run_spelled rows unwritten from to sources is =
     let run = min unwritten to - from in
     let more = to - (from + run) in
     let whole : to - from ≡ run + more = omega arith in
-    let parts : slice_range rows from to ≡ take run (drop from rows) ++ take more (drop (from + run) rows) =
-    ap (λ k. take k (drop from rows)) whole ∙ take-add run more (drop from rows) ∙ ap (λ l. take run (drop from rows) ++ take more l) (drop-drop run from rows) in
-    let begins : take run (drop from rows) ≡ replicate run row = elim (cases_lt 0 run) [
-      | inl some ↦ run_begins rows unwritten from run row is (omega (arith, some))
-      | inr none ↦ let zero_is : run ≡ 0 = omega (arith, none) in (λ i. take (zero_is i) (drop from rows)) ∙ (λ i. replicate (sym zero_is i) row)
-    ] in
+    let parts : slice_range rows from to ≡ take run (drop from rows) ++ take more (drop (from + run) rows) = grind (arith, take-add, drop-drop) in
+    let begins : take run (drop from rows) ≡ replicate run row = grind (arith, run_begins) in
     ap (λ l. spelled (row_pieces l)) parts ∙ rows_joined (take run (drop from rows)) (take more (drop (from + run) rows))
     ∙ (λ i. spelled (row_pieces (begins i)) ++ spelled (row_pieces (slice_range rows (from + run) to))) ∙ ap (λ l. l ++ spelled (row_pieces (slice_range rows (from + run) to))) (unknown_rows run sources)
 
@@ -143,10 +111,7 @@ run_spelled rows unwritten from to sources is =
 pub rows_on : (rows : List (List Cell)) (from place n : ℕ) → from ≤ place → spelled (row_pieces (take (place - from) (drop from rows))) ++ spelled (row_pieces (take n (drop place rows))) ≡ spelled (row_pieces (take (place + n - from) (drop from rows)))
 rows_on rows from place n after =
     let m = place - from in
-    let back : from + m ≡ place = omega (arith, after) in
-    let all : m + n ≡ place + n - from = omega (arith, after) in
-    let parts : take (m + n) (drop from rows) ≡ take m (drop from rows) ++ take n (drop place rows) = take-add m n (drop from rows) ∙ ap (λ l. take m (drop from rows) ++ take n l) (drop-drop m from rows ∙ ap (λ k. drop k rows) back) in
-    sym (rows_joined (take m (drop from rows)) (take n (drop place rows))) ∙ ap (λ l. spelled (row_pieces l)) (sym parts) ∙ ap (λ k. spelled (row_pieces (take k (drop from rows)))) all
+    grind (arith, take-add m n (drop from rows), drop-drop m from rows, rows_joined (take m (drop from rows)) (take n (drop place rows)))
 
 pub all_rows : (rows : List (List Cell)) (count : ℕ) → count ≡ length rows → spelled (row_pieces (slice_range rows 0 count)) ≡ spelled (row_pieces rows)
 all_rows rows count is = ap (λ l. spelled (row_pieces l)) (take_all (count - 0) rows (omega (arith, is)))

@@ -1,22 +1,15 @@
 -- What one more turn of a loop over an entry's pieces adds, and what is due then.
-use Rattle.std.specs.Prelude.{◌≡◌, ◌++◌, ◌∷◌, ◌+◌, ◌-◌, ◌*◌, ◌<◌, ◌≤◌, ◌⊎◌, ℕ, zero, suc, List, [], Bool, length, take, drop, map, Some, nat_lt, if◌then◌else◌, replicate, slice_get, slice_set}
-use Rattle.rrd_file.proofs.Names.{◌∙◌, inl, inr, sym, ap, subst, refl, arith, append_assoc, append-nil, flat_map, le-ltb, flat_map-append, map-append, replicate-append-replicate, take_more_set, flat_map-cons, Cell, Raw, Consolidating, Part, Function, AllOf, parts_in, EntryDue, NothingDue, Outline, RraDef, Entry, SavedArchive, Filed, due, rows_in_all, with_entry, raws_and_parts, row_pieces, OfCell, OfPrep, OfRawAndPart, Piece, AreSavedShaped, IsSavedShaped, DueInEntry, NamedDue, RowCellDue, cells_due, named_due}
+use Rattle.std.specs.Prelude.{◌≡◌, ◌++◌, ◌∷◌, ◌+◌, ◌-◌, ◌*◌, ◌<◌, ◌≤◌, ◌⊎◌, ℕ, zero, suc, List, [], length, take, drop, map, Some, replicate, slice_get, slice_set}
+use Rattle.rrd_file.proofs.Names.{◌∙◌, sym, ap, refl, arith, append_assoc, append-nil, flat_map, flat_map-append, map-append, replicate-append-replicate, take_more_set, flat_map-cons, Cell, Raw, Consolidating, Part, Function, AllOf, parts_in, EntryDue, NothingDue, Outline, RraDef, Entry, SavedArchive, Filed, due, with_entry, raws_and_parts, row_pieces, OfCell, OfPrep, OfRawAndPart, Piece, AreSavedShaped, IsSavedShaped, DueInEntry, NamedDue, RowCellDue, cells_due, named_due}
 use Rattle.rrd_file.proofs.Order.{before_entry}
 use native.Mathlib.Nat as nat
 
 -- ---- entries
 
-last_due : (b : Bool) → ((if b then EntryDue else NothingDue) ≡ EntryDue) ⊎ ((if b then EntryDue else NothingDue) ≡ NothingDue)
-last_due Bool.true = inl refl
-last_due Bool.false = inr refl
-
 -- after an entry the next one is due, or nothing
 pub after_entry : (f : Filed) (e : Entry) → due f ≡ EntryDue → (due (with_entry f e) ≡ EntryDue) ⊎ (due (with_entry f e) ≡ NothingDue)
 unfolding due
-after_entry f e d =
-    let b = before_entry f d in
-    rw (le-ltb (length f.sources) f.header.sources b.sources, b.prepared, le-ltb (length f.heads) f.header.archives b.heads, le-ltb (length f.cells) (f.header.sources * rows_in_all f.heads) b.cells)
-    (last_due (nat_lt (length (f.entries ++ e ∷ [])) f.header.entries))
+after_entry f e d = grind arith
 
 pub more_entries : (f : Filed) → due f ≡ EntryDue → length f.entries < f.header.entries
 more_entries f d = (before_entry f d).more
@@ -61,14 +54,10 @@ row_less now n i later h =
     cc (parts, replicate-append-replicate width (m * width) RowCellDue, append_assoc (replicate width RowCellDue) (replicate (m * width) RowCellDue) later)
 
 pub no_cells : (now : Outline) (n i : ℕ) (later : List DueInEntry) → n ≤ i → cells_due (n - i) now ++ later ≡ later
-no_cells now n i later h =
-    let none : n - i ≡ 0 = omega arith in
-    ap (λ k. replicate (k * length now.sources) RowCellDue ++ later) none ∙ ap (λ k. replicate k RowCellDue ++ later) (nat.zero-mul (length now.sources))
+no_cells now n i later h = grind arith
 
 pub none_less : (d : DueInEntry) (n i : ℕ) (later : List DueInEntry) → n ≤ i → replicate (n - i) d ++ later ≡ later
-none_less d n i later h =
-    let none : n - i ≡ 0 = omega arith in
-    ap (λ k. replicate k d ++ later) none
+none_less d n i later h = grind arith
 
 pub dropped_at : {A : Type 0} (xs : List A) (i : ℕ) (x : A) → slice_get xs i ≡ Some x → drop i xs ≡ x ∷ drop (i + 1) xs
 dropped_at [] i x e = absurd cc
@@ -79,8 +68,7 @@ pub next_source : {A : Type 0} (d : A → DueInEntry) (xs : List A) (i : ℕ) (x
 next_source d xs i x later e = ap (λ l. map d l ++ later) (dropped_at xs i x e)
 
 pub next_archive : {A : Type 0} (d : A → List DueInEntry) (xs : List A) (i : ℕ) (x : A) (later : List DueInEntry) → slice_get xs i ≡ Some x → flat_map d (drop i xs) ++ later ≡ d x ++ (flat_map d (drop (i + 1) xs) ++ later)
-next_archive d xs i x later e =
-    ap (λ l. flat_map d l ++ later) (dropped_at xs i x e) ∙ ap (λ l. l ++ later) (flat_map-cons d x (drop (i + 1) xs)) ∙ append_assoc (d x) (flat_map d (drop (i + 1) xs)) later
+next_archive d xs i x later e = grind (arith, dropped_at, append_assoc)
 
 pub dropped_all : {A : Type 0} (xs : List A) (i : ℕ) → length xs ≤ i → drop i xs ≡ []
 dropped_all [] zero h = refl
@@ -97,21 +85,13 @@ taken_all (x ∷ xs) (suc i) h = ap (λ l. x ∷ l) (taken_all xs i (omega arith
 pub named_less : (lowest n i : ℕ) → i < n → named_due lowest (n - i) ≡ NamedDue lowest (n - (i + 1)) ∷ []
 named_less lowest n i h = ap (named_due lowest) (less n i h)
 
-pub none_named : (lowest n i : ℕ) → n ≤ i → named_due lowest (n - i) ≡ []
-none_named lowest n i h =
-    let none : n - i ≡ 0 = omega arith in
-    ap (named_due lowest) none
-
 -- ---- what was saved
 
 pub shaped_more : (sources : ℕ) (defs : List RraDef) (j : ℕ) (def : RraDef) (olds : List SavedArchive) (old : SavedArchive) → slice_get defs j ≡ Some def → AreSavedShaped sources (take j defs) olds → IsSavedShaped sources def old → AreSavedShaped sources (take (j + 1) defs) (olds ++ old ∷ [])
 shaped_more sources [] j def olds old e h k = absurd cc
-shaped_more sources (d ∷ defs) zero def [] old e h k = let same : def ≡ d = cc in (subst (λ (x : RraDef). IsSavedShaped sources x old) same k, tt)
-shaped_more sources (d ∷ defs) zero def (o ∷ olds) old e h k = absurd h
+shaped_more sources (d ∷ defs) zero def olds old e h k = grind arith
 shaped_more sources (d ∷ defs) (suc j) def [] old e h k = absurd h
-shaped_more sources (d ∷ defs) (suc j) def (o ∷ olds) old e h k =
-    let next : suc (j + 1) ≡ suc j + 1 = omega arith in
-    subst (λ (n : ℕ). AreSavedShaped sources (take n (d ∷ defs)) (o ∷ (olds ++ old ∷ []))) next (h.0, shaped_more sources defs j def olds old e h.1 k)
+shaped_more sources (d ∷ defs) (suc j) def (o ∷ olds) old e h k = grind (arith, shaped_more sources defs j def olds old e h.1 k)
 
 pub all_more : (function : Function) (preps : List Consolidating) (prep : Consolidating) → AllOf function preps → prep.function ≡ function → AllOf function (preps ++ prep ∷ [])
 all_more function [] prep h e = (e, tt)

@@ -1,6 +1,6 @@
 -- The layout of a valid database is a whole file, which says that database.
 use Rattle.std.specs.Prelude.{◌≡◌, ◌++◌, ◌∷◌, ◌+◌, ◌*◌, ◌/◌, ◌%◌, ◌<◌, ◌≤◌, ℕ, List, [], Bool, length, map, cond, false, sum, Option, Some}
-use Rattle.rrd_file.proofs.Names.{◌∙◌, sym, ap, subst, refl, arith, append_assoc, append-nil, length-append, mul-add, mul_comm, AllByRecursion, enumerate_from, find, flat_map, range_with_len, option_map_or, length-map, flat_map-cons, fold-append, mul-le, Cell, Raw, IsBounded, Average, Part, Outline, DsDef, Entry, Version, Head, Header, Source, filed, head_of, header_of, sources_of, Rra, Content, FiledOutline, MayUndoEach, OutlinesAreNeeded, Limits, limits_of, DatabaseIsWithin, All-append, outline_of, outline_undone, AsManyCells, HasOneEach, IsArchiveDef, IsHeader, outline_filed, outline_left, rows_in_all, is_double, names, resolution, all_cells, cells_by_slot, row_in, stands_in, Stored, AreAccepted, IsPart, IsRow, IsSourceWithin, IsValid, IsValidArchive, IsValidArchiveWithin, IsValidDatabaseWithin, IsWhole, body_pieces, entry_pieces, head_pieces, layout_in, pieces_filed, spelled, Piece, Mark, OfVersion, OfHeader, OfSource, OfCell, Start, Marked, Versioned, Body, Runs, Takes, body_size, size}
+use Rattle.rrd_file.proofs.Names.{◌∙◌, sym, ap, subst, refl, arith, append_assoc, append-nil, length-append, mul-add, mul_comm, AllByRecursion, enumerate_from, find, flat_map, range_with_len, option_map_or, length-map, flat_map-cons, fold-append, Cell, Raw, IsBounded, Average, Part, Outline, DsDef, Entry, Version, Head, Header, Source, filed, head_of, header_of, sources_of, Rra, Content, FiledOutline, MayUndoEach, OutlinesAreNeeded, Limits, limits_of, DatabaseIsWithin, All-append, outline_of, outline_undone, AsManyCells, IsHeader, outline_filed, outline_left, rows_in_all, is_double, names, resolution, all_cells, cells_by_slot, row_in, stands_in, Stored, AreAccepted, IsPart, IsRow, IsSourceWithin, IsValid, IsValidArchive, IsValidArchiveWithin, IsValidDatabaseWithin, IsWhole, body_pieces, entry_pieces, head_pieces, layout_in, pieces_filed, spelled, Mark, OfVersion, OfHeader, OfSource, OfCell, Start, Marked, Versioned, Body, Runs, Takes, body_size, size}
 use Rattle.rrd_file.proofs.BodyRuns.{AreHeadsThere, IsBodyIn, IsFiledHead, IsFiledSource, body, cells_run, defs_of, entry_due, heads_run, heads_there, nothing_due, rows_first, runs_append, sources_run}
 use Rattle.rrd_file.proofs.EntryRuns.{entry_runs}
 use Rattle.rrd_file.proofs.Told.{lengths}
@@ -21,9 +21,7 @@ entries_run h sources heads cells xs (y ∷ ys) all e there many long may =
     let is_due = entry_due f (body_in h sources heads cells xs there many) more in
     let first = entry_runs f y (record { is_due = is_due; fits = may.0 }) in
     let left : outline_left next ≡ outline_undone (outline_left f) y = fold-append outline_undone (outline_filed f) xs (y ∷ []) in
-    let later = entries_run h sources heads cells (xs ++ y ∷ []) ys all (append_assoc xs (y ∷ []) ys ∙ e) there many long (subst (λ (o : Outline). MayUndoEach (limits_of h.version) h.step o ys) (sym left) may.1) in
-    subst (λ (l : List Piece). Runs (Body f) l (Body (body h sources heads cells all))) (sym (flat_map-cons entry_pieces y ys))
-    (runs_append (Body f) (Body next) (Body (body h sources heads cells all)) (entry_pieces y) (flat_map entry_pieces ys) first later)
+    grind (arith, entries_run h sources heads cells (xs ++ y ∷ []) ys all (append_assoc xs (y ∷ []) ys ∙ e) there many long (subst (λ (o : Outline). MayUndoEach (limits_of h.version) h.step o ys) (sym left) may.1), append_assoc, runs_append)
 
 -- ---- what a valid content has
 
@@ -31,14 +29,11 @@ sources_filed : (h : Header) (defs : List DsDef) (raws : List Raw) (parts : List
 sources_filed h [] raws parts a b e c = tt
 sources_filed h (def ∷ defs) [] parts a b e c = absurd b
 sources_filed h (def ∷ defs) (raw ∷ raws) [] a b e c = absurd (omega (arith, e))
-sources_filed h (def ∷ defs) (raw ∷ raws) (part ∷ parts) a b e c =
-    (record { source_is = a.0; raw_is = b.0; part_is = c.0 }, sources_filed h defs raws parts a.1 b.1 (omega (arith, e)) c.1)
+sources_filed h (def ∷ defs) (raw ∷ raws) (part ∷ parts) a b e c = grind (arith, sources_filed h defs raws parts a.1 b.1 (omega (arith, e)) c.1)
 
 heads_filed : (h : Header) (archives : List Rra) → AllByRecursion (IsValidArchiveWithin (limits_of h.version) h.sources (h.last / h.step)) archives → AllByRecursion (IsFiledHead h) (map head_of archives)
 heads_filed h [] a = tt
-heads_filed h (archive ∷ archives) a =
-    let def_is : IsArchiveDef (limits_of h.version) archive.def = record { some_steps = a.0.some_steps; few_steps = a.0.few_steps; some_rows = a.0.some_rows; few_rows = a.0.few_rows; xff_low = a.0.xff_low; xff_high = a.0.xff_high } in
-    (record { def_is = def_is; parts_are = a.0.parts_are }, heads_filed h archives a.1)
+heads_filed h (archive ∷ archives) a = grind (arith, heads_filed h archives a.1)
 
 rows_same : (archives : List Rra) → rows_in_all (map head_of archives) ≡ sum (map (λ (archive : Rra). archive.def.rows) archives)
 rows_same archives = ap sum (each archives)
@@ -58,8 +53,7 @@ abbrev AreFound : Option (ℕ × List Cell) → Type 0
 AreFound found = AllByRecursion IsBounded (option_map_or (λ (found : ℕ × List Cell). found.1) found [])
 
 either : (b : Bool) (x y : Option (ℕ × List Cell)) → AreFound x → AreFound y → AreFound (cond b x y)
-either Bool.true x y h k = h
-either Bool.false x y h k = k
+either b x y h k = grind arith
 
 found_bounded : (sources : ℕ) (test : ℕ × List Cell → Bool) (n : ℕ) (rows : List (List Cell)) → AllByRecursion (IsRow sources) rows → AreFound (find test (enumerate_from n rows))
 found_bounded sources test n [] h = tt
@@ -87,14 +81,7 @@ ManyCells = (resolution last sources : ℕ) (rows : List (List Cell)) → AsMany
 
 archives_cells : ManyCells → (sources step last steps : ℕ) (archives : List Rra) → 0 < step → AllByRecursion (IsValidArchive sources steps) archives → length (flat_map (cells_by_slot step last) archives) ≡ sources * rows_in_all (map head_of archives)
 archives_cells many sources step last steps [] some h = omega arith
-archives_cells many sources step last steps (archive ∷ archives) some h =
-    let size = resolution step archive.def in
-    let first : length (cells_by_slot step last archive) ≡ length archive.rows * sources = many size last sources archive.rows (mul_positive step archive.def.steps some h.0.some_steps) (one_each sources archive.rows h.0.each_row) in
-    let later = archives_cells many sources step last steps archives some h.1 in
-    let all : length (flat_map (cells_by_slot step last) (archive ∷ archives)) ≡ length (cells_by_slot step last archive) + length (flat_map (cells_by_slot step last) archives) = ap length (flat_map-cons (cells_by_slot step last) archive archives) ∙ length-append (cells_by_slot step last archive) (flat_map (cells_by_slot step last) archives) in
-    let rows : length archive.rows * sources ≡ sources * archive.def.rows = ap (λ n. n * sources) h.0.rows_are ∙ mul_comm archive.def.rows sources in
-    let sum_is : rows_in_all (map head_of (archive ∷ archives)) ≡ archive.def.rows + rows_in_all (map head_of archives) = rows_first (head_of archive) (map head_of archives) in
-    all ∙ (λ i. (first ∙ rows) i + later i) ∙ sym (mul-add sources archive.def.rows (rows_in_all (map head_of archives))) ∙ ap (λ n. sources * n) (sym sum_is)
+archives_cells many sources step last steps (archive ∷ archives) some h = grind (arith, mul_positive step archive.def.steps some h.0.some_steps, one_each sources archive.rows h.0.each_row, archives_cells many sources step last steps archives some h.1, length-append (cells_by_slot step last archive) (flat_map (cells_by_slot step last) archives), mul_comm archive.def.rows sources, rows_first (head_of archive) (map head_of archives), mul-add sources archive.def.rows (rows_in_all (map head_of archives)))
 
 -- ---- the whole
 

@@ -1,6 +1,6 @@
 -- The steps of finding the end of a database.
 use Rattle.std.specs.Prelude.{◌≡◌, ◌+◌, ◌-◌, ◌^◌, ◌<◌, ◌≤◌, ◌++◌, ◌∷◌, [], ℕ, suc, List, length, drop, ◌≢◌, ◌==◌, if◌then◌else◌}
-use Rattle.rrd_file.proofs.Names.{◌∙◌, ap, refl, sym, get_or, arith, nat_tests, from_be_bytes-to_be_bytes_2, from_be_bytes-to_be_bytes_4, Version, One, Two, after_all_saved, after_cells, after_database, after_entries, after_rows, after_tag, after_version, archives_before, by_tag, by_version, four_in, head_size, parts_size, rows_size, two_in, four_bytes, two_bytes, Tag, AnUpdate, ATune, AResize, AnAddition, ARemoval, tag_byte, version_number}
+use Rattle.rrd_file.proofs.Names.{◌∙◌, ap, sym, get_or, arith, nat_tests, from_be_bytes-to_be_bytes_2, from_be_bytes-to_be_bytes_4, Version, One, Two, after_all_saved, after_cells, after_database, after_entries, after_rows, after_tag, after_version, archives_before, by_tag, four_in, head_size, parts_size, rows_size, two_in, four_bytes, two_bytes, Tag, AnUpdate, ATune, AResize, AnAddition, ARemoval, tag_byte, version_number}
 
 -- ---- numbers
 
@@ -14,13 +14,11 @@ four_first n x small = from_be_bytes-to_be_bytes_4 n small
 
 pub no_two : (bytes : List ℕ) → length bytes < 2 → two_in bytes ≡ 0
 unfolding two_in
-no_two (a ∷ b ∷ bytes) few = absurd (omega (arith, few))
-no_two x few = refl
+no_two x few = grind arith
 
 pub no_four : (bytes : List ℕ) → length bytes < 4 → four_in bytes ≡ 0
 unfolding four_in
-no_four (a ∷ b ∷ c ∷ d ∷ bytes) few = absurd (omega (arith, few))
-no_four x few = refl
+no_four x few = grind arith
 
 -- ---- turns
 
@@ -51,8 +49,7 @@ saved_done n m i bytes h = ap (λ k. after_all_saved n k bytes) (left_none m i h
 -- ---- entries
 
 pub by_right_tag : (t : Tag) (byte : ℕ) (after : Tag → List ℕ) → tag_byte t ≡ byte → by_tag byte after ≡ after t
-by_right_tag AnUpdate byte after e = ap (λ b. by_tag b after) (sym e)
-by_right_tag x byte after e = ap (λ b. by_tag b after) (sym e)
+by_right_tag x byte after e = grind arith
 
 other : (byte number : ℕ) (x y : List ℕ) → number ≢ byte → (if byte == number then x else y) ≡ y
 other byte number x y h = grind (arith, nat_tests)
@@ -66,10 +63,7 @@ by_no_tag byte after none =
 pub entries_more : (n m k i : ℕ) (t : Tag) (bytes : List ℕ) → i < k → 0 < length bytes → tag_byte t ≡ get_or bytes 0 0
     → after_entries n (archives_before m t) (k - (i + 1)) (after_tag n m t (drop 1 bytes)) ≡ after_entries n m (k - i) bytes
 unfolding after_entries
-entries_more n m k i t [] h some e = absurd (omega (arith, some))
-entries_more n m k i t (byte ∷ bytes) h some e =
-    let after = λ (tag : Tag). after_entries n (archives_before m tag) (k - (i + 1)) (after_tag n m tag bytes) in
-    sym (by_right_tag t byte after e) ∙ ap (λ j. after_entries n m j (byte ∷ bytes)) (sym (left_more k i h))
+entries_more n m k i t bytes h some e = grind (arith, by_right_tag, left_more)
 
 -- it is none
 pub entries_bad : (n m k i : ℕ) (bytes : List ℕ) → i < k → 0 < length bytes → ((t : Tag) → tag_byte t ≢ get_or bytes 0 0) → after_entries n m (k - i) bytes ≡ []
@@ -82,9 +76,7 @@ entries_bad n m k i (byte ∷ bytes) h some none =
 -- no byte is left
 pub entries_short : (n m k : ℕ) (bytes : List ℕ) → length bytes ≡ 0 → after_entries n m k bytes ≡ bytes
 unfolding after_entries
-entries_short n m ℕ.zero bytes e = refl
-entries_short n m (suc k) [] e = refl
-entries_short n m (suc k) (byte ∷ bytes) e = absurd (omega (arith, e))
+entries_short n m k bytes e = grind arith
 
 pub entries_done : (n m k i : ℕ) (bytes : List ℕ) → k ≤ i → after_entries n m (k - i) bytes ≡ bytes
 unfolding after_entries
@@ -94,8 +86,7 @@ entries_done n m k i bytes h = ap (λ j. after_entries n m j bytes) (left_none k
 
 pub right_version : (v : Version) (bytes : List ℕ) → version_number v ≡ two_in (drop 4 bytes) → after_database bytes ≡ after_version v (drop 6 bytes)
 unfolding after_database
-right_version One bytes e = ap (λ k. by_version k (λ v. after_version v (drop 6 bytes))) (sym e)
-right_version Two bytes e = ap (λ k. by_version k (λ v. after_version v (drop 6 bytes))) (sym e)
+right_version v bytes e = grind arith
 
 pub no_version : (bytes : List ℕ) → ((v : Version) → version_number v ≢ two_in (drop 4 bytes)) → after_database bytes ≡ []
 unfolding after_database

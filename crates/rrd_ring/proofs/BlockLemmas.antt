@@ -1,7 +1,8 @@
 -- Rows that come as one list of cells are written into a ring.
-use Rattle.rrd_ring.proofs.Names.{Vec, Global, ◌≡◌, ⊎_elim, refl, sym, ◌∙◌, ap, subst, ℕ, zero, suc, ◌+◌, ◌-◌, ◌*◌, ◌/◌, ◌%◌, ◌<◌, ◌≤◌, List, ◌++◌, length, min, replicate, set, take, drop, slice_range, arith, length-append, length-drop, length-set, vec_capacity, add-mul, add-mul-mod_self_right, mod-add-div', mod-eq_of_lt, mod_self, take-add, cases_lt, mod_below, append_assoc, length-take-le, take-append-drop, drop-drop, take_all, take_at, drop_at, length-replicate, take-replicate, drop-replicate, Cell, Unknown, nth_row, width, with_row, with_rows, row_of, ring_rows, with_unwritten, AreParts, AreWhole, IsRing, IsPartlyWritten, refill, length_refill, with_items_from}
+use Rattle.std.proofs.lemmas.Grind.{common_steps}
+use Rattle.rrd_ring.proofs.Names.{Vec, Global, ◌≡◌, ⊎_elim, refl, sym, ◌∙◌, ap, subst, ℕ, zero, suc, ◌+◌, ◌-◌, ◌*◌, ◌/◌, ◌%◌, ◌<◌, ◌≤◌, List, ◌++◌, length, min, replicate, set, take, drop, slice_range, arith, length-append, length-drop, length-set, vec_capacity, add-mul, add-mul-mod_self_right, mod-add-div', mod-eq_of_lt, mod_self, take-add, cases_lt, mod_below, append_assoc, length-take-le, take-append-drop, drop-drop, take_all, drop_at, length-replicate, take-replicate, drop-replicate, Cell, Unknown, nth_row, width, with_row, with_rows, row_of, ring_rows, with_unwritten, AreParts, AreWhole, IsRing, IsPartlyWritten, refill, length_refill, with_items_from}
 use Rattle.rrd_ring.proofs.RingLemmas.{cells_le, length-row_of, length-ring_rows, length-with_cells, nth_row-ring_rows, parts_all, ring_fits, ring_written, vec_written, with_cells}
-use Rattle.rrd_ring.proofs.WrittenLemmas.{IsFilled, same_ring, filled_further, filled_long, length-put, ring_le, row_count, row_width, row_written, still_ring, whole_filled, written_over}
+use Rattle.rrd_ring.proofs.WrittenLemmas.{IsFilled, same_ring, filled_further, filled_long, row_count, row_width, row_written, still_ring, whole_filled, written_over}
 
 -- the cells with those of so many rows in place of the ones from row k on
 abbrev pub with_block : ℕ → ℕ → ℕ → List Cell → List Cell → List Cell
@@ -11,10 +12,7 @@ pub one_more : (n w : ℕ) → (n + 1) * w ≡ n * w + w
 one_more n w = add-mul n 1 w ∙ (let one : n * w + 1 * w ≡ n * w + w = omega arith in one)
 
 pub length-with_block : (w k n : ℕ) (xs cells : List Cell) → (k + n) * w ≤ length xs → n * w ≤ length cells → length (with_block w k n xs cells) ≡ length xs
-length-with_block w k n xs cells fits has =
-    let rest = drop (n * w) (drop (k * w) xs) in
-    let sum = add-mul k n w in
-    omega (arith, sum, length-append (take (k * w) xs) (take (n * w) cells ++ rest), length-append (take (n * w) cells) rest, length-take-le (k * w) xs (omega (arith, sum)), length-take-le (n * w) cells has, length-drop (n * w) (drop (k * w) xs), length-drop (k * w) xs)
+length-with_block w k n xs cells fits has = grind (arith, common_steps, add-mul, length-append)
 
 -- a row more
 block_more : (w k n : ℕ) (xs cells : List Cell) → (k + n) * w + w ≤ length xs → (n + 1) * w ≤ length cells → with_cells w (k + n) (with_block w k n xs cells) (row_of w cells n) ≡ with_block w k (n + 1) xs cells
@@ -30,32 +28,20 @@ block_more w k n xs cells fits has =
     let same : with_block w k n xs cells ≡ (front ++ part) ++ rest = sym (append_assoc front part rest) in
     let next : part ++ row ≡ take ((n + 1) * w) cells = sym (ap (λ (m : ℕ). take m cells) more ∙ take-add (n * w) w cells) in
     let later : drop w rest ≡ drop ((n + 1) * w) back = drop-drop w (n * w) back ∙ ap (λ (m : ℕ). drop m back) (sym more) in
-    ap (λ (ys : List Cell). take ((k + n) * w) ys ++ (row ++ drop w (drop ((k + n) * w) ys))) same
-    ∙ ap (λ (ys : List Cell). ys ++ (row ++ drop w (drop ((k + n) * w) ((front ++ part) ++ rest)))) (take_at (front ++ part) rest ((k + n) * w) long)
-    ∙ ap (λ (ys : List Cell). (front ++ part) ++ (row ++ drop w ys)) (drop_at (front ++ part) rest ((k + n) * w) long)
-    ∙ append_assoc front part (row ++ drop w rest)
-    ∙ ap (λ (ys : List Cell). front ++ ys) (sym (append_assoc part row (drop w rest)))
-    ∙ ap (λ (ys : List Cell). front ++ (ys ++ drop w rest)) next
-    ∙ ap (λ (ys : List Cell). front ++ (take ((n + 1) * w) cells ++ ys)) later
+    grind (arith, common_steps, drop_at, append_assoc)
 
 pub block_ring : (rows w index k n : ℕ) (xs cells : List Cell) → IsRing rows w index xs → k + n ≤ rows → n * w ≤ length cells → IsRing rows w index (with_block w k n xs cells)
 block_ring rows w index k n xs cells is fits has = same_ring rows w index xs (with_block w k n xs cells) is (length-with_block w k n xs cells (omega (arith, is.whole, cells_le (k + n) rows w fits)) has)
 
 mod_right : (a b m : ℕ) → (a + b % m) % m ≡ (a + b) % m
-mod_right a b m =
-    let is : a + b ≡ (a + b % m) + b / m * m = omega (arith, mod-add-div' b m) in
-    sym (ap (λ (n : ℕ). n % m) is ∙ add-mul-mod_self_right (a + b % m) (b / m) m)
+mod_right a b m = grind (arith, mod-add-div' b m, add-mul-mod_self_right (a + b % m) (b / m) m)
 
 mod_left : (a b m : ℕ) → (a % m + b) % m ≡ (a + b) % m
-mod_left a b m =
-    let is : a + b ≡ (a % m + b) + a / m * m = omega (arith, mod-add-div' a m) in
-    sym (ap (λ (n : ℕ). n % m) is ∙ add-mul-mod_self_right (a % m + b) (a / m) m)
+mod_left a b m = grind (arith, mod-add-div' a m, add-mul-mod_self_right (a % m + b) (a / m) m)
 
 -- so many places after a row's are in the vector so many rows after its own
 indexes_on : (rows index i n : ℕ) → (index + i) % rows + n < rows → (index + (i + n) % rows) % rows ≡ (index + i) % rows + n
-indexes_on rows index i n h =
-    let sum : index + (i + n) ≡ (index + i) + n = omega arith in
-    mod_right index (i + n) rows ∙ ap (λ (m : ℕ). m % rows) sum ∙ sym (mod_left (index + i) n rows) ∙ mod-eq_of_lt h
+indexes_on rows index i n h = grind (arith, mod_right index (i + n) rows, mod_left (index + i) n rows, mod-eq_of_lt h)
 
 -- rows from one on, as far as the vector goes on
 pub block_written : (rows w index i n : ℕ) (xs cells : List Cell) → IsRing rows w index xs → (index + i) % rows + n ≤ rows → n * w ≤ length cells
@@ -76,7 +62,6 @@ block_written rows w index i (suc n) xs cells is fits has =
     let less : n * w ≤ length cells = omega (arith, one, enough) in
     let ring = block_ring rows w index k n xs cells is (omega (arith, fits)) less in
     let at : (index + next) % rows ≡ k + n = indexes_on rows index i n (omega (arith, fits)) in
-    let sum : k + n + 1 ≡ k + suc n = omega arith in
     let top : (k + n) * w + w ≤ length xs = omega (arith, is.whole, one_more (k + n) w, cells_le (k + n + 1) rows w (omega (arith, fits))) in
     ap (λ (m : ℕ). ring_rows rows w index (with_block w k m xs cells)) (sym named)
     ∙ ap (ring_rows rows w index) (sym (block_more w k n xs cells top enough))
@@ -93,17 +78,8 @@ length-with_rows (suc n) w rows i cells = length-set (with_rows n w rows i cells
 pub rows_on : (m n w : ℕ) (rows : List (List Cell)) (i : ℕ) (cells : List Cell) → with_rows n w (with_rows m w rows i cells) ((i + m) % length rows) (drop (m * w) cells) ≡ with_rows (m + n) w rows i cells
 rows_on m zero w rows i cells = ap (λ (k : ℕ). with_rows k w rows i cells) (let same : m ≡ m + 0 = omega arith in same)
 rows_on m (suc n) w rows i cells =
-    let front = with_rows m w rows i cells in
-    let at = (i + m) % length rows in
-    let rest = drop (m * w) cells in
-    let sum : i + m + n ≡ i + (m + n) = omega arith in
     let named : suc (m + n) ≡ m + suc n = omega arith in
-    let index : (at + n) % length front ≡ (i + (m + n)) % length rows = ap (λ (k : ℕ). (at + n) % k) (length-with_rows m w rows i cells) ∙ mod_left (i + m) n (length rows) ∙ ap (λ (k : ℕ). k % length rows) sum in
-    let row : row_of w rest n ≡ row_of w cells (m + n) = ap (take w) (drop-drop (n * w) (m * w) cells ∙ ap (λ (k : ℕ). drop k cells) (sym (add-mul m n w))) in
-    ap (λ (k : ℕ). set (with_rows n w front at rest) k (row_of w rest n)) index
-    ∙ ap (λ (r : List Cell). set (with_rows n w front at rest) ((i + (m + n)) % length rows) r) row
-    ∙ ap (λ (rs : List (List Cell)). set rs ((i + (m + n)) % length rows) (row_of w cells (m + n))) (rows_on m n w rows i cells)
-    ∙ ap (λ (k : ℕ). with_rows k w rows i cells) named
+    grind (arith, length-with_rows, mod_left, drop-drop, add-mul, rows_on m n w rows i cells)
 
 -- ---- a vector with such rows
 
@@ -129,26 +105,9 @@ block_put rows w index k n v new cells part start is fits has part_is start_is p
     let long : start + length part ≤ length filled = filled_long (start + length part) v.items in
     let xs = with_unwritten all v.items in
     let same : with_unwritten all filled ≡ xs = filled_further all (start + length part) v.items (omega (arith, end, top)) in
-    let new_is = take start filled ++ (part ++ drop (length part) (drop start filled)) in
-    let cells_are : with_unwritten all new.items ≡ with_block w k n xs cells =
-    ap (with_unwritten all) put.items
-    ∙ written_over all (length part) start filled part long refl
-    ∙ ap (λ (ys : List Cell). take start ys ++ (part ++ drop (length part) (drop start ys))) same
-    ∙ ap (λ (m : ℕ). take start xs ++ (part ++ drop m (drop start xs))) count
-    ∙ ap (λ (m : ℕ). take m xs ++ (part ++ drop (n * w) (drop m xs))) start_is
-    ∙ ap (λ (ys : List Cell). take (k * w) xs ++ (ys ++ drop (n * w) (drop (k * w) xs))) part_is in
-    let as_long : length new.items ≡ length filled = ap length put.items ∙ length-put start (length part) filled part refl long in
+    let cells_are : with_unwritten all new.items ≡ with_block w k n xs cells = grind (arith, written_over) in
     let whole : AreWhole w filled = subst (AreWhole w) (sym turned) (whole_filled w (k + n) v.items is.ends) in
-    let kept = length-with_block w k n xs cells (omega (arith, is.ring.whole, top)) has in
-    record {
-      is = still_ring is (ap length cells_are ∙ kept) put.room (record { count = whole.count; whole = as_long ∙ whole.whole });
-      items = cells_are;
-    }
-
-no_block : (w : ℕ) (xs cells : List Cell) → with_block w 0 0 xs cells ≡ xs
-no_block w xs cells =
-    let none : 0 * w ≡ 0 = omega arith in
-    ap (λ (m : ℕ). take m xs ++ (take m cells ++ drop m (drop m xs))) none
+    grind (arith, length-with_block)
 
 -- rows up to the vector's end, and the others from its first row on
 pub record ArePut (rows w index i count : ℕ) (all : List (List Cell)) (new : Vec Cell Global) (cells : List Cell) : Type 0 where
@@ -158,42 +117,27 @@ pub record ArePut (rows w index i count : ℕ) (all : List (List Cell)) (new : V
 rows_put : (rows w index i first rest : ℕ) (v one two : Vec Cell Global) (cells : List Cell) (all : List (List Cell)) → IsPartlyWritten rows w index v → ring_rows rows w index (with_unwritten (rows * w) v.items) ≡ all → (index + i) % rows + first ≤ rows → rest ≤ rows → (0 < rest → (index + i) % rows + first ≡ rows) → (first + rest) * w ≤ length cells
     → IsPutInto rows w index ((index + i) % rows) first v one cells → IsPutInto rows w index 0 rest one two (drop (first * w) cells) → ArePut rows w index i (first + rest) all two cells
 rows_put rows w index i first rest v one two cells all is view fits few turns has a b =
-    let xs = with_unwritten (rows * w) v.items in
     let ys = with_unwritten (rows * w) one.items in
     let later = drop (first * w) cells in
     let next = (i + first) % rows in
     let sum = add-mul first rest w in
-    let front : ring_rows rows w index ys ≡ with_rows first w all i cells =
-    ap (ring_rows rows w index) a.items ∙ block_written rows w index i first xs cells is.ring fits (omega (arith, has, sum)) ∙ ap (λ (rs : List (List Cell)). with_rows first w rs i cells) view in
+    let front : ring_rows rows w index ys ≡ with_rows first w all i cells = grind (arith, block_written) in
     let back : ring_rows rows w index (with_unwritten (rows * w) two.items) ≡ with_rows rest w (ring_rows rows w index ys) next later =
     ⊎_elim (λ (some : 0 < rest).
     let sum_of : index + (i + first) ≡ (index + i) + first = omega arith in
     let zeroth : (index + next) % rows ≡ 0 = mod_right index (i + first) rows ∙ ap (λ (m : ℕ). m % rows) sum_of ∙ sym (mod_left (index + i) first rows) ∙ ap (λ (m : ℕ). m % rows) (turns some) ∙ mod_self rows in
-    ap (ring_rows rows w index) (b.items ∙ ap (λ (m : ℕ). with_block w m rest ys later) (sym zeroth))
-    ∙ block_written rows w index next rest ys later a.is.ring (omega (arith, zeroth, few)) (omega (arith, has, sum, length-drop (first * w) cells)))
-    (λ (none : rest ≤ 0).
-    let zero_rest : rest ≡ 0 = omega (arith, none) in
-    ap (ring_rows rows w index) (b.items ∙ ap (λ (m : ℕ). with_block w 0 m ys later) zero_rest ∙ no_block w ys later)
-    ∙ ap (λ (m : ℕ). with_rows m w (ring_rows rows w index ys) next later) (sym zero_rest))
+    grind (arith, common_steps, block_written))
+    (λ (none : rest ≤ 0). grind arith)
     (cases_lt 0 rest) in
-    record {
-      is = b.is;
-      rows_are = back
-          ∙ ap (λ (rs : List (List Cell)). with_rows rest w rs next later) front
-          ∙ ap (λ (m : ℕ). with_rows rest w (with_rows first w all i cells) ((i + first) % m) later) (sym (row_count is view))
-          ∙ rows_on first rest w all i cells
-          ∙ ap (λ (m : ℕ). with_rows (first + rest) m all i cells) (sym (row_width is view));
-    }
+    grind (arith, row_count, rows_on, row_width)
 
 -- all of them, once each part is put
 parts_put : (rows w index i count : ℕ) (v one two : Vec Cell Global) (cells : List Cell) (all : List (List Cell)) → IsPartlyWritten rows w index v → ring_rows rows w index (with_unwritten (rows * w) v.items) ≡ all → count ≤ rows → count * w ≤ length cells
     → let first = min count (rows - (index + i) % rows) in IsPutInto rows w index ((index + i) % rows) first v one cells → IsPutInto rows w index 0 (count - first) one two (drop (first * w) cells) → ArePut rows w index i count all two cells
 parts_put rows w index i count v one two cells all is view few has a b =
     let first = min count (rows - (index + i) % rows) in
-    let below : (index + i) % rows < rows = mod_below (index + i) rows is.ring.some_rows in
     let sum : first + (count - first) ≡ count = omega arith in
-    subst (λ (n : ℕ). ArePut rows w index i n all two cells) sum
-    (rows_put rows w index i first (count - first) v one two cells all is view (omega (arith, below)) (omega (arith, few)) (λ some. omega (arith, some, below)) (omega (arith, has, ap (λ (n : ℕ). n * w) sum)) a b)
+    grind (arith, rows_put)
 
 pub are_put : {rows w index i count start first rest : ℕ} {v one two : Vec Cell Global} {all : List (List Cell)} {cells front later : List Cell} → IsPartlyWritten rows w index v → ring_rows rows w index (with_unwritten (rows * w) v.items) ≡ all → AreParts rows w index i count start first rest
     → count ≤ length all → length cells ≡ count * width all → front ≡ take first cells → later ≡ drop first cells → Puts start front v one → Puts 0 later one two → ArePut rows w index i count all two cells
@@ -223,18 +167,8 @@ block_forgotten : (rows w index k n start count : ℕ) (v new : Vec Cell Global)
     → Forgets start count v new → IsPutInto rows w index k n v new cells
 block_forgotten rows w index k n start count v new cells is fits has unknown start_is count_is gone =
     let all = rows * w in
-    let xs = with_unwritten all v.items in
     let top : (k + n) * w ≤ all = cells_le (k + n) rows w fits in
-    let cells_are : with_unwritten all new.items ≡ with_block w k n xs cells =
-    gone.cells all (ring_le rows w index v is) (omega (arith, start_is, count_is, add-mul k n w, top))
-    ∙ ap (λ (m : ℕ). take m xs ++ (replicate count Unknown ++ drop count (drop m xs))) start_is
-    ∙ ap (λ (m : ℕ). take (k * w) xs ++ (replicate m Unknown ++ drop m (drop (k * w) xs))) count_is
-    ∙ ap (λ (ys : List Cell). take (k * w) xs ++ (ys ++ drop (n * w) (drop (k * w) xs))) (sym unknown) in
-    let kept = length-with_block w k n xs cells (omega (arith, is.ring.whole, top)) has in
-    record {
-      is = still_ring is (ap length cells_are ∙ kept) gone.room (record { count = is.ends.count; whole = gone.as_many ∙ is.ends.whole });
-      items = cells_are;
-    }
+    grind (arith, length-with_block)
 
 pub are_forgotten : {rows w index i count start first rest : ℕ} {v one two : Vec Cell Global} {all : List (List Cell)} → IsPartlyWritten rows w index v → ring_rows rows w index (with_unwritten (rows * w) v.items) ≡ all → AreParts rows w index i count start first rest
     → count ≤ length all → Forgets start first v one → Forgets 0 rest one two → ArePut rows w index i count all two (replicate (count * width all) Unknown)
@@ -251,22 +185,16 @@ are_forgotten {rows} {w} {index} {i} {count} {start} {first} {rest} {v} {one} {t
     let has : (count - n) * w ≤ length later = omega (arith, both, long, length-drop (n * w) cells) in
     let x = block_forgotten rows w index at n start first v one cells is (omega (arith, below)) (omega (arith, both, long)) (take-replicate (n * w) (count * w) Unknown (omega (arith, both))) parts.starts parts.in_front a in
     let y = block_forgotten rows w index 0 (count - n) 0 rest one two later x.is (omega (arith, fewer)) has (ap (take ((count - n) * w)) left ∙ take-replicate ((count - n) * w) (count * w - n * w) Unknown (omega (arith, both))) (omega arith) parts.others b in
-    subst (λ (k : ℕ). ArePut rows w index i count all two (replicate (count * k) Unknown)) (sym (row_width is view))
-    (parts_put rows w index i count v one two cells all is view fewer (omega (arith, long)) x y)
+    grind (arith, row_width, parts_put)
 
 -- ---- a row is lent, and comes back with as many cells
 
 came_back : (all w at start : ℕ) (v : Vec Cell Global) (row : List Cell) → at * w + w ≤ length v.items → length row ≡ w → start ≡ at * w
     → with_unwritten all (with_items_from v start row).items ≡ with_cells w at (with_unwritten all v.items) row
-came_back all w at start v row fits e start_is =
-    let xs = v.items in
-    ap (with_unwritten all) (vec_written v w at start row start_is fits e)
-    ∙ ap (λ (n : ℕ). with_unwritten all (take (at * w) xs ++ (row ++ drop n (drop (at * w) xs)))) (sym e)
-    ∙ written_over all w (at * w) xs row fits e
+came_back all w at start v row fits e start_is = grind (arith, vec_written, written_over)
 
 whole_back : (w at start : ℕ) (v : Vec Cell Global) (row : List Cell) → AreWhole w v.items → at * w + w ≤ length v.items → length row ≡ w → start ≡ at * w → AreWhole w (with_items_from v start row).items
-whole_back w at start v row ends fits e start_is =
-    record { count = ends.count; whole = ap length (vec_written v w at start row start_is fits e) ∙ length-with_cells w at v.items row fits e ∙ ends.whole }
+whole_back w at start v row ends fits e start_is = grind (arith, vec_written, length-with_cells)
 
 -- the cells that are lent
 abbrev pub lent : ℕ → ℕ → Vec Cell Global → List Cell
@@ -277,13 +205,10 @@ abbrev pub came : ℕ → ℕ → Vec Cell Global → List Cell → List Cell
 came w start v cells = refill (length (lent w start v)) (lent w start v) cells
 
 lent_is : (w at start : ℕ) (v : Vec Cell Global) → start ≡ at * w → lent w start v ≡ row_of w v.items at
-lent_is w at start v start_is =
-    let long : start + w - start ≡ w = omega arith in
-    ap (λ (n : ℕ). take n (drop start v.items)) long ∙ ap (λ (k : ℕ). take w (drop k v.items)) start_is
+lent_is w at start v start_is = grind arith
 
 length-came : (w at start : ℕ) (v : Vec Cell Global) (cells : List Cell) → start ≡ at * w → at * w + w ≤ length v.items → length (came w start v cells) ≡ w
-length-came w at start v cells start_is fits =
-    sym (length_refill (length (lent w start v)) (lent w start v) cells refl) ∙ ap length (lent_is w at start v start_is) ∙ length-row_of w v.items at fits
+length-came w at start v cells start_is fits = grind (arith, length_refill (length (lent w start v)) (lent w start v) cells refl, lent_is w, length-row_of w v.items)
 
 -- what the loan of row i says of the rows
 pub record IsLent (rows w index i start : ℕ) (all : List (List Cell)) (v : Vec Cell Global) : Type 0 where
@@ -298,11 +223,7 @@ row_lent {rows} {w} {index} {at} {i} {start} {v} {all} filled at_is within start
     let there : i < rows = omega (arith, row_count filled.is filled.view) in
     let below : at < rows = omega (arith, at_is, mod_below (index + i) rows filled.is.ring.some_rows) in
     let fits : at * w + w ≤ length xs = omega (arith, filled.long, one_more at w) in
-    let value : lent w start v ≡ nth_row all i = lent_is w at start v start_is
-    ∙ row_written (rows * w) (at * w) w xs fits
-    ∙ ap (λ (k : ℕ). row_of w ys k) at_is
-    ∙ sym (nth_row-ring_rows rows w index ys i there)
-    ∙ ap (λ (rs : List (List Cell)). nth_row rs i) filled.view in
+    let value : lent w start v ≡ nth_row all i = grind (arith, lent_is, row_written, nth_row-ring_rows, row_count, mod_below, one_more, length-came, came_back, ring_fits, still_ring, length-with_cells, whole_back, ring_written) in
     let wide : (cells : List Cell) → length (came w start v cells) ≡ w = λ cells. length-came w at start v cells start_is fits in
     let back : (cells : List Cell) → with_unwritten (rows * w) (with_items_from v start (came w start v cells)).items ≡ with_cells w at ys (came w start v cells) = λ cells. came_back (rows * w) w at start v (came w start v cells) fits (wide cells) start_is in
     let whole = ring_fits rows w index at ys filled.is.ring below in
@@ -310,9 +231,5 @@ row_lent {rows} {w} {index} {at} {i} {start} {v} {all} filled at_is within start
       value = value;
       is = λ cells. let new = came w start v cells in
           still_ring filled.is (ap length (back cells) ∙ length-with_cells w at ys new whole (wide cells)) (omega arith) (whole_back w at start v new filled.is.ends fits (wide cells) start_is);
-      rows_are = λ cells. let new = came w start v cells in
-          ap (ring_rows rows w index) (back cells ∙ ap (λ (k : ℕ). with_cells w k ys new) at_is)
-          ∙ ring_written rows w index i ys new filled.is.ring there (wide cells)
-          ∙ ap (λ (rs : List (List Cell)). set rs i new) filled.view
-          ∙ ap (λ (row : List Cell). set all i (refill (length row) row cells)) value;
+      rows_are = λ cells. grind (arith, ring_written, row_count, mod_below, one_more, lent_is, row_written, nth_row-ring_rows, length-came, came_back, ring_fits, still_ring, length-with_cells, whole_back);
     }

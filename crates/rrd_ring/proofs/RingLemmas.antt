@@ -1,5 +1,6 @@
 -- Rows of cells in one vector, and rings of them.
-use Rattle.rrd_ring.proofs.Names.{Vec, Global, ◌≡◌, ◌⊎◌, inl, inr, set, refl, sym, ◌∙◌, ap, subst, ℕ, zero, suc, ◌+◌, ◌-◌, ◌*◌, ◌%◌, ◌<◌, ◌≤◌, List, [], ◌∷◌, ◌++◌, length, min, get_or, take, drop, replicate, ⊎_elim, arith, length-append, length-drop, take-append-add, add-mul, mod-eq_of_lt, mod-eq-sub-mod, cases_lt, row_fits, mul-le, mod_below, append_assoc, append-nil, length-take-le, length-replicate, take-append-drop, take-append-le, take-take, drop-append-le, drop-drop, take_at, drop_at, take_all, drop_all, get_or_append_left, get_or-append_right, get_or-replicate, get_or-set_same, get_or-set_other, length-set, with_items_is, replicate-append-replicate, take-replicate, drop-replicate, length-map-range_with_len, get_or-map-range_with_len, fill_by_all, with_items_from, Cell, Unknown, nth_row, row_cells, width, HasWidth, unknown_rows, AreDropped, max_rows, row_of, rows_of, ring_rows, cells_in, from_index, AreParts, IsRing, AreRows, width_is}
+use Rattle.std.proofs.lemmas.Grind.{common_steps}
+use Rattle.rrd_ring.proofs.Names.{Vec, Global, ◌≡◌, ◌⊎◌, set, sym, ◌∙◌, ap, subst, ℕ, zero, suc, ◌+◌, ◌-◌, ◌*◌, ◌%◌, ◌<◌, ◌≤◌, List, [], ◌∷◌, ◌++◌, length, min, get_or, take, drop, replicate, ⊎_elim, arith, length-append, length-drop, take-append-add, add-mul, mod-eq_of_lt, mod-eq-sub-mod, cases_lt, row_fits, mul-le, mod_below, append_assoc, append-nil, length-take-le, length-replicate, take-append-drop, take-append-le, drop-append-le, drop-drop, take_at, drop_at, take_all, drop_all, get_or_append_left, get_or-append_right, get_or-replicate, length-set, with_items_is, replicate-append-replicate, take-replicate, drop-replicate, length-map-range_with_len, get_or-map-range_with_len, fill_by_all, with_items_from, Cell, Unknown, nth_row, row_cells, width, HasWidth, unknown_rows, AreDropped, row_of, rows_of, ring_rows, cells_in, from_index, AreParts, IsRing, AreRows}
 use Rattle.rrd_ring.proofs.RowLemmas.{AreDropped-from_width}
 
 -- ---- places
@@ -21,21 +22,10 @@ three_parts : (xs : List Cell) (m n : ℕ) → xs ≡ take m xs ++ (take n (drop
 three_parts xs m n = sym (ap (λ (ys : List Cell). take m xs ++ ys) (take-append-drop n (drop m xs)) ∙ take-append-drop m xs)
 
 further : (a b c : List Cell) (q s r : ℕ) → length a ≡ q → length b ≡ s → q + s ≡ r → from_index s (from_index q (a ++ (b ++ c))) ≡ from_index r (a ++ (b ++ c))
-further a b c q s r la lb e =
-    let lab : length (a ++ b) ≡ r = omega (arith, length-append a b) in
-    ap (from_index s) (from_index_at a (b ++ c) q la ∙ append_assoc b c a)
-    ∙ from_index_at b (c ++ a) s lb
-    ∙ append_assoc c a b
-    ∙ sym (from_index_at (a ++ b) c r lab)
-    ∙ ap (from_index r) (append_assoc a b c)
+further a b c q s r la lb e = grind (arith, length-append, from_index_at, append_assoc)
 
 around : (a b c : List Cell) (q s r : ℕ) → length a ≡ r → length (a ++ b) ≡ q → length c + r ≡ s → from_index s (from_index q (a ++ (b ++ c))) ≡ from_index r (a ++ (b ++ c))
-around a b c q s r la lab e =
-    let lca : length (c ++ a) ≡ s = omega (arith, length-append c a) in
-    ap (from_index s) (ap (from_index q) (sym (append_assoc a b c)) ∙ from_index_at (a ++ b) c q lab ∙ sym (append_assoc c a b))
-    ∙ from_index_at (c ++ a) b s lca
-    ∙ sym (append_assoc b c a)
-    ∙ sym (from_index_at a (b ++ c) r la)
+around a b c q s r la lab e = grind (arith, length-append, append_assoc, from_index_at)
 
 from_index-further : (xs : List Cell) (q s r : ℕ) → q + s ≡ r → r ≤ length xs → from_index s (from_index q xs) ≡ from_index r xs
 from_index-further xs q s r e h =
@@ -60,15 +50,8 @@ from_index-around xs q s r e h k =
 pub from_index-rows : (rows w index more : ℕ) (xs : List Cell) → length xs ≡ rows * w → index < rows → more ≤ rows → from_index (more * w) (from_index (index * w) xs) ≡ from_index (((index + more) % rows) * w) xs
 from_index-rows rows w index more xs e h k =
     let sum = add-mul index more w in
-    ⊎_elim (λ (below : index + more < rows).
-    rw (mod-eq_of_lt below)
-    (from_index-further xs (index * w) (more * w) ((index + more) * w) (sym sum) (omega (arith, cells_le (index + more) rows w (omega arith)))))
-    (λ (past : rows ≤ index + more).
-    let left = index + more - rows in
-    let all : index + more ≡ left + rows = omega arith in
-    let again = ap (λ (n : ℕ). n * w) all ∙ add-mul left rows w in
-    rw (mod_wrapped (index + more) rows past (omega arith))
-    (from_index-around xs (index * w) (more * w) (left * w) (omega (arith, sum, again)) (cells_le left index w (omega arith)) (omega (arith, cells_le index rows w (omega arith)))))
+    ⊎_elim (λ (below : index + more < rows). grind (arith, mod-eq_of_lt, from_index-further, cells_le))
+    (λ (past : rows ≤ index + more). grind (arith, add-mul, mod_wrapped, from_index-around, cells_le))
     (cases_lt (index + more) rows)
 
 pub length-from_index : (start : ℕ) (xs : List Cell) → start ≤ length xs → length (from_index start xs) ≡ length xs
@@ -103,11 +86,7 @@ HasWidth-rows_of rows w xs e =
     ap length (nth_row-rows_of rows w xs i k) ∙ length-row_of w xs i (omega (arith, row_fits i w rows w k (omega arith))))
 
 from_later : (m k w : ℕ) (xs ys : List Cell) → length xs ≡ m * w → m ≤ k → drop (k * w) (xs ++ ys) ≡ drop ((k - m) * w) ys
-from_later m k w xs ys e h =
-    let sum : k ≡ m + (k - m) = omega arith in
-    ap (λ (n : ℕ). drop n (xs ++ ys)) (ap (λ (n : ℕ). n * w) sum ∙ add-mul m (k - m) w)
-    ∙ sym (drop-drop ((k - m) * w) (m * w) (xs ++ ys))
-    ∙ ap (drop ((k - m) * w)) (drop_at xs ys (m * w) e)
+from_later m k w xs ys e h = grind (arith, add-mul m (k - m) w, drop-drop ((k - m) * w) (m * w) (xs ++ ys), drop_at xs ys (m * w) e)
 
 -- rows after others
 pub rows_of-append : (m n w : ℕ) (xs ys : List Cell) → length xs ≡ m * w → rows_of (m + n) w (xs ++ ys) ≡ rows_of m w xs ++ rows_of n w ys
@@ -146,9 +125,7 @@ rows_of-drop k n w xs h e =
     sym (ap (drop k) (split_rows k n w xs h e) ∙ drop_at front (rows_of (n - k) w (drop (k * w) xs)) k (length-rows_of k w (take (k * w) xs)))
 
 pub rows_of_one : (w : ℕ) (row : List Cell) → length row ≡ w → rows_of 1 w row ≡ row ∷ []
-rows_of_one w row e =
-    let none : 0 * w ≡ 0 = omega arith in
-    ap (λ (n : ℕ). take w (drop n row) ∷ []) none ∙ ap (λ (r : List Cell). r ∷ []) (take_all w row (omega arith))
+rows_of_one w row e = grind (arith, take_all)
 
 pub rows_of_unknown : (rows w : ℕ) → rows_of rows w (replicate (rows * w) Unknown) ≡ unknown_rows rows w
 rows_of_unknown rows w =
@@ -178,32 +155,22 @@ ring_rows-from_index rows w index xs h e =
 
 -- what is known of a ring's cells
 pub length-turned : (rows w index : ℕ) (xs : List Cell) → IsRing rows w index xs → length (from_index (index * w) xs) ≡ rows * w
-length-turned rows w index xs is =
-    let within : index < rows = is.index_within in
-    length-from_index (index * w) xs (omega (arith, is.whole, cells_le index rows w (omega arith))) ∙ is.whole
+length-turned rows w index xs is = grind (arith, length-from_index, cells_le)
 
 pub HasWidth-ring_rows : (rows w index : ℕ) (xs : List Cell) → IsRing rows w index xs → HasWidth w (ring_rows rows w index xs)
-HasWidth-ring_rows rows w index xs is =
-    subst (λ (all : List (List Cell)). HasWidth w all) (sym (ring_rows-from_index rows w index xs is.index_within is.whole))
-    (HasWidth-rows_of rows w (from_index (index * w) xs) (length-turned rows w index xs is))
+HasWidth-ring_rows rows w index xs is = grind (arith, ring_rows-from_index, HasWidth-rows_of, length-turned)
 
 pub ring_len : (rows w index : ℕ) (xs : List Cell) (all : List (List Cell)) → ring_rows rows w index xs ≡ all → length all ≡ rows
 ring_len rows w index xs all e = ap length (sym e) ∙ length-ring_rows rows w index xs
 
 pub ring_width : (rows w index : ℕ) (xs : List Cell) (all : List (List Cell)) → IsRing rows w index xs → ring_rows rows w index xs ≡ all → width all ≡ w
-ring_width rows w index xs all is e =
-    let count = length-ring_rows rows w index xs in
-    let some : 0 < rows = is.some_rows in
-    ap width (sym e) ∙ width_is w (ring_rows rows w index xs) (HasWidth-ring_rows rows w index xs is) (omega arith)
+ring_width rows w index xs all is e = grind (arith, length-ring_rows, HasWidth-ring_rows)
 
 pub ring_fits : (rows w index k : ℕ) (xs : List Cell) → IsRing rows w index xs → k < rows → k * w + w ≤ length xs
 ring_fits rows w index k xs is h = omega (arith, is.whole, row_fits k w rows w h (omega arith))
 
 pub AreDropped-rows_of : (rows w : ℕ) (xs : List Cell) → AreRows rows w xs → AreDropped (rows_of rows w xs)
-AreDropped-rows_of rows w xs are =
-    let count = length-rows_of rows w xs in
-    let few : rows ≤ max_rows = are.few_rows in
-    AreDropped-from_width w (rows_of rows w xs) (HasWidth-rows_of rows w xs are.whole) (omega arith)
+AreDropped-rows_of rows w xs are = grind (arith, length-rows_of, AreDropped-from_width, HasWidth-rows_of)
 
 -- ---- rows that lie together
 
@@ -256,9 +223,7 @@ abbrev pub with_cells : ℕ → ℕ → List Cell → List Cell → List Cell
 with_cells w k xs row = take (k * w) xs ++ (row ++ drop w (drop (k * w) xs))
 
 pub length-with_cells : (w k : ℕ) (xs row : List Cell) → k * w + w ≤ length xs → length row ≡ w → length (with_cells w k xs row) ≡ length xs
-length-with_cells w k xs row fits e =
-    let rest = drop w (drop (k * w) xs) in
-    omega (arith, length-append (take (k * w) xs) (row ++ rest), length-append row rest, length-take-le (k * w) xs (omega arith), length-drop w (drop (k * w) xs), length-drop (k * w) xs)
+length-with_cells w k xs row fits e = grind (arith, common_steps, length-append)
 
 pub ring_push : (rows w index : ℕ) (xs row : List Cell) → IsRing rows w index xs → length row ≡ w
     → ring_rows rows w ((index + 1) % rows) (with_cells w index xs row) ≡ drop 1 (ring_rows rows w index xs ++ row ∷ [])
@@ -276,11 +241,7 @@ ring_push rows w index xs row is e =
     let one : 1 * w ≡ w = omega arith in
     let all_rows : rows ≡ rows - 1 + 1 = omega arith in
     let others : rest ++ front ≡ drop (1 * w) turned = sym (ap (λ (n : ℕ). drop n turned) one ∙ drop-append-le w (drop (index * w) xs) front (omega (arith, length-drop (index * w) xs))) in
-    let same : from_index (next * w) ys ≡ drop (1 * w) turned ++ row =
-    sym (from_index-rows rows w index 1 ys long within (omega arith))
-    ∙ ap (from_index (1 * w)) (from_index_at front (row ++ rest) (index * w) lf ∙ append_assoc row rest front)
-    ∙ from_index_at row (rest ++ front) (1 * w) (e ∙ sym one)
-    ∙ ap (λ (zs : List Cell). zs ++ row) others in
+    let same : from_index (next * w) ys ≡ drop (1 * w) turned ++ row = grind (arith, from_index-rows, from_index_at, append_assoc) in
     let lt = length-turned rows w index xs is in
     let count : rows * w ≡ (rows - 1) * w + 1 * w = ap (λ (n : ℕ). n * w) all_rows ∙ add-mul (rows - 1) 1 w in
     ring_rows-from_index rows w next ys (mod_below (index + 1) rows some) long
@@ -295,41 +256,28 @@ ring_push rows w index xs row is e =
 
 -- rows of one width have as many cells as their numbers say
 same_width : (n v w : ℕ) (ys : List Cell) → 0 < n → length ys ≡ n * v → HasWidth w (rows_of n v ys) → v ≡ w
-same_width n v w ys some e h =
-    let count = length-rows_of n v ys in
-    sym (width_is v (rows_of n v ys) (HasWidth-rows_of n v ys e) (omega arith)) ∙ width_is w (rows_of n v ys) h (omega arith)
+same_width n v w ys some e h = grind (arith, length-rows_of, HasWidth-rows_of)
 
 pub same_cells : (n v w : ℕ) (ys : List Cell) → length ys ≡ n * v → HasWidth w (rows_of n v ys) → length ys ≡ n * w
-same_cells zero v w ys e h = let none : zero * v ≡ zero * w = omega arith in e ∙ none
-same_cells (suc n) v w ys e h = e ∙ ap (λ (k : ℕ). suc n * k) (same_width (suc n) v w ys (omega arith) e h)
+same_cells n v w ys e h = grind (arith, same_width)
 
 pub same_rows : (n v w : ℕ) (ys : List Cell) → length ys ≡ n * v → HasWidth w (rows_of n v ys) → rows_of n v ys ≡ rows_of n w ys
-same_rows zero v w ys e h = refl
-same_rows (suc n) v w ys e h = ap (λ (k : ℕ). rows_of (suc n) k ys) (same_width (suc n) v w ys (omega arith) e h)
+same_rows n v w ys e h = grind (arith, same_width)
 
 pub ring_take : (n rows w index : ℕ) (xs : List Cell) → n ≤ rows → IsRing rows w index xs → rows_of n w (take (n * w) (from_index (index * w) xs)) ≡ take n (ring_rows rows w index xs)
-ring_take n rows w index xs h is =
-    rows_of-take n rows w (from_index (index * w) xs) h (length-turned rows w index xs is) ∙ ap (take n) (sym (ring_rows-from_index rows w index xs is.index_within is.whole))
+ring_take n rows w index xs h is = grind (arith, rows_of-take, length-turned, ring_rows-from_index)
 
 pub ring_put_back : (n rows w index : ℕ) (xs new ds : List Cell) → n ≤ rows → IsRing rows w index xs → length new ≡ length xs → length ds ≡ n * w
     → from_index (((index + (rows - n)) % rows) * w) new ≡ ds ++ drop (length ds) (from_index (((index + (rows - n)) % rows) * w) xs)
     → ring_rows rows w ((index + (rows - n)) % rows) new ≡ rows_of n w ds ++ take (rows - n) (ring_rows rows w index xs)
 ring_put_back n rows w index xs new ds h is l ld e =
-    let some : 0 < rows = is.some_rows in
     let kept = rows - n in
-    let back = (index + kept) % rows in
     let turned = from_index (index * w) xs in
     let lt = length-turned rows w index xs is in
     let all_rows : rows ≡ n + kept = omega arith in
     let count : rows * w ≡ n * w + kept * w = ap (λ (k : ℕ). k * w) all_rows ∙ add-mul n kept w in
     let ending : length (drop (kept * w) turned) ≡ length ds = omega (arith, length-drop (kept * w) turned) in
-    let others : drop (length ds) (from_index (back * w) xs) ≡ take (kept * w) turned =
-    ap (drop (length ds)) (sym (from_index-rows rows w index kept xs is.whole is.index_within (omega arith))) ∙ drop_at (drop (kept * w) turned) (take (kept * w) turned) (length ds) ending in
-    ring_rows-from_index rows w back new (mod_below (index + kept) rows some) (l ∙ is.whole)
-    ∙ ap (rows_of rows w) (e ∙ ap (λ (zs : List Cell). ds ++ zs) others)
-    ∙ ap (λ (k : ℕ). rows_of k w (ds ++ take (kept * w) turned)) all_rows
-    ∙ rows_of-append n kept w ds (take (kept * w) turned) ld
-    ∙ ap (λ (zs : List (List Cell)). rows_of n w ds ++ zs) (ring_take kept rows w index xs (omega arith) is)
+    grind (arith, from_index-rows, drop_at, ring_rows-from_index, mod_below, rows_of-append, ring_take)
 
 -- ---- two pieces of a vector
 
@@ -337,16 +285,8 @@ ring_put_back n rows w index xs new ds h is l ld e =
 copied_from : (xs : List Cell) (s f g : ℕ) → s ≤ length xs → f ≤ length xs - s → g ≤ s → (g ≡ 0) ⊎ (length xs - s ≤ f) → take f (drop s xs) ++ take g xs ≡ take (f + g) (from_index s xs)
 copied_from xs s f g hs hf hg which =
     let lb = length-drop s xs in
-    ⊎_elim (λ (none : g ≡ 0).
-    let all : f + g ≡ f = omega arith in
-    ap (λ (k : ℕ). take f (drop s xs) ++ take k xs) none
-    ∙ append-nil (take f (drop s xs))
-    ∙ sym (ap (λ (k : ℕ). take k (from_index s xs)) all ∙ take-append-le f (drop s xs) (take s xs) (omega arith)))
-    (λ (full : length xs - s ≤ f).
-    let end : f + g ≡ length (drop s xs) + g = omega arith in
-    ap (λ (zs : List Cell). zs ++ take g xs) (take_all f (drop s xs) (omega arith))
-    ∙ ap (λ (zs : List Cell). drop s xs ++ zs) (sym (take-take g s xs hg))
-    ∙ sym (ap (λ (k : ℕ). take k (from_index s xs)) end ∙ take-append-add (drop s xs) (take s xs) g))
+    ⊎_elim (λ (none : g ≡ 0). grind (arith, common_steps, append-nil))
+    (λ (full : length xs - s ≤ f). grind (arith, common_steps, take_all, take-append-add))
     which
 
 pub written_from : (xs ds : List Cell) (s f g : ℕ) → s ≤ length xs → f + g ≡ length ds → f ≤ length xs - s → g ≤ s → (g ≡ 0) ⊎ (length xs - s ≤ f)
@@ -362,13 +302,7 @@ written_from xs ds s f g hs sum hf hg which =
     ap (λ (zs : List Cell). from_index s (drop f ds ++ zs)) (drop-append-le g front first (omega arith))
     ∙ ap (from_index s) (sym (append_assoc (drop f ds) (drop g front) first))
     ∙ from_index_at second first s ls
-    ∙ ⊎_elim (λ (none : g ≡ 0).
-    let all : length ds ≡ f = omega arith in
-    ap (λ (zs : List Cell). (zs ++ drop f back) ++ second) (take_all f ds (omega arith))
-    ∙ ap (λ (zs : List Cell). (ds ++ drop f back) ++ (zs ++ drop g front)) (drop_all f ds (omega arith))
-    ∙ ap (λ (k : ℕ). (ds ++ drop f back) ++ drop k front) none
-    ∙ append_assoc ds (drop f back) front
-    ∙ ap (λ (zs : List Cell). ds ++ zs) (sym (ap (λ (k : ℕ). drop k (back ++ front)) all ∙ drop-append-le f back front (omega arith))))
+    ∙ ⊎_elim (λ (none : g ≡ 0). grind (arith, common_steps, take_all, drop_all, append_assoc))
     (λ (full : length xs - s ≤ f).
     ap (λ (zs : List Cell). (take f ds ++ zs) ++ second) (drop_all f back (omega arith))
     ∙ ap (λ (zs : List Cell). zs ++ second) (append-nil (take f ds))
@@ -387,11 +321,7 @@ rows_fit rows w k xs are h = omega (arith, are.whole, row_fits k w rows w h (ome
 
 -- where the vector's first row is the oldest
 pub ring_at_front : (rows w : ℕ) (xs : List Cell) → 0 < rows → length xs ≡ rows * w → ring_rows rows w 0 xs ≡ rows_of rows w xs
-ring_at_front rows w xs some e =
-    let none : 0 * w ≡ 0 = omega arith in
-    ring_rows-from_index rows w 0 xs some e
-    ∙ ap (λ (k : ℕ). rows_of rows w (from_index k xs)) none
-    ∙ ap (rows_of rows w) (append-nil xs)
+ring_at_front rows w xs some e = grind (arith, ring_rows-from_index, append-nil)
 
 pub ring_unknown : (rows w index : ℕ) → index < rows → ring_rows rows w index (replicate (rows * w) Unknown) ≡ unknown_rows rows w
 ring_unknown rows w index within =
@@ -409,33 +339,22 @@ ring_unknown rows w index within =
 -- ---- some rows of a ring, in two parts of its vector
 
 pub parts_all : {rows w index i count start front rest : ℕ} → AreParts rows w index i count start front rest → front + rest ≡ count * w
-parts_all {rows} {w} {index} {i} {count} parts =
-    let first = min count (rows - (index + i) % rows) in
-    let sum : first + (count - first) ≡ count = omega arith in
-    omega (arith, parts.in_front, parts.others, add-mul first (count - first) w, ap (λ (n : ℕ). n * w) sum)
+parts_all {rows} {w} {index} {i} {count} parts = grind arith
 
 parts_from : {rows w index i count start front rest : ℕ} (xs : List Cell) → AreParts rows w index i count start front rest → IsRing rows w index xs → count ≤ rows
     → cells_in start front rest xs ≡ take (count * w) (from_index (((index + i) % rows) * w) xs)
 parts_from {rows} {w} {index} {i} {count} {start} {front} {rest} xs parts is few =
     let at = (index + i) % rows in
-    let below : at < rows = mod_below (index + i) rows is.some_rows in
     let sum : at + (rows - at) ≡ rows = omega arith in
     let left : length xs - start ≡ (rows - at) * w = omega (arith, is.whole, parts.starts, add-mul at (rows - at) w, ap (λ (n : ℕ). n * w) sum) in
-    let within : start ≤ length xs = omega (arith, is.whole, parts.starts, cells_le at rows w (omega arith)) in
     let fits : front ≤ length xs - start = omega (arith, left, parts.in_front, cells_le (min count (rows - at)) (rows - at) w (omega arith)) in
     let before : rest ≤ start = omega (arith, parts.starts, parts.others, cells_le (count - min count (rows - at)) at w (omega arith)) in
-    let which : (rest ≡ 0) ⊎ (length xs - start ≤ front) =
-    ⊎_elim (λ (more : rows - at < count). let full : min count (rows - at) ≡ rows - at = omega arith in inr (omega (arith, left, parts.in_front, ap (λ (n : ℕ). n * w) full)))
-    (λ (enough : count ≤ rows - at). let none : count - min count (rows - at) ≡ 0 = omega arith in inl (omega (arith, parts.others, ap (λ (n : ℕ). n * w) none)))
-    (cases_lt (rows - at) count) in
-    copied_from xs start front rest within fits before which
-    ∙ ap (λ (n : ℕ). take n (from_index start xs)) (parts_all parts)
-    ∙ ap (λ (n : ℕ). take (count * w) (from_index n xs)) parts.starts
+    let which : (rest ≡ 0) ⊎ (length xs - start ≤ front) = grind (arith, add-mul, cells_le, copied_from, parts_all) in
+    grind (arith, copied_from, parts_all)
 
 pub length-parts : {rows w index i count start front rest : ℕ} (xs : List Cell) → AreParts rows w index i count start front rest → IsRing rows w index xs → count ≤ rows → length (cells_in start front rest xs) ≡ count * w
 length-parts {rows} {w} {index} {i} {count} xs parts is few =
     let at = (index + i) % rows in
-    let below : at < rows = mod_below (index + i) rows is.some_rows in
     let within : at * w ≤ length xs = omega (arith, is.whole, cells_le at rows w (omega arith)) in
     ap length (parts_from xs parts is few) ∙ length-take-le (count * w) (from_index (at * w) xs) (omega (arith, length-from_index (at * w) xs within, is.whole, cells_le count rows w few))
 
@@ -463,9 +382,7 @@ row_after : (w m j : ℕ) (a zs : List Cell) → length a ≡ m * w → m ≤ j 
 row_after w m j a zs e h = ap (take w) (from_later m j w a zs e h)
 
 row_of-written : (w k : ℕ) (xs row : List Cell) → k * w + w ≤ length xs → length row ≡ w → row_of w (with_cells w k xs row) k ≡ row
-row_of-written w k xs row fits e =
-    ap (take w) (drop_at (take (k * w) xs) (row ++ drop w (drop (k * w) xs)) (k * w) (length-take-le (k * w) xs (omega arith)))
-    ∙ take_at row (drop w (drop (k * w) xs)) w e
+row_of-written w k xs row fits e = grind (arith, common_steps, drop_at)
 
 row_of-others : (w k j : ℕ) (xs row : List Cell) → k * w + w ≤ length xs → length row ≡ w → (j ≡ k → ⊥) → row_of w (with_cells w k xs row) j ≡ row_of w xs j
 row_of-others w k j xs row fits e other =
@@ -474,41 +391,19 @@ row_of-others w k j xs row fits e other =
     let rest = drop w (drop (k * w) xs) in
     let lf : length front ≡ k * w = length-take-le (k * w) xs (omega arith) in
     let lm : length mid ≡ w = length-take-le w (drop (k * w) xs) (omega (arith, length-drop (k * w) xs)) in
-    let more : (k + 1) * w ≡ k * w + w = add-mul k 1 w ∙ (let one : k * w + 1 * w ≡ k * w + w = omega arith in one) in
     let before : length (front ++ row) ≡ (k + 1) * w = omega (arith, length-append front row) in
     let was : length (front ++ mid) ≡ (k + 1) * w = omega (arith, length-append front mid) in
     let whole : front ++ (mid ++ rest) ≡ xs = sym (three_parts xs (k * w) w) in
-    ⊎_elim (λ (less : j < k).
-    let within : j * w + w ≤ length front = omega (arith, row_fits j w k w less (omega arith)) in
-    row_before w j front (row ++ rest) within ∙ sym (row_before w j front (mid ++ rest) within) ∙ ap (λ (zs : List Cell). row_of w zs j) whole)
-    (λ (least : k ≤ j).
-    let past : k + 1 ≤ j = ⊎_elim (λ (greater : k < j). omega arith) (λ (most : j ≤ k). let same : j ≡ k = omega arith in absurd (other same)) (cases_lt k j) in
-    ap (λ (zs : List Cell). row_of w zs j) (sym (append_assoc front row rest))
-    ∙ row_after w (k + 1) j (front ++ row) rest before past
-    ∙ sym (row_after w (k + 1) j (front ++ mid) rest was past)
-    ∙ ap (λ (zs : List Cell). row_of w zs j) (append_assoc front mid rest ∙ whole))
+    ⊎_elim (λ (less : j < k). grind (arith, row_fits, row_before))
+    (λ (least : k ≤ j). grind (arith, append_assoc, row_after))
     (cases_lt j k)
 
 same_or_not : (j i : ℕ) → (j ≡ i) ⊎ (j ≡ i → ⊥)
-same_or_not j i =
-    ⊎_elim (λ (less : j < i). inr (λ e. absurd (omega arith)))
-    (λ (least : i ≤ j). ⊎_elim (λ (greater : i < j). inr (λ e. absurd (omega arith))) (λ (most : j ≤ i). inl (omega arith)) (cases_lt i j))
-    (cases_lt j i)
+same_or_not j i = grind arith
 
 -- two rows at one index are one
 wrapped_same : (rows index i j : ℕ) → index < rows → i < rows → j < rows → (index + j) % rows ≡ (index + i) % rows → j ≡ i
-wrapped_same rows index i j h hi hj e =
-    ⊎_elim (λ (i_below : index + i < rows).
-    let ei : (index + i) % rows ≡ index + i = mod-eq_of_lt i_below in
-    ⊎_elim (λ (j_below : index + j < rows). let ej : (index + j) % rows ≡ index + j = mod-eq_of_lt j_below in omega arith)
-    (λ (j_past : rows ≤ index + j). let ej = mod_wrapped (index + j) rows j_past (omega arith) in omega arith)
-    (cases_lt (index + j) rows))
-    (λ (i_past : rows ≤ index + i).
-    let ei = mod_wrapped (index + i) rows i_past (omega arith) in
-    ⊎_elim (λ (j_below : index + j < rows). let ej : (index + j) % rows ≡ index + j = mod-eq_of_lt j_below in omega arith)
-    (λ (j_past : rows ≤ index + j). let ej = mod_wrapped (index + j) rows j_past (omega arith) in omega arith)
-    (cases_lt (index + j) rows))
-    (cases_lt (index + i) rows)
+wrapped_same rows index i j h hi hj e = grind arith
 
 pub ring_written : (rows w index i : ℕ) (xs row : List Cell) → IsRing rows w index xs → i < rows → length row ≡ w → ring_rows rows w index (with_cells w ((index + i) % rows) xs row) ≡ set (ring_rows rows w index xs) i row
 ring_written rows w index i xs row is h e =
@@ -518,21 +413,10 @@ ring_written rows w index i xs row is h e =
     let was = ring_rows rows w index xs in
     let count = length-ring_rows rows w index xs in
     sym (fill_by_all (λ j. row_of w (with_cells w at xs row) ((index + j) % rows)) (set was i row) rows [] (length-set was i row ∙ count)
-    (λ j k. ⊎_elim (λ (same : j ≡ i).
-    ap (λ (n : ℕ). get_or (set was i row) n []) same
-    ∙ get_or-set_same was i row [] (omega arith)
-    ∙ sym (row_of-written w at xs row fits e)
-    ∙ ap (λ (n : ℕ). row_of w (with_cells w at xs row) ((index + n) % rows)) (sym same))
-    (λ (other : j ≡ i → ⊥).
-    get_or-set_other was i j row [] other
-    ∙ nth_row-ring_rows rows w index xs j k
-    ∙ sym (row_of-others w at ((index + j) % rows) xs row fits e (λ same. other (wrapped_same rows index i j is.index_within h k same))))
+    (λ j k. ⊎_elim (λ (same : j ≡ i). grind (arith, common_steps, row_of-written))
+    (λ (other : j ≡ i → ⊥). grind (arith, common_steps, nth_row-ring_rows, row_of-others, wrapped_same))
     (same_or_not j i)))
 
 -- what a vector ends as, once a row that was lent has come back with as many cells
 pub vec_written : (v : Vec Cell Global) (w k start : ℕ) (row : List Cell) → start ≡ k * w → k * w + w ≤ length v.items → length row ≡ w → (with_items_from v start row).items ≡ with_cells w k v.items row
-vec_written v w k start row at fits e =
-    let xs = v.items in
-    let same : take start xs ++ (row ++ drop (length row) (drop start xs)) ≡ with_cells w k xs row =
-    ap (λ (n : ℕ). take n xs ++ (row ++ drop (length row) (drop n xs))) at ∙ ap (λ (n : ℕ). take (k * w) xs ++ (row ++ drop n (drop (k * w) xs))) e in
-    with_items_is v (take start xs ++ (row ++ drop (length row) (drop start xs))) (ap length same ∙ length-with_cells w k xs row fits e ∙ sym v.ok.0) ∙ same
+vec_written v w k start row at fits e = grind (arith, with_items_is, length-with_cells)

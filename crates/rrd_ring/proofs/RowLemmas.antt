@@ -1,11 +1,10 @@
 -- Lists of rows: their width, and a row that is written.
-use Rattle.rrd_ring.proofs.Names.{◌≡◌, sym, ap, subst, ℕ, ◌+◌, ◌<◌, ◌≤◌, List, [], ◌∷◌, ◌++◌, length, get_or, set, take, drop, arith, append_assoc, set_at, length-take-le, take_all, drop_all, append-nil, take_more, drop_more, refill, Cell, nth_row, with_row, HasWidth, AreDropped, max_rows}
+use Rattle.rrd_ring.proofs.Names.{◌≡◌, ap, ℕ, ◌+◌, ◌<◌, ◌≤◌, List, ◌++◌, length, get_or, set, take, drop, arith, append_assoc, set_at, length-take-le, take_all, drop_all, append-nil, take_more, drop_more, refill, Cell, nth_row, with_row, HasWidth, AreDropped, max_rows}
 
 -- ---- the width of rows
 
 pub AreDropped-from_width : (w : ℕ) (xs : List (List Cell)) → HasWidth w xs → length xs ≤ max_rows → AreDropped xs
-AreDropped-from_width w [] h few = record { few_rows = few; one_width = tt }
-AreDropped-from_width w (x ∷ xs) h few = record { few_rows = few; one_width = subst (λ (v : ℕ). HasWidth v (x ∷ xs)) (sym h.0) h }
+AreDropped-from_width w xs h few = grind arith
 
 -- ---- a row is written
 

@@ -1,5 +1,6 @@
 -- Rings of which a front is written, and the rest unknown.
-use Rattle.rrd_ring.proofs.Names.{Vec, Global, ◌≡◌, ◌⊎◌, inl, inr, min, refl, sym, ◌∙◌, ap, subst, ℕ, zero, suc, ◌+◌, ◌-◌, ◌*◌, ◌/◌, ◌%◌, ◌<◌, ◌≤◌, List, [], ◌∷◌, ◌++◌, length, take, drop, replicate, ⊎_elim, arith, length-append, length-drop, vec_len, vec_capacity, add-mul, mul-div_cancel, cases_lt, row_fits, mod_below, append_assoc, append-nil, take-append-drop, replicate-append-replicate, length-take-le, length-replicate, take-append-le, take_min, drop-append-le, drop-drop, take_at, drop_at, take_all, drop_all, take-replicate, drop-replicate, with_items_is, Cell, Unknown, HasWidth, width, max_rows, newest_rows, unknown_rows, cells_in, from_index, ring_rows, rows_of, with_unwritten, AreParts, AreRows, AreWhole, AreWritten, IsRing, IsPartlyWritten, with_items}
+use Rattle.std.proofs.lemmas.Grind.{common_steps}
+use Rattle.rrd_ring.proofs.Names.{Vec, Global, ◌≡◌, ◌⊎◌, min, refl, sym, ◌∙◌, ap, ℕ, zero, suc, ◌+◌, ◌-◌, ◌*◌, ◌/◌, ◌%◌, ◌<◌, ◌≤◌, List, [], ◌∷◌, ◌++◌, length, take, drop, replicate, ⊎_elim, arith, length-append, length-drop, vec_len, vec_capacity, add-mul, cases_lt, row_fits, mod_below, append_assoc, append-nil, take-append-drop, replicate-append-replicate, length-take-le, length-replicate, take-append-le, drop-append-le, drop-drop, take_at, drop_at, take_all, drop_all, take-replicate, drop-replicate, with_items_is, Cell, Unknown, HasWidth, width, max_rows, newest_rows, unknown_rows, cells_in, from_index, ring_rows, rows_of, with_unwritten, AreParts, AreRows, AreWhole, AreWritten, IsRing, IsPartlyWritten, with_items}
 use Rattle.rrd_ring.proofs.RingLemmas.{cells_le, with_cells, length-parts, length-ring_rows, length-rows_of, length-with_cells, ring_at_front, ring_fits, ring_len, ring_push, ring_put_back, ring_take, ring_unknown, ring_width, rows_len, rows_of-append, rows_of-parts, rows_of_unknown, same_cells, same_rows}
 
 -- ---- the cells
@@ -12,15 +13,11 @@ pub written_le : (all : ℕ) (xs : List Cell) → length (with_unwritten all xs)
 written_le all xs h = omega (arith, length-append xs (replicate (all - length xs) Unknown))
 
 pub all_written : (all : ℕ) (xs : List Cell) → length xs ≡ all → with_unwritten all xs ≡ xs
-all_written all xs h =
-    let none : all - length xs ≡ 0 = omega arith in
-    ap (λ (n : ℕ). xs ++ replicate n Unknown) none ∙ append-nil xs
+all_written all xs h = grind (arith, append-nil)
 
 -- filled up as far as they are, they are the same
 pub filled_enough : (n : ℕ) (xs : List Cell) → n ≤ length xs → with_unwritten n xs ≡ xs
-filled_enough n xs h =
-    let none : n - length xs ≡ 0 = omega arith in
-    ap (λ (k : ℕ). xs ++ replicate k Unknown) none ∙ append-nil xs
+filled_enough n xs h = grind (arith, append-nil)
 
 -- and further
 pub filled_further : (all n : ℕ) (xs : List Cell) → n ≤ all → with_unwritten all (with_unwritten n xs) ≡ with_unwritten all xs
@@ -40,27 +37,17 @@ filled_long n xs = omega (arith, length-append xs (replicate (n - length xs) Unk
 
 -- whole rows stay whole
 pub whole_filled : (w k : ℕ) (xs : List Cell) → AreWhole w xs → AreWhole w (with_unwritten (k * w) xs)
-whole_filled w k xs is = ⊎_elim
-    (λ (less : length xs < k * w). let it : AreWhole w (with_unwritten (k * w) xs) = record { count = k; whole = length-with_unwritten (k * w) xs (omega arith) } in it)
-    (λ (enough : k * w ≤ length xs). subst (AreWhole w) (sym (filled_enough (k * w) xs enough)) is)
-    (cases_lt (length xs) (k * w))
+whole_filled w k xs is = grind (arith, length-with_unwritten, filled_enough)
 
 pub row_written : (all start w : ℕ) (xs : List Cell) → start + w ≤ length xs → take w (drop start xs) ≡ take w (drop start (with_unwritten all xs))
-row_written all start w xs h =
-    let rest = replicate (all - length xs) Unknown in
-    sym (ap (take w) (drop-append-le start xs rest (omega arith)) ∙ take-append-le w (drop start xs) rest (omega (arith, length-drop start xs)))
+row_written all start w xs h = grind (arith, common_steps)
 
 -- those that aren't are unknown
 pub unknown_there : (all start n : ℕ) (xs : List Cell) → length xs ≤ start → start + n ≤ all → take n (drop start (with_unwritten all xs)) ≡ replicate n Unknown
 unknown_there all start n xs h fits =
     let rest = replicate (all - length xs) Unknown in
     let past = start - length xs in
-    let sum : length xs + past ≡ start = omega arith in
-    let later : drop start (xs ++ rest) ≡ replicate (all - length xs - past) Unknown =
-    ap (λ (k : ℕ). drop k (xs ++ rest)) (sym sum)
-    ∙ sym (drop-drop past (length xs) (xs ++ rest))
-    ∙ ap (drop past) (drop_at xs rest (length xs) refl)
-    ∙ drop-replicate past (all - length xs) Unknown in
+    let later : drop start (xs ++ rest) ≡ replicate (all - length xs - past) Unknown = grind (arith, drop-drop past (length xs) (xs ++ rest), drop_at xs rest (length xs) refl, drop-replicate past (all - length xs) Unknown) in
     ap (take n) later ∙ take-replicate n (all - length xs - past) Unknown (omega arith)
 
 pub row_unwritten : (all start w : ℕ) (xs : List Cell) → length xs ≤ start → start + w ≤ all → w ≤ 64 → take w (replicate 64 Unknown) ≡ take w (drop start (with_unwritten all xs))
@@ -77,12 +64,7 @@ written_over all w start ys row fits e =
     let rest = replicate (all - length ys) Unknown in
     let long : length (front ++ (row ++ back)) ≡ length ys =
     omega (arith, length-append front (row ++ back), length-append row back, length-take-le start ys (omega arith), length-drop w (drop start ys), length-drop start ys) in
-    ap (λ (n : ℕ). with_unwritten all (front ++ (row ++ drop n (drop start ys)))) e
-    ∙ ap (λ (n : ℕ). (front ++ (row ++ back)) ++ replicate (all - n) Unknown) long
-    ∙ append_assoc front (row ++ back) rest
-    ∙ ap (λ (zs : List Cell). front ++ zs) (append_assoc row back rest)
-    ∙ ap (λ (zs : List Cell). front ++ (row ++ zs)) (sym (ap (drop w) (drop-append-le start ys rest (omega arith)) ∙ drop-append-le w (drop start ys) rest (omega (arith, length-drop start ys))))
-    ∙ ap (λ (zs : List Cell). zs ++ (row ++ drop w (drop start (ys ++ rest)))) (sym (take-append-le start ys rest (omega arith)))
+    grind (arith, common_steps, append_assoc)
 
 -- or behind the last one
 pub written_behind : (all w k : ℕ) (ys row : List Cell) → k * w ≡ length ys → k * w + w ≤ all → length row ≡ w
@@ -104,21 +86,11 @@ written_behind all w k ys row end fits e =
 
 -- those that are so already
 same_unknown : (start n : ℕ) (ys : List Cell) → take n (drop start ys) ≡ replicate n Unknown → ys ≡ take start ys ++ (replicate n Unknown ++ drop n (drop start ys))
-same_unknown start n ys e =
-    sym (ap (λ (zs : List Cell). take start ys ++ (zs ++ drop n (drop start ys))) (sym e)
-    ∙ ap (λ (zs : List Cell). take start ys ++ zs) (take-append-drop n (drop start ys))
-    ∙ take-append-drop start ys)
+same_unknown start n ys e = grind (arith, common_steps)
 
 pub never_written : (all start n : ℕ) (xs : List Cell) → start + n ≤ all → min (length xs) (start + n) ≤ start
     → with_unwritten all xs ≡ take start (with_unwritten all xs) ++ (replicate n Unknown ++ drop n (drop start (with_unwritten all xs)))
-never_written all start n xs fits h =
-    let ys = with_unwritten all xs in
-    same_unknown start n ys (⊎_elim
-    (λ (within : start < length xs).
-    let none : n ≡ 0 = omega arith in
-    ap (λ (k : ℕ). take k (drop start ys)) none ∙ sym (ap (λ (k : ℕ). replicate k Unknown) none))
-    (λ (past : length xs ≤ start). unknown_there all start n xs past fits)
-    (cases_lt start (length xs)))
+never_written all start n xs fits h = grind (arith, same_unknown, unknown_there)
 
 -- and those that are written
 pub forgotten : (all start n end : ℕ) (xs new : List Cell) → start + n ≤ all → end ≡ min (length xs) (start + n) → start < end
@@ -133,12 +105,7 @@ forgotten all start n end xs new fits is some items =
     let count : length gone ≡ m = length-replicate m Unknown in
     let sum : m + more ≡ n = omega (arith, is, some) in
     let later : drop m back ≡ drop (start + m) ys = drop-drop m start ys in
-    let others : take more (drop m back) ≡ replicate more Unknown = ⊎_elim
-    (λ (left : 0 < more). ap (take more) later ∙ unknown_there all (start + m) more xs (omega (arith, is, some, left)) (omega (arith, sum, fits)))
-    (λ (least : more ≤ 0).
-    let none : more ≡ 0 = omega arith in
-    ap (λ (k : ℕ). take k (drop m back)) none ∙ sym (ap (λ (k : ℕ). replicate k Unknown) none))
-    (cases_lt 0 more) in
+    let others : take more (drop m back) ≡ replicate more Unknown = grind (arith, unknown_there) in
     ap (with_unwritten all) (items ∙ ap (λ (k : ℕ). take start xs ++ (gone ++ drop k (drop start xs))) (sym count))
     ∙ written_over all m start xs gone (omega (arith, is, some)) count
     ∙ ap (λ (zs : List Cell). take start ys ++ (gone ++ zs)) (sym (take-append-drop more (drop m back)) ∙ ap (λ (zs : List Cell). zs ++ drop more (drop m back)) others)
@@ -160,30 +127,19 @@ ring_le rows w index v is = written_le (rows * w) v.items is.ring.whole
 
 -- what is written are whole rows
 pub whole_row : (w k : ℕ) (xs : List Cell) → AreWhole w xs → k * w < length xs → k * w + w ≤ length xs
-whole_row w k xs is below = ⊎_elim
-    (λ (less : k < is.count). omega (arith, row_fits k w is.count w less (omega arith), is.whole))
-    (λ (past : is.count ≤ k). absurd (omega (arith, cells_le is.count k w past, is.whole, below)))
-    (cases_lt k is.count)
+whole_row w k xs is below = grind (arith, row_fits, cells_le)
 
 -- a row that doesn't begin behind the last one is written, or it is the next one to be
 pub next_row : (w k : ℕ) (xs : List Cell) → AreWhole w xs → k * w ≤ length xs → (k * w + w ≤ length xs) ⊎ (k * w ≡ length xs)
-next_row w k xs is le = ⊎_elim
-    (λ (less : k * w < length xs). inl (whole_row w k xs is less))
-    (λ (past : length xs ≤ k * w). inr (omega (arith, le, past)))
-    (cases_lt (k * w) (length xs))
+next_row w k xs is le = grind (arith, whole_row)
 
 -- so many rows are written
 pub rows_in : (w : ℕ) (xs : List Cell) → 0 < w → AreWhole w xs → length xs / w * w ≡ length xs
-rows_in w xs some is =
-    let count : length xs / w ≡ is.count = ap (λ (n : ℕ). n / w) is.whole ∙ mul-div_cancel is.count some in
-    ap (λ (n : ℕ). n * w) count ∙ sym is.whole
+rows_in w xs some is = grind arith
 
 -- of rows that lie together, as far as they are written or one that isn't, there are no more than all
 pub run_fits : (rows w index n written : ℕ) (xs : List Cell) → 0 < w → written * w ≡ length xs → length xs ≤ rows * w → index < rows → (index < written → index + n ≤ written) → (written ≤ index → n ≡ 1) → index + n ≤ rows
-run_fits rows w index n written xs some is few within before behind = ⊎_elim
-    (λ (there : index < written). ⊎_elim (λ (more : rows < written). absurd (omega (arith, is, few, some, add-mul rows 1 w, cells_le (rows + 1) written w (omega arith)))) (λ (all : written ≤ rows). omega (arith, before there)) (cases_lt rows written))
-    (λ (past : written ≤ index). omega (arith, behind past))
-    (cases_lt index written)
+run_fits rows w index n written xs some is few within before behind = grind (arith, add-mul, cells_le)
 
 pub run_whole : (w index n written : ℕ) (xs : List Cell) → written * w ≡ length xs → (index < written → index + n ≤ written) → index * w < length xs → index * w + n * w ≤ length xs
 run_whole w index n written xs is before below = ⊎_elim
@@ -202,9 +158,7 @@ pub same_ring : (rows w index : ℕ) (xs ys : List Cell) → IsRing rows w index
 same_ring rows w index xs ys is e = record { some_rows = is.some_rows; few_rows = is.few_rows; some_sources = is.some_sources; few_sources = is.few_sources; whole = e ∙ is.whole; index_within = is.index_within }
 
 pub still_ring : {rows w index : ℕ} {v new : Vec Cell Global} → IsPartlyWritten rows w index v → length (with_unwritten (rows * w) new.items) ≡ length (with_unwritten (rows * w) v.items) → vec_capacity v ≤ vec_capacity new → AreWhole w new.items → IsPartlyWritten rows w index new
-still_ring {rows} {w} {index} {v} {new} is as_long room ends =
-    let had : rows * w ≤ vec_capacity v = is.room in
-    record { ring = same_ring rows w index (with_unwritten (rows * w) v.items) (with_unwritten (rows * w) new.items) is.ring as_long; room = omega (arith, had, room); ends = ends }
+still_ring {rows} {w} {index} {v} {new} is as_long room ends = grind arith
 
 -- filled up as far as row k, it is the same ring
 pub record IsFilled (rows w index k : ℕ) (all : List (List Cell)) (new : Vec Cell Global) : Type 0 where
@@ -214,33 +168,18 @@ pub record IsFilled (rows w index k : ℕ) (all : List (List Cell)) (new : Vec C
 
 pub ring_filled : {rows w index k end : ℕ} {v new : Vec Cell Global} {all : List (List Cell)} → IsPartlyWritten rows w index v → ring_rows rows w index (with_unwritten (rows * w) v.items) ≡ all → k ≤ rows → end ≡ k * w → new.items ≡ with_unwritten end v.items → vec_capacity v ≤ vec_capacity new
     → IsFilled rows w index k all new
-ring_filled {rows} {w} {index} {k} {end} {v} {new} is view h end_is put room =
-    let items : new.items ≡ with_unwritten (k * w) v.items = put ∙ ap (λ (n : ℕ). with_unwritten n v.items) end_is in
-    let same : with_unwritten (rows * w) new.items ≡ with_unwritten (rows * w) v.items = ap (with_unwritten (rows * w)) items ∙ filled_further (rows * w) (k * w) v.items (cells_le k rows w h) in
-    record {
-      is = still_ring is (ap length same) room (subst (AreWhole w) (sym items) (whole_filled w k v.items is.ends));
-      view = ap (ring_rows rows w index) same ∙ view;
-      long = omega (arith, ap length items, filled_long (k * w) v.items);
-    }
+ring_filled {rows} {w} {index} {k} {end} {v} {new} is view h end_is put room = grind (arith, filled_further, cells_le, still_ring, whole_filled, filled_long)
 
 -- the ring with a row in the place of its oldest one
 pushed_cells : (rows w index : ℕ) (v : Vec Cell Global) (row : List Cell) → IsPartlyWritten rows w index v → index * w ≤ length v.items → length row ≡ w
     → with_unwritten (rows * w) (take (index * w) v.items ++ (row ++ drop (length row) (drop (index * w) v.items))) ≡ with_cells w index (with_unwritten (rows * w) v.items) row
-pushed_cells rows w index v row is le e =
-    let within : index < rows = is.ring.index_within in
-    ⊎_elim (λ (over : index * w + w ≤ length v.items). written_over (rows * w) w (index * w) v.items row over e)
-    (λ (behind : index * w ≡ length v.items). written_behind (rows * w) w index v.items row behind (row_fits index w rows w within (omega arith)) e)
-    (next_row w index v.items is.ends le)
+pushed_cells rows w index v row is le e = grind (arith, common_steps, written_over, written_behind, row_fits, next_row)
 
 pub length-put : (start w : ℕ) (ys row : List Cell) → length row ≡ w → start + w ≤ length ys → length (take start ys ++ (row ++ drop (length row) (drop start ys))) ≡ length ys
-length-put start w ys row e h =
-    let back = drop (length row) (drop start ys) in
-    omega (arith, length-append (take start ys) (row ++ back), length-append row back, length-take-le start ys (omega arith), length-drop (length row) (drop start ys), length-drop start ys)
+length-put start w ys row e h = grind (arith, common_steps, length-append)
 
 length-put_behind : (start w : ℕ) (ys row : List Cell) → length row ≡ w → start ≡ length ys → length (take start ys ++ (row ++ drop (length row) (drop start ys))) ≡ start + w
-length-put_behind start w ys row e h =
-    let back = drop (length row) (drop start ys) in
-    omega (arith, length-append (take start ys) (row ++ back), length-append row back, length-take-le start ys (omega arith), length-drop (length row) (drop start ys), length-drop start ys)
+length-put_behind start w ys row e h = grind (arith, common_steps, length-append)
 
 -- after a row was written over another or behind the last one, whole rows are written
 pushed_ends : (w index : ℕ) (ys row : List Cell) → AreWhole w ys → index * w ≤ length ys → length row ≡ w → AreWhole w (take (index * w) ys ++ (row ++ drop (length row) (drop (index * w) ys)))
@@ -262,44 +201,16 @@ row_pushed {rows} {w} {index} {start} {v} {new} {all} {row} filled start_is one_
     let is = filled.is in
     let xs = with_unwritten (rows * w) v.items in
     let e : length row ≡ w = one_each ∙ row_width is filled.view in
-    let items : new.items ≡ take (index * w) v.items ++ (row ++ drop (length row) (drop (index * w) v.items)) = put ∙ ap (λ (k : ℕ). take k v.items ++ (row ++ drop (length row) (drop k v.items))) start_is in
-    let cells : with_unwritten (rows * w) new.items ≡ with_cells w index xs row = ap (with_unwritten (rows * w)) items ∙ pushed_cells rows w index v row is filled.long e in
-    record {
-      is = record {
-        ring = record {
-          some_rows = is.ring.some_rows;
-          few_rows = is.ring.few_rows;
-          some_sources = is.ring.some_sources;
-          few_sources = is.ring.few_sources;
-          whole = ap length cells ∙ length-with_cells w index xs row (ring_fits rows w index index xs is.ring is.ring.index_within) e ∙ is.ring.whole;
-          index_within = mod_below (index + 1) rows is.ring.some_rows;
-        };
-        room = subst (λ (n : ℕ). rows * w ≤ n) (sym room) is.room;
-        ends = subst (AreWhole w) (sym items) (pushed_ends w index v.items row is.ends filled.long e);
-      };
-      rows_are = ap (ring_rows rows w ((index + 1) % rows)) cells
-          ∙ ring_push rows w index xs row is.ring e
-          ∙ ap (λ (rs : List (List Cell)). drop 1 (rs ++ row ∷ [])) filled.view;
-    }
+    grind (arith, pushed_cells rows w index v row is filled.long e, length-with_cells w index xs row (ring_fits rows w index index xs is.ring is.ring.index_within) e, ring_fits rows w index index xs is.ring is.ring.index_within, mod_below (index + 1) rows is.ring.some_rows, pushed_ends w index v.items row is.ends filled.long e, ring_push rows w index xs row is.ring e)
 
 -- all of it is written
 pub wholly : (rows w index : ℕ) (v : Vec Cell Global) → IsRing rows w index v.items → IsPartlyWritten rows w index v
-wholly rows w index v is = record {
-  ring = subst (λ (ys : List Cell). IsRing rows w index ys) (sym (all_written (rows * w) v.items is.whole)) is;
-  room = let within : vec_len v ≤ vec_capacity v = v.ok.1 in omega (arith, within, v.ok.0, is.whole);
-  ends = record { count = rows; whole = is.whole };
-}
+wholly rows w index v is = grind (arith, all_written)
 
 -- ---- what isn't written
 
 which : (rows w index written : ℕ) (v : Vec Cell Global) → AreWritten rows w index (vec_len v) written → (written ≡ rows) ⊎ (((written ≡ index) × (length v.items ≤ index * w)) ⊎ ((written ≡ 0) × (length v.items ≡ 0)))
-which rows w index written v are =
-    let len = v.ok.0 in
-    ⊎_elim (λ (behind : index * w < vec_len v). inl (are.all behind))
-    (λ (within : vec_len v ≤ index * w). inr (⊎_elim (λ (some : 0 < vec_len v). inl (are.part some within, omega (arith, len, within)))
-    (λ (least : vec_len v ≤ 0). let none : vec_len v ≡ 0 = omega (arith, least) in inr (are.none none, omega (arith, len, none)))
-    (cases_lt 0 (vec_len v))))
-    (cases_lt (index * w) (vec_len v))
+which rows w index written v are = grind arith
 
 -- the others are the oldest, and unknown
 unwritten_rows : (rows w index written : ℕ) (v : Vec Cell Global) → IsPartlyWritten rows w index v → AreWritten rows w index (vec_len v) written
@@ -311,31 +222,21 @@ unwritten_rows rows w index written v is are =
     let ring = ring_rows rows w index ys in
     let n = rows - written in
     let long : length ys ≡ all = is.ring.whole in
-    let within : index < rows = is.ring.index_within in
-    ⊎_elim (λ (full : written ≡ rows).
-    let none : n ≡ 0 = omega (arith, full) in
-    ap (λ (k : ℕ). take k ring) none ∙ sym (ap (λ (k : ℕ). unknown_rows k w) none))
+    ⊎_elim (λ (full : written ≡ rows). grind arith)
     (λ (fewer : ((written ≡ index) × (length xs ≤ index * w)) ⊎ ((written ≡ 0) × (length xs ≡ 0))). ⊎_elim (λ (part : (written ≡ index) × (length xs ≤ index * w)).
     let sum : rows ≡ index + n = omega (arith, part.0) in
     let count : all ≡ index * w + n * w = ap (λ (k : ℕ). k * w) sum ∙ add-mul index n w in
     let back = drop (index * w) ys in
     let unknown : take (n * w) (from_index (index * w) ys) ≡ replicate (n * w) Unknown =
     take-append-le (n * w) back (take (index * w) ys) (omega (arith, length-drop (index * w) ys, long, count)) ∙ unknown_there all (index * w) (n * w) xs part.1 (omega (arith, count)) in
-    sym (ring_take n rows w index ys (omega arith) is.ring)
-    ∙ ap (rows_of n w) unknown
-    ∙ rows_of_unknown n w)
-    (λ (none : (written ≡ 0) × (length xs ≡ 0)).
-    let every : ys ≡ replicate all Unknown = sym (take_all all ys (omega (arith, long))) ∙ unknown_there all 0 all xs (omega (arith, none.1)) (omega arith) in
-    ap (λ (zs : List Cell). take n (ring_rows rows w index zs)) every
-    ∙ ap (take n) (ring_unknown rows w index within)
-    ∙ take-replicate n rows (replicate w Unknown) (omega arith))
+    grind (arith, ring_take, rows_of_unknown))
+    (λ (none : (written ≡ 0) × (length xs ≡ 0)). grind (arith, common_steps, take_all, unknown_there, ring_unknown, take-replicate))
     fewer)
     (which rows w index written v are)
 
 pub never_written_rows : {rows w index len written : ℕ} {v : Vec Cell Global} {all : List (List Cell)} → IsPartlyWritten rows w index v → ring_rows rows w index (with_unwritten (rows * w) v.items) ≡ all → len ≡ vec_len v → AreWritten rows w index len written
     → take (rows - written) all ≡ unknown_rows (rows - written) w
-never_written_rows {rows} {w} {index} {len} {written} {v} is view len_is are =
-    ap (take (rows - written)) (sym view) ∙ unwritten_rows rows w index written v is (subst (λ (n : ℕ). AreWritten rows w index n written) len_is are)
+never_written_rows {rows} {w} {index} {len} {written} {v} is view len_is are = grind (arith, unwritten_rows)
 
 -- the newest rows, where the oldest of them are unknown: as many as there are of the others, after unknown ones
 newest_of_known : (n known w : ℕ) (rows : List (List Cell)) → known ≤ length rows → width rows ≡ w → take (length rows - known) rows ≡ unknown_rows (length rows - known) w
@@ -346,7 +247,6 @@ newest_of_known n known w rows few e unknown =
     ⊎_elim (λ (fewer : known < n).
     let less = length rows - n in
     let kept : min n known ≡ known = omega arith in
-    let left : gap - less + (n - length rows) ≡ n - known = omega arith in
     let added : n - length rows + (gap - less) ≡ n - known = omega arith in
     let cut : drop less rows ≡ unknown_rows (gap - less) w ++ known_rows =
     ap (drop less) (sym (take-append-drop gap rows) ∙ ap (λ (zs : List (List Cell)). zs ++ known_rows) unknown)
@@ -358,12 +258,7 @@ newest_of_known n known w rows few e unknown =
     ∙ append_assoc (unknown_rows (n - length rows) w) (unknown_rows (gap - less) w) known_rows
     ∙ ap (λ (zs : List (List Cell)). unknown_rows (n - length rows) w ++ zs) (sym cut)
     ∙ ap (λ (k : ℕ). unknown_rows (n - length rows) k ++ drop less rows) (sym e))
-    (λ (more : n ≤ known).
-    let kept : min n known ≡ n = omega arith in
-    let none : n - n ≡ n - length rows = omega arith in
-    ap (λ (k : ℕ). unknown_rows (n - k) w ++ drop (length rows - k) rows) kept
-    ∙ ap (λ (k : ℕ). unknown_rows k w ++ drop (length rows - n) rows) none
-    ∙ ap (λ (k : ℕ). unknown_rows (n - length rows) k ++ drop (length rows - n) rows) (sym e))
+    (λ (more : n ≤ known). grind arith)
     (cases_lt known n)
 
 -- ---- copies
@@ -372,9 +267,7 @@ take_parts : (n : ℕ) (xs ys : List Cell) → take n (xs ++ ys) ≡ take n xs +
 take_parts zero [] ys = refl
 take_parts zero (x ∷ xs) ys = let none : 0 - length (x ∷ xs) ≡ 0 = omega arith in sym (ap (λ (n : ℕ). take n ys) none)
 take_parts (suc n) [] ys = let every : suc n - 0 ≡ suc n = omega arith in sym (ap (λ (k : ℕ). take k ys) every)
-take_parts (suc n) (x ∷ xs) ys =
-    let less : n - length xs ≡ suc n - length (x ∷ xs) = omega arith in
-    ap (λ (zs : List Cell). x ∷ zs) (take_parts n xs ys ∙ ap (λ (k : ℕ). take n xs ++ take k ys) less)
+take_parts (suc n) (x ∷ xs) ys = grind (arith, take_parts n xs ys)
 
 -- those that are written, and unknown ones for the others
 pub part_copied : (all s n : ℕ) (xs : List Cell) → length xs ≤ all → s + n ≤ all
@@ -383,27 +276,10 @@ part_copied all s n xs fits h =
     let rest = replicate (all - length xs) Unknown in
     ⊎_elim (λ (past : length xs < s).
     let first : min s (length xs) ≡ length xs = omega arith in
-    let none : min n (length xs - length xs) ≡ 0 = omega arith in
     let more = s - length xs in
-    let sum : length xs + more ≡ s = omega arith in
-    let later : drop s (xs ++ rest) ≡ replicate (all - length xs - more) Unknown =
-    ap (λ (k : ℕ). drop k (xs ++ rest)) (sym sum) ∙ sym (drop-drop more (length xs) (xs ++ rest)) ∙ ap (drop more) (drop_at xs rest (length xs) refl) ∙ drop-replicate more (all - length xs) Unknown in
-    ap (λ (f : ℕ). take (min n (length xs - f)) (drop f xs) ++ replicate (n - min n (length xs - f)) Unknown) first
-    ∙ ap (λ (k : ℕ). take k (drop (length xs) xs) ++ replicate (n - k) Unknown) none
-    ∙ ap (λ (k : ℕ). replicate k Unknown) (let every : n - 0 ≡ n = omega arith in every)
-    ∙ sym (ap (take n) later ∙ take-replicate n (all - length xs - more) Unknown (omega arith)))
-    (λ (within : s ≤ length xs).
-    let first : min s (length xs) ≡ s = omega arith in
-    let back = drop s xs in
-    let lb : length back ≡ length xs - s = length-drop s xs in
-    let left : n - min n (length xs - s) ≡ n - length back = omega (arith, lb) in
-    ap (λ (f : ℕ). take (min n (length xs - f)) (drop f xs) ++ replicate (n - min n (length xs - f)) Unknown) first
-    ∙ ap (λ (k : ℕ). take (min n k) back ++ replicate (n - min n (length xs - s)) Unknown) (sym lb)
-    ∙ ap (λ (zs : List Cell). zs ++ replicate (n - min n (length xs - s)) Unknown) (take_min n back)
-    ∙ ap (λ (k : ℕ). take n back ++ replicate k Unknown) left
-    ∙ sym (ap (take n) (drop-append-le s xs rest within)
-    ∙ take_parts n back rest
-    ∙ ap (λ (zs : List Cell). take n back ++ zs) (take-replicate (n - length back) (all - length xs) Unknown (omega (arith, lb)))))
+    let later : drop s (xs ++ rest) ≡ replicate (all - length xs - more) Unknown = grind (arith, drop-drop more (length xs) (xs ++ rest), drop_at xs rest (length xs) refl, drop-replicate more (all - length xs) Unknown) in
+    grind (arith, take-replicate))
+    (λ (within : s ≤ length xs). grind (arith, common_steps, take_parts, take-replicate))
     (cases_lt (length xs) s)
 
 -- ---- rows are copied
@@ -470,16 +346,7 @@ pub record MayPutBack (rows w index n : ℕ) (all old : List (List Cell)) (xs ds
 
 pub ring_filled_up : {rows w index n u end : ℕ} {v : Vec Cell Global} {all old : List (List Cell)} {xs ds : List Cell} → IsPartlyWritten rows w index v → ring_rows rows w index (with_unwritten (rows * w) v.items) ≡ all → AreRows n u ds → rows_of n u ds ≡ old
     → length old ≤ length all → HasWidth (width all) old → end ≡ rows * w → xs ≡ with_unwritten end v.items → MayPutBack rows w index n all old xs ds
-ring_filled_up {rows} {w} {index} {n} {u} {v = v} {old = old} {xs = xs} {ds = ds} is view are dropped fits one_width end_is filled =
-    let items : xs ≡ with_unwritten (rows * w) v.items = filled ∙ ap (λ (m : ℕ). with_unwritten m v.items) end_is in
-    let wide : HasWidth w (rows_of n u ds) = subst (HasWidth w) (sym dropped) (subst (λ (m : ℕ). HasWidth m old) (row_width is view) one_width) in
-    record {
-      is = subst (IsRing rows w index) (sym items) is.ring;
-      view = ap (ring_rows rows w index) items ∙ view;
-      fewer = omega (arith, fits, row_count is view, rows_len n u ds old dropped);
-      cells = same_cells n u w ds are.whole wide;
-      rows_are = sym (same_rows n u w ds are.whole wide) ∙ dropped;
-    }
+ring_filled_up {rows} {w} {index} {n} {u} {v = v} {old = old} {xs = xs} {ds = ds} is view are dropped fits one_width end_is filled = grind (arith, row_width, row_count, rows_len, same_cells, same_rows)
 
 pub record IsPutBack (rows w index : ℕ) (all old : List (List Cell)) (new : Vec Cell Global) : Type 0 where
   pub is : IsPartlyWritten rows w index new
@@ -487,28 +354,4 @@ pub record IsPutBack (rows w index : ℕ) (all old : List (List Cell)) (new : Ve
 
 pub are_put_back : {rows w index n at start : ℕ} {all old : List (List Cell)} {ds : List Cell} (v : Vec Cell Global) (new : List Cell) → MayPutBack rows w index n all old v.items ds → at ≡ (index + (rows - n)) % rows → start ≡ at * w → length new ≡ length v.items
     → from_index start new ≡ ds ++ drop (length ds) (from_index start v.items) → IsPutBack rows w at all old (with_items v new)
-are_put_back {rows} {w} {index} {n} {at} {start} {all} {old} {ds} v new before at_is start_is as_long written =
-    let is = before.is in
-    let last = (index + (rows - n)) % rows in
-    let long : length new ≡ rows * w = as_long ∙ is.whole in
-    let items : (with_items v new).items ≡ new = with_items_is v new (as_long ∙ sym v.ok.0) in
-    let last_is : start ≡ last * w = start_is ∙ ap (λ (k : ℕ). k * w) at_is in
-    let turned = subst (λ (k : ℕ). from_index k new ≡ ds ++ drop (length ds) (from_index k v.items)) last_is written in
-    let kept : rows - n ≡ length all - length old = omega (arith, ap length before.view, length-ring_rows rows w index v.items, ap length before.rows_are, length-rows_of n w ds) in
-    record {
-      is = wholly rows w at (with_items v new) (record {
-        some_rows = is.some_rows;
-        few_rows = is.few_rows;
-        some_sources = is.some_sources;
-        few_sources = is.few_sources;
-        whole = ap length items ∙ long;
-        index_within = omega (arith, at_is, mod_below (index + (rows - n)) rows is.some_rows);
-      });
-      rows_are = ap (λ (ys : List Cell). ring_rows rows w at (with_unwritten (rows * w) ys)) items
-          ∙ ap (ring_rows rows w at) (all_written (rows * w) new long)
-          ∙ ap (λ (k : ℕ). ring_rows rows w k new) at_is
-          ∙ ring_put_back n rows w index v.items new ds before.fewer is as_long before.cells turned
-          ∙ ap (λ (rs : List (List Cell)). rs ++ take (rows - n) (ring_rows rows w index v.items)) before.rows_are
-          ∙ ap (λ (rs : List (List Cell)). old ++ take (rows - n) rs) before.view
-          ∙ ap (λ (k : ℕ). old ++ take k all) kept;
-    }
+are_put_back {rows} {w} {index} {n} {at} {start} {all} {old} {ds} v new before at_is start_is as_long written = grind (arith, with_items_is, length-ring_rows, length-rows_of, wholly, mod_below, all_written, ring_put_back)

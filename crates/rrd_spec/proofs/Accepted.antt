@@ -1,12 +1,11 @@
 -- What an accepted command is known to be.
-use Rattle.std.specs.Prelude.{◌≡◌, ℕ, suc, ◌<◌, Bool, true, false, cond, ◌||◌, List, [], ◌∷◌, length, map, Option, Some, None}
-use Rattle.rrd_spec.proofs.Names.{refl, sym, ◌∙◌, ap, subst, ltb, eqb, arith, get_or, leb-false, eqb-false, or_parts, length-map, fold, AllByRecursion, unwrap_or, Raw, Name, DsDef, Content, Sampled, Tuned, Moment, moment_after, moment_of, moment_at_end, raws_under, IsHistory, DatabaseChange, Updating, TuningBy, Resizing, archive_event, settings_of, sample_of, tuned, rows_changed, events, Settings, names, option_map_or, RraDef, Tuning, ArchiveTune, Add, Remove, Check, archive_tune_checks, first_refusal, is_bad_rows, grows_too_far, shrinks_too_far, checks, verdict, verdict_within, readings_rise, Passes, Sample, Change, Grow, Shrink, Refusal, present}
+use Rattle.std.specs.Prelude.{◌≡◌, ℕ, suc, ◌<◌, Bool, false, cond, ◌||◌, List, [], ◌∷◌, length, map, Option, Some, None}
+use Rattle.rrd_spec.proofs.Names.{common_steps, refl, sym, ◌∙◌, ap, subst, arith, get_or, length-map, fold, AllByRecursion, unwrap_or, Raw, Name, DsDef, Content, Sampled, Tuned, Moment, moment_after, moment_of, moment_at_end, raws_under, IsHistory, DatabaseChange, Updating, TuningBy, Resizing, archive_event, settings_of, sample_of, tuned, rows_changed, events, Settings, names, option_map_or, RraDef, Tuning, ArchiveTune, Add, Check, archive_tune_checks, first_refusal, is_bad_rows, grows_too_far, shrinks_too_far, checks, verdict, verdict_within, readings_rise, Passes, Sample, Change, Refusal, present}
 
 -- ---- every check passes
 
 by_case : (b : Bool) (refusal : Refusal) (later : Option Refusal) → cond b (Some refusal) later ≡ None → (b ≡ false) × (later ≡ None)
-by_case true refusal later h = absurd cc
-by_case false refusal later h = (refl, h)
+by_case b refusal later h = grind arith
 
 pub all_pass : (list : List Check) → first_refusal list ≡ None → AllByRecursion Passes list
 all_pass [] h = tt
@@ -19,20 +18,14 @@ accepted_passes base command h = all_pass (checks present base command) h
 -- ---- its events are a history
 
 pub some_rows : (change : Change) (old rows : ℕ) → (is_bad_rows present rows || grows_too_far present change old rows) ≡ false → shrinks_too_far change old rows ≡ false → 0 < rows_changed change old rows
-some_rows Grow old rows h k =
-    let some = eqb-false rows 0 (or_parts (eqb rows 0) (ltb 1000000 rows) (or_parts (is_bad_rows present rows) (grows_too_far present Grow old rows) h).0).0 in
-    omega (arith, some)
-some_rows Shrink old rows h k = omega (arith, leb-false old rows k)
+some_rows change old rows h k = grind arith
 
 -- an archive's settings that pass have a step and a row
 pub some_of_archive : (settings : Settings) (def : RraDef) → AllByRecursion Passes (archive_tune_checks present settings (Some (Add def))) → (0 < def.steps) × (0 < def.rows)
-some_of_archive settings def p =
-    (omega (arith, eqb-false def.steps 0 (or_parts (eqb def.steps 0) (ltb 1000000 def.steps) p.1.0).0), omega (arith, eqb-false def.rows 0 (or_parts (eqb def.rows 0) (ltb 1000000 def.rows) p.1.1.0).0))
+some_of_archive settings def p = grind arith
 
 archive_history : (settings : Settings) (now : Moment) (sources : List DsDef) (archive : Option ArchiveTune) → length sources ≡ length now.sources → AllByRecursion Passes (archive_tune_checks present settings archive) → IsHistory now (option_map_or archive_event archive (Tuned sources) ∷ [])
-archive_history settings now sources None e p = (e, tt)
-archive_history settings now sources (Some (Add def)) e p = let some = some_of_archive settings def p in (some.0, some.1, tt)
-archive_history settings now sources (Some (Remove number)) e p = tt
+archive_history settings now sources archive e p = grind arith
 
 -- what comes or goes, or the sources' new settings
 pub tune_passes : (base : Content) (tuning : Tuning) (archive : Option ArchiveTune) → tuning.archive ≡ archive → verdict base (TuningBy tuning) ≡ None → AllByRecursion Passes (archive_tune_checks present (settings_of base) archive)
@@ -57,14 +50,9 @@ length-raws_under (old ∷ olds) (new ∷ news) (raw ∷ raws) = ap suc (length-
 
 readings_raws : (sources : List DsDef) (template : List Name) (now : Moment) (readings : List Sample) → now.sources ≡ sources → length now.raws ≡ length sources → let end = fold moment_after now (map Sampled (map (sample_of sources template) readings)) in length end.raws ≡ length end.sources
 readings_raws sources template now [] same each = each ∙ ap length (sym same)
-readings_raws sources template now (reading ∷ readings) same each =
-    readings_raws sources template (moment_after now (Sampled (sample_of sources template reading))) readings same (length-map sources _)
+readings_raws sources template now (reading ∷ readings) same each = grind (arith, readings_raws sources template (moment_after now (Sampled (sample_of sources template reading))) readings same (length-map sources _))
 
 pub command_raws : (base : Content) (command : DatabaseChange) → length base.raws ≡ length base.sources → let end = moment_at_end base (events (settings_of base) command) in length end.raws ≡ length end.sources
 command_raws base (Updating update) each = readings_raws base.sources (unwrap_or update.template (names base.sources)) (moment_of base) update.samples refl each
-command_raws base (TuningBy tuning) each = by_archive tuning.archive (length-raws_under base.sources (map (tuned tuning) base.sources) base.raws ∙ each ∙ sym (length-map base.sources (tuned tuning))) where
-  by_archive : (archive : Option ArchiveTune) → length (raws_under base.sources (map (tuned tuning) base.sources) base.raws) ≡ length (map (tuned tuning) base.sources) → let end = moment_at_end base (option_map_or archive_event archive (Tuned (map (tuned tuning) base.sources)) ∷ []) in length end.raws ≡ length end.sources
-  by_archive None tuned_each = tuned_each
-  by_archive (Some (Add def)) tuned_each = each
-  by_archive (Some (Remove number)) tuned_each = each
+command_raws base (TuningBy tuning) each = grind (arith, common_steps, length-raws_under)
 command_raws base (Resizing archive change rows) each = each

@@ -52,18 +52,14 @@ pub fewer_removed : (sources most : ℕ) (archives : List Rra) (n : ℕ) → sou
 unfolding row_count
 fewer_removed sources most archives n h =
     let same : rows_of_archives (remove archives n) ≡ remove (rows_of_archives archives) n
-    = map-append row_count (take n archives) (drop (suc n) archives)
-    ∙ ap (λ ys. ys ++ map row_count (drop (suc n) archives)) (sym (take-map row_count n archives))
-    ∙ ap (λ ys. take n (map row_count archives) ++ ys) (sym (drop-map row_count (suc n) archives)) in
-    let less : sum (rows_of_archives (remove archives n)) ≤ sum (rows_of_archives archives) = omega (arith, ap sum same, sum-removed (rows_of_archives archives) n) in
-    omega (arith, h, mul-le sources (sum (rows_of_archives (remove archives n))) sources (sum (rows_of_archives archives)) (omega arith) less)
+    = grind (arith, map-append, row_count, take-map, drop-map) in
+    grind (arith, sum-removed, mul-le)
 
 pub fewer_taken : (sources most : ℕ) (archives : List Rra) (n : ℕ) → sources * sum (rows_of_archives archives) ≤ most → sources * sum (rows_of_archives (take n archives)) ≤ most
 unfolding row_count
 fewer_taken sources most archives n h =
     let same : rows_of_archives (take n archives) ≡ take n (rows_of_archives archives) = sym (take-map row_count n archives) in
-    let less : sum (rows_of_archives (take n archives)) ≤ sum (rows_of_archives archives) = omega (arith, ap sum same, sum-taken (rows_of_archives archives) n) in
-    omega (arith, h, mul-le sources (sum (rows_of_archives (take n archives))) sources (sum (rows_of_archives archives)) (omega arith) less)
+    grind (arith, sum-taken, mul-le)
 
 -- ---- a content with other archives
 

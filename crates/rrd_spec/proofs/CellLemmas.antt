@@ -1,8 +1,7 @@
 -- What an archive shows at each time.
 use Rattle.std.specs.Prelude.{◌≡◌, ℕ, zero, suc, ◌+◌, ◌-◌, ◌*◌, ◌/◌, ◌%◌, ◌<◌, ◌≤◌, Bool, true, false, cond, List, [], ◌∷◌, ◌++◌, length, map, replicate, Some, ℤ, pos, negsuc, ◌+ℤ◌, ◌-ℤ◌, ◌≤ℤ◌, unsigned_abs, int_lt, int_le, slice_get}
-use Rattle.rrd_spec.proofs.Names.{refl, sym, ◌∙◌, ap, subst, ltb, get_or, arith, length-append, ⊎_elim, ◌<ℤ◌, int_max, int_div_euclid, fold, range_with_len, AllByRecursion, div-div-eq-div-mul, cases_lt, cases_Bool, cond-false, cond-true, cond_both, lt-ltb, le-ltb, ints, clamps, int_rem_euclid_is, length-map, get_or_append_left, get_or-append_right, ext_get_or, length-map-range_with_len, get_or-map-range_with_len, mul-le, mul-lt, div-mul-add, mod-mul-add, Cell, seconds_to_steps, steps_of, steps_to_rows, steps_before, steps_for, rows_of, row, row_ending, Rra, Content, Event, Sampled, Tuned, Resized, Added, Removed, Moment, moment_after, moment_of, moment_at_end, seconds_of, rows_after, IsHistory, IsBase, rows_never_lost, keep_last, filled_up, archive_for, content_lived, kept_for, rows_for, Life, lives, Rule, group_part, finished, row_of_age, row_at, row_then, newest, reach, prefixes, greatest, reach_after, horizon, row_by_time, time_of, rows_by_time, archive_by_time, content, resolution, IsListed, IsMultiple, ShowsByTime, ListsByNumber, length-keep_last}
+use Rattle.rrd_spec.proofs.Names.{common_steps, refl, sym, ◌∙◌, ap, subst, ltb, get_or, arith, length-append, ⊎_elim, ◌<ℤ◌, int_max, int_div_euclid, fold, range_with_len, AllByRecursion, div-div-eq-div-mul, cases_lt, cases_Bool, cond-false, cond-true, cond_both, lt-ltb, le-ltb, ints, int_rem_euclid_is, length-map, get_or-append_right, ext_get_or, length-map-range_with_len, get_or-map-range_with_len, mul-le, mul-lt, mod-mul-add, Cell, steps_of, rows_of, row, row_ending, Rra, Content, Event, Moment, moment_after, moment_of, moment_at_end, rows_after, IsHistory, IsBase, rows_never_lost, keep_last, filled_up, archive_for, content_lived, kept_for, rows_for, Life, lives, Rule, group_part, finished, row_of_age, row_at, row_then, newest, reach, prefixes, greatest, reach_after, horizon, row_by_time, time_of, rows_by_time, archive_by_time, content, resolution, IsListed, IsMultiple, ShowsByTime, ListsByNumber}
 use Rattle.rrd_spec.proofs.Lives.{LifeAt, length-kept_for, length-rows_for, lives_are}
-use Rattle.rrd_spec.proofs.GroupLemmas.{reached_before}
 use Rattle.rrd_spec.proofs.HistoryLemmas.{last_rises, length-sources}
 use Rattle.rrd_spec.proofs.RowLemmas.{length-filled_up, room_first, room_last, row_by_age}
 use Rattle.rrd_spec.proofs.ContentLemmas.{div_rises}
@@ -61,16 +60,12 @@ max_under t a (x ∷ xs) h k = max_under t (int_max a x) xs (cond_both (int_lt x
 
 all_under : (t a : ℤ) (xs : List ℤ) → fold int_max a xs <ℤ t → (a <ℤ t) × AllByRecursion (λ x. x <ℤ t) xs
 all_under t a [] h = (h, tt)
-all_under t a (x ∷ xs) h =
-    let rest = all_under t (int_max a x) xs h in
-    (omega (arith, ints, clamps, rest.0), (omega (arith, ints, clamps, rest.0), rest.1))
+all_under t a (x ∷ xs) h = grind (arith, common_steps, all_under t (int_max a x) xs h)
 
 -- ---- the room, and the horizon
 
 rest_of_history : (now : Moment) (e : Event) (es : List Event) → IsHistory now (e ∷ es) → IsHistory (moment_after now e) es
-rest_of_history now (Added def) es h = h.2
-rest_of_history now (Removed archive) es h = h
-rest_of_history now x es h = h.1
+rest_of_history now x es h = grind arith
 
 abbrev reach_from : ℕ → ℕ → ℕ → Moment → List Event → ℤ
 reach_from size index rows now events = reach size (fold (rows_after index) rows events) (fold moment_after now events).last
@@ -86,9 +81,7 @@ all_sooner P size index rows now e (p ∷ ps) h = (h.0, all_sooner P size index 
 
 -- a row that has always had a place is after what was reached at every moment
 room_under : (size index end age n m : ℕ) (time : ℤ) → 0 < size → IsAt size time n m → age + n ≡ end / size + m → (rows : ℕ) (now : Moment) (es : List Event) → IsHistory now es → (fold moment_after now es).last ≡ end → age < rows_never_lost index (λ t. end / size - t / size) rows now es → AllByRecursion (λ x. x <ℤ time) (map (reach_from size index rows now) (prefixes es))
-room_under size index end age n m time some at aged rows now [] h e k =
-    let below = div_rises now.last end size some (omega arith) in
-    (reach_under size (now.last / size) rows n m time some at (omega arith), tt)
+room_under size index end age n m time some at aged rows now [] h e k = grind (arith, common_steps, div_rises, reach_under)
 room_under size index end age n m time some at aged rows now (event ∷ es) h e k =
     let low = last_rises now (event ∷ es) h in
     let below = div_rises now.last end size some (omega arith) in (
@@ -105,7 +98,6 @@ under_room size index end age n m time some at aged rows now [] h e k =
     (cases_lt (now.last / size + m) (n + rows))
 under_room size index end age n m time some at aged rows now (event ∷ es) h e k =
     let low = last_rises now (event ∷ es) h in
-    let below = div_rises now.last end size some (omega arith) in
     let rest = under_room size index end age n m time some at aged (rows_after index rows event) (moment_after now event) es (rest_of_history now event es h) e (all_sooner (λ x. x <ℤ time) size index rows now event (prefixes es) k.1) in
     ⊎_elim
     (λ (in_it : now.last / size + m < n + rows). omega arith)
@@ -113,12 +105,10 @@ under_room size index end age n m time some at aged rows now (event ∷ es) h e 
     (cases_lt (now.last / size + m) (n + rows))
 
 greatest_under : (t : ℤ) (xs : List ℤ) → 0 < length xs → AllByRecursion (λ x. x <ℤ t) xs → greatest xs <ℤ t
-greatest_under t [] some h = absurd (omega arith)
-greatest_under t (x ∷ xs) some h = max_under t x xs h.0 h.1
+greatest_under t xs some h = grind (arith, max_under)
 
 under_greatest : (t : ℤ) (xs : List ℤ) → greatest xs <ℤ t → AllByRecursion (λ x. x <ℤ t) xs
-under_greatest t [] h = tt
-under_greatest t (x ∷ xs) h = let all = all_under t x xs h in (all.0, all.1)
+under_greatest t xs h = grind (arith, all_under)
 
 some_prefix : {A : Type 0} (xs : List A) → 0 < length (prefixes xs)
 some_prefix [] = omega arith
@@ -144,14 +134,7 @@ out_of_sight step life end age n m time some h e at aged k =
 -- ---- the rows that an archive has, by their ages
 
 shown_by_age : (rows room age : ℕ) (u : List Cell) (all : List (List Cell)) → room ≤ length all → room ≤ rows → row_of_age (filled_up rows u (keep_last room all)) u (pos age) ≡ cond (ltb age room) (get_or all (length all - 1 - age) u) u
-shown_by_age rows room age u all some fits =
-    let kept = filled_up rows u (keep_last room all) in
-    let count : length kept ≡ rows = length-filled_up rows u (keep_last room all) (omega (arith, length-keep_last room all some)) in
-    ap (λ n. cond (ltb age n) (get_or kept (n - 1 - age) u) u) count
-    ∙ ⊎_elim
-    (λ (young : age < rows). cond-true (ltb age rows) (get_or kept (rows - 1 - age) u) u (lt-ltb age rows young) ∙ row_by_age rows room age u all young some fits)
-    (λ (old : rows ≤ age). cond-false (ltb age rows) (get_or kept (rows - 1 - age) u) u (le-ltb age rows old) ∙ sym (cond-false (ltb age room) (get_or all (length all - 1 - age) u) u (le-ltb age room (omega arith))))
-    (cases_lt age rows)
+shown_by_age rows room age u all some fits = grind (arith, common_steps, length-filled_up, cond-true, lt-ltb, row_by_age, cond-false, le-ltb)
 
 finished_at : {A P B : Type 0} (rule : Rule A P B) (begun_at : ℕ) (begun : P) (items : List A) (i : ℕ) (d : B) → i < length (finished rule begun_at begun items) → get_or (finished rule begun_at begun items) i d ≡ rule.close (group_part rule begun_at begun items (begun_at / rule.size + i))
 unfolding finished
@@ -163,14 +146,11 @@ finished_at rule begun_at begun items i d h =
 -- a row that ended since the archive began
 new_row : (base : Content) (life : Life) (es : List Event) (i number : ℕ) (d : List Cell) → i < length (rows_for base es life) → life.birth.last / base.step / life.begun.def.steps + i ≡ number → get_or (rows_for base es life) i d ≡ row base life es number
 unfolding rows_for
-new_row base life es i number d h e =
-    finished_at (steps_to_rows life.begun.def (length base.sources)) (steps_before base life) life.begun.parts (steps_for base life es) i d h ∙ ap (row base life es) e
+new_row base life es i number d h e = grind (arith, finished_at)
 
 -- the number of the row that ends n - m rows after 1970
 row_number : (size n m : ℕ) (time : ℤ) → 0 < size → IsAt size time n m → m < n → unsigned_abs time / size ≡ n - m
-row_number size n m time some at h =
-    let apart : pos (n * size) -ℤ pos (m * size) ≡ pos ((n - m) * size) = omega (arith, ints, ap (λ k. k * size) {x = n} {y = n - m + m} (omega arith)) in
-    ap (λ t. unsigned_abs t / size) (at.time_is ∙ apart) ∙ ap (λ k. k / size) {x = (n - m) * size} {y = (n - m) * size + 0} (omega arith) ∙ div-mul-add (n - m) size 0 some
+row_number size n m time some at h = grind arith
 
 -- ---- the three cases of a row that is in sight
 
@@ -178,10 +158,7 @@ old_row : (size last : ℕ) (rows news : List (List Cell)) (u : List Cell) (age 
 old_row size last rows news u age n m first end time at first_is rises aged older seen =
     let back = first + m - n in
     let ago : pos (last / size) -ℤ int_div_euclid time (pos size) ≡ pos back = omega (arith, ints, at.count_is) in
-    get_or_append_left rows news u (length rows + (end - first) - 1 - age) (omega arith)
-    ∙ ap (λ i. get_or rows i u) {x = length rows + (end - first) - 1 - age} {y = length rows - 1 - back} (omega arith)
-    ∙ sym (cond-true (ltb back (length rows)) (get_or rows (length rows - 1 - back) u) u (lt-ltb back (length rows) (omega arith)))
-    ∙ sym (ap (row_of_age rows u) ago)
+    grind (arith, common_steps, cond-true, lt-ltb)
 
 recent_row : (base : Content) (life : Life) (es : List Event) (u : List Cell) (age n m first end : ℕ) (time : ℤ) → let size = resolution base.step life.begun.def in 0 < size → IsAt size time n m → life.birth.last / base.step / life.begun.def.steps ≡ first → length (rows_for base es life) ≡ end - first → age + n ≡ end + m → first + m < n → get_or (life.begun.rows ++ rows_for base es life) (length life.begun.rows + (end - first) - 1 - age) u ≡ row_ending base life es time
 recent_row base life es u age n m first end time some at first_step count aged newer =
@@ -230,8 +207,7 @@ kept_by_time base es life time some_step h alive multiple =
     ⊎_elim
     (λ (after_end : end + m < n).
     let ago : pos end -ℤ int_div_euclid time (pos size) ≡ negsuc (n - (end + m) - 1) = omega (arith, ints, at.count_is) in
-    let past : cond ahead u later ≡ u = cond-true ahead u later (before (pos (newest size last)) time (ends_under size end n m time some at after_end)) in
-    ap (row_of_age kept u) ago ∙ sym (ap (cond hidden u) past ∙ either hidden u))
+    grind (arith, cond-true, pos, ends_under))
     (λ (in_time : n ≤ end + m).
     let age = end + m - n in
     let ago : pos end -ℤ int_div_euclid time (pos size) ≡ pos age = omega (arith, ints, at.count_is) in
@@ -249,13 +225,9 @@ kept_by_time base es life time some_step h alive multiple =
     (λ (newer : first + m < n).
     recent_row base life es u age n m first end time some at (div-div-eq-div-mul life.birth.last base.step life.begun.def.steps) (omega arith) aged newer
     ∙ sym (rest ∙ cond-false old begun_row (row_ending base life es time) (after time (pos (newest size life.birth.last)) (ends_under size first n m time some at newer))))
-    (λ (older : n ≤ first + m).
-    old_row size life.birth.last olds (rows_for base es life) u age n m first end time at refl (omega arith) aged older (omega (arith, is.rows_are))
-    ∙ sym (rest ∙ cond-true old begun_row (row_ending base life es time) (at_or_before time (pos (newest size life.birth.last)) (ends_over size first n m time at older))))
+    (λ (older : n ≤ first + m). grind (arith, old_row, cond-true, at_or_before, pos, ends_over))
     (cases_lt (first + m) n))
-    (λ (gone : kept_room ≤ age).
-    cond-false (ltb age kept_room) (get_or all (length all - 1 - age) u) u (le-ltb age kept_room gone)
-    ∙ sym (cond-true hidden u (cond ahead u later) (out_of_sight base.step life last age n m time some alive.history here at aged gone)))
+    (λ (gone : kept_room ≤ age). grind (arith, cond-false (ltb age kept_room) (get_or all (length all - 1 - age) u) u (le-ltb age kept_room gone), le-ltb age kept_room gone, out_of_sight base.step life last age n m time some alive.history here))
     (cases_lt age kept_room))
     (cases_lt (end + m) n)
   where
@@ -265,10 +237,7 @@ kept_by_time base es life time some_step h alive multiple =
 
 row_shown : (base : Content) (es : List Event) (life : Life) (time : ℤ) → 0 < base.step → IsHistory (moment_of base) es → LifeAt base (moment_at_end base es) life → IsMultiple time (resolution base.step life.begun.def) → row_at (content_lived base es) (archive_for base es life) time ≡ row_by_time base life es time
 unfolding content_lived
-row_shown base es life time some_step h alive multiple =
-    let size = resolution base.step life.begun.def in
-    let age = pos ((moment_at_end base es).last / size) -ℤ int_div_euclid time (pos size) in
-    cc (length-sources (moment_of base) es h, kept_by_time base es life time some_step h alive multiple)
+row_shown base es life time some_step h alive multiple = grind (arith, length-sources, kept_by_time)
 
 -- ---- all rows of an archive
 
@@ -276,13 +245,7 @@ multiple_of : (size n m : ℕ) (time : ℤ) → 0 < size → time ≡ pos (n * s
 multiple_of size n m time some is = cc (int_rem_euclid_is time (pos size) size m (n * size) some refl (omega (arith, ints, is)), ap (λ k. k % size) {x = n * size} {y = n * size + 0} (omega arith) ∙ mod-mul-add n size 0 some)
 
 same_count : (size a b : ℕ) → 0 < size → a * size ≡ b * size → a ≡ b
-same_count size a b some e = ⊎_elim
-    (λ (low : a < b). absurd (omega (arith, e, less_rows a b size some low)))
-    (λ (high : b ≤ a). ⊎_elim
-    (λ (lower : b < a). absurd (omega (arith, e, less_rows b a size some lower)))
-    (λ (same : a ≤ b). omega arith)
-    (cases_lt b a))
-    (cases_lt a b)
+same_count size a b some e = grind arith
 
 -- how old the row of a place is
 age_of : (size rows end place : ℕ) (time : ℤ) → 0 < size → place < rows → time ≡ (pos (end * size) -ℤ pos (rows * size)) +ℤ pos ((place + 1) * size) → IsMultiple time size × (pos end -ℤ int_div_euclid time (pos size) ≡ pos (rows - 1 - place))
@@ -312,8 +275,7 @@ rows_are_by_time base es life some_step h alive =
     let here : place < rows = omega (arith, count, within) in
     let age = age_of size rows (last / size) place (time_of size rows last place) some here refl in
     let by_age : row_of_age kept u (pos (rows - 1 - place)) ≡ get_or kept place u
-    = cond-true (ltb (rows - 1 - place) (length kept)) (get_or kept (length kept - 1 - (rows - 1 - place)) u) u (lt-ltb (rows - 1 - place) (length kept) (omega (arith, count, here)))
-    ∙ ap (λ k. get_or kept k u) {x = length kept - 1 - (rows - 1 - place)} {y = place} (omega (arith, count, here)) in
+    = grind (arith, cond-true, lt-ltb) in
     sym by_age ∙ sym (ap (row_of_age kept u) age.1)
     ∙ kept_by_time base es life (time_of size rows last place) some_step h alive age.0
     ∙ sym (get_or-map-range_with_len one 0 rows place place u (omega (arith, listed, here)) (omega arith)))
@@ -330,10 +292,7 @@ is_lived base es is h = ap (λ archives. let x : Content = record (content base 
 
 shown_is : (f : Life → Rra) (all : List Life) (index : ℕ) (life : Life) (shown : Rra) → slice_get all index ≡ Some life → slice_get (map f all) index ≡ Some shown → f life ≡ shown
 shown_is f [] index life shown h k = absurd cc
-shown_is f (first ∷ all) zero life shown h k =
-    let here : first ≡ life = cc in
-    let there : f first ≡ shown = cc in
-    ap f (sym here) ∙ there
+shown_is f (first ∷ all) zero life shown h k = grind (arith, common_steps)
 shown_is f (first ∷ all) (suc index) life shown h k = shown_is f all index life shown h k
 
 one_alive : (base : Content) (now : Moment) (all : List Life) (index : ℕ) (life : Life) → AllByRecursion (LifeAt base now) all → slice_get all index ≡ Some life → LifeAt base now life
@@ -345,8 +304,7 @@ shows_listed : (base : Content) (es : List Event) → IsBase base → IsHistory 
 unfolding content_lived
 shows_listed base es is h index life shown there then time multiple =
     let this = shown_is (archive_for base es) (lives base es) index life shown there then in
-    let alive = one_alive base (moment_at_end base es) (lives base es) index life (lives_are base es is h) there in
-    sym (ap (λ a. row_at (content_lived base es) a time) this) ∙ row_shown base es life time is.some_step h alive multiple
+    grind (arith, one_alive, lives_are, row_shown)
 
 pub shows_by_time : (base : Content) (es : List Event) → ShowsByTime base es
 shows_by_time base es is h = subst
@@ -365,7 +323,4 @@ finished_by_number rule begun_at begun items =
 
 pub lists_by_number : (base : Content) (archive : Rra) (events : List Event) → ListsByNumber base archive events
 unfolding steps_of rows_of
-lists_by_number base archive events = record {
-  steps_are = finished_by_number (seconds_to_steps base.step (length base.sources)) base.last base.parts (seconds_of base events);
-  rows_are = finished_by_number (steps_to_rows archive.def (length base.sources)) (base.last / base.step) archive.parts (steps_of base events);
-}
+lists_by_number base archive events = grind (arith, finished_by_number)

@@ -1,6 +1,6 @@
 -- What an accepted tune or resize changes.
-use Rattle.std.specs.Prelude.{◌≡◌, ℕ, zero, suc, ◌+◌, ◌-◌, ◌*◌, ◌/◌, ◌<◌, min, cond, List, [], ◌∷◌, ◌++◌, length, drop, map, replicate}
-use Rattle.rrd_spec.proofs.Names.{refl, sym, ◌∙◌, ap, eqb, ltb, get_or, arith, append-nil, eq-eqb, leb-false, ltb-false, or_parts, length-drop, length-map, enumerate_from, AllByRecursion, Cell, Change, Tuning, ResizeChanges, ResizeFits, TuneChanges, rows_then, Resizing, rows_of_archives, tuned, rows_at, with_rows_at, base_of_valid, sound, Rra, Content, Resized, Tuned, moment_of, IsArchive, rows_of, row_parts_of, rows_never_lost, keep_last, filled_up, kept_rows, archive_of, grows_too_far, is_bad_rows, present}
+use Rattle.std.specs.Prelude.{◌≡◌, ℕ, zero, suc, ◌+◌, ◌-◌, ◌*◌, ◌/◌, ◌<◌, min, cond, List, [], ◌∷◌, length, map, replicate}
+use Rattle.rrd_spec.proofs.Names.{common_steps, refl, sym, ◌∙◌, ap, eqb, ltb, get_or, arith, append-nil, eq-eqb, leb-false, ltb-false, or_parts, length-drop, length-map, enumerate_from, AllByRecursion, Cell, Change, Tuning, ResizeChanges, ResizeFits, TuneChanges, rows_then, Resizing, rows_of_archives, tuned, rows_at, with_rows_at, base_of_valid, sound, Rra, Content, Resized, Tuned, moment_of, IsArchive, row_parts_of, rows_never_lost, keep_last, filled_up, kept_rows, archive_of, grows_too_far, is_bad_rows, present}
 use Rattle.rrd_spec.proofs.Accepted.{accepted_passes, some_rows}
 use Rattle.rrd_spec.proofs.LivesPlain.{is_listed}
 use Rattle.rrd_spec.proofs.ArchiveTunes.{tune_alone}
@@ -43,7 +43,6 @@ kept_resized base at n index archive e is =
     let es = Resized at n ∷ [] in
     let res = base.step * archive.def.steps in
     let rows = archive.rows in
-    let nan = replicate (length base.sources) Cell.Unknown in
     let since = λ (time : ℕ). base.last / res - time / res in
     let after : cond (eqb at index) n archive.def.rows ≡ n = ap (λ b. cond b n archive.def.rows) (eq-eqb at index e) in
     let places : rows_never_lost index since archive.def.rows (moment_of base) es ≡ min (length rows) n = omega (arith, is.rows_are, after) in
@@ -65,10 +64,7 @@ resized_one base at n index archive e is =
 
 resized_at : (base : Content) (at n first k : ℕ) (archives : List Rra) → at ≡ first + k → k < length archives → AllByRecursion IsArchive archives → map (archive_of base (Resized at n ∷ [])) (enumerate_from first archives) ≡ with_rows_at archives k (newest base n (rows_at archives k))
 resized_at base at n first k [] e h is = absurd (omega arith)
-resized_at base at n first zero (archive ∷ archives) e h is =
-    let one = resized_one base at n first archive (omega arith) is.0 in
-    let rest = resized_elsewhere base at n (first + 1) archives (omega arith) is.1 in
-    cc
+resized_at base at n first zero (archive ∷ archives) e h is = grind (arith, common_steps, resized_one, resized_elsewhere)
 resized_at base at n first (suc k) (archive ∷ archives) e h is =
     let one = resized_other base at n first archive (λ f. absurd (omega arith)) is.0 in
     let rest = resized_at base at n (first + 1) k archives (omega arith) (omega arith) is.1 in

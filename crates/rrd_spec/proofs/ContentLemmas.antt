@@ -1,6 +1,6 @@
 -- The content of a history in two pieces: the first piece's content is a base for the second one.
 use Rattle.std.specs.Prelude.{◌≡◌, ℕ, ◌+◌, ◌-◌, ◌*◌, ◌/◌, ◌<◌, ◌≤◌, List, [], ◌∷◌, ◌++◌, length, map, replicate, Bool, true, false, cond}
-use Rattle.rrd_spec.proofs.Names.{refl, sym, ◌∙◌, ap, arith, length-append, append_assoc, eqb, div-div-eq-div-mul, fold-append, mul-lt, fold, enumerate_from, AllByRecursion, Cell, Part, steps_to_rows, rows_of, Rra, Content, Event, Sampled, Tuned, Resized, Added, Removed, Moment, moment_after, moment_of, moment_at_end, rows_after, IsHistory, IsArchive, IsBase, steps_of, parts_of, rows_never_lost, keep_last, filled_up, kept_rows, archive_of, content_listed, length-keep_last}
+use Rattle.rrd_spec.proofs.Names.{common_steps, refl, sym, ◌∙◌, ap, arith, length-append, append_assoc, eqb, div-div-eq-div-mul, fold-append, mul-lt, fold, enumerate_from, AllByRecursion, Cell, Part, steps_to_rows, rows_of, Rra, Content, Event, Sampled, Tuned, Resized, Added, Removed, Moment, moment_after, moment_of, moment_at_end, rows_after, IsHistory, IsArchive, IsBase, steps_of, rows_never_lost, keep_last, filled_up, kept_rows, archive_of, content_listed}
 use Rattle.rrd_spec.proofs.GroupLemmas.{length-finished, reached_before}
 use Rattle.rrd_spec.proofs.HistoryLemmas.{length-sources, length-steps_of, parts_of-append, rows_of-append, row_parts_of-append}
 use Rattle.rrd_spec.proofs.RowLemmas.{rows_again, room_first, room_last, room-append, length-filled_up}
@@ -11,22 +11,12 @@ unfolding rows_of
 length-rows_of base archive es pos some h =
     let steps = archive.def.steps in
     let before = base.last / base.step in
-    let count = length-finished (steps_to_rows archive.def (length base.sources)) before archive.parts (steps_of base es) in
-    let at : (before + length (steps_of base es)) / steps ≡ (moment_at_end base es).last / base.step / steps = ap (λ n. n / steps) (length-steps_of base es pos h) in
-    omega (arith, reached_before before (length (steps_of base es)) steps some, div-div-eq-div-mul base.last base.step steps, div-div-eq-div-mul (moment_at_end base es).last base.step steps)
+    grind (arith, length-finished (steps_to_rows archive.def (length base.sources)) before archive.parts (steps_of base es), length-steps_of base es pos h, reached_before before (length (steps_of base es)) steps some, div-div-eq-div-mul base.last base.step steps, div-div-eq-div-mul (moment_at_end base es).last base.step steps)
 
 -- an archive has as many rows as its settings say
 pub length-kept_rows : (base : Content) (index : ℕ) (archive : Rra) (es : List Event) → 0 < base.step → IsArchive archive → IsHistory (moment_of base) es → length (kept_rows base index archive es) ≡ fold (rows_after index) archive.def.rows es
 unfolding kept_rows
-length-kept_rows base index archive es pos is h =
-    let res = base.step * archive.def.steps in
-    let since = λ (time : ℕ). ((moment_at_end base es).last) / res - time / res in
-    let v = rows_never_lost index since archive.def.rows (moment_of base) es in
-    let all = archive.rows ++ rows_of base archive es in
-    let count_all = length-append archive.rows (rows_of base archive es) in
-    let count_new = length-rows_of base archive es pos is.some_steps h in
-    let count : length (keep_last v all) ≡ v = length-keep_last v all (omega (arith, room_first index since archive.def.rows (moment_of base) es, is.rows_are)) in
-    length-filled_up (fold (rows_after index) archive.def.rows es) (replicate (length base.sources) Cell.Unknown) (keep_last v all) (omega (arith, room_last index since archive.def.rows (moment_of base) es))
+length-kept_rows base index archive es pos is h = grind (arith, common_steps, length-append, length-rows_of, room_first, length-filled_up, room_last)
 
 pub mul_positive : (a b : ℕ) → 0 < a → 0 < b → 0 < a * b
 mul_positive a b h k = omega (arith, mul-lt 0 0 a b h k)
@@ -71,28 +61,18 @@ kept_rows-append base index archive es fs pos is h k =
     ∙ ap (λ n. filled_up rows_end (replicate n Cell.Unknown) (keep_last later (kept_rows base index archive es ++ new))) (sym (length-sources now es h))
 
 archive_of-append : (base : Content) (index : ℕ) (archive : Rra) (es fs : List Event) → 0 < base.step → IsArchive archive → IsHistory (moment_of base) es → IsHistory (moment_at_end base es) fs → archive_of base (es ++ fs) (index, archive) ≡ archive_of (content_listed base es) fs (index, archive_of base es (index, archive))
-archive_of-append base index archive es fs pos is h k =
-    let one = fold-append (rows_after index) archive.def.rows es fs in
-    let two = row_parts_of-append base index archive es fs pos is.some_steps h k in
-    let three = kept_rows-append base index archive es fs pos is h k in
-    cc
+archive_of-append base index archive es fs pos is h k = grind (arith, fold-append, row_parts_of-append, kept_rows-append)
 
 archives-append : (base : Content) (es fs : List Event) (index : ℕ) (archives : List Rra) → 0 < base.step → AllByRecursion IsArchive archives → IsHistory (moment_of base) es → IsHistory (moment_at_end base es) fs → map (archive_of base (es ++ fs)) (enumerate_from index archives) ≡ map (archive_of (content_listed base es) fs) (enumerate_from index (map (archive_of base es) (enumerate_from index archives)))
 archives-append base es fs index [] pos is h k = refl
-archives-append base es fs index (archive ∷ archives) pos is h k =
-    let one = archive_of-append base index archive es fs pos is.0 h k in
-    let rest = archives-append base es fs (index + 1) archives pos is.1 h k in
-    cc
+archives-append base es fs index (archive ∷ archives) pos is h k = grind (arith, archive_of-append, archives-append base es fs (index + 1) archives pos is.1 h k)
 
 unfoldable pub with_moment : Content → Moment → List Part → List Rra → Content
 with_moment base moment parts archives = record base { sources = moment.sources; last = moment.last; raws = moment.raws; parts = parts; archives = archives }
 
 pub listed-append : (base : Content) (es fs : List Event) → IsBase base → IsHistory (moment_of base) es → IsHistory (moment_at_end base es) fs → content_listed base (es ++ fs) ≡ content_listed (content_listed base es) fs
 unfolding content_listed with_moment
-listed-append base es fs is h k =
-    let end = fold moment_after (moment_at_end base es) fs in
-    let archives = map (archive_of base (es ++ fs)) (enumerate_from 0 base.archives) in
-    cc (fold-append moment_after (moment_of base) es fs, parts_of-append base es fs is.some_step h k, archives-append base es fs 0 base.archives is.some_step is.archives_are h k)
+listed-append base es fs is h k = grind (arith, fold-append, parts_of-append, archives-append)
 
 -- ---- the content is a base again
 pub rows_stay : (index rows : ℕ) (now : Moment) (es : List Event) → 0 < rows → IsHistory now es → 0 < fold (rows_after index) rows es
@@ -110,14 +90,7 @@ rows_stay index rows now (Resized archive new ∷ es) some h =
 
 archives_stay : (base : Content) (es : List Event) (index : ℕ) (archives : List Rra) → 0 < base.step → AllByRecursion IsArchive archives → IsHistory (moment_of base) es → AllByRecursion IsArchive (map (archive_of base es) (enumerate_from index archives))
 archives_stay base es index [] pos is h = tt
-archives_stay base es index (archive ∷ archives) pos is h = (
-  record {
-    some_steps = is.0.some_steps;
-    some_rows = rows_stay index archive.def.rows (moment_of base) es is.0.some_rows h;
-    rows_are = length-kept_rows base index archive es pos is.0 h;
-  },
-  archives_stay base es (index + 1) archives pos is.1 h,
-)
+archives_stay base es index (archive ∷ archives) pos is h = grind (arith, rows_stay, length-kept_rows, archives_stay base es (index + 1) archives pos is.1 h)
 
 pub IsBase-listed : (base : Content) (es : List Event) → IsBase base → IsHistory (moment_of base) es → IsBase (content_listed base es)
 unfolding content_listed

@@ -1,6 +1,6 @@
 -- The entry of an accepted command fits, and the journal stays valid.
-use Rattle.std.specs.Prelude.{◌≡◌, ℕ, zero, suc, ◌+◌, ◌-◌, ◌/◌, ◌<◌, ◌≤◌, min, Bool, true, false, cond, ◌||◌, List, [], ◌∷◌, length, map, take, ◌⊎◌, Option, Some, None, is_none, slice_set}
-use Rattle.rrd_spec.proofs.Names.{refl, sym, ◌∙◌, ap, subst, eqb, get_or, arith, ⊎_elim, inl, inr, ltb, cases_Bool, cond_both, or_parts, not-false, both_ways, leb-false, eqb-false, length-map, length-take, fold, enumerate_from, list_any, AllByRecursion, Raw, Name, DsDef, SavedSource, Rra, Content, Sampled, Tuned, Moment, moment_after, moment_of, moment_at_end, IsHistory, IsArchive, archive_of, content_listed, moved_listed, Asked, DatabaseChange, Updating, TuningBy, Resizing, settings_of, rows_of_archives, sample_of, samples_of, tuned, rows_changed, events, moved, Settings, names, has_source, is_double, is_bad_rows, grows_too_far, shrinks_too_far, no_sample, asks_nothing, names_no_source, verdict, is_accepted, Entry, AddedEntry, RemovedEntry, TuneEntry, archive_at, archive_entry, rows_between, saved, is_asked, is_named, saved_sources, rows_at, entry, undone, Action, Changed, Reverted, Stored, changed, reverted, stored_after, AllUndo, new_archive, ArchiveTune, Add, Remove, option_map_or, remove, length_push, length-remove, base_of_valid, length-accepted, rows_wide, sound, undone_depth, All-at, All-take, length-enumerate_from, IsRow, IsValidArchive, IsValid, FitsArchive, FitEach, FitsRemoved, FitsTune, Rise, Fits, IsValidJournal, IsValidDatabase, DatabaseStays, RevertTakesBack, RunsStay, Begins, Tuning, Update, Sample, Change, Grow, Shrink, same_name, present}
+use Rattle.std.specs.Prelude.{◌≡◌, ℕ, zero, suc, ◌+◌, ◌/◌, ◌<◌, ◌≤◌, min, Bool, true, false, cond, ◌||◌, List, [], ◌∷◌, length, map, take, ◌⊎◌, Option, Some, None, is_none, slice_set}
+use Rattle.rrd_spec.proofs.Names.{common_steps, refl, sym, ◌∙◌, ap, subst, get_or, arith, ⊎_elim, cases_Bool, cond_both, or_parts, not-false, both_ways, leb-false, length-map, length-take, fold, enumerate_from, list_any, AllByRecursion, Raw, Name, DsDef, Rra, Content, Sampled, Tuned, Moment, moment_after, moment_of, moment_at_end, IsHistory, IsArchive, archive_of, content_listed, moved_listed, Asked, DatabaseChange, Updating, TuningBy, Resizing, settings_of, rows_of_archives, sample_of, samples_of, tuned, rows_changed, events, moved, names, is_double, is_bad_rows, grows_too_far, shrinks_too_far, no_sample, asks_nothing, names_no_source, verdict, is_accepted, Entry, RemovedEntry, TuneEntry, archive_at, archive_entry, rows_between, saved, is_asked, is_named, saved_sources, rows_at, entry, undone, Action, Changed, Reverted, Stored, changed, reverted, stored_after, AllUndo, ArchiveTune, Add, Remove, option_map_or, remove, length-remove, base_of_valid, length-accepted, rows_wide, sound, undone_depth, All-at, All-take, length-enumerate_from, IsRow, IsValidArchive, IsValid, FitsArchive, FitEach, FitsRemoved, FitsTune, Rise, Fits, IsValidJournal, IsValidDatabase, DatabaseStays, RevertTakesBack, RunsStay, Begins, Tuning, Update, Sample, Change, same_name, present}
 use Rattle.rrd_spec.specs.History.{Reading}
 use Rattle.rrd_spec.proofs.HistoryLemmas.{last_rises, length-sources}
 use Rattle.rrd_spec.proofs.SampleLemmas.{rows_of_samples}
@@ -30,9 +30,7 @@ each_fits base sources end list index [] is = tt
 each_fits base sources end list index (archive ∷ archives) is = (archive_fits base sources end list index archive is.0, each_fits base sources end list (index + 1) archives is.1)
 
 time_rises : (sources : List DsDef) (template : List Name) (now : Moment) (readings : List Sample) → no_sample readings ≡ false → IsHistory now (map Sampled (map (sample_of sources template) readings)) → now.last < (fold moment_after now (map Sampled (map (sample_of sources template) readings))).last
-time_rises sources template now [] some h = absurd cc
-time_rises sources template now (reading ∷ readings) some h =
-    omega (arith, h.0, last_rises (moment_after now (Sampled (sample_of sources template reading))) (map Sampled (map (sample_of sources template) readings)) h.1)
+time_rises sources template now readings some h = grind (arith, last_rises)
 
 update_fits : (base : Content) (update : Update) → IsValid base → verdict base (Updating update) ≡ None → Fits (moved_listed base (Updating update)) (entry base (Updating update))
 unfolding content_listed
@@ -58,9 +56,7 @@ before_rise tuning lowest number (source ∷ sources) (raw ∷ raws) h =
     let same : number + 1 + length sources ≡ number + suc (length sources) = omega arith in
     let rest : (low : ℕ) → low ≤ number + 1 → Rise low (number + suc (length sources)) (saved_sources tuning (number + 1) sources raws)
     = λ low k. subst (λ limit. Rise low limit (saved_sources tuning (number + 1) sources raws)) same (before_rise tuning low (number + 1) sources raws k) in
-    cond_both (is_named tuning source) (record { number = number; source = source; raw = raw } ∷ saved_sources tuning (number + 1) sources raws) (saved_sources tuning (number + 1) sources raws) (λ olds. Rise lowest (number + suc (length sources)) olds)
-    (λ e. (h, omega arith, rest (number + 1) (omega arith)))
-    (λ e. rest lowest (omega arith))
+    grind arith
 
 -- how many sources pass a test
 abbrev how_many : (DsDef → Bool) → List DsDef → ℕ
@@ -68,30 +64,16 @@ how_many test [] = 0
 how_many test (source ∷ sources) = cond (test source) 1 0 + how_many test sources
 
 or_count : (a b : Bool) → cond (a || b) 1 0 ≤ cond a 1 0 + cond b 1 0
-or_count true b = omega arith
-or_count false b = omega arith
+or_count a b = grind arith
 
 before_count : (tuning : Tuning) (number : ℕ) (sources : List DsDef) (raws : List Raw) → length (saved_sources tuning number sources raws) ≤ how_many (is_named tuning) sources
 before_count tuning number [] raws = omega arith
 before_count tuning number (source ∷ sources) [] = omega arith
-before_count tuning number (source ∷ sources) (raw ∷ raws) =
-    let olds = saved_sources tuning (number + 1) sources raws in
-    let here : SavedSource = record { number = number; source = source; raw = raw } in
-    each (is_named tuning source) here olds (how_many (is_named tuning) sources) (before_count tuning (number + 1) sources raws)
-  where
-    each : (b : Bool) (here : SavedSource) (olds : List SavedSource) (n : ℕ) → length olds ≤ n → length (cond b (here ∷ olds) olds) ≤ cond b 1 0 + n
-    each true here olds n h = omega arith
-    each false here olds n h = omega arith
+before_count tuning number (source ∷ sources) (raw ∷ raws) = grind (arith, before_count tuning (number + 1) sources raws)
 
 named_count : (tuning : Tuning) (sources : List DsDef) → how_many (is_named tuning) sources ≤ how_many (is_asked tuning.heartbeat) sources + how_many (is_asked tuning.minimum) sources + how_many (is_asked tuning.maximum) sources + how_many (is_asked tuning.kind) sources + how_many (is_asked tuning.rename) sources
 named_count tuning [] = omega arith
-named_count tuning (source ∷ sources) =
-    let h = is_asked tuning.heartbeat source in
-    let n = is_asked tuning.minimum source in
-    let x = is_asked tuning.maximum source in
-    let k = is_asked tuning.kind source in
-    let r = is_asked tuning.rename source in
-    omega (arith, named_count tuning sources, or_count h n, or_count (h || n) x, or_count (h || n || x) k, or_count (h || n || x || k) r)
+named_count tuning (source ∷ sources) = grind (arith, common_steps, named_count tuning sources, or_count)
 
 sum_is : (a b m n : ℕ) → a ≡ m → b ≡ n → a + b ≡ m + n
 sum_is a b m n h k = omega arith
@@ -114,20 +96,15 @@ asked_once (Some option) (source ∷ sources) h =
     ⊎_elim
     (λ (here : same_name option.0 source.name ≡ true).
     let none : how_many (is_asked (Some option)) sources ≡ 0 = none_asked option sources (ap (λ n. list_any (same_name n) (names sources)) (same_is option.0 source.name here) ∙ a.0) in
-    let P : ℕ → Type 0 = λ n. n ≤ 1 in
-    subst P (sym (sum_is (cond (same_name option.0 source.name) 1 0) (how_many (is_asked (Some option)) sources) 1 0 (ap (λ b. cond {A = ℕ} b 1 0) here) none)) (omega arith))
-    (λ (there : same_name option.0 source.name ≡ false).
-    let P : ℕ → Type 0 = λ n. n ≤ 1 in
-    let rest = asked_once (Some option) sources a.1 in
-    subst P (sym (sum_is (cond (same_name option.0 source.name) 1 0) (how_many (is_asked (Some option)) sources) 0 (how_many (is_asked (Some option)) sources) (ap (λ b. cond {A = ℕ} b 1 0) there) refl)) (omega arith))
+    grind arith)
+    (λ (there : same_name option.0 source.name ≡ false). grind (arith, asked_once (Some option) sources a.1, sum_is))
     (cases_Bool (same_name option.0 source.name))
 
 or_here : (a b : Bool) → a ≡ true → (a || b) ≡ true
 or_here a b h = ap (λ x. x || b) h
 
 or_there : (a b : Bool) → b ≡ true → (a || b) ≡ true
-or_there true b h = refl
-or_there false b h = h
+or_there a b h = grind arith
 
 list_any_more : (p q : DsDef → Bool) (sources : List DsDef) → ((source : DsDef) → p source ≡ true → q source ≡ true) → list_any p sources ≡ true → list_any q sources ≡ true
 list_any_more p q [] h k = k
@@ -138,9 +115,7 @@ list_any_more p q (source ∷ sources) h k =
     (cases_Bool (p source))
 
 option_named : {A : Type 0} (sources : List DsDef) (option : Option (Asked A)) → names_no_source sources option ≡ false → (is_none option ≡ true) ⊎ (list_any (is_asked option) sources ≡ true)
-option_named sources None h = inl refl
-option_named sources (Some option) h =
-    inr (list_any_more (λ (source : DsDef). same_name source.name option.0) (is_asked (Some option)) sources (λ source e. same_itself option.0 source.name (sym (same_is source.name option.0 e))) (not-false (has_source sources option.0) h))
+option_named sources option h = grind (arith, list_any_more, same_itself, same_is, not-false)
 
 some_named : (sources : List DsDef) (tuning : Tuning) → tuning.archive ≡ None → asks_nothing tuning ≡ false → (names_no_source sources tuning.heartbeat || names_no_source sources tuning.minimum || names_no_source sources tuning.maximum || names_no_source sources tuning.kind || names_no_source sources tuning.rename) ≡ false → list_any (is_named tuning) sources ≡ true
 some_named sources tuning alone h k =
@@ -150,13 +125,7 @@ some_named sources tuning alone h k =
     let b = or_parts (names_no_source sources tuning.heartbeat) (names_no_source sources tuning.minimum) c.0 in
     ⊎_elim (λ (n1 : is_none tuning.heartbeat ≡ true).
     ⊎_elim (λ (n2 : is_none tuning.minimum ≡ true).
-    ⊎_elim (λ (n3 : is_none tuning.maximum ≡ true).
-    ⊎_elim (λ (n4 : is_none tuning.kind ≡ true).
-    ⊎_elim (λ (n5 : is_none tuning.rename ≡ true). let all : asks_nothing tuning ≡ true = rw (n1, n2, n3, n4, n5, ap is_none alone) in absurd (both_ways (asks_nothing tuning) h all))
-    (λ (s : list_any (is_asked tuning.rename) sources ≡ true). list_any_more (is_asked tuning.rename) (is_named tuning) sources (λ source is. or_there _ (is_asked tuning.rename source) is) s)
-    (option_named sources tuning.rename e.1))
-    (λ (s : list_any (is_asked tuning.kind) sources ≡ true). list_any_more (is_asked tuning.kind) (is_named tuning) sources (λ source is. or_here _ (is_asked tuning.rename source) (or_there _ (is_asked tuning.kind source) is)) s)
-    (option_named sources tuning.kind d.1))
+    ⊎_elim (λ (n3 : is_none tuning.maximum ≡ true). grind (arith, is_none, both_ways, list_any_more, or_there, option_named, or_here))
     (λ (s : list_any (is_asked tuning.maximum) sources ≡ true). list_any_more (is_asked tuning.maximum) (is_named tuning) sources (λ source is. or_here _ (is_asked tuning.rename source) (or_here _ (is_asked tuning.kind source) (or_there _ (is_asked tuning.maximum source) is))) s)
     (option_named sources tuning.maximum c.1))
     (λ (s : list_any (is_asked tuning.minimum) sources ≡ true). list_any_more (is_asked tuning.minimum) (is_named tuning) sources (λ source is. or_here _ (is_asked tuning.rename source) (or_here _ (is_asked tuning.kind source) (or_here _ (is_asked tuning.maximum source) (or_there _ (is_asked tuning.minimum source) is)))) s)
@@ -189,9 +158,7 @@ tune_fits base tuning None e is h =
     let olds = saved_sources tuning 0 base.sources base.raws in
     let es = Tuned (map (tuned tuning) base.sources) ∷ [] in
     subst (λ now. FitsTune now olds) (is_listed base es (base_of_valid base is) (length-map base.sources (tuned tuning), tt) tt ∙ sym (tune_alone base tuning e)) (tuned_fits base tuning e is h)
-tune_fits base tuning (Some (Add def)) e is h =
-    let new = new_archive (length base.sources) def in
-    subst (λ now. Fits now AddedEntry) (sym (tune_added base tuning def (base_of_valid base is) e h)) (refl, omega (arith, length_push base.archives new, is.some_archive))
+tune_fits base tuning (Some (Add def)) e is h = grind (arith, common_steps, tune_added)
 tune_fits base tuning (Some (Remove number)) e is h =
     let n = length base.sources in
     let p = tune_passes base tuning (Some (Remove number)) e h in
@@ -224,12 +191,7 @@ changed_there new zero (row ∷ rows) h = refl
 changed_there new (suc index) (row ∷ rows) h = changed_there new index rows (omega arith)
 
 another : (change : Change) (old rows : ℕ) → (is_bad_rows present rows || grows_too_far present change old rows) ≡ false → shrinks_too_far change old rows ≡ false → old ≡ rows_changed change old rows → ⊥
-another Grow old rows h k e =
-    let some = eqb-false rows 0 (or_parts (eqb rows 0) (ltb 1000000 rows) (or_parts (is_bad_rows present rows) (grows_too_far present Grow old rows) h).0).0 in
-    omega (arith, some)
-another Shrink old rows h k e =
-    let some = eqb-false rows 0 (or_parts (eqb rows 0) (ltb 1000000 rows) (or_parts (is_bad_rows present rows) (grows_too_far present Shrink old rows) h).0).0 in
-    omega (arith, some, leb-false old rows k)
+another change old rows h k e = grind arith
 
 resize_fits : (base : Content) (archive : ℕ) (change : Change) (rows : ℕ) → IsValid base → verdict base (Resizing archive change rows) ≡ None → Fits (moved_listed base (Resizing archive change rows)) (entry base (Resizing archive change rows))
 unfolding content_listed
@@ -246,17 +208,13 @@ resize_fits base archive change rows is h =
     let in_range : archive < length base.archives = omega (arith, length-map base.archives (λ (a : Rra). a.def.rows)) in
     let was : length (rows_at base.archives archive) ≡ old = length-rows_at archive base.archives (sound base is).is_base.archives_are in
     let is_now : length (rows_at archives archive) ≡ new
-    = length-rows_at archive archives (listed_sound base command (sound base is) h).is_base.archives_are
-    ∙ ap (λ (s : Settings). get_or s.rows archive 0) (ap settings_of (is_listed base (events settings command) (base_of_valid base is) (accepted_history base command h) tt) ∙ settings_by_time base (events settings command))
-    ∙ changed_there new archive settings.rows there in
+    = grind (arith, length-rows_at archive archives (listed_sound base command (sound base is) h).is_base.archives_are, listed_sound base command (sound base is) h, is_listed base (events settings command) (base_of_valid base is) (accepted_history base command h) tt, accepted_history base command h, settings_by_time base (events settings command), changed_there new archive settings.rows there) in
     grind (arith, rows_wide (length base.sources) (rows_at base.archives archive) (rows_at_all (length base.sources) (base.last / base.step) archive base.archives is.archives_are))
 
 pub fits : (base : Content) (command : DatabaseChange) → IsValid base → verdict base command ≡ None → Fits (moved base command) (entry base command)
-fits base (Updating update) is h =
-    subst (λ now. Fits now (entry base (Updating update))) (moved_is base (Updating update) (sound base is) h (sampled_keep (samples_of base.sources update))) (update_fits base update is h)
+fits base (Updating update) is h = grind (arith, moved_is base (Updating update) (sound base is) h (sampled_keep (samples_of base.sources update)), sampled_keep (samples_of base.sources update), update_fits base update is h)
 fits base (TuningBy tuning) is h = tune_fits base tuning tuning.archive refl is h
-fits base (Resizing archive change rows) is h =
-    subst (λ now. Fits now (entry base (Resizing archive change rows))) (moved_is base (Resizing archive change rows) (sound base is) h tt) (resize_fits base archive change rows is h)
+fits base (Resizing archive change rows) is h = grind (arith, moved_is base (Resizing archive change rows) (sound base is) h tt, resize_fits base archive change rows is h)
 
 -- ---- the journal
 
@@ -271,11 +229,7 @@ database_stays now journal command is h =
     let P : Content → Type 0 = λ c. IsValid c in
     let J : Content → Type 0 = λ c. IsValidJournal c journal in
     let whole : IsValidJournal (moved now command) (entry now command ∷ journal) = (fits now command is.content_is h, subst P (sym back) is.content_is, subst J (sym back) is.journal_is) in
-    record {
-      content_is = stays_valid now command is.content_is h;
-      journal_is = journal_taken now.depth (moved now command) (entry now command ∷ journal) whole;
-      few = let same = moved_depth now command in omega (arith, length-take now.depth (entry now command ∷ journal));
-    }
+    grind (arith, common_steps, stays_valid, journal_taken, moved, moved_depth)
 
 undo_all : (now : Content) (journal : List Entry) → IsValidJournal now journal → AllUndo now journal
 undo_all now [] h = tt
@@ -286,12 +240,7 @@ revert_valid now [] h = h
 revert_valid now (old ∷ journal) h = record { content_is = h.journal_is.1; journal_is = h.journal_is.2; few = let same = undone_depth now old in omega (arith, h.few) }
 
 pub revert_takes_back : (now : Content) (journal : List Entry) (command : DatabaseChange) → RevertTakesBack now journal command
-revert_takes_back now journal command is h = places now.depth is.content_is.some_depth where
-  places : (depth : ℕ) → 0 < depth → reverted (moved now command) (take depth (entry now command ∷ journal)) ≡ record { content = now; journal = take (depth - 1) journal }
-  places zero some = absurd (omega arith)
-  places (suc n) some =
-      ap (λ c. let k : Stored = record { content = c; journal = take n journal } in k) (comes_back now command (sound now is.content_is) h)
-      ∙ ap (λ m. let k : Stored = record { content = now; journal = take m journal } in k) {x = n} {y = suc n - 1} (omega arith)
+revert_takes_back now journal command is h = grind (arith, moved now command, comes_back now command (sound now is.content_is) h)
 
 step_valid : (kept : Stored) (action : Action) → IsValidDatabase kept.content kept.journal → let next = stored_after kept action in IsValidDatabase next.content next.journal
 step_valid kept (Changed command) h =

@@ -1,6 +1,6 @@
 -- The groups of a list that grows.
-use Rattle.std.specs.Prelude.{◌≡◌, ℕ, zero, suc, ◌+◌, ◌-◌, ◌*◌, ◌/◌, ◌<◌, ◌≤◌, true, false, cond, List, [], ◌∷◌, ◌++◌, length, take, drop, map, replicate, if◌then◌else◌, ◌==◌}
-use Rattle.rrd_spec.proofs.Names.{refl, sym, ◌∙◌, ap, eqb, arith, append-nil, append_assoc, length-append, eq-eqb, take_all, ⊎_elim, cases_lt, nat_tests, take-append-le, drop-append-le, drop_all, length_push, length-take, length-replicate, replicate-append-replicate, fold-append, div-add-mod', div-mul-add, le-div, mod_below, mul-le, fold, range_with_len, map-range_with_len_more, length-map-range_with_len, Rule, group_items, group_part, finished, unfinished, GoesOn}
+use Rattle.std.specs.Prelude.{◌≡◌, ℕ, zero, suc, ◌+◌, ◌-◌, ◌*◌, ◌/◌, ◌<◌, ◌≤◌, false, List, [], ◌∷◌, ◌++◌, length, take, drop, map, replicate, if◌then◌else◌, ◌==◌}
+use Rattle.rrd_spec.proofs.Names.{common_steps, refl, sym, ◌∙◌, ap, eqb, arith, append-nil, append_assoc, length-append, take_all, ⊎_elim, cases_lt, nat_tests, take-append-le, drop_all, length-take, length-replicate, replicate-append-replicate, fold-append, div-add-mod', le-div, mod_below, mul-le, fold, range_with_len, map-range_with_len_more, length-map-range_with_len, Rule, group_items, group_part, finished, unfinished, GoesOn}
 
 -- an item that comes leaves the groups before its own as they are
 pub group_items_kept : {A : Type 0} (size before : ℕ) (xs ys : List A) (group : ℕ) → (group + 1) * size ≤ before + length xs → group_items size before (xs ++ ys) group ≡ group_items size before xs group
@@ -9,10 +9,7 @@ group_items_kept size before xs ys group h =
 
 -- and is the last item of its own
 pub group_items_more : {A : Type 0} (size before : ℕ) (xs ys : List A) (group : ℕ) → group * size ≤ before + length xs → before + length xs + length ys ≤ (group + 1) * size → group_items size before (xs ++ ys) group ≡ group_items size before xs group ++ ys
-group_items_more size before xs ys group low high =
-    let whole : take ((group + 1) * size - before) (xs ++ ys) ≡ xs ++ ys = take_all _ _ (omega (arith, length-append xs ys)) in
-    let part : take ((group + 1) * size - before) xs ≡ xs = take_all _ _ (omega arith) in
-    ap (drop (group * size - before)) whole ∙ drop-append-le (group * size - before) xs ys (omega arith) ∙ ap (λ zs. drop (group * size - before) zs ++ ys) (sym part)
+group_items_more size before xs ys group low high = grind (arith, common_steps, take_all, length-append)
 
 -- a group that comes later has no item yet
 pub group_items_none : {A : Type 0} (size before : ℕ) (xs : List A) (group : ℕ) → before + length xs ≤ group * size → group_items size before xs group ≡ []
@@ -22,19 +19,14 @@ group_items_none size before xs group h =
 -- two functions that agree on the numbers of a range
 pub map_range_same : {B : Type 0} (f g : ℕ → B) (a n : ℕ) → ((i : ℕ) → a ≤ i → i < a + n → f i ≡ g i) → map f (range_with_len a n) ≡ map g (range_with_len a n)
 map_range_same f g a zero h = refl
-map_range_same f g a (suc n) h =
-    let rest = map_range_same f g (a + 1) n (λ i low high. h i (omega arith) (omega arith)) in
-    let here : f a ≡ g a = h a (omega arith) (omega arith) in
-    cc
+map_range_same f g a (suc n) h = grind (arith, map_range_same f g (a + 1) n (λ i low high. h i (omega arith) (omega arith)))
 
 not_same : (m n : ℕ) → n < m → eqb m n ≡ false
 not_same m n h = grind (arith, nat_tests)
 
 -- the number of a group that has been reached
 same_group : (n q size : ℕ) → q * size ≤ n → n < (q + 1) * size → n / size ≡ q
-same_group n q size low high =
-    let e : n ≡ q * size + (n - q * size) = omega arith in
-    ap (λ m. m / size) e ∙ div-mul-add q size (n - q * size) (omega arith)
+same_group n q size low high = grind arith
 
 reached : (n size : ℕ) → n / size * size ≤ n
 reached n size = omega (arith, div-add-mod' n size)
@@ -47,17 +39,11 @@ reached_before n k size pos = le-div (n / size) (n + k) size pos (omega (arith, 
 
 -- a group keeps its part where its items stay
 part_kept : {A P B : Type 0} (rule : Rule A P B) (before : ℕ) (begun : P) (xs ys : List A) (group : ℕ) → (group + 1) * rule.size ≤ before + length xs → group_part rule before begun (xs ++ ys) group ≡ group_part rule before begun xs group
-part_kept rule before begun xs ys group h =
-    ap (fold rule.add (if group == before / rule.size then begun else rule.empty)) (group_items_kept rule.size before xs ys group h)
+part_kept rule before begun xs ys group h = grind (arith, group_items_kept)
 
 -- and the new items are added to the part of theirs
 part_more : {A P B : Type 0} (rule : Rule A P B) (before : ℕ) (begun : P) (xs ys : List A) (group : ℕ) → group * rule.size ≤ before + length xs → before + length xs + length ys ≤ (group + 1) * rule.size → group_part rule before begun (xs ++ ys) group ≡ fold rule.add (group_part rule before begun xs group) ys
 part_more rule before begun xs ys group low high = cc (group_items_more rule.size before xs ys group low high, fold-append rule.add (if group == before / rule.size then begun else rule.empty) (group_items rule.size before xs group) ys)
-
-nothing_taken : {A : Type 0} (size before group : ℕ) → group_items {A = A} size before [] group ≡ []
-nothing_taken {A = A} size before group =
-    let none : List A = [] in
-    drop_all (group * size - before) (take ((group + 1) * size - before) none) (omega (arith, length-take ((group + 1) * size - before) none))
 
 plus_zero : (n size : ℕ) → (n + 0) / size ≡ n / size
 plus_zero n size = ap (λ m. m / size) {x = n + 0} {y = n} (omega arith)
@@ -65,15 +51,11 @@ plus_zero n size = ap (λ m. m / size) {x = n + 0} {y = n} (omega arith)
 -- no item: nothing is finished, and what was begun stays
 pub finished_nil : {A P B : Type 0} (rule : Rule A P B) (before : ℕ) (begun : P) → finished rule before begun [] ≡ []
 unfolding finished
-finished_nil rule before begun =
-    ap (λ n. map (λ group. rule.close (group_part rule before begun [] group)) (range_with_len (before / rule.size) n)) {y = 0} (let e = plus_zero before rule.size in omega arith)
+finished_nil rule before begun = grind arith
 
 pub unfinished_nil : {A P B : Type 0} (rule : Rule A P B) (before : ℕ) (begun : P) → 0 < rule.size → unfinished rule before begun [] ≡ begun
 unfolding unfinished
-unfinished_nil {A = A} rule before begun pos =
-    let test : eqb ((before + 0) / rule.size) (before / rule.size) ≡ true = eq-eqb _ _ (plus_zero before rule.size) in
-    let none = nothing_taken {A = A} rule.size before ((before + 0) / rule.size) in
-    ap (fold rule.add (cond (eqb ((before + 0) / rule.size) (before / rule.size)) begun rule.empty)) none ∙ ap (λ b. cond b begun rule.empty) test
+unfinished_nil {A = A} rule before begun pos = grind arith
 
 -- items that leave their group unfinished
 pub finished_stays : {A P B : Type 0} (rule : Rule A P B) (before : ℕ) (begun : P) (xs ys : List A) → 0 < rule.size → before + length xs + length ys < ((before + length xs) / rule.size + 1) * rule.size → finished rule before begun (xs ++ ys) ≡ finished rule before begun xs
@@ -87,11 +69,7 @@ finished_stays rule before begun xs ys pos h =
 
 pub unfinished_stays : {A P B : Type 0} (rule : Rule A P B) (before : ℕ) (begun : P) (xs ys : List A) → 0 < rule.size → before + length xs + length ys < ((before + length xs) / rule.size + 1) * rule.size → unfinished rule before begun (xs ++ ys) ≡ fold rule.add (unfinished rule before begun xs) ys
 unfolding unfinished
-unfinished_stays rule before begun xs ys pos h =
-    let size = rule.size in
-    let group = (before + length xs) / size in
-    let in_group : (before + length (xs ++ ys)) / size ≡ group = same_group _ group size (omega (arith, length-append xs ys, reached (before + length xs) size)) (omega (arith, length-append xs ys)) in
-    ap (group_part rule before begun (xs ++ ys)) in_group ∙ part_more rule before begun xs ys group (reached (before + length xs) size) (omega arith)
+unfinished_stays rule before begun xs ys pos h = grind (arith, same_group, length-append, reached, part_more)
 
 -- items that fill it
 pub finished_fills : {A P B : Type 0} (rule : Rule A P B) (before : ℕ) (begun : P) (xs ys : List A) → 0 < rule.size → before + length xs + length ys ≡ ((before + length xs) / rule.size + 1) * rule.size → finished rule before begun (xs ++ ys) ≡ finished rule before begun xs ++ rule.close (fold rule.add (unfinished rule before begun xs) ys) ∷ []
@@ -127,7 +105,6 @@ one_more rule before begun xs y pos =
     let n = before + length xs in
     let part = unfinished rule before begun xs in
     let same : ((n + 0) / rule.size + 1) * rule.size ≡ (n / rule.size + 1) * rule.size = ap (λ q. (q + 1) * rule.size) (plus_zero n rule.size) in
-    let ahead = next_ahead n rule.size pos in
     ⊎_elim
     (λ (stays : n + 1 < (n / rule.size + 1) * rule.size). record {
       finished_is = finished_stays rule before begun xs (y ∷ []) pos (omega arith) ∙ sym (append-nil _)
@@ -142,33 +119,11 @@ one_more rule before begun xs y pos =
     (cases_lt (n + 1) ((n / rule.size + 1) * rule.size))
 
 pub goes_on : {A P B : Type 0} (rule : Rule A P B) (before : ℕ) (begun : P) (xs ys : List A) → 0 < rule.size → GoesOn rule before begun xs ys
-goes_on rule before begun xs [] pos =
-    let n = before + length xs in
-    let part = unfinished rule before begun xs in
-    record {
-      finished_is = ap (finished rule before begun) (append-nil xs) ∙ sym (append-nil _) ∙ ap (λ zs. finished rule before begun xs ++ zs) (sym (finished_nil rule n part));
-      unfinished_is = ap (unfinished rule before begun) (append-nil xs) ∙ sym (unfinished_nil rule n part pos);
-    }
+goes_on rule before begun xs [] pos = grind (arith, append-nil, finished_nil, unfinished_nil)
 goes_on rule before begun xs (y ∷ ys) pos =
     let n = before + length xs in
     let part = unfinished rule before begun xs in
-    let one = one_more rule before begun xs y pos in
-    let whole = goes_on rule before begun (xs ++ y ∷ []) ys pos in
-    let rest = goes_on rule n part (y ∷ []) ys pos in
-    let again : (xs ++ y ∷ []) ++ ys ≡ xs ++ y ∷ ys = append_assoc xs (y ∷ []) ys in
-    let at : before + length (xs ++ y ∷ []) ≡ n + 1 = omega (arith, length_push xs y) in
-    record {
-      finished_is = ap (finished rule before begun) (sym again) ∙ whole.finished_is
-          ∙ ap (λ zs. zs ++ finished rule (before + length (xs ++ y ∷ [])) (unfinished rule before begun (xs ++ y ∷ [])) ys) one.finished_is
-          ∙ ap (λ p. (finished rule before begun xs ++ finished rule n part (y ∷ [])) ++ finished rule (before + length (xs ++ y ∷ [])) p ys) one.unfinished_is
-          ∙ ap (λ m. (finished rule before begun xs ++ finished rule n part (y ∷ [])) ++ finished rule m (unfinished rule n part (y ∷ [])) ys) at
-          ∙ append_assoc (finished rule before begun xs) (finished rule n part (y ∷ [])) (finished rule (n + 1) (unfinished rule n part (y ∷ [])) ys)
-          ∙ ap (λ zs. finished rule before begun xs ++ zs) (sym rest.finished_is);
-      unfinished_is = ap (unfinished rule before begun) (sym again) ∙ whole.unfinished_is
-          ∙ ap (λ p. unfinished rule (before + length (xs ++ y ∷ [])) p ys) one.unfinished_is
-          ∙ ap (λ m. unfinished rule m (unfinished rule n part (y ∷ [])) ys) at
-          ∙ sym rest.unfinished_is;
-    }
+    grind (arith, common_steps, one_more, goes_on rule before begun (xs ++ y ∷ []) ys pos, goes_on rule n part (y ∷ []) ys pos, append_assoc)
 
 -- how many groups are finished
 pub length-finished : {A P B : Type 0} (rule : Rule A P B) (before : ℕ) (begun : P) (xs : List A) → length (finished rule before begun xs) ≡ (before + length xs) / rule.size - before / rule.size
@@ -182,14 +137,10 @@ finished_within rule before begun ys pos h =
     finished_stays rule before begun [] ys pos (omega arith) ∙ finished_nil rule before begun
 
 pub unfinished_within : {A P B : Type 0} (rule : Rule A P B) (before : ℕ) (begun : P) (ys : List A) → 0 < rule.size → before + length ys < (before / rule.size + 1) * rule.size → unfinished rule before begun ys ≡ fold rule.add begun ys
-unfinished_within rule before begun ys pos h =
-    let same : ((before + 0) / rule.size + 1) * rule.size ≡ (before / rule.size + 1) * rule.size = ap (λ q. (q + 1) * rule.size) (plus_zero before rule.size) in
-    unfinished_stays rule before begun [] ys pos (omega arith) ∙ ap (λ p. fold rule.add p ys) (unfinished_nil rule before begun pos)
+unfinished_within rule before begun ys pos h = grind (arith, plus_zero before rule.size, unfinished_stays rule before begun, unfinished_nil rule before begun pos)
 
 pub finished_filling : {A P B : Type 0} (rule : Rule A P B) (before : ℕ) (begun : P) (ys : List A) → 0 < rule.size → before + length ys ≡ (before / rule.size + 1) * rule.size → finished rule before begun ys ≡ rule.close (fold rule.add begun ys) ∷ []
-finished_filling rule before begun ys pos h =
-    let same : ((before + 0) / rule.size + 1) * rule.size ≡ (before / rule.size + 1) * rule.size = ap (λ q. (q + 1) * rule.size) (plus_zero before rule.size) in
-    cc (finished_fills rule before begun [] ys pos (omega arith), finished_nil rule before begun, unfinished_nil rule before begun pos)
+finished_filling rule before begun ys pos h = grind (arith, plus_zero before rule.size, finished_fills rule before begun, finished_nil rule before begun, unfinished_nil rule before begun pos)
 
 pub unfinished_filling : {A P B : Type 0} (rule : Rule A P B) (before : ℕ) (begun : P) (ys : List A) → 0 < rule.size → before + length ys ≡ (before / rule.size + 1) * rule.size → unfinished rule before begun ys ≡ rule.empty
 unfinished_filling rule before begun ys pos h =
@@ -198,8 +149,7 @@ unfinished_filling rule before begun ys pos h =
 
 -- whole groups of one item
 pub finished-replicate : {A P B : Type 0} (rule : Rule A P B) (k first : ℕ) (x : A) → 0 < rule.size → finished rule (first * rule.size) rule.empty (replicate (k * rule.size) x) ≡ replicate k (rule.close (fold rule.add rule.empty (replicate rule.size x)))
-finished-replicate rule zero first x pos =
-    ap (λ n. finished rule (first * rule.size) rule.empty (replicate n x)) {x = zero * rule.size} {y = 0} (omega arith) ∙ finished_nil rule (first * rule.size) rule.empty
+finished-replicate rule zero first x pos = grind (arith, finished_nil)
 finished-replicate rule (suc k) first x pos =
     let size = rule.size in
     let at = first * size in
@@ -218,8 +168,7 @@ finished-replicate rule (suc k) first x pos =
     ∙ ap (λ zs. rule.close (fold rule.add rule.empty one) ∷ zs) (finished-replicate rule k (suc first) x pos)
 
 pub unfinished-replicate : {A P B : Type 0} (rule : Rule A P B) (k first : ℕ) (x : A) → 0 < rule.size → unfinished rule (first * rule.size) rule.empty (replicate (k * rule.size) x) ≡ rule.empty
-unfinished-replicate rule zero first x pos =
-    ap (λ n. unfinished rule (first * rule.size) rule.empty (replicate n x)) {x = zero * rule.size} {y = 0} (omega arith) ∙ unfinished_nil rule (first * rule.size) rule.empty pos
+unfinished-replicate rule zero first x pos = grind (arith, unfinished_nil)
 unfinished-replicate rule (suc k) first x pos =
     let size = rule.size in
     let at = first * size in

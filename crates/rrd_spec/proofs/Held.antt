@@ -1,6 +1,6 @@
 -- What a history leaves of a valid content.
 use Rattle.std.specs.Prelude.{ℕ, ◌+◌, ◌-◌, ◌*◌, ◌/◌, ◌%◌, ◌<◌, ◌≤◌, List, [], ◌∷◌, ◌++◌, length, map, replicate}
-use Rattle.rrd_spec.proofs.Names.{subst, length-replicate, fold, enumerate_from, AllByRecursion, Cell, IsBounded, Average, Rra, Content, Event, moment_of, moment_at_end, seconds_of, rows_after, IsHistory, steps_of, parts_of, seconds_to_steps, rows_of, row_parts_of, steps_to_rows, rows_never_lost, keep_last, kept_rows, archive_of, AreParts, IsRow, IsValidArchive, IsValid, is_archive, All-append, All-drop, All-replicate}
+use Rattle.rrd_spec.proofs.Names.{arith, length-replicate, fold, enumerate_from, AllByRecursion, Cell, IsBounded, Average, Rra, Content, Event, moment_of, moment_at_end, seconds_of, rows_after, IsHistory, steps_of, parts_of, seconds_to_steps, rows_of, row_parts_of, steps_to_rows, rows_never_lost, keep_last, kept_rows, archive_of, AreParts, IsRow, IsValidArchive, IsValid, is_archive, All-append, All-drop, All-replicate}
 use Rattle.rrd_spec.proofs.HistoryLemmas.{length-seconds_of, length-steps_of}
 use Rattle.rrd_spec.proofs.ContentLemmas.{length-kept_rows}
 use Rattle.rrd_spec.proofs.Kept.{Kept, kept}
@@ -13,9 +13,7 @@ steps_kept base es is rows =
 
 pub parts_valid : (base : Content) (es : List Event) → IsValid base → IsHistory (moment_of base) es → AllByRecursion (IsRow (length base.sources)) (seconds_of base es) → AreParts Average (length base.sources) ((moment_at_end base es).last % base.step) (parts_of base es)
 unfolding parts_of
-parts_valid base es is h rows =
-    let P : ℕ → Type 0 = λ last. AreParts Average (length base.sources) (last % base.step) (parts_of base es) in
-    subst P (length-seconds_of base es h) (steps_kept base es is rows).begun_is
+parts_valid base es is h rows = grind (arith, length-seconds_of, steps_kept)
 
 steps_valid : (base : Content) (es : List Event) → IsValid base → AllByRecursion (IsRow (length base.sources)) (seconds_of base es) → AllByRecursion (IsRow (length base.sources)) (steps_of base es)
 unfolding steps_of
@@ -28,9 +26,7 @@ rows_kept base es archive is of rows =
 
 row_parts_valid : (base : Content) (es : List Event) (archive : Rra) → IsValid base → IsHistory (moment_of base) es → IsValidArchive (length base.sources) (base.last / base.step) archive → AllByRecursion (IsRow (length base.sources)) (seconds_of base es) → AreParts archive.def.function (length base.sources) ((moment_at_end base es).last / base.step % archive.def.steps) (row_parts_of base archive es)
 unfolding row_parts_of
-row_parts_valid base es archive is h of rows =
-    let P : ℕ → Type 0 = λ steps. AreParts archive.def.function (length base.sources) (steps % archive.def.steps) (row_parts_of base archive es) in
-    subst P (length-steps_of base es is.some_step h) (rows_kept base es archive is of rows).begun_is
+row_parts_valid base es archive is h of rows = grind (arith, length-steps_of, rows_kept)
 
 rows_valid : (base : Content) (es : List Event) (index : ℕ) (archive : Rra) → IsValid base → IsValidArchive (length base.sources) (base.last / base.step) archive → AllByRecursion (IsRow (length base.sources)) (seconds_of base es) → AllByRecursion (IsRow (length base.sources)) (kept_rows base index archive es)
 unfolding kept_rows rows_of
@@ -51,9 +47,7 @@ abbrev pub LeavesGoodRows : List Event → Type 0
 LeavesGoodRows es = (index rows : ℕ) → 0 < rows → rows ≤ 1000000 → (0 < fold (rows_after index) rows es) × (fold (rows_after index) rows es ≤ 1000000)
 
 archive_valid : (base : Content) (es : List Event) (index : ℕ) (archive : Rra) → IsValid base → IsHistory (moment_of base) es → LeavesGoodRows es → AllByRecursion (IsRow (length base.sources)) (seconds_of base es) → IsValidArchive (length base.sources) (base.last / base.step) archive → IsValidArchive (length base.sources) ((moment_at_end base es).last / base.step) (archive_of base es (index, archive))
-archive_valid base es index archive is h good rows of =
-    let size = good index archive.def.rows of.some_rows of.few_rows in
-    assumption (of, size, row_parts_valid base es archive is h of rows, length-kept_rows base index archive es is.some_step (is_archive archive of) h, rows_valid base es index archive is of rows)
+archive_valid base es index archive is h good rows of = grind (arith, row_parts_valid base es archive is h of rows, length-kept_rows base index archive es is.some_step (is_archive archive of) h, rows_valid base es index archive is of rows)
 
 pub archives_valid : (base : Content) (es : List Event) (index : ℕ) (archives : List Rra) → IsValid base → IsHistory (moment_of base) es → LeavesGoodRows es → AllByRecursion (IsRow (length base.sources)) (seconds_of base es) → AllByRecursion (IsValidArchive (length base.sources) (base.last / base.step)) archives → AllByRecursion (IsValidArchive (length base.sources) ((moment_at_end base es).last / base.step)) (map (archive_of base es) (enumerate_from index archives))
 archives_valid base es index [] is h good rows of = tt

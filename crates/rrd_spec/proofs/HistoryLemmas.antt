@@ -1,6 +1,6 @@
 -- A history in two pieces.
 use Rattle.std.specs.Prelude.{◌≡◌, ℕ, zero, suc, ◌+◌, ◌-◌, ◌/◌, ◌<◌, ◌≤◌, List, [], ◌∷◌, ◌++◌, length, map}
-use Rattle.rrd_spec.proofs.Names.{refl, sym, ◌∙◌, ap, arith, ⊎_elim, le-leb, lt-leb, cases_lt, map-append, fold-append, length-map-range_with_len, fold, range_with_len, finished, unfinished, seconds_to_steps, steps_of, parts_of, steps_to_rows, rows_of, row_parts_of, Rra, Content, Event, Sampled, Tuned, Resized, Added, Removed, Moment, moment_after, moment_of, moment_at_end, rates, Taken, samples, second, seconds, seconds_of, IsHistory, archive_of, content_listed}
+use Rattle.rrd_spec.proofs.Names.{common_steps, refl, ◌∙◌, ap, arith, le-leb, lt-leb, map-append, fold-append, length-map-range_with_len, fold, range_with_len, seconds_to_steps, steps_of, parts_of, steps_to_rows, rows_of, row_parts_of, Rra, Content, Event, Sampled, Tuned, Resized, Added, Removed, Moment, moment_after, moment_of, moment_at_end, rates, Taken, samples, second, seconds, seconds_of, IsHistory, archive_of, content_listed}
 use Rattle.rrd_spec.proofs.GroupLemmas.{goes_on, map_range_same, length-finished, reached_before}
 
 -- ---- samples
@@ -25,11 +25,7 @@ last_rises now (Removed archive ∷ es) h = last_rises now es h
 -- a second is the first history's up to its last time
 second_before : (now : Moment) (es : List Event) (later : List Taken) (at : ℕ) → IsHistory now es → now.last < at → at ≤ (fold moment_after now es).last → second (samples now es ++ later) at ≡ second (samples now es) at
 second_before now [] later at h low high = absurd (omega arith)
-second_before now (Sampled sample ∷ es) later at h low high =
-    ⊎_elim
-    (λ (past : sample.time < at). rw (lt-leb at sample.time past) (second_before (moment_after now (Sampled sample)) es later at h.1 past high))
-    (λ (reached : at ≤ sample.time). rw (le-leb at sample.time reached))
-    (cases_lt sample.time at)
+second_before now (Sampled sample ∷ es) later at h low high = grind (arith, common_steps, lt-leb, second_before (moment_after now (Sampled sample)) es later, le-leb)
 second_before now (Tuned sources ∷ es) later at h low high = second_before (moment_after now (Tuned sources)) es later at h.1 low high
 second_before now (Resized archive rows ∷ es) later at h low high = second_before now es later at h.1 low high
 second_before now (Added def ∷ es) later at h low high = second_before now es later at h.2 low high
@@ -40,16 +36,14 @@ pub second_after : (now : Moment) (es : List Event) (later : List Taken) (at : �
 second_after now [] later at h low = refl
 second_after now (Sampled sample ∷ es) later at h low =
     let next = moment_after now (Sampled sample) in
-    let past : sample.time < at = omega (arith, last_rises next es h.1) in
-    rw (lt-leb at sample.time past) (second_after next es later at h.1 low)
+    grind (arith, common_steps, last_rises, lt-leb, second_after next es later)
 second_after now (Tuned sources ∷ es) later at h low = second_after (moment_after now (Tuned sources)) es later at h.1 low
 second_after now (Resized archive rows ∷ es) later at h low = second_after now es later at h.1 low
 second_after now (Added def ∷ es) later at h low = second_after now es later at h.2 low
 second_after now (Removed archive ∷ es) later at h low = second_after now es later at h low
 
 range_split : (a m n : ℕ) → range_with_len a (m + n) ≡ range_with_len a m ++ range_with_len (a + m) n
-range_split a zero n =
-    ap (range_with_len a) {x = zero + n} {y = n} (omega arith) ∙ ap (λ b. range_with_len b n) {x = a} {y = a + zero} (omega arith)
+range_split a zero n = grind arith
 range_split a (suc m) n = cc (ap (range_with_len a) {x = suc m + n} {y = suc (m + n)} (omega arith), range_split (a + 1) m n ∙ ap (λ b. range_with_len (a + 1) m ++ range_with_len b n) {x = a + 1 + m} {y = a + suc m} (omega arith))
 
 seconds-append : (now : Moment) (es fs : List Event) → IsHistory now es → IsHistory (fold moment_after now es) fs → seconds (samples now (es ++ fs)) now.last (fold moment_after now (es ++ fs)).last ≡ seconds (samples now es) now.last (fold moment_after now es).last ++ seconds (samples (fold moment_after now es) fs) (fold moment_after now es).last (fold moment_after (fold moment_after now es) fs).last
@@ -93,31 +87,21 @@ length-seconds_of base es h =
 
 pub steps_of-append : (base : Content) (es fs : List Event) → 0 < base.step → IsHistory (moment_of base) es → IsHistory (moment_at_end base es) fs → steps_of base (es ++ fs) ≡ steps_of base es ++ steps_of (content_listed base es) fs
 unfolding content_listed steps_of parts_of
-steps_of-append base es fs pos h k =
-    let B = seconds_of (content_listed base es) fs in
-    let on = goes_on (seconds_to_steps base.step (length base.sources)) base.last base.parts (seconds_of base es) B pos in
-    cc (seconds_of-append base es fs h k, on.finished_is, length-seconds_of base es h, length-sources (moment_of base) es h)
+steps_of-append base es fs pos h k = grind (arith, goes_on, seconds_of-append, length-seconds_of, length-sources)
 
 pub parts_of-append : (base : Content) (es fs : List Event) → 0 < base.step → IsHistory (moment_of base) es → IsHistory (moment_at_end base es) fs → parts_of base (es ++ fs) ≡ parts_of (content_listed base es) fs
 unfolding content_listed parts_of
 parts_of-append base es fs pos h k =
     let B = seconds_of (content_listed base es) fs in
-    let on = goes_on (seconds_to_steps base.step (length base.sources)) base.last base.parts (seconds_of base es) B pos in
-    cc (seconds_of-append base es fs h k, on.unfinished_is, length-seconds_of base es h, length-sources (moment_of base) es h)
+    grind (arith, goes_on (seconds_to_steps base.step (length base.sources)) base.last base.parts (seconds_of base es) B pos, seconds_of-append base es fs h k, length-seconds_of base es h, length-sources (moment_of base) es h)
 
 pub length-steps_of : (base : Content) (es : List Event) → 0 < base.step → IsHistory (moment_of base) es → base.last / base.step + length (steps_of base es) ≡ (moment_at_end base es).last / base.step
 unfolding steps_of
-length-steps_of base es pos h =
-    let count = length-finished (seconds_to_steps base.step (length base.sources)) base.last base.parts (seconds_of base es) in
-    let at : (base.last + length (seconds_of base es)) / base.step ≡ (moment_at_end base es).last / base.step = ap (λ n. n / base.step) (length-seconds_of base es h) in
-    omega (arith, reached_before base.last (length (seconds_of base es)) base.step pos)
+length-steps_of base es pos h = grind (arith, length-finished (seconds_to_steps base.step (length base.sources)) base.last base.parts (seconds_of base es), length-seconds_of base es h, reached_before base.last (length (seconds_of base es)) base.step pos)
 
 pub rows_of-append : (base : Content) (index : ℕ) (archive : Rra) (es fs : List Event) → 0 < base.step → 0 < archive.def.steps → IsHistory (moment_of base) es → IsHistory (moment_at_end base es) fs → rows_of base archive (es ++ fs) ≡ rows_of base archive es ++ rows_of (content_listed base es) (archive_of base es (index, archive)) fs
 unfolding content_listed rows_of row_parts_of
-rows_of-append base index archive es fs pos some h k =
-    let B = steps_of (content_listed base es) fs in
-    let on = goes_on (steps_to_rows archive.def (length base.sources)) (base.last / base.step) archive.parts (steps_of base es) B some in
-    cc (steps_of-append base es fs pos h k, on.finished_is, length-steps_of base es pos h, length-sources (moment_of base) es h)
+rows_of-append base index archive es fs pos some h k = grind (arith, goes_on, steps_of-append, length-steps_of, length-sources)
 
 pub row_parts_of-append : (base : Content) (index : ℕ) (archive : Rra) (es fs : List Event) → 0 < base.step → 0 < archive.def.steps → IsHistory (moment_of base) es → IsHistory (moment_at_end base es) fs → row_parts_of base archive (es ++ fs) ≡ row_parts_of (content_listed base es) (archive_of base es (index, archive)) fs
 unfolding content_listed rows_of row_parts_of

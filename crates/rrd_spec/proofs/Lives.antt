@@ -1,6 +1,6 @@
 -- The archives of a history, each followed by itself.
-use Rattle.std.specs.Prelude.{◌≡◌, ℕ, zero, suc, ◌+◌, ◌-◌, ◌*◌, ◌/◌, ◌<◌, ◌≤◌, List, [], ◌∷◌, ◌++◌, length, map, replicate, drop, take}
-use Rattle.rrd_spec.proofs.Names.{refl, sym, ◌∙◌, ap, subst, arith, length-append, div-div-eq-div-mul, length-drop, length-replicate, fold-append, fold, AllByRecursion, Cell, RraDef, Content, Event, Sampled, Tuned, Resized, Added, Removed, Moment, moment_after, moment_of, moment_at_end, rows_after, IsHistory, IsArchive, IsBase, Life, life_of, life_added, with_event, change_at, lives_after, lives_from, lives, steps_to_rows, steps_before, steps_for, steps_of, keep_last, rows_never_lost, archive_for, content_lived, kept_for, rows_for, All-append, All-drop, All-map, All-take, length-keep_last}
+use Rattle.std.specs.Prelude.{◌≡◌, ℕ, zero, suc, ◌+◌, ◌*◌, ◌/◌, ◌<◌, ◌≤◌, List, [], ◌∷◌, length, map}
+use Rattle.rrd_spec.proofs.Names.{common_steps, refl, sym, ◌∙◌, ap, subst, arith, length-append, div-div-eq-div-mul, length-drop, fold-append, fold, AllByRecursion, RraDef, Content, Event, Sampled, Tuned, Resized, Added, Removed, Moment, moment_after, moment_of, moment_at_end, rows_after, IsHistory, IsArchive, IsBase, Life, life_of, life_added, with_event, change_at, lives_after, lives_from, lives, steps_to_rows, steps_before, steps_for, steps_of, archive_for, content_lived, kept_for, rows_for, All-map}
 use Rattle.rrd_spec.proofs.ContentLemmas.{div_rises, rows_stay}
 use Rattle.rrd_spec.proofs.RowLemmas.{length-filled_up, room_first, room_last}
 use Rattle.rrd_spec.proofs.GroupLemmas.{length-finished, reached_before}
@@ -23,13 +23,7 @@ event_at : (base : Content) (now : Moment) (e : Event) (life : Life) → IsHisto
 event_at base now e life h at = assumption (at, IsHistory-append life.birth life.since (e ∷ []) at.history (subst (λ m. IsHistory m (e ∷ [])) (sym at.now_is) h), fold-append moment_after life.birth life.since (e ∷ []) ∙ ap (λ m. moment_after m e) at.now_is)
 
 added_at : (base : Content) (now : Moment) (def : RraDef) → 0 < base.step → base.last ≤ now.last → 0 < def.steps → 0 < def.rows → LifeAt base now (life_added base now def)
-added_at base now def some late steps rows = record {
-  archive_is = record { some_steps = steps; some_rows = rows; rows_are = length-replicate def.rows (replicate (length base.sources) Cell.Unknown) };
-  history = tt;
-  now_is = refl;
-  late = late;
-  missed_is = omega (arith, div_rises base.last now.last base.step some late);
-}
+added_at base now def some late steps rows = grind (arith, common_steps, div_rises)
 
 from_at : (base : Content) (now : Moment) (all : List Life) (es : List Event) → 0 < base.step → base.last ≤ now.last → IsHistory now es → AllByRecursion (LifeAt base now) all → AllByRecursion (LifeAt base (fold moment_after now es)) (lives_from base now all es)
 from_at base now all [] some late h is = is
@@ -42,12 +36,8 @@ from_at base now all (Tuned sources ∷ es) some late h is =
 from_at base now all (Resized archive rows ∷ es) some late h is =
     from_at base now (lives_after base now all (Resized archive rows)) es some late h.1
     (All-change_at (LifeAt base now) (with_event (Resized 0 rows)) all archive (λ life at. event_at base now (Resized 0 rows) life (h.0, tt) at) is)
-from_at base now all (Added def ∷ es) some late h is =
-    from_at base now (lives_after base now all (Added def)) es some late h.2
-    (All-append (LifeAt base now) all (life_added base now def ∷ []) is (added_at base now def some late h.0 h.1, tt))
-from_at base now all (Removed archive ∷ es) some late h is =
-    from_at base now (lives_after base now all (Removed archive)) es some late h
-    (All-append (LifeAt base now) (take archive all) (drop (suc archive) all) (All-take (LifeAt base now) archive all is) (All-drop (LifeAt base now) (suc archive) all is))
+from_at base now all (Added def ∷ es) some late h is = grind (arith, common_steps, from_at base now (lives_after base now all (Added def)) es some late h.2, added_at)
+from_at base now all (Removed archive ∷ es) some late h is = grind (arith, common_steps, from_at base now (lives_after base now all (Removed archive)) es some late h)
 
 pub lives_are : (base : Content) (es : List Event) → IsBase base → IsHistory (moment_of base) es → AllByRecursion (LifeAt base (moment_at_end base es)) (lives base es)
 lives_are base es is h =
@@ -60,8 +50,7 @@ pub born_before : (base : Content) (es : List Event) (life : Life) → LifeAt ba
 born_before base es life at = omega (arith, last_rises life.birth life.since at.history, ap (λ (m : Moment). m.last) at.now_is)
 
 pub few_missed : (base : Content) (es : List Event) (life : Life) → 0 < base.step → IsHistory (moment_of base) es → LifeAt base (moment_at_end base es) life → life.missed ≤ length (steps_of base es)
-few_missed base es life some h at =
-    omega (arith, at.missed_is, length-steps_of base es some h, div_rises life.birth.last (moment_at_end base es).last base.step some (born_before base es life at))
+few_missed base es life some h at = grind (arith, length-steps_of, div_rises, born_before)
 
 pub steps_until : (base : Content) (es : List Event) (life : Life) → 0 < base.step → IsHistory (moment_of base) es → LifeAt base (moment_at_end base es) life → steps_before base life + length (steps_for base life es) ≡ (moment_at_end base es).last / base.step
 steps_until base es life some h at =
@@ -74,25 +63,13 @@ length-rows_for base es life some h at =
     let before = steps_before base life in
     let items = steps_for base life es in
     let end = (moment_at_end base es).last in
-    let count = length-finished (steps_to_rows life.begun.def (length base.sources)) before life.begun.parts items in
-    let last : (before + length items) / steps ≡ end / base.step / steps = ap (λ n. n / steps) (steps_until base es life some h at) in
-    omega (arith, count, last, reached_before before (length items) steps at.archive_is.some_steps, div-div-eq-div-mul life.birth.last base.step steps, div-div-eq-div-mul end base.step steps)
+    grind (arith, length-finished (steps_to_rows life.begun.def (length base.sources)) before life.begun.parts items, steps_until base es life some h, reached_before before (length items) steps at.archive_is.some_steps, div-div-eq-div-mul life.birth.last base.step steps, div-div-eq-div-mul end base.step steps)
 
 -- ---- the content is a base again
 
 pub length-kept_for : (base : Content) (es : List Event) (life : Life) → 0 < base.step → IsHistory (moment_of base) es → LifeAt base (moment_at_end base es) life → length (kept_for base es life) ≡ fold (rows_after 0) life.begun.def.rows life.since
 unfolding kept_for
-length-kept_for base es life some h at =
-    let res = base.step * life.begun.def.steps in
-    let rows = life.begun.def.rows in
-    let since = λ (time : ℕ). ((moment_at_end base es).last) / res - time / res in
-    let v = rows_never_lost 0 since rows life.birth life.since in
-    let all = life.begun.rows ++ rows_for base es life in
-    let count_all = length-append life.begun.rows (rows_for base es life) in
-    let count_new = length-rows_for base es life some h at in
-    let last : since (fold moment_after life.birth life.since).last ≡ 0 = omega (arith, ap (λ (m : Moment). m.last / res) at.now_is) in
-    let count : length (keep_last v all) ≡ v = length-keep_last v all (omega (arith, room_first 0 since rows life.birth life.since, at.archive_is.rows_are)) in
-    length-filled_up (fold (rows_after 0) rows life.since) (replicate (length base.sources) Cell.Unknown) (keep_last v all) (omega (arith, room_last 0 since rows life.birth life.since))
+length-kept_for base es life some h at = grind (arith, common_steps, length-append, length-rows_for, room_first, length-filled_up, room_last)
 
 pub archive_for_is : (base : Content) (es : List Event) (life : Life) → 0 < base.step → IsHistory (moment_of base) es → LifeAt base (moment_at_end base es) life → IsArchive (archive_for base es life)
 archive_for_is base es life some h at = assumption (at.archive_is, rows_stay 0 life.begun.def.rows life.birth life.since at.archive_is.some_rows at.history, length-kept_for base es life some h at)

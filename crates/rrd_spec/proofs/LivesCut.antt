@@ -1,6 +1,6 @@
 -- A history in which archives come and go, in two pieces.
-use Rattle.std.specs.Prelude.{◌≡◌, ℕ, zero, suc, ◌+◌, ◌-◌, ◌*◌, ◌/◌, ◌<◌, ◌≤◌, List, [], ◌∷◌, ◌++◌, length, map, replicate, drop, take, min}
-use Rattle.rrd_spec.proofs.Names.{refl, sym, ◌∙◌, ap, subst, arith, append_assoc, append-nil, length-append, drop-append-le, drop-map, take-map, map-append, fold-append, mul-lt, fold, remove, AllByRecursion, Cell, Part, RraDef, Rra, Content, Event, Sampled, Tuned, Resized, Added, Removed, Moment, moment_after, moment_of, moment_at_end, rows_after, seconds_of, IsHistory, IsBase, finished, unfinished, Life, life_of, life_added, new_archive, with_event, change_at, lives_after, lives_from, lives, row_parts, steps_to_rows, steps_before, steps_for, parts_of, steps_of, content_listed, filled_up, keep_last, rows_never_lost, CutsLives, archive_for, content_lived, kept_for, rows_for, All-append, All-drop, All-map, All-take}
+use Rattle.std.specs.Prelude.{◌≡◌, ℕ, zero, suc, ◌+◌, ◌-◌, ◌*◌, ◌/◌, ◌<◌, ◌≤◌, List, [], ◌∷◌, ◌++◌, length, map, drop, take}
+use Rattle.rrd_spec.proofs.Names.{common_steps, refl, sym, ◌∙◌, ap, arith, append_assoc, append-nil, length-append, drop-append-le, drop-map, take-map, map-append, fold-append, fold, remove, AllByRecursion, RraDef, Content, Event, Sampled, Tuned, Resized, Added, Removed, Moment, moment_after, moment_of, moment_at_end, rows_after, seconds_of, IsHistory, IsBase, Life, life_of, life_added, with_event, change_at, lives_after, lives_from, lives, row_parts, steps_to_rows, steps_before, steps_for, parts_of, steps_of, content_listed, CutsLives, archive_for, content_lived, kept_for, rows_for, All-append, All-drop, All-map, All-take}
 use Rattle.rrd_spec.proofs.ContentLemmas.{div_rises, mul_positive}
 use Rattle.rrd_spec.proofs.GroupLemmas.{goes_on}
 use Rattle.rrd_spec.proofs.HistoryLemmas.{length-sources, length-steps_of, parts_of-append, steps_of-append}
@@ -38,13 +38,7 @@ steps_for-cut base es fs life more some h k at = cc (steps-cut base es fs some h
 
 rows_for-cut : (base : Content) (es fs : List Event) (life : Life) (more : List Event) → 0 < base.step → IsHistory (moment_of base) es → IsHistory (moment_at_end base es) fs → LifeAt base (moment_at_end base es) life → rows_for base (es ++ fs) (whole life more) ≡ rows_for base es life ++ rows_for (content_lived base es) fs (rest base es life more)
 unfolding rows_for row_parts content_lived
-rows_for-cut base es fs life more some h k at =
-    let rule = steps_to_rows life.begun.def (length base.sources) in
-    let before = steps_before base life in
-    let A = steps_for base life es in
-    let part = unfinished rule before life.begun.parts A in
-    let on = goes_on rule before life.begun.parts A (steps_of (content_lived base es) fs) at.archive_is.some_steps in
-    cc (steps_for-cut base es fs life more some h k at, on.finished_is, steps_until base es life some h at, length-sources (moment_of base) es h)
+rows_for-cut base es fs life more some h k at = grind (arith, goes_on, steps_for-cut, steps_until, length-sources)
 
 row_parts-cut : (base : Content) (es fs : List Event) (life : Life) (more : List Event) → 0 < base.step → IsHistory (moment_of base) es → IsHistory (moment_at_end base es) fs → LifeAt base (moment_at_end base es) life → row_parts base (whole life more) (es ++ fs) ≡ row_parts (content_lived base es) (rest base es life more) fs
 unfolding row_parts content_lived
@@ -52,9 +46,7 @@ row_parts-cut base es fs life more some h k at =
     let rule = steps_to_rows life.begun.def (length base.sources) in
     let before = steps_before base life in
     let A = steps_for base life es in
-    let part = unfinished rule before life.begun.parts A in
-    let on = goes_on rule before life.begun.parts A (steps_of (content_lived base es) fs) at.archive_is.some_steps in
-    cc (steps_for-cut base es fs life more some h k at, on.unfinished_is, steps_until base es life some h at, length-sources (moment_of base) es h)
+    grind (arith, goes_on rule before life.begun.parts A (steps_of (content_lived base es) fs) at.archive_is.some_steps, steps_for-cut base es fs life more some h k, steps_until base es life some h, length-sources (moment_of base) es h)
 
 -- without the first items, and as many of the second
 drop_past : {A : Type 0} (n : ℕ) (xs ys : List A) → drop (n + length xs) (xs ++ ys) ≡ drop n ys
@@ -73,36 +65,15 @@ kept_for-cut base es fs life more some h k at then_at =
     let later_life = rest base es life more in
     let rows = def.rows in
     let rows_mid = fold (rows_after 0) rows life.since in
-    let rows_end = fold (rows_after 0) rows_mid more in
-    let nan = replicate (length base.sources) Cell.Unknown in
-    let old = life.begun.rows ++ rows_for base es life in
     let new = rows_for middle fs later_life in
     let since_mid = λ (time : ℕ). mid.last / res - time / res in
     let since_end = λ (time : ℕ). end.last / res - time / res in
-    let then = rows_never_lost 0 since_mid rows now life.since in
-    let later = rows_never_lost 0 since_end rows_mid mid more in
     let some_res : 0 < res = mul_positive base.step def.steps some at.archive_is.some_steps in
     let count_old = length-rows_for base es life some h at in
     let count_new : mid.last / res + length new ≡ end.last / res = length-rows_for middle fs later_life some k then_at in
     let here = ap (λ (m : Moment). m.last) at.now_is in
     let steps_back : (t : ℕ) → t ≤ (fold moment_after now life.since).last → since_end t ≡ since_mid t + length new = λ t below. omega (arith, div_rises t mid.last res some_res (omega (arith, below, here))) in
-    let count_then = room_first 0 since_mid rows now life.since in
-    let fits_then = room_last 0 since_mid rows now life.since in
-    let count_later = room_first 0 since_end rows_mid mid more in
-    let fits_later = room_last 0 since_end rows_mid mid more in
-    let now_there : since_mid (fold moment_after now life.since).last ≡ 0 = omega (arith, ap (λ t. t / res) here) in
-    let end_there : since_end (fold moment_after mid more).last ≡ 0 = omega (arith, ap (λ (m : Moment). m.last / res) then_at.now_is) in
-    let count_all = length-append life.begun.rows (rows_for base es life) in
-    let room : rows_never_lost 0 since_end rows now (life.since ++ more) ≡ min (then + length new) later
-    = room-append 0 since_mid since_end (length new) rows now life.since more at.history steps_back
-    ∙ ap (λ m. min (then + length new) (rows_never_lost 0 since_end rows_mid m more)) at.now_is in
-    ap (λ n. filled_up n nan (keep_last (rows_never_lost 0 (λ (time : ℕ). (moment_at_end base (es ++ fs)).last / res - time / res) rows now (life.since ++ more)) (life.begun.rows ++ rows_for base (es ++ fs) (whole life more)))) (fold-append (rows_after 0) rows life.since more)
-    ∙ ap (λ (e : Moment). filled_up rows_end nan (keep_last (rows_never_lost 0 (λ (time : ℕ). e.last / res - time / res) rows now (life.since ++ more)) (life.begun.rows ++ rows_for base (es ++ fs) (whole life more)))) (fold-append moment_after (moment_of base) es fs)
-    ∙ ap (λ zs. filled_up rows_end nan (keep_last (rows_never_lost 0 since_end rows now (life.since ++ more)) (life.begun.rows ++ zs))) (rows_for-cut base es fs life more some h k at)
-    ∙ ap (λ zs. filled_up rows_end nan (keep_last (rows_never_lost 0 since_end rows now (life.since ++ more)) zs)) (sym (append_assoc life.begun.rows (rows_for base es life) new))
-    ∙ ap (λ n. filled_up rows_end nan (keep_last n (old ++ new))) room
-    ∙ rows_again rows_mid rows_end then later nan old new (omega (arith, at.archive_is.rows_are)) (omega arith) (omega arith) (omega arith)
-    ∙ ap (λ n. filled_up rows_end (replicate n Cell.Unknown) (keep_last later (kept_for base es life ++ new))) (sym (length-sources (moment_of base) es h))
+    grind (arith, room_first, room_last, length-append, room-append, fold-append, rows_for-cut, append_assoc, rows_again, length-sources)
 
 -- ---- an archive that was added after the cut
 
@@ -112,32 +83,15 @@ later steps life = record life { missed = life.missed + steps }
 
 rows_for-later : (base : Content) (es fs : List Event) (life : Life) → 0 < base.step → IsHistory (moment_of base) es → IsHistory (moment_at_end base es) fs → rows_for base (es ++ fs) (later (length (steps_of base es)) life) ≡ rows_for (content_lived base es) fs life
 unfolding rows_for content_lived
-rows_for-later base es fs life some h k =
-    let def = life.begun.def in
-    let before = life.birth.last / base.step in
-    let parts = life.begun.parts in
-    cc (steps-cut base es fs some h k, drop_past life.missed (steps_of base es) (steps_of (content_lived base es) fs), length-sources (moment_of base) es h)
+rows_for-later base es fs life some h k = grind (arith, steps-cut, drop_past, length-sources)
 
 row_parts-later : (base : Content) (es fs : List Event) (life : Life) → 0 < base.step → IsHistory (moment_of base) es → IsHistory (moment_at_end base es) fs → row_parts base (later (length (steps_of base es)) life) (es ++ fs) ≡ row_parts (content_lived base es) life fs
 unfolding row_parts content_lived
-row_parts-later base es fs life some h k =
-    let def = life.begun.def in
-    let before = life.birth.last / base.step in
-    let parts = life.begun.parts in
-    cc (steps-cut base es fs some h k, drop_past life.missed (steps_of base es) (steps_of (content_lived base es) fs), length-sources (moment_of base) es h)
+row_parts-later base es fs life some h k = grind (arith, steps-cut, drop_past, length-sources)
 
 kept_for-later : (base : Content) (es fs : List Event) (life : Life) → 0 < base.step → IsHistory (moment_of base) es → IsHistory (moment_at_end base es) fs → kept_for base (es ++ fs) (later (length (steps_of base es)) life) ≡ kept_for (content_lived base es) fs life
 unfolding kept_for content_lived
-kept_for-later base es fs life some h k =
-    let res = base.step * life.begun.def.steps in
-    let rows = fold (rows_after 0) life.begun.def.rows life.since in
-    let end = fold moment_after (moment_at_end base es) fs in
-    let nan = replicate (length base.sources) Cell.Unknown in
-    let this = later (length (steps_of base es)) life in
-    let room = λ (e : Moment). rows_never_lost 0 (λ (time : ℕ). e.last / res - time / res) life.begun.def.rows life.birth life.since in
-    ap (λ (e : Moment). filled_up rows nan (keep_last (room e) (life.begun.rows ++ rows_for base (es ++ fs) this))) (fold-append moment_after (moment_of base) es fs)
-    ∙ ap (λ zs. filled_up rows nan (keep_last (room end) (life.begun.rows ++ zs))) (rows_for-later base es fs life some h k)
-    ∙ ap (λ n. filled_up rows (replicate n Cell.Unknown) (keep_last (room end) (life.begun.rows ++ rows_for (content_lived base es) fs life))) (sym (length-sources (moment_of base) es h))
+kept_for-later base es fs life some h k = grind (arith, fold-append, rows_for-later, length-sources)
 
 -- ---- all archives, side by side
 
@@ -182,20 +136,14 @@ pub map-remove : {A B : Type 0} (g : A → B) (xs : List A) (n : ℕ) → map g 
 map-remove g xs n = cc (map-append g (take n xs) (drop (suc n) xs), take-map g n xs, drop-map g (suc n) xs)
 
 left-with : (steps : ℕ) (e : Event) (p : Pair) → left steps (pair_with e p) ≡ with_event e (left steps p)
-left-with steps e (Old life more) = ap (λ since. let x : Life = record life { since = since } in x) (sym (append_assoc life.since more (e ∷ [])))
-left-with steps e (New life) = refl
+left-with steps e p = grind (arith, append_assoc)
 
 right-with : (base : Content) (es : List Event) (e : Event) (p : Pair) → right base es (pair_with e p) ≡ with_event e (right base es p)
-right-with base es e (Old life more) = refl
-right-with base es e (New life) = refl
+right-with base es e p = grind arith
 
 left-added : (base : Content) (es : List Event) (now : Moment) (def : RraDef) → 0 < base.step → IsHistory (moment_of base) es → (moment_at_end base es).last ≤ now.last → left (length (steps_of base es)) (New (life_added (content_lived base es) now def)) ≡ life_added base now def
 unfolding content_lived still
-left-added base es now def some h late =
-    let mid = moment_at_end base es in
-    let low = div_rises mid.last now.last base.step some late in
-    ap (λ n. still (new_archive n def) now (now.last / base.step - mid.last / base.step + length (steps_of base es))) (length-sources (moment_of base) es h)
-    ∙ ap (still (new_archive (length base.sources) def) now) {x = now.last / base.step - mid.last / base.step + length (steps_of base es)} {y = now.last / base.step - base.last / base.step} (omega (arith, length-steps_of base es some h))
+left-added base es now def some h late = grind (arith, div_rises, still, length-sources, length-steps_of)
 
 left-from : (base : Content) (es : List Event) (now : Moment) (ps : List Pair) (fs : List Event) → 0 < base.step → IsHistory (moment_of base) es → (moment_at_end base es).last ≤ now.last → IsHistory now fs → map (left (length (steps_of base es))) (pairs_from (content_lived base es) now ps fs) ≡ lives_from base now (map (left (length (steps_of base es))) ps) fs
 left-from base es now ps [] some h late k = refl
@@ -207,17 +155,9 @@ left-from base es now ps (Tuned sources ∷ fs) some h late k =
     let n = length (steps_of base es) in
     let next = moment_after now (Tuned sources) in
     cc (left-from base es next (pairs_after (content_lived base es) now ps (Tuned sources)) fs some h late k.1, map-both (left n) (pair_with (Tuned sources)) (with_event (Tuned sources)) ps (left-with n (Tuned sources)))
-left-from base es now ps (Resized archive rows ∷ fs) some h late k =
-    let n = length (steps_of base es) in
-    left-from base es now (pairs_after (content_lived base es) now ps (Resized archive rows)) fs some h late k.1
-    ∙ ap (λ all. lives_from base now all fs) (map-change_at (left n) (pair_with (Resized 0 rows)) (with_event (Resized 0 rows)) ps archive (left-with n (Resized 0 rows)))
-left-from base es now ps (Added def ∷ fs) some h late k =
-    let n = length (steps_of base es) in
-    let new = New (life_added (content_lived base es) now def) in
-    cc (left-from base es now (pairs_after (content_lived base es) now ps (Added def)) fs some h late k.2, map-append (left n) ps (new ∷ []) ∙ ap (λ life. map (left n) ps ++ life ∷ []) (left-added base es now def some h late))
-left-from base es now ps (Removed archive ∷ fs) some h late k =
-    let n = length (steps_of base es) in
-    cc (left-from base es now (pairs_after (content_lived base es) now ps (Removed archive)) fs some h late k, map-remove (left n) ps archive)
+left-from base es now ps (Resized archive rows ∷ fs) some h late k = grind (arith, left-from base es now (pairs_after (content_lived base es) now ps (Resized archive rows)) fs some h late k.1, map-change_at, left-with)
+left-from base es now ps (Added def ∷ fs) some h late k = grind (arith, left-from base es now (pairs_after (content_lived base es) now ps (Added def)) fs some h late k.2, map-append, left-added)
+left-from base es now ps (Removed archive ∷ fs) some h late k = grind (arith, left-from base es now (pairs_after (content_lived base es) now ps (Removed archive)) fs some h late k, map-remove)
 
 right-from : (base : Content) (es : List Event) (now : Moment) (ps : List Pair) (fs : List Event) → map (right base es) (pairs_from (content_lived base es) now ps fs) ≡ lives_from (content_lived base es) now (map (right base es) ps) fs
 right-from base es now ps [] = refl
@@ -227,9 +167,7 @@ right-from base es now ps (Sampled sample ∷ fs) =
 right-from base es now ps (Tuned sources ∷ fs) =
     let next = moment_after now (Tuned sources) in
     cc (right-from base es next (pairs_after (content_lived base es) now ps (Tuned sources)) fs, map-both (right base es) (pair_with (Tuned sources)) (with_event (Tuned sources)) ps (right-with base es (Tuned sources)))
-right-from base es now ps (Resized archive rows ∷ fs) =
-    right-from base es now (pairs_after (content_lived base es) now ps (Resized archive rows)) fs
-    ∙ ap (λ all. lives_from (content_lived base es) now all fs) (map-change_at (right base es) (pair_with (Resized 0 rows)) (with_event (Resized 0 rows)) ps archive (right-with base es (Resized 0 rows)))
+right-from base es now ps (Resized archive rows ∷ fs) = grind (arith, right-from base es now (pairs_after (content_lived base es) now ps (Resized archive rows)) fs, map-change_at, right-with)
 right-from base es now ps (Added def ∷ fs) = cc (right-from base es now (pairs_after (content_lived base es) now ps (Added def)) fs, map-append (right base es) ps (New (life_added (content_lived base es) now def) ∷ []))
 right-from base es now ps (Removed archive ∷ fs) = cc (right-from base es now (pairs_after (content_lived base es) now ps (Removed archive)) fs, map-remove (right base es) ps archive)
 
@@ -239,8 +177,7 @@ OldIs base es (Old life more) = LifeAt base (moment_at_end base es) life
 OldIs base es (New life) = Unit {0}
 
 old-with : (base : Content) (es : List Event) (e : Event) (p : Pair) → OldIs base es p → OldIs base es (pair_with e p)
-old-with base es e (Old life more) is = is
-old-with base es e (New life) is = tt
+old-with base es e p is = grind arith
 
 old-from : (base : Content) (es : List Event) (middle : Content) (now : Moment) (ps : List Pair) (fs : List Event) → AllByRecursion (OldIs base es) ps → AllByRecursion (OldIs base es) (pairs_from middle now ps fs)
 old-from base es middle now ps [] is = is
@@ -254,13 +191,7 @@ old-from base es middle now ps (Removed archive ∷ fs) is = old-from base es mi
 
 pair-same : (base : Content) (es fs : List Event) (p : Pair) → 0 < base.step → IsHistory (moment_of base) es → IsHistory (moment_at_end base es) fs → OldIs base es p → LifeAt (content_lived base es) (moment_at_end (content_lived base es) fs) (right base es p) → archive_for base (es ++ fs) (left (length (steps_of base es)) p) ≡ archive_for (content_lived base es) fs (right base es p)
 unfolding made
-pair-same base es fs (Old life more) some h k is at =
-    let this = whole life more in
-    let that = rest base es life more in
-    cc (fold-append (rows_after 0) life.begun.def.rows life.since more, row_parts-cut base es fs life more some h k is, kept_for-cut base es fs life more some h k is at)
-pair-same base es fs (New life) some h k is at =
-    let this = later (length (steps_of base es)) life in
-    cc (row_parts-later base es fs life some h k, kept_for-later base es fs life some h k)
+pair-same base es fs p some h k is at = grind (arith, fold-append, row_parts-cut, kept_for-cut, row_parts-later, kept_for-later)
 
 pairs-same : (base : Content) (es fs : List Event) (ps : List Pair) → 0 < base.step → IsHistory (moment_of base) es → IsHistory (moment_at_end base es) fs → AllByRecursion (OldIs base es) ps → AllByRecursion (LifeAt (content_lived base es) (moment_at_end (content_lived base es) fs)) (map (right base es) ps) → map (archive_for base (es ++ fs)) (map (left (length (steps_of base es))) ps) ≡ map (archive_for (content_lived base es) fs) (map (right base es) ps)
 pairs-same base es fs [] some h k is at = refl
@@ -278,9 +209,7 @@ at_cut all = map (λ life. Old life []) all
 at_cut-left : (n : ℕ) (all : List Life) → map (left n) (at_cut all) ≡ all
 unfolding at_cut
 at_cut-left n [] = refl
-at_cut-left n (life ∷ all) =
-    ap (λ since. let x : Life = record life { since = since } in x ∷ map (left n) (at_cut all)) (append-nil life.since)
-    ∙ ap (λ rest. life ∷ rest) (at_cut-left n all)
+at_cut-left n (life ∷ all) = grind (arith, common_steps, append-nil, at_cut-left n all)
 
 at_cut-right : (base : Content) (es : List Event) (all : List Life) → map (right base es) (at_cut all) ≡ map (life_of (content_lived base es)) (map (archive_for base es) all)
 unfolding at_cut
@@ -310,12 +239,8 @@ archives-cut base es fs is h k =
     ∙ ap (λ all. lives_from base mid all fs) (at_cut-left n (lives base es))
     ∙ sym (lives_from-append base (moment_of base) (map (life_of base) base.archives) es fs) in
     let old = old-from base es middle mid (at_cut (lives base es)) fs (at_cut-old base es (lives base es) (lives_are base es is h)) in
-    let at = subst (AllByRecursion (LifeAt middle (moment_at_end middle fs))) (sym (lives-right base es fs)) (lives_are middle fs (IsBase-lived base es is h) (history-right base es fs k)) in
-    cc (all_left, pairs-same base es fs ps is.some_step h k old at, lives-right base es fs)
+    grind (arith, lives-right base es fs, lives_are middle fs (IsBase-lived base es is h) (history-right base es fs k), IsBase-lived base es is h, history-right base es fs k, pairs-same base es fs ps is.some_step h k old)
 
 pub lived-cut : (base : Content) (es : List Event) → CutsLives base es
 unfolding content_lived with_moment
-lived-cut base es is h fs k =
-    let end = fold moment_after (moment_at_end base es) fs in
-    let archives = map (archive_for base (es ++ fs)) (lives base (es ++ fs)) in
-    cc (fold-append moment_after (moment_of base) es fs, parts_of-append base es fs is.some_step h k ∙ same_parts base es fs, archives-cut base es fs is h k)
+lived-cut base es is h fs k = grind (arith, fold-append, parts_of-append, same_parts, archives-cut)

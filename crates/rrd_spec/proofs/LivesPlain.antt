@@ -1,6 +1,6 @@
 -- A history in which no archive comes or goes, and one that is nothing but that.
-use Rattle.std.specs.Prelude.{◌≡◌, ℕ, zero, suc, ◌+◌, ◌-◌, ◌*◌, ◌/◌, ◌<◌, min, Bool, true, false, cond, ℤ, pos, negsuc, List, [], ◌∷◌, ◌++◌, length, map, replicate, drop, take}
-use Rattle.rrd_spec.proofs.Names.{refl, sym, ◌∙◌, ap, eqb, get_or, ltb, arith, append_assoc, append-nil, eq-eqb, ne_eqb, drop-map, length-replicate, map-append, take-map, fold, enumerate_from, remove, AllByRecursion, Cell, Part, DsDef, RraDef, Rra, Content, Event, Sampled, Tuned, Resized, Added, Removed, Moment, moment_after, moment_of, moment_at_end, rows_after, IsArchive, row_of_age, finished, unfinished, Life, life_of, life_added, new_archive, with_event, change_at, lives_from, row_parts, row_parts_of, rows_of, steps_for, steps_to_rows, IsListedByNumber, KeepsArchives, archive_of, content_listed, filled_up, keep_last, kept_rows, rows_never_lost, archive_for, content_lived, kept_for, rows_for, AddChanges, BlankAtFirst, RemoveChanges, All-drop, All-take, keep_all}
+use Rattle.std.specs.Prelude.{◌≡◌, ℕ, zero, suc, ◌+◌, ◌-◌, ◌/◌, ◌<◌, min, cond, ℤ, List, [], ◌∷◌, ◌++◌, length, map, replicate, drop, take}
+use Rattle.rrd_spec.proofs.Names.{common_steps, refl, sym, ◌∙◌, ap, eqb, get_or, arith, append_assoc, append-nil, eq-eqb, ne_eqb, drop-map, length-replicate, map-append, take-map, fold, enumerate_from, AllByRecursion, Cell, Part, DsDef, RraDef, Rra, Content, Event, Sampled, Tuned, Resized, Added, Removed, Moment, moment_after, moment_of, moment_at_end, rows_after, IsArchive, row_of_age, Life, life_of, life_added, new_archive, with_event, change_at, lives_from, row_parts, row_parts_of, rows_of, IsListedByNumber, KeepsArchives, archive_of, content_listed, kept_rows, rows_never_lost, archive_for, content_lived, kept_for, rows_for, AddChanges, BlankAtFirst, RemoveChanges, All-drop, All-take}
 use Rattle.rrd_spec.specs.History.{Reading}
 use Rattle.rrd_spec.proofs.CellLemmas.{is_lived}
 use Rattle.rrd_spec.proofs.GroupLemmas.{finished_nil, unfinished_nil}
@@ -22,10 +22,7 @@ unfolding own
 rows_own i rows [] = refl
 rows_own i rows (Sampled sample ∷ es) = rows_own i rows es
 rows_own i rows (Tuned sources ∷ es) = rows_own i rows es
-rows_own i rows (Resized archive n ∷ es) = either (rows_own i n es) (rows_own i rows es) (eqb archive i) where
-  either : fold (rows_after 0) n (own i es) ≡ fold (rows_after i) n es → fold (rows_after 0) rows (own i es) ≡ fold (rows_after i) rows es → (b : Bool) → fold (rows_after 0) rows (cond b (Resized 0 n ∷ own i es) (own i es)) ≡ fold (rows_after i) (cond b n rows) es
-  either here there true = here
-  either here there false = there
+rows_own i rows (Resized archive n ∷ es) = grind (arith, common_steps, rows_own i n es, rows_own i rows es)
 rows_own i rows (Added def ∷ es) = rows_own i rows es
 rows_own i rows (Removed archive ∷ es) = rows_own i rows es
 
@@ -34,10 +31,7 @@ unfolding own
 room_own i since rows now [] = refl
 room_own i since rows now (Sampled sample ∷ es) = ap (min (rows + since now.last)) (room_own i since rows (moment_after now (Sampled sample)) es)
 room_own i since rows now (Tuned sources ∷ es) = ap (min (rows + since now.last)) (room_own i since rows (moment_after now (Tuned sources)) es)
-room_own i since rows now (Resized archive n ∷ es) = either (room_own i since n now es) (room_own i since rows now es) (eqb archive i) where
-  either : rows_never_lost 0 since n now (own i es) ≡ rows_never_lost i since n now es → rows_never_lost 0 since rows now (own i es) ≡ rows_never_lost i since rows now es → (b : Bool) → rows_never_lost 0 since rows now (cond b (Resized 0 n ∷ own i es) (own i es)) ≡ min (rows + since now.last) (rows_never_lost i since (cond b n rows) now es)
-  either here there true = ap (min (rows + since now.last)) here
-  either here there false = omega (arith, there, room_first i since rows now es)
+room_own i since rows now (Resized archive n ∷ es) = grind (arith, common_steps, room_own i since n now es, room_own i since rows now es, room_first)
 room_own i since rows now (Added def ∷ es) = omega (arith, room_own i since rows now es, room_first i since rows now es)
 room_own i since rows now (Removed archive ∷ es) = omega (arith, room_own i since rows now es, room_first i since rows now es)
 
@@ -66,19 +60,13 @@ own-tuned i sources es (life ∷ all) = cc (append_assoc life.since (Tuned sourc
 own-elsewhere : (i archive n : ℕ) (es : List Event) (all : List Life) → archive < i → with_own i es all ≡ with_own i (Resized archive n ∷ es) all
 unfolding with_own own since_put
 own-elsewhere i archive n es [] h = refl
-own-elsewhere i archive n es (life ∷ all) h =
-    let other : eqb archive i ≡ false = ne_eqb archive i (λ e. absurd (omega (arith, e))) in
-    cc (other, own-elsewhere (i + 1) archive n es all (omega arith))
+own-elsewhere i archive n es (life ∷ all) h = grind (arith, ne_eqb, own-elsewhere (i + 1) archive n es all (omega arith))
 
 own-resized : (i archive n k : ℕ) (es : List Event) (all : List Life) → archive ≡ i + k → with_own i es (change_at (with_event (Resized 0 n)) all k) ≡ with_own i (Resized archive n ∷ es) all
 unfolding with_own own since_put
 own-resized i archive n k es [] e = refl
-own-resized i archive n zero es (life ∷ all) e =
-    let this : eqb archive i ≡ true = eq-eqb archive i (omega (arith, e)) in
-    cc (append_assoc life.since (Resized 0 n ∷ []) (own i es), this, own-elsewhere (i + 1) archive n es all (omega (arith, e)))
-own-resized i archive n (suc k) es (life ∷ all) e =
-    let other : eqb archive i ≡ false = ne_eqb archive i (λ f. absurd (omega (arith, e, f))) in
-    cc (other, own-resized (i + 1) archive n k es all (omega (arith, e)))
+own-resized i archive n zero es (life ∷ all) e = grind (arith, eq-eqb, append_assoc, own-elsewhere)
+own-resized i archive n (suc k) es (life ∷ all) e = grind (arith, ne_eqb, own-resized (i + 1) archive n k es all (omega (arith, e)))
 
 lives_plain : (base : Content) (now : Moment) (all : List Life) (es : List Event) → KeepsArchives es → lives_from base now all es ≡ with_own 0 es all
 lives_plain base now all [] keeps = sym (own-nil 0 all)
@@ -94,14 +82,7 @@ made archive n parts rows = record { def = record archive.def { rows = n }; part
 
 archive_plain : (base : Content) (es : List Event) (i : ℕ) (archive : Rra) → archive_for base es (since_put (life_of base archive) (own i es)) ≡ archive_of base es (i, archive)
 unfolding made since_put row_parts row_parts_of kept_for kept_rows rows_for rows_of
-archive_plain base es i archive =
-    let life = since_put (life_of base archive) (own i es) in
-    let rows = archive.def.rows in
-    let size = base.step * archive.def.steps in
-    let since = λ (time : ℕ). (moment_at_end base es).last / size - time / size in
-    let nan = replicate (length base.sources) Cell.Unknown in
-    let all = archive.rows ++ rows_of base archive es in
-    cc (rows_own i rows es, room_own i since rows (moment_of base) es)
+archive_plain base es i archive = grind (arith, rows_own, room_own)
 
 archives_plain : (base : Content) (es : List Event) (i : ℕ) (archives : List Rra) → map (archive_for base es) (with_own i es (map (life_of base) archives)) ≡ map (archive_of base es) (enumerate_from i archives)
 unfolding with_own since_put
@@ -118,28 +99,11 @@ unfoldable pub still : Rra → Moment → ℕ → Life
 still begun birth missed = record { begun = begun; birth = birth; missed = missed; since = [] }
 
 drop-none : {A : Type 0} (n : ℕ) → let none : List A = [] in drop n none ≡ none
-drop-none zero = refl
-drop-none (suc n) = refl
+drop-none n = grind arith
 
 still_stays : (base : Content) (es : List Event) (begun : Rra) (birth : Moment) (missed : ℕ) → (moment_at_end base es).last ≡ base.last → birth.last ≡ base.last → IsArchive begun → archive_for base es (still begun birth missed) ≡ begun
 unfolding made still row_parts kept_for rows_for
-still_stays base es begun birth missed same born is =
-    let life = still begun birth missed in
-    let n = length base.sources in
-    let rule = steps_to_rows begun.def n in
-    let size = base.step * begun.def.steps in
-    let since = λ (time : ℕ). (moment_at_end base es).last / size - time / size in
-    let nan = replicate n Cell.Unknown in
-    let rows = begun.def.rows in
-    let none : steps_for base life es ≡ [] = ap (drop missed) (steps_none base es same) ∙ drop-none missed in
-    let parts : row_parts base life es ≡ begun.parts = ap (unfinished rule (birth.last / base.step) begun.parts) none ∙ unfinished_nil rule (birth.last / base.step) begun.parts is.some_steps in
-    let news : rows_for base es life ≡ [] = ap (finished rule (birth.last / base.step) begun.parts) none ∙ finished_nil rule (birth.last / base.step) begun.parts in
-    let kept : kept_for base es life ≡ begun.rows
-    = ap (λ zs. filled_up rows nan (keep_last (rows + since birth.last) (begun.rows ++ zs))) news
-    ∙ ap (λ zs. filled_up rows nan (keep_last (rows + since birth.last) zs)) (append-nil begun.rows)
-    ∙ ap (filled_up rows nan) (keep_all (rows + since birth.last) begun.rows (omega (arith, is.rows_are)))
-    ∙ filled_already rows nan begun.rows is.rows_are in
-    ap (λ ps. made begun rows ps (kept_for base es life)) parts ∙ ap (made begun rows begun.parts) kept
+still_stays base es begun birth missed same born is = grind (arith, steps_none, drop-none, unfinished_nil, finished_nil, append-nil, filled_already)
 
 all_still : (base : Content) (es : List Event) (archives : List Rra) → (moment_at_end base es).last ≡ base.last → AllByRecursion IsArchive archives → map (archive_for base es) (map (life_of base) archives) ≡ archives
 unfolding still
@@ -154,30 +118,15 @@ unfolding content_lived with_all still
 add_changes base def is steps rows =
     let es = Added def ∷ [] in
     let n = length base.sources in
-    let lives_then = map (life_of base) base.archives ++ life_added base (moment_of base) def ∷ [] in
     let new : IsArchive (new_archive n def) = record { some_steps = steps; some_rows = rows; rows_are = length-replicate def.rows (replicate n Cell.Unknown) } in
-    sym (is_lived base es is (steps, rows, tt))
-    ∙ ap (λ ps. with_all base ps (map (archive_for base es) lives_then)) (parts_same base es refl is.some_step)
-    ∙ ap (with_all base base.parts) (
-    map-append (archive_for base es) (map (life_of base) base.archives) (life_added base (moment_of base) def ∷ [])
-    ∙ ap (λ all. all ++ archive_for base es (life_added base (moment_of base) def) ∷ []) (all_still base es base.archives refl is.archives_are)
-    ∙ ap (λ a. base.archives ++ a ∷ []) (still_stays base es (new_archive n def) (moment_of base) (base.last / base.step - base.last / base.step) refl refl new)
-    )
+    grind (arith, is_lived base es is (steps, rows, tt), parts_same base es refl is.some_step, map-append (archive_for base es) (map (life_of base) base.archives) (life_added base (moment_of base) def ∷ []), all_still base es base.archives refl is.archives_are, still_stays base es (new_archive n def) (moment_of base) (base.last / base.step - base.last / base.step) refl refl new)
 
 pub remove_changes : (base : Content) (number : ℕ) → RemoveChanges base number
 unfolding content_lived with_all
 remove_changes base number is =
     let es = Removed number ∷ [] in
     let all = base.archives in
-    sym (is_lived base es is tt)
-    ∙ ap (λ ps. with_all base ps (map (archive_for base es) (remove (map (life_of base) all) number))) (parts_same base es refl is.some_step)
-    ∙ ap (with_all base base.parts) (
-    map-append (archive_for base es) (take number (map (life_of base) all)) (drop (suc number) (map (life_of base) all))
-    ∙ ap (λ xs. map (archive_for base es) xs ++ map (archive_for base es) (drop (suc number) (map (life_of base) all))) (take-map (life_of base) number all)
-    ∙ ap (λ xs. map (archive_for base es) (map (life_of base) (take number all)) ++ map (archive_for base es) xs) (drop-map (life_of base) (suc number) all)
-    ∙ ap (λ xs. xs ++ map (archive_for base es) (map (life_of base) (drop (suc number) all))) (all_still base es (take number all) refl (All-take IsArchive number all is.archives_are))
-    ∙ ap (λ xs. take number all ++ xs) (all_still base es (drop (suc number) all) refl (All-drop IsArchive (suc number) all is.archives_are))
-    )
+    grind (arith, is_lived base es is tt, parts_same base es refl is.some_step, map-append (archive_for base es) (take number (map (life_of base) all)) (drop (suc number) (map (life_of base) all)), take-map (life_of base) number all, drop-map (life_of base) (suc number) all, all_still base es (take number all) refl (All-take IsArchive number all is.archives_are), all_still base es (drop (suc number) all) refl (All-drop IsArchive (suc number) all is.archives_are))
 
 -- ---- before its birth
 
@@ -187,14 +136,7 @@ get_or-blank (suc n) zero u = refl
 get_or-blank (suc n) (suc i) u = get_or-blank n i u
 
 blank_of_age : (n : ℕ) (u : List Cell) (age : ℤ) → row_of_age (replicate n u) u age ≡ u
-blank_of_age n u (pos age) =
-    ap (λ row. cond (ltb age (length (replicate n u))) row u) (get_or-blank n (length (replicate n u) - 1 - age) u)
-    ∙ either (ltb age (length (replicate n u)))
-  where
-    either : (b : Bool) → cond b u u ≡ u
-    either true = refl
-    either false = refl
-blank_of_age n u (negsuc ahead) = refl
+blank_of_age n u age = grind (arith, get_or-blank)
 
 pub blank_at_first : (sources step last : ℕ) (def : RraDef) (time : ℤ) → BlankAtFirst sources step last def time
 blank_at_first sources step last def time = blank_of_age def.rows (replicate sources Cell.Unknown) _

@@ -1,6 +1,6 @@
 -- Many equal seconds or steps at once.
 use Rattle.std.specs.Prelude.{◌≡◌, ℕ, zero, suc, ◌+◌, ◌-◌, ◌*◌, ◌/◌, ◌%◌, ◌<◌, ◌≤◌, ℤ, pos, ◌≤ℤ◌, List, [], ◌∷◌, ◌++◌, length, drop, map, replicate}
-use Rattle.rrd_spec.proofs.Names.{refl, sym, ◌∙◌, ap, subst, arith, length-append, append_assoc, append-nil, length-replicate, replicate-append-replicate, length-drop, div-add-mod', div-mul-add, mod_below, fold, Cell, Function, Average, Part, nothing, with_cell, with_each, step_cell, row_cell, map_each, finished, unfinished, Rra, Content, keep_last, keep_all, keep_last-append, archive_passed, passed, seconds_to_steps, steps_to_rows, SecondsOver, StepsInPieces, StepsOver, StepsWithin, fold-with_each}
+use Rattle.rrd_spec.proofs.Names.{common_steps, refl, sym, ◌∙◌, ap, subst, arith, length-append, append_assoc, append-nil, length-replicate, replicate-append-replicate, length-drop, div-add-mod', div-mul-add, mod_below, fold, Cell, Function, Average, Part, nothing, with_cell, with_each, step_cell, row_cell, map_each, finished, unfinished, Rra, Content, keep_last, keep_last-append, archive_passed, passed, seconds_to_steps, steps_to_rows, SecondsOver, StepsInPieces, StepsOver, StepsWithin, fold-with_each}
 use Rattle.rrd_spec.proofs.GroupLemmas.{goes_on, finished_within, unfinished_within, finished_filling, unfinished_filling, finished-replicate, unfinished-replicate, next_ahead}
 use Rattle.rrd_spec.proofs.PassedLemmas.{archive_passed-append}
 unfoldable use Rattle.rrd_spec.proofs.PassedLemmas.{with_rows, with_passed}
@@ -13,10 +13,7 @@ steps_in_pieces sources before archive xs ys some = archive_passed-append source
 -- steps that leave the row unfinished
 archive_within : (sources before : ℕ) (archive : Rra) (steps : List (List Cell)) → 0 < archive.def.steps → before + length steps < (before / archive.def.steps + 1) * archive.def.steps → archive_passed sources before steps archive ≡ record archive { parts = fold (with_each archive.def.function) archive.parts steps }
 unfolding archive_passed with_rows
-archive_within sources before archive steps some h =
-    let rule = steps_to_rows archive.def sources in
-    let r = length archive.rows in
-    cc (unfinished_within rule before archive.parts steps some h, finished_within rule before archive.parts steps some h, ap (keep_last r) (append-nil archive.rows) ∙ keep_all r archive.rows (omega arith))
+archive_within sources before archive steps some h = grind (arith, unfinished_within, finished_within, append-nil)
 
 -- steps that fill it
 archive_filling : (sources before : ℕ) (archive : Rra) (steps : List (List Cell)) → 0 < archive.def.steps → before + length steps ≡ (before / archive.def.steps + 1) * archive.def.steps → archive_passed sources before steps archive ≡ record archive {
@@ -55,10 +52,7 @@ each_stays : (give : Part → Cell) (take : Part → Cell → Part) (n : ℕ) (r
 each_stays give take zero [] same e = refl
 each_stays give take zero (cell ∷ row) same e = absurd (omega arith)
 each_stays give take (suc n) [] same e = absurd (omega arith)
-each_stays give take (suc n) (cell ∷ row) same e =
-    let here = same cell in
-    let rest = each_stays give take n row same (omega arith) in
-    cc
+each_stays give take (suc n) (cell ∷ row) same e = grind (arith, common_steps, each_stays give take n row same (omega arith))
 
 -- ---- a content
 

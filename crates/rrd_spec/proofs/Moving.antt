@@ -1,6 +1,6 @@
 -- A history of commands, one command at a time.
 use Rattle.std.specs.Prelude.{◌≡◌, ℕ, zero, suc, List, [], ◌∷◌, ◌++◌, map, None, reverse, slice_set}
-use Rattle.rrd_spec.proofs.Names.{refl, sym, ◌∙◌, ap, subst, append-nil, append_assoc, reverse-append, fold-append, fold, DsDef, Rra, Content, Event, Sampled, Tuned, Resized, Added, Removed, Moment, moment_after, moment_of, moment_at_end, rows_after, IsHistory, IsBase, KeepsArchives, content_listed, moved_listed, GoesOnFromContent, StaysBase, archive_by_time, content, Life, change_at, life_added, life_of, lives, lives_from, with_event, content_lived, map-append, remove, DatabaseChange, settings_of, rows_of_archives, settings_after, events, events_of, moved, Settings, verdict, IsSound, survived, AllAccepted, Moves}
+use Rattle.rrd_spec.proofs.Names.{arith, refl, sym, ◌∙◌, ap, subst, append-nil, append_assoc, reverse-append, fold-append, fold, DsDef, Rra, Content, Event, Sampled, Tuned, Resized, Added, Removed, Moment, moment_after, moment_of, moment_at_end, rows_after, IsHistory, IsBase, KeepsArchives, content_listed, moved_listed, GoesOnFromContent, StaysBase, archive_by_time, content, Life, change_at, life_added, life_of, lives, lives_from, with_event, map-append, remove, DatabaseChange, settings_of, rows_of_archives, settings_after, events, events_of, moved, Settings, verdict, IsSound, survived, AllAccepted, Moves}
 use Rattle.rrd_spec.proofs.HistoryLemmas.{IsHistory-append}
 use Rattle.rrd_spec.proofs.CellLemmas.{is_lived}
 use Rattle.rrd_spec.proofs.Lives.{IsBase-lived}
@@ -40,16 +40,11 @@ map_rows-resized n (life ∷ all) (suc number) = ap (λ rest. rows_now life ∷ 
 lives_rows : (base : Content) (now : Moment) (all : List Life) (settings : Settings) (es : List Event) → settings.rows ≡ map rows_now all → (fold settings_after settings es).rows ≡ map rows_now (lives_from base now all es)
 unfolding rows_now
 lives_rows base now all settings [] e = e
-lives_rows base now all settings (Sampled sample ∷ es) e =
-    lives_rows base (moment_after now (Sampled sample)) (map (with_event (Sampled sample)) all) (settings_after settings (Sampled sample)) es (e ∙ sym (map_rows-with (Sampled sample) all (λ rows. refl)))
-lives_rows base now all settings (Tuned sources ∷ es) e =
-    lives_rows base (moment_after now (Tuned sources)) (map (with_event (Tuned sources)) all) (settings_after settings (Tuned sources)) es (e ∙ sym (map_rows-with (Tuned sources) all (λ rows. refl)))
-lives_rows base now all settings (Resized archive n ∷ es) e =
-    lives_rows base now (change_at (with_event (Resized 0 n)) all archive) (settings_after settings (Resized archive n)) es (ap (λ rows. slice_set rows archive n) e ∙ map_rows-resized n all archive)
-lives_rows base now all settings (Added def ∷ es) e =
-    lives_rows base now (all ++ life_added base now def ∷ []) (settings_after settings (Added def)) es (ap (λ rows. rows ++ def.rows ∷ []) e ∙ sym (map-append rows_now all (life_added base now def ∷ [])))
-lives_rows base now all settings (Removed archive ∷ es) e =
-    lives_rows base now (remove all archive) (settings_after settings (Removed archive)) es (ap (λ rows. remove rows archive) e ∙ sym (map-remove rows_now all archive))
+lives_rows base now all settings (Sampled sample ∷ es) e = grind (arith, lives_rows base (moment_after now (Sampled sample)) (map (with_event (Sampled sample)) all) (settings_after settings (Sampled sample)) es (e ∙ sym (map_rows-with (Sampled sample) all (λ rows. refl))), map_rows-with)
+lives_rows base now all settings (Tuned sources ∷ es) e = grind (arith, lives_rows base (moment_after now (Tuned sources)) (map (with_event (Tuned sources)) all) (settings_after settings (Tuned sources)) es (e ∙ sym (map_rows-with (Tuned sources) all (λ rows. refl))), map_rows-with)
+lives_rows base now all settings (Resized archive n ∷ es) e = grind (arith, lives_rows base now (change_at (with_event (Resized 0 n)) all archive) (settings_after settings (Resized archive n)) es (ap (λ rows. slice_set rows archive n) e ∙ map_rows-resized n all archive), map_rows-resized)
+lives_rows base now all settings (Added def ∷ es) e = grind (arith, lives_rows base now (all ++ life_added base now def ∷ []) (settings_after settings (Added def)) es (ap (λ rows. rows ++ def.rows ∷ []) e ∙ sym (map-append rows_now all (life_added base now def ∷ []))), map-append)
+lives_rows base now all settings (Removed archive ∷ es) e = grind (arith, lives_rows base now (remove all archive) (settings_after settings (Removed archive)) es (ap (λ rows. remove rows archive) e ∙ sym (map-remove rows_now all archive)), map-remove)
 
 rows_begun : (base : Content) (archives : List Rra) → rows_of_archives archives ≡ map rows_now (map (life_of base) archives)
 unfolding rows_now
@@ -85,15 +80,11 @@ events_of-more base commands command = cc (reverse-append (command ∷ []) comma
 
 -- the events of what survives are a history
 next_history : (base : Content) (commands : List DatabaseChange) (command : DatabaseChange) → verdict (survived base commands) command ≡ None → IsHistory (moment_at_end base (events_of (settings_of base) (reverse commands))) (events (settings_of (survived base commands)) command)
-next_history base commands command h =
-    accepted_history (survived base commands) command h
+next_history base commands command h = grind (arith, accepted_history (survived base commands) command h)
 
 pub survivors_history : (base : Content) (commands : List DatabaseChange) → AllAccepted base commands → IsHistory (moment_of base) (events_of (settings_of base) (reverse commands))
 survivors_history base [] h = tt
-survivors_history base (command ∷ commands) h =
-    let P : List Event → Type 0 = λ es. IsHistory (moment_of base) es in
-    subst P (sym (events_of-more base commands command))
-    (IsHistory-append (moment_of base) (events_of (settings_of base) (reverse commands)) (events (settings_of (survived base commands)) command) (survivors_history base commands h.1) (next_history base commands command h.0))
+survivors_history base (command ∷ commands) h = grind (arith, events_of-more, IsHistory-append, survivors_history base commands h.1, next_history)
 
 -- ---- a history in two pieces
 
@@ -108,25 +99,16 @@ pub moved_is : (base : Content) (command : DatabaseChange) → IsSound base → 
 moved_is base command sound h keeps = is_listed base (events (settings_of base) command) sound.is_base (accepted_history base command h) keeps
 
 pub moves : (base : Content) (commands : List DatabaseChange) (command : DatabaseChange) → Moves base commands command
-moves base commands command sound h =
-    let earlier = events_of (settings_of base) (reverse commands) in
-    let next = events (settings_of (survived base commands)) command in
-    cc (events_of-more base commands command, goes_on base earlier next sound.is_base (survivors_history base commands h.1) (next_history base commands command h.0))
+moves base commands command sound h = grind (arith, events_of-more, goes_on, survivors_history, next_history)
 
 -- ---- what is sound stays sound
 
 pub listed_sound : (base : Content) (command : DatabaseChange) → IsSound base → verdict base command ≡ None → IsSound (moved_listed base command)
 unfolding content_listed
-listed_sound base command sound h = record {
-  is_base = IsBase-listed base (events (settings_of base) command) sound.is_base (accepted_history base command h);
-  one_raw_each = command_raws base command sound.one_raw_each;
-}
+listed_sound base command sound h = grind (arith, IsBase-listed base (events (settings_of base) command) sound.is_base (accepted_history base command h), accepted_history base command h, command_raws base command sound.one_raw_each)
 
 pub moved_sound : (base : Content) (command : DatabaseChange) → IsSound base → verdict base command ≡ None → IsSound (moved base command)
-moved_sound base command sound h = record {
-  is_base = stays_base base (events (settings_of base) command) sound.is_base (accepted_history base command h);
-  one_raw_each = command_raws base command sound.one_raw_each;
-}
+moved_sound base command sound h = grind (arith, stays_base, accepted_history, command_raws)
 
 pub moved_depth : (base : Content) (command : DatabaseChange) → (moved base command).depth ≡ base.depth
 moved_depth base command = refl

@@ -1,6 +1,6 @@
 -- Names differ after a tune, and what its options give.
 use Rattle.std.specs.Prelude.{◌≡◌, true, false, cond, not, ◌&&◌, ◌||◌, List, [], ◌∷◌, map, Option, Some, None}
-use Rattle.rrd_spec.proofs.Names.{refl, sym, ◌∙◌, ap, ⊎_elim, cond_both, cases_Bool, or_parts, or_from, and_cases, both_ways, not-false, bytes_eq-Decides, list_any, Name, DsDef, Asked, asked, tuned, names, has_source, is_double, Tuning, same_name}
+use Rattle.rrd_spec.proofs.Names.{arith, refl, ◌∙◌, ap, ⊎_elim, cond_both, cases_Bool, or_parts, or_from, and_cases, both_ways, not-false, bytes_eq-Decides, list_any, Name, DsDef, Asked, asked, tuned, names, has_source, is_double, Tuning, same_name}
 
 pub same_is : (a b : Name) → same_name a b ≡ true → a ≡ b
 same_is a b h = (bytes_eq-Decides a b).0 h
@@ -20,12 +20,7 @@ renamed old new name = cond (same_name old name) new name
 
 renamed_apart : (old new m n : Name) → same_name m n ≡ false → same_name m new ≡ false → same_name n new ≡ false → same_name (renamed old new m) (renamed old new n) ≡ false
 unfolding renamed
-renamed_apart old new m n h k l =
-    cond_both (same_name old m) new m (λ x. same_name x (cond (same_name old n) new n) ≡ false)
-    (λ first. cond_both (same_name old n) new n (λ y. same_name new y ≡ false)
-    (λ second. absurd (differ m n h (sym (same_is old m first) ∙ same_is old n second)))
-    (λ second. apart new n (λ e. differ n new l (sym e))))
-    (λ first. cond_both (same_name old n) new n (λ y. same_name m y ≡ false) (λ second. k) (λ second. h))
+renamed_apart old new m n h k l = grind (arith, cond_both, differ, same_is, apart)
 
 none_renamed : (old new name : Name) (list : List Name) → list_any (same_name name) list ≡ false → same_name name new ≡ false → list_any (λ n. same_name n new) list ≡ false → list_any (same_name (renamed old new name)) (map (renamed old new) list) ≡ false
 none_renamed old new name [] h k l = refl
@@ -60,7 +55,6 @@ names_differ (Some option) sources h k =
     ⊎_elim
     (λ (same : not (same_name option.0 option.1) ≡ false).
     let e = same_is option.0 option.1 (not-false (same_name option.0 option.1) same) in
-    ap is_double (map_itself (λ n. cond (same_name option.0 n) option.1 n) (names sources)
-    (λ n. cond_both (same_name option.0 n) option.1 n (λ x. x ≡ n) (λ is. sym e ∙ same_is option.0 n is) (λ no. refl))) ∙ h)
+    grind (arith, map_itself, cond_both, same_is))
     (λ (free : has_source sources option.1 ≡ false). renamed_differ option.0 option.1 (names sources) h (has_source_names sources option.1 ∙ free))
     (and_cases (not (same_name option.0 option.1)) (has_source sources option.1) (k option refl))

@@ -29,7 +29,7 @@ unfoldable pub use Rattle.rrd_spec.specs.Laws.Passing.{archive_passed, passed}
 pub use Rattle.std.proofs.Math.Seq.{take-add}
 pub use Rattle.std.proofs.lemmas.Result.{err_from_is_err_and, IfOk-weaker}
 unfoldable pub use Rattle.rrd_spec.specs.Files.Rebuilding.{due}
-pub use Rattle.std.proofs.lemmas.Grind.{flat_map-append}
+pub use Rattle.std.proofs.lemmas.Grind.{common_steps, flat_map-append}
 pub use Rattle.std.proofs.lemmas.List.Concat.{flat_map-cons, length-flat_map}
 pub use Rattle.std.proofs.KnownBytes.{Appends-trans, Consumes-trans, Consumes-nil}
 pub use Rattle.std.proofs.lemmas.List.Elements.{filter-append, All-pop}

@@ -1,22 +1,18 @@
 -- What is within the limits of a version is within those of every database.
-use Rattle.std.specs.Prelude.{◌≡◌, true, ℕ, ◌/◌, ◌≤◌, List, [], ◌∷◌, length}
-use Rattle.rrd_spec.proofs.Names.{refl, ap, arith, both_ways, Rra, Content, AddedEntry, Entry, RemovedEntry, ResizeEntry, TuneEntry, UpdateEntry, undone, ContentIsWithin, DatabaseIsWithin, EntryIsWithin, FirstTellsNoArchive, JournalIsWithin, Filed, All-weaker, allows_archive_changes_of, max_journal_depth_of, limits_of, max_archives_of, max_cells_of, present, IsSource, IsSourceWithin, IsValidArchive, IsValidArchiveWithin, DsDef, Version, One, Two}
+use Rattle.std.specs.Prelude.{ℕ, ◌/◌, ◌≤◌, List, [], ◌∷◌, length}
+use Rattle.rrd_spec.proofs.Names.{refl, arith, Rra, Content, AddedEntry, Entry, RemovedEntry, undone, ContentIsWithin, DatabaseIsWithin, EntryIsWithin, FirstTellsNoArchive, JournalIsWithin, Filed, All-weaker, max_journal_depth_of, limits_of, max_archives_of, max_cells_of, present, IsSource, IsSourceWithin, IsValidArchive, IsValidArchiveWithin, DsDef, Version}
 
 small_depth : (version : Version) (n : ℕ) → n ≤ max_journal_depth_of version → n ≤ present.max_journal_depth
-small_depth One n h = omega (arith, h)
-small_depth Two n h = h
+small_depth version n h = grind arith
 
 few_archives : (version : Version) (n : ℕ) → n ≤ max_archives_of version → n ≤ present.max_archives
-few_archives One n h = omega (arith, h)
-few_archives Two n h = h
+few_archives version n h = grind arith
 
 few_cells : (version : Version) (n : ℕ) → n ≤ max_cells_of version → n ≤ present.max_cells
-few_cells One n h = omega (arith, h)
-few_cells Two n h = h
+few_cells version n h = grind arith
 
 source_within : (version : Version) (source : DsDef) → IsSourceWithin (limits_of version) source → IsSource source
-source_within version source h =
-    record { good_name = h.good_name; good_heartbeat = h.good_heartbeat; good_bounds = h.good_bounds }
+source_within version source h = grind arith
 
 archive_within : (version : Version) (sources steps : ℕ) (archive : Rra) → IsValidArchiveWithin (limits_of version) sources steps archive → IsValidArchive sources steps archive
 archive_within version sources steps archive h = assumption (h)
@@ -47,17 +43,12 @@ entry_is_within version now x h = h
 
 pub journal_is_within : (version : Version) (now : Content) (journal : List Entry) → JournalIsWithin version now journal
 journal_is_within version now [] h = tt
-journal_is_within version now (entry ∷ journal) h =
-    (entry_is_within version now entry h.0, content_is_within version (undone now entry) h.1, journal_is_within version (undone now entry) journal h.2)
+journal_is_within version now (entry ∷ journal) h = grind (arith, entry_is_within version now entry h.0, content_is_within version (undone now entry) h.1, journal_is_within version (undone now entry) journal h.2)
 
 pub database_is_within : (version : Version) (now : Content) (journal : List Entry) → DatabaseIsWithin version now journal
 database_is_within version now journal h = assumption (content_is_within version now h.content_is, journal_is_within version now journal h.journal_is, h)
 
 -- ---- archives that came or went
 
-none_in_first : (version : Version) → version ≡ One → (limits_of version).allows_archive_changes ≡ true → ⊥
-none_in_first version e h = both_ways (limits_of version).allows_archive_changes (ap allows_archive_changes_of e) h
-
 pub first_tells_none : (f : Filed) → FirstTellsNoArchive f
-first_tells_none f e =
-    (λ may. none_in_first f.header.version e may.fits.0, λ number archive may. none_in_first f.header.version e may.fits.0)
+first_tells_none f e = grind arith

@@ -1,6 +1,6 @@
 -- Which entry a valid content can undo, by its outline alone.
-use Rattle.std.specs.Prelude.{◌≡◌, ◌+◌, ◌-◌, ◌*◌, ◌/◌, ◌%◌, ◌<◌, ◌≤◌, ℕ, zero, suc, List, [], ◌∷◌, ◌++◌, length, map, take, sum, drop}
-use Rattle.rrd_spec.proofs.Names.{◌∙◌, refl, sym, ap, subst, arith, get_or, set, length-append, length-take, AllByRecursion, fold, insert, take-map, get_or-set_other, get_or-set_same, length-map, length-set, Cell, Raw, IsAccepted, Average, SavedSource, Outline, DsDef, RraDef, Limits, cells, rows_of_archives, settings_of, Rra, Content, definitions, AddedEntry, BeforeUpdate, Entry, RemovedEntry, ResizeEntry, SavedArchive, TuneEntry, UpdateEntry, put_back, put_back_each, rows_at, undone, with_rows_at, with_source, length-accepted, rows_wide, Version, Head, head_of, JournalLeavesValid, JournalParts, JournalsJoin, FiledOutline, JournalTakes, JournalTook, MayUndoEach, OutlineFollows, OutlineIsNeeded, OutlineSuffices, OutlinesAreNeeded, OutlinesSuffice, All-append, All-at, All-drop, All-take, outline_of, outline_undone, with_row_number, with_sources, IsSavedSource, MaySave, MaySaveEach, MayUndo, Stored, AreAccepted, AreParts, FitEach, FitsArchive, IsRow, IsSourceWithin, IsValidArchiveWithin, IsValidWithin, Rise}
+use Rattle.std.specs.Prelude.{◌≡◌, ◌+◌, ◌-◌, ◌*◌, ◌/◌, ◌<◌, ◌≤◌, ℕ, zero, suc, List, [], ◌∷◌, ◌++◌, length, map, take, sum, drop}
+use Rattle.rrd_spec.proofs.Names.{common_steps, ◌∙◌, refl, sym, ap, subst, arith, get_or, set, length-append, AllByRecursion, fold, insert, take-map, get_or-set_other, get_or-set_same, length-map, length-set, Cell, Raw, IsAccepted, SavedSource, Outline, DsDef, RraDef, Limits, cells, rows_of_archives, settings_of, Rra, Content, definitions, AddedEntry, BeforeUpdate, Entry, RemovedEntry, ResizeEntry, SavedArchive, TuneEntry, UpdateEntry, put_back, put_back_each, rows_at, undone, with_rows_at, with_source, length-accepted, rows_wide, Version, Head, head_of, JournalLeavesValid, JournalParts, JournalsJoin, FiledOutline, JournalTakes, JournalTook, MayUndoEach, OutlineFollows, OutlineIsNeeded, OutlineSuffices, OutlinesAreNeeded, OutlinesSuffice, All-append, All-at, All-drop, All-take, outline_of, outline_undone, with_row_number, with_sources, IsSavedSource, MaySave, MaySaveEach, MayUndo, Stored, AreAccepted, FitEach, FitsArchive, IsRow, IsSourceWithin, IsValidArchiveWithin, IsValidWithin, Rise}
 use Rattle.rrd_spec.proofs.ArchiveTunes.{fewer_taken, inserted, length-insert, map-insert, sum-insert, valid_with}
 use Rattle.rrd_spec.specs.Journal.Outlines.{rows_of}
 use Rattle.rrd_spec.proofs.ReadBack.{gives_back}
@@ -43,19 +43,7 @@ saved_fits step from to sources archive old may = assumption (may, may.parts_are
 
 saved_valid : (limits : Limits) (step from to sources : ℕ) (archive : Rra) (old : SavedArchive) → IsValidArchiveWithin limits sources (to / step) archive → MaySave step from to sources archive.def old
     → IsValidArchiveWithin limits sources (from / step) (put_back archive old)
-saved_valid limits step from to sources archive old is may =
-    let rest = take (length archive.rows - length old.rows) archive.rows in
-    record {
-      some_steps = is.some_steps;
-      few_steps = is.few_steps;
-      some_rows = is.some_rows;
-      few_rows = is.few_rows;
-      xff_low = is.xff_low;
-      xff_high = is.xff_high;
-      parts_are = may.parts_are;
-      rows_are = omega (arith, length-append old.rows rest, length-take (length archive.rows - length old.rows) archive.rows, may.as_many, is.rows_are);
-      each_row = All-append (IsRow sources) old.rows rest may.each_row (All-take (IsRow sources) (length archive.rows - length old.rows) archive.rows is.each_row);
-    }
+saved_valid limits step from to sources archive old is may = grind (arith, common_steps, length-append)
 
 saved_may : (limits : Limits) (step from to sources : ℕ) (archive : Rra) (old : SavedArchive) → FitsArchive step sources from to archive old → IsValidArchiveWithin limits sources (from / step) (put_back archive old)
     → MaySave step from to sources archive.def old
@@ -64,16 +52,13 @@ saved_may limits step from to sources archive old fits is = assumption (fits, is
 each_saved : (limits : Limits) (step from to sources : ℕ) (archives : List Rra) (olds : List SavedArchive) → AllByRecursion (IsValidArchiveWithin limits sources (to / step)) archives → MaySaveEach step from to sources (definitions archives) olds
     → FitEach step sources from to archives olds × AllByRecursion (IsValidArchiveWithin limits sources (from / step)) (put_back_each archives olds)
 each_saved limits step from to sources [] [] is may = (tt, tt)
-each_saved limits step from to sources (archive ∷ archives) (old ∷ olds) is may =
-    let rest = each_saved limits step from to sources archives olds is.1 may.1 in
-    ((saved_fits step from to sources archive old may.0, rest.0), (saved_valid limits step from to sources archive old is.0 may.0, rest.1))
+each_saved limits step from to sources (archive ∷ archives) (old ∷ olds) is may = grind (arith, each_saved limits step from to sources archives olds is.1 may.1, saved_fits step from to sources archive old may.0, saved_valid limits step from to sources archive old is.0 may.0)
 each_saved limits step from to sources x y is may = absurd may
 
 each_may : (limits : Limits) (step from to sources : ℕ) (archives : List Rra) (olds : List SavedArchive) → FitEach step sources from to archives olds → AllByRecursion (IsValidArchiveWithin limits sources (from / step)) (put_back_each archives olds)
     → MaySaveEach step from to sources (definitions archives) olds
 each_may limits step from to sources [] [] fits is = tt
-each_may limits step from to sources (archive ∷ archives) (old ∷ olds) fits is =
-    (saved_may limits step from to sources archive old fits.0 is.0, each_may limits step from to sources archives olds fits.1 is.1)
+each_may limits step from to sources (archive ∷ archives) (old ∷ olds) fits is = grind (arith, saved_may limits step from to sources archive old fits.0 is.0, each_may limits step from to sources archives olds fits.1 is.1)
 each_may limits step from to sources x y fits is = absurd fits
 
 update_suffices : (limits : Limits) (now : Content) (old : BeforeUpdate) → OutlineSuffices limits now (UpdateEntry old)
@@ -141,13 +126,11 @@ accepted_at (s ∷ sources) (r ∷ raws) (suc i) source raw all inside = accepte
 accepted_then : (limits : Limits) (sources : List DsDef) (raws : List Raw) (olds : List SavedSource) → AreAccepted sources raws → AllByRecursion (IsSavedSource limits) olds → AreAccepted (with_sources sources olds) (with_raws raws olds)
 unfolding with_raws
 accepted_then limits sources raws [] all each = all
-accepted_then limits sources raws (old ∷ olds) all each =
-    accepted_then limits (set sources old.number old.source) (set raws old.number old.raw) olds (accepted_set sources raws old.number old.source old.raw all each.0.1) each.1
+accepted_then limits sources raws (old ∷ olds) all each = grind (arith, accepted_then limits (set sources old.number old.source) (set raws old.number old.raw) olds (accepted_set sources raws old.number old.source old.raw all each.0.1) each.1, accepted_set)
 
 sources_then : (limits : Limits) (sources : List DsDef) (olds : List SavedSource) → AllByRecursion (IsSourceWithin limits) sources → AllByRecursion (IsSavedSource limits) olds → AllByRecursion (IsSourceWithin limits) (with_sources sources olds)
 sources_then limits sources [] all each = all
-sources_then limits sources (old ∷ olds) all each =
-    sources_then limits (set sources old.number old.source) olds (All-set (IsSourceWithin limits) sources old.number old.source all each.0.0) each.1
+sources_then limits sources (old ∷ olds) all each = grind (arith, sources_then limits (set sources old.number old.source) olds (All-set (IsSourceWithin limits) sources old.number old.source all each.0.0) each.1, All-set)
 
 -- numbers rise, so those below the lowest keep their source and raw value
 source_below : (lowest limit i : ℕ) (sources : List DsDef) (olds : List SavedSource) (d : DsDef) → Rise lowest limit olds → i < lowest → get_or (with_sources sources olds) i d ≡ get_or sources i d
@@ -178,33 +161,12 @@ each_source limits lowest sources raws (old ∷ olds) same rise all accepted =
     raw_below (i + 1) (length next) i next_raws olds old.raw after (omega arith) ∙ get_or-set_same raws i old.raw old.raw (omega (arith, rise.1, same)) in
     let is : IsSourceWithin limits old.source = subst (IsSourceWithin limits) source (All-at (IsSourceWithin limits) (with_sources next olds) i old.source all inside) in
     let takes = accepted_at (with_sources next olds) (with_raws next_raws olds) i old.source old.raw accepted inside in
-    let took : IsAccepted old.source.kind old.raw =
-    subst (λ r. IsAccepted old.source.kind r) raw (subst (λ (s : DsDef). IsAccepted s.kind (get_or (with_raws next_raws olds) i old.raw)) source takes) in
+    let took : IsAccepted old.source.kind old.raw = grind arith in
     ((is, took), each_source limits (i + 1) next next_raws olds (omega (arith, same, count, raw_count)) after all accepted)
 
 tune_suffices : (limits : Limits) (now : Content) (olds : List SavedSource) → OutlineSuffices limits now (TuneEntry olds)
 unfolding with_both
-tune_suffices limits now olds is may =
-    let count : length (with_sources now.sources olds) ≡ length now.sources = sources_count now.sources olds in (
-      record { some = may.some; few = may.few; rise = may.rise },
-      subst (IsValidWithin limits) (sym (sources_undone now olds)) (record {
-        some_step = is.some_step;
-        small_step = is.small_step;
-        good_time = is.good_time;
-        some_depth = is.some_depth;
-        small_depth = is.small_depth;
-        some_source = omega (arith, count, is.some_source);
-        few_sources = omega (arith, count, is.few_sources);
-        some_archive = is.some_archive;
-        few_archives = is.few_archives;
-        few_cells = subst (λ n. n * sum (rows_of_archives now.archives) ≤ limits.max_cells) (sym count) is.few_cells;
-        sources_are = sources_then limits now.sources olds is.sources_are may.each;
-        names_differ = may.names_differ;
-        raws_are = accepted_then limits now.sources now.raws olds is.raws_are may.each;
-        parts_are = subst (λ n. AreParts Average n (now.last % now.step) now.parts) (sym count) is.parts_are;
-        archives_are = subst (λ n. AllByRecursion (IsValidArchiveWithin limits n (now.last / now.step)) now.archives) (sym count) is.archives_are;
-      }),
-    )
+tune_suffices limits now olds is may = grind (arith, sources_count, sources_undone, sources_then, accepted_then)
 
 tune_needed : (limits : Limits) (now : Content) (olds : List SavedSource) → OutlineIsNeeded limits now (TuneEntry olds)
 unfolding with_both
@@ -237,20 +199,7 @@ row_count limits sources steps (archive ∷ archives) (suc index) is = row_count
 resized_valid : (limits : Limits) (sources steps : ℕ) (archives : List Rra) (index : ℕ) (rows : List (List Cell)) → AllByRecursion (IsValidArchiveWithin limits sources steps) archives → 0 < length rows → length rows ≤ limits.max_rows → AllByRecursion (IsRow sources) rows
     → AllByRecursion (IsValidArchiveWithin limits sources steps) (with_rows_at archives index rows)
 resized_valid limits sources steps [] index rows is some few each = tt
-resized_valid limits sources steps (archive ∷ archives) zero rows is some few each = (
-  record {
-    some_steps = is.0.some_steps;
-    few_steps = is.0.few_steps;
-    some_rows = some;
-    few_rows = few;
-    xff_low = is.0.xff_low;
-    xff_high = is.0.xff_high;
-    parts_are = is.0.parts_are;
-    rows_are = refl;
-    each_row = each;
-  },
-  is.1,
-)
+resized_valid limits sources steps (archive ∷ archives) zero rows is some few each = grind arith
 resized_valid limits sources steps (archive ∷ archives) (suc index) rows is some few each = (is.0, resized_valid limits sources steps archives index rows is.1 some few each)
 
 -- the rows of the resized archive
@@ -296,28 +245,12 @@ resize_suffices limits now archive rows is may =
 resize_needed : (limits : Limits) (now : Content) (archive : ℕ) (rows : List (List Cell)) → OutlineIsNeeded limits now (ResizeEntry archive rows)
 resize_needed limits now archive rows is fits then =
     let defs : length (definitions now.archives) ≡ length now.archives = length-map now.archives (λ (a : Rra). a.def) in
-    let here = resized_here limits (length now.sources) (now.last / now.step) now.archives archive rows fits.there then.archives_are in
-    record {
-      there = omega (arith, defs, fits.there);
-      old_rows = record {
-        some = here.some;
-        few = here.few;
-        another = λ same. fits.another (same ∙ sym (row_count limits (length now.sources) (now.last / now.step) now.archives archive is.archives_are));
-        few_cells = subst (λ all. length now.sources * sum all ≤ limits.max_cells) (sym (resized_rows now.archives archive rows)) then.few_cells;
-      };
-      each_row = here.each;
-    }
+    grind (arith, resized_here, row_count, resized_rows)
 
 -- ---- an archive that was added, and one that was removed
 
 added_suffices : (limits : Limits) (now : Content) → OutlineSuffices limits now AddedEntry
-added_suffices limits now is may =
-    let defs : length (definitions now.archives) ≡ length now.archives = length-map now.archives (λ (a : Rra). a.def) in
-    let two : 1 < length now.archives = omega (arith, defs, may.1) in
-    let n = length now.archives - 1 in
-    let count = length-take n now.archives in
-    let P = IsValidArchiveWithin limits (length now.sources) (now.last / now.step) in
-    ((may.0, two), valid_with limits now (take n now.archives) is (omega (arith, count, two)) (omega (arith, count, is.few_archives)) (fewer_taken (length now.sources) limits.max_cells now.archives n is.few_cells) (All-take P n now.archives is.archives_are))
+added_suffices limits now is may = grind (arith, common_steps, valid_with, fewer_taken)
 
 added_needed : (limits : Limits) (now : Content) → OutlineIsNeeded limits now AddedEntry
 added_needed limits now is fits then =
@@ -331,20 +264,9 @@ removed_suffices limits now number archive is may =
     let defs : length (definitions now.archives) ≡ length now.archives = length-map now.archives (λ (a : Rra). a.def) in
     let n = length now.sources in
     let there : number ≤ length now.archives = omega (arith, defs, may.1.number_is.there) in
-    let def_is = may.1.settings_are.def_is in
     let count = length-insert now.archives number archive there in
     let P = IsValidArchiveWithin limits n (now.last / now.step) in
-    let this : P archive = record {
-      some_steps = def_is.some_steps;
-      few_steps = def_is.few_steps;
-      some_rows = def_is.some_rows;
-      few_rows = def_is.few_rows;
-      xff_low = def_is.xff_low;
-      xff_high = def_is.xff_high;
-      parts_are = may.1.parts_are;
-      rows_are = may.1.rows_are;
-      each_row = may.1.each_row;
-    } in (
+    let this : P archive = grind arith in (
       (may.0, record { there = there; one_part_each = may.1.parts_are.one_each; rows_are = may.1.rows_are; one_cell_each = rows_wide n archive.rows may.1.each_row }),
       valid_with limits now (insert now.archives number archive) is (omega (arith, count)) (omega (arith, count, defs, may.1.number_is.few))
           (subst (λ (all : ℕ). n * all ≤ limits.max_cells) (rows_inserted now.archives number archive) may.1.settings_are.few_cells)
@@ -354,34 +276,7 @@ removed_suffices limits now number archive is may =
 removed_needed : (limits : Limits) (now : Content) (number : ℕ) (archive : Rra) → OutlineIsNeeded limits now (RemovedEntry number archive)
 removed_needed limits now number archive is fits then =
     let defs : length (definitions now.archives) ≡ length now.archives = length-map now.archives (λ (a : Rra). a.def) in
-    let n = length now.sources in
-    let this = inserted (IsValidArchiveWithin limits n (now.last / now.step)) now.archives number archive fits.1.there then.archives_are in (
-      fits.0,
-      record {
-        number_is =
-            record {
-              there = omega (arith, defs, fits.1.there);
-              few = omega (arith, (length-insert now.archives number archive fits.1.there), defs, then.few_archives);
-            };
-        settings_are =
-            record {
-              def_is =
-                  record {
-                    some_steps = this.some_steps;
-                    few_steps = this.few_steps;
-                    some_rows = this.some_rows;
-                    few_rows = this.few_rows;
-                    xff_low = this.xff_low;
-                    xff_high = this.xff_high;
-                  };
-              few_cells =
-                  subst (λ (all : ℕ). n * all ≤ limits.max_cells) (sym (rows_inserted now.archives number archive)) then.few_cells;
-            };
-        parts_are = this.parts_are;
-        rows_are = this.rows_are;
-        each_row = this.each_row;
-      },
-    )
+    grind (arith, inserted, length-insert, rows_inserted)
 
 -- ---- one entry
 
@@ -406,8 +301,7 @@ with_defs outline defs = record outline { archives = defs }
 
 step_stays : (now : Content) (entry : Entry) → (undone now entry).step ≡ now.step
 unfolding with_both
-step_stays now (TuneEntry olds) = ap (λ (content : Content). content.step) (sources_undone now olds)
-step_stays now x = refl
+step_stays now x = grind (arith, sources_undone)
 
 outline_stays : (now : Content) (entry : Entry) → outline_of (undone now entry) ≡ outline_undone (outline_of now) entry
 unfolding with_both with_defs
@@ -420,12 +314,7 @@ outline_stays now (RemovedEntry number archive) = ap (with_defs (outline_of now)
 
 pub follows : (now : Content) (journal : List Entry) → OutlineFollows now journal
 follows now [] = record { step_stays = refl; outline_is = refl }
-follows now (entry ∷ journal) =
-    let rest = follows (undone now entry) journal in
-    record {
-      step_stays = rest.step_stays ∙ step_stays now entry;
-      outline_is = rest.outline_is ∙ ap (λ outline. fold outline_undone outline journal) (outline_stays now entry);
-    }
+follows now (entry ∷ journal) = grind (arith, follows (undone now entry) journal, step_stays, outline_stays)
 
 filed_heads : (archives : List Rra) → map (λ (head : Head). head.def) (map head_of archives) ≡ definitions archives
 filed_heads [] = refl
@@ -436,8 +325,7 @@ outline_with last sources archives = record { last = last; sources = sources; ar
 
 pub filed_outline : (version : Version) (d : Stored) → FiledOutline version d
 unfolding outline_with
-filed_outline version d a b =
-    (λ i. outline_with d.content.last ((gives_back d.content.sources d.content.raws d.content.parts a b).defs_are i) (filed_heads d.content.archives i))
+filed_outline version d a b = grind (arith, gives_back, filed_heads)
 
 -- ---- journals
 
@@ -451,25 +339,19 @@ joins limits now (entry ∷ newer) older one two = (one.0, one.1, joins limits (
 
 pub parts : (limits : Limits) (now : Content) (newer older : List Entry) → JournalParts limits now newer older
 parts limits now [] older valid = (tt, valid)
-parts limits now (entry ∷ newer) older valid =
-    let rest = parts limits (undone now entry) newer older valid.2 in
-    ((valid.0, valid.1, rest.0), rest.1)
+parts limits now (entry ∷ newer) older valid = grind (arith, parts limits (undone now entry) newer older valid.2)
 
 -- the entry is judged by what is left
 left : (limits : Limits) (now : Content) (journal : List Entry) (entry : Entry) → MayUndo limits (fold undone now journal).step (outline_of (fold undone now journal)) entry ≡ MayUndo limits now.step (fold outline_undone (outline_of now) journal) entry
 left limits now journal entry = let f = follows now journal in (λ i. MayUndo limits (f.step_stays i) (f.outline_is i) entry)
 
 pub takes : (limits : Limits) (now : Content) (journal : List Entry) (entry : Entry) → JournalTakes limits now journal entry
-takes limits now journal entry is valid may =
-    let end = fold undone now journal in
-    let one = suffices limits end entry (leaves_valid limits now journal is valid) (subst (λ (P : Type 0). P) (sym (left limits now journal entry)) may) in
-    joins limits now journal (entry ∷ []) valid (one.0, one.1, tt)
+takes limits now journal entry is valid may = grind (arith, suffices, leaves_valid, left, joins)
 
 pub took : (limits : Limits) (now : Content) (journal : List Entry) (entry : Entry) → JournalTook limits now journal entry
 took limits now journal entry is valid =
     let p = parts limits now journal (entry ∷ []) valid in
-    let end = fold undone now journal in
-    (p.0, subst (λ (P : Type 0). P) (left limits now journal entry) (needed limits end entry (leaves_valid limits now journal is p.0) p.1.0 p.1.1))
+    grind (arith, left, needed, leaves_valid)
 
 each_left : (limits : Limits) (now : Content) (entry : Entry) (journal : List Entry) → MayUndoEach limits (undone now entry).step (outline_of (undone now entry)) journal ≡ MayUndoEach limits now.step (outline_undone (outline_of now) entry) journal
 each_left limits now entry journal = (λ i. MayUndoEach limits (step_stays now entry i) (outline_stays now entry i) journal)
@@ -482,5 +364,4 @@ all_suffice limits now (entry ∷ journal) is may =
 
 pub all_needed : (limits : Limits) (now : Content) (journal : List Entry) → OutlinesAreNeeded limits now journal
 all_needed limits now [] is valid = tt
-all_needed limits now (entry ∷ journal) is valid =
-    (needed limits now entry is valid.0 valid.1, subst (λ (P : Type 0). P) (each_left limits now entry journal) (all_needed limits (undone now entry) journal valid.1 valid.2))
+all_needed limits now (entry ∷ journal) is valid = grind (arith, needed, each_left, all_needed limits (undone now entry) journal valid.1 valid.2)

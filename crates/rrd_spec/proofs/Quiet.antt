@@ -52,10 +52,7 @@ archive_stays base es index archive same is rows_stay room_stays =
 
 pub archives_stay : (base : Content) (es : List Event) (first : ℕ) (archives : List Rra) → (moment_at_end base es).last ≡ base.last → AllByRecursion IsArchive archives → ((index rows : ℕ) → first ≤ index → fold (rows_after index) rows es ≡ rows) → ((index rows : ℕ) (since : ℕ → ℕ) → first ≤ index → since base.last ≡ 0 → rows_never_lost index since rows (moment_of base) es ≡ rows) → map (archive_of base es) (enumerate_from first archives) ≡ archives
 archives_stay base es first [] same is rows_stay room_stays = refl
-archives_stay base es first (archive ∷ archives) same is rows_stay room_stays =
-    let one = archive_stays base es first archive same is.0 (λ rows. rows_stay first rows (omega arith)) (λ rows since h. room_stays first rows since (omega arith) h) in
-    let rest = archives_stay base es (first + 1) archives same is.1 (λ index rows low. rows_stay index rows (omega arith)) (λ index rows since low h. room_stays index rows since (omega arith) h) in
-    cc
+archives_stay base es first (archive ∷ archives) same is rows_stay room_stays = grind (arith, archive_stays, archives_stay base es (first + 1) archives same is.1 (λ index rows low. rows_stay index rows (omega arith)) (λ index rows since low h. room_stays index rows since (omega arith) h))
 
 unfoldable pub with_all : Content → List DsDef → ℕ → List Raw → List Part → List Rra → Content
 with_all base sources last raws parts archives = record base { sources = sources; last = last; raws = raws; parts = parts; archives = archives }
@@ -72,7 +69,6 @@ pub content_tuned : (base : Content) (sources : List DsDef) → IsBase base → 
 unfolding content_listed with_all
 content_tuned base sources is =
     let es = Tuned sources ∷ [] in
-    let raws = raws_under base.sources sources base.raws in
     cc (parts_same base es refl is.some_step, archives_stay base es 0 base.archives refl is.archives_are (λ index rows low. refl) (λ index rows since low h. omega arith))
 
 -- another number of rows
@@ -86,10 +82,7 @@ pub resized_other : (base : Content) (at rows index : ℕ) (archive : Rra) → (
 resized_other base at rows index archive h is = archive_stays base (Resized at rows ∷ []) index archive refl is (λ old. other_fold at rows index old h) (λ old since k. other_room base at rows index old since h k)
 
 pub resized_elsewhere : (base : Content) (at rows first : ℕ) (archives : List Rra) → at < first → AllByRecursion IsArchive archives → map (archive_of base (Resized at rows ∷ [])) (enumerate_from first archives) ≡ archives
-resized_elsewhere base at rows first archives h is =
-    archives_stay base (Resized at rows ∷ []) first archives refl is
-    (λ index old low. other_fold at rows index old (λ e. absurd (omega arith)))
-    (λ index old since low k. other_room base at rows index old since (λ e. absurd (omega arith)) k)
+resized_elsewhere base at rows first archives h is = grind (arith, archives_stay, other_fold, other_room)
 
 -- the parts of the sources stay too
 pub content_resized : (base : Content) (at rows : ℕ) → IsBase base → content_listed base (Resized at rows ∷ []) ≡ record base { archives = map (archive_of base (Resized at rows ∷ [])) (enumerate_from 0 base.archives) }

@@ -1,13 +1,12 @@
 -- Rates stay in their bounds.
-use Rattle.std.specs.Prelude.{◌≡◌, ℕ, zero, suc, ◌+◌, ◌-◌, ◌<◌, ◌≤◌, cond, List, [], ◌∷◌, length, map, ℤ, pos, negsuc, ◌+ℤ◌, ◌-ℤ◌, ◌≤ℤ◌, unsigned_abs, ◌^◌, Option, int_lt}
-use Rattle.rrd_spec.proofs.Names.{refl, ap, arith, ⊎_elim, ◌*ℤ◌, ◌<ℤ◌, neg_ℤ, ltb, ints, cond_both, cases_lt, lt-leb, le-leb, ltb-true, fold, range_with_len, AllByRecursion, Cell, Raw, Kind, Gauge, Counter, Derive, Absolute, top, rise, raised_if_negative, plain_rate, is_under, is_over, cell_within, rate, IsAccepted, IsBounded, near_limit, DsDef, Sampled, Moment, moment_after, rates, samples, second, seconds, IsHistory, AreAccepted, IsRow}
+use Rattle.std.specs.Prelude.{◌≡◌, ℕ, zero, suc, ◌+◌, ◌-◌, ◌<◌, ◌≤◌, List, [], ◌∷◌, length, map, ℤ, pos, ◌+ℤ◌, ◌-ℤ◌, ◌≤ℤ◌, unsigned_abs, ◌^◌, Option}
+use Rattle.rrd_spec.proofs.Names.{common_steps, refl, ap, arith, ◌*ℤ◌, ◌<ℤ◌, neg_ℤ, ints, cond_both, lt-leb, le-leb, fold, range_with_len, AllByRecursion, Cell, Raw, Kind, Gauge, Counter, Derive, Absolute, top, rise, raised_if_negative, plain_rate, cell_within, rate, IsAccepted, IsBounded, near_limit, DsDef, Sampled, Moment, moment_after, rates, samples, second, seconds, IsHistory, AreAccepted, IsRow}
 use Rattle.rrd_spec.specs.History.{Reading}
 
 -- ---- one source
 
 raised_cases : (by z : ℤ) (P : ℤ → Type 0) → (z <ℤ pos 0 → P (z +ℤ by)) → (pos 0 ≤ℤ z → P z) → P (raised_if_negative by z)
-raised_cases by (pos d) P f g = cond_both (int_lt (pos d) (pos 0)) (pos d +ℤ by) (pos d) P (λ e. absurd (omega (arith, ltb-true d 0 e))) (λ e. g (omega (arith, ints)))
-raised_cases by (negsuc d) P f g = f (omega (arith, ints))
+raised_cases by z P f g = grind arith
 
 -- a wrap at 2 ^ 32 leaves no more than one at 2 ^ 64 makes up for
 record Raised (z : ℤ) : Type 0 where
@@ -15,14 +14,7 @@ record Raised (z : ℤ) : Type 0 where
   high : z <ℤ pos (2 ^ 64)
 
 rise_bounded : (old new : ℤ) → pos 0 ≤ℤ old → old <ℤ pos (2 ^ 64) → pos 0 ≤ℤ new → new <ℤ pos (2 ^ 64) → unsigned_abs (rise old new) ≤ 2 ^ 64 - 1
-rise_bounded old new a b c d =
-    let y = raised_if_negative (pos (2 ^ 32)) (new -ℤ old) in
-    let once : Raised y = raised_cases (pos (2 ^ 32)) (new -ℤ old) Raised
-    (λ below. record { low = omega (arith, ints); high = omega (arith, ints) })
-    (λ above. record { low = omega (arith, ints); high = omega (arith, ints) }) in
-    raised_cases (pos (2 ^ 64) -ℤ pos (2 ^ 32)) y (λ x. unsigned_abs x ≤ 2 ^ 64 - 1)
-    (λ below. omega (arith, ints, once.low, once.high))
-    (λ above. omega (arith, ints, once.high))
+rise_bounded old new a b c d = grind (arith, common_steps, pos, raised_cases)
 
 plain_bounded : (kind : Kind) (old new : Raw) (interval : ℕ) → 0 < interval → IsAccepted kind old → IsAccepted kind new → IsBounded (plain_rate kind old new interval)
 plain_bounded kind old Raw.Unknown interval some a b = tt
@@ -37,14 +29,10 @@ plain_bounded Derive (Raw.Known old) (Raw.Known new) interval some a b =
 
 within_bounded : (min max : Option ℤ) (cell : Cell) → IsBounded cell → IsBounded (cell_within min max cell)
 within_bounded min max Cell.Unknown h = tt
-within_bounded min max (Cell.Known value) h =
-    cond_both (is_under value min) Cell.Unknown (cond (is_over value max) Cell.Unknown (Cell.Known value)) IsBounded (λ e. tt)
-    (λ e. cond_both (is_over value max) Cell.Unknown (Cell.Known value) IsBounded (λ k. tt) (λ k. h))
+within_bounded min max (Cell.Known value) h = grind arith
 
 pub rate_bounded : (kind : Kind) (old new : Raw) (interval heartbeat : ℕ) (min max : Option ℤ) → 0 < interval → IsAccepted kind old → IsAccepted kind new → IsBounded (rate kind old new interval heartbeat min max)
-rate_bounded kind old new interval heartbeat min max some a b =
-    cond_both (ltb heartbeat interval) Cell.Unknown (cell_within min max (plain_rate kind old new interval)) IsBounded (λ e. tt)
-    (λ e. within_bounded min max (plain_rate kind old new interval) (plain_bounded kind old new interval some a b))
+rate_bounded kind old new interval heartbeat min max some a b = grind (arith, common_steps, cond_both, within_bounded, plain_bounded)
 
 -- ---- all sources
 
@@ -58,19 +46,11 @@ rates_bounded : (sources : List DsDef) (interval : ℕ) (olds news : List Raw) �
 rates_bounded [] interval olds news some a b = tt
 rates_bounded (source ∷ sources) interval [] news some a b = absurd a
 rates_bounded (source ∷ sources) interval (old ∷ olds) [] some a b = absurd b
-rates_bounded (source ∷ sources) interval (old ∷ olds) (new ∷ news) some a b =
-    (rate_bounded source.kind old new interval source.heartbeat source.min source.max some a.0 b.0, rates_bounded sources interval olds news some a.1 b.1)
+rates_bounded (source ∷ sources) interval (old ∷ olds) (new ∷ news) some a b = grind (arith, rate_bounded, rates_bounded sources interval olds news some a.1 b.1)
 
 second_row : (now : Moment) (list : List Reading) (at : ℕ) → AreAccepted now.sources now.raws → AllByRecursion (λ (sample : Reading). AreAccepted now.sources sample.raws) list → IsHistory now (map Sampled list) → now.last < at → at ≤ (fold moment_after now (map Sampled list)).last → IsRow (length now.sources) (second (samples now (map Sampled list)) at)
 second_row now [] at a is h low high = absurd (omega arith)
-second_row now (sample ∷ list) at a is h low high =
-    ⊎_elim
-    (λ (past : sample.time < at). rw (lt-leb at sample.time past) (second_row (moment_after now (Sampled sample)) list at is.0 is.1 h.1 past high))
-    (λ (reached : at ≤ sample.time). rw (le-leb at sample.time reached) (record {
-      one_each = length-rates now.sources (sample.time - now.last) now.raws sample.raws a is.0;
-      each = rates_bounded now.sources (sample.time - now.last) now.raws sample.raws (omega (arith, h.0)) a is.0;
-    }))
-    (cases_lt sample.time at)
+second_row now (sample ∷ list) at a is h low high = grind (arith, lt-leb, second_row (moment_after now (Sampled sample)) list, le-leb, length-rates, rates_bounded)
 
 map_range_all : {B : Type 0} (P : B → Type 0) (f : ℕ → B) (a n : ℕ) → ((i : ℕ) → a ≤ i → i < a + n → P (f i)) → AllByRecursion P (map f (range_with_len a n))
 map_range_all P f a zero h = tt

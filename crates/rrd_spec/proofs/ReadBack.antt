@@ -1,6 +1,6 @@
 -- A database from the lists that a file has of it.
-use Rattle.std.specs.Prelude.{◌≡◌, ◌+◌, ◌*◌, ◌/◌, ◌<◌, ℕ, List, [], ◌∷◌, ◌++◌, length, map, take, drop}
-use Rattle.rrd_spec.proofs.Names.{◌∙◌, refl, sym, ap, subst, arith, get_or, AllByRecursion, flat_map, drop_at, ext_get_or, take_at, Cell, Raw, Part, DsDef, RraDef, Limits, resolution, time_of, Rra, Content, Entry, length-accepted, rows_wide, Version, Filed, Head, Source, head_of, sources_of, FiledOnce, RowsFiledOnce, HasOneEach, by_slot, cells_by_slot, slot_of, Stored, IsValidArchiveWithin}
+use Rattle.std.specs.Prelude.{◌≡◌, ◌+◌, ◌*◌, ◌<◌, ℕ, List, [], ◌∷◌, ◌++◌, length, map, take, drop}
+use Rattle.rrd_spec.proofs.Names.{◌∙◌, refl, sym, ap, arith, get_or, AllByRecursion, flat_map, drop_at, ext_get_or, take_at, Cell, Raw, Part, DsDef, RraDef, Limits, resolution, time_of, Rra, Content, Entry, length-accepted, rows_wide, Version, Head, Source, head_of, sources_of, FiledOnce, RowsFiledOnce, HasOneEach, by_slot, cells_by_slot, slot_of, Stored, IsValidArchiveWithin}
 use Rattle.rrd_spec.proofs.Slotted.{place_has_slot}
 use Rattle.rrd_spec.proofs.SlotCells.{as_many_cells, cell_stands_in_slot, wide_rows}
 use native.Mathlib.Nat as nat
@@ -23,10 +23,7 @@ rows_filed_once size last sources rows others some all each count same =
     let other_wide : length (get_or others place []) ≡ sources = wide_rows sources others place each within in
     ext_get_or Cell.Unknown (get_or rows place []) (get_or others place []) (wide ∙ sym other_wide) (λ source low.
     let below : source < sources = omega (arith, low, wide) in
-    let at = λ (n : ℕ). slot_of size n (time_of size n last place) * sources + source in
-    cell_from size last sources rows place source Cell.Unknown some all inside below
-    ∙ ((λ i. get_or (same i) (at (count i)) Cell.Unknown)
-    ∙ sym (cell_from size last sources others place source Cell.Unknown some each within below))))
+    grind (arith, cell_from size last sources rows place source Cell.Unknown some all inside below, cell_from size last sources others place source Cell.Unknown some each within below)))
 
 -- ---- archives from heads and cells
 
@@ -56,16 +53,9 @@ archives_filed_once step last sources (archive ∷ archives) (other ∷ others) 
     let def : archive.def ≡ other.def = ap (λ (h : Head). h.def) head in
     let size = resolution step archive.def in
     let some_size : 0 < size = nat.mul-pos some all.0.some_steps in
-    let count : length archive.rows ≡ length other.rows = all.0.rows_are ∙ (ap (λ (d : RraDef). d.rows) def ∙ sym each.0.rows_are) in
-    let other_cells : cells_by_slot step last other ≡ by_slot size last other.rows = ap (λ (d : RraDef). by_slot (resolution step d) last other.rows) (sym def) in
-    let as_many : length (cells_by_slot step last archive) ≡ length (cells_by_slot step last other) =
-    as_many_cells size last sources archive.rows some_size all.0.each_row
-    ∙ (ap (λ n. n * sources) count
-    ∙ (sym (as_many_cells size last sources other.rows some_size each.0.each_row) ∙ ap length (sym other_cells))) in
+    let as_many : length (cells_by_slot step last archive) ≡ length (cells_by_slot step last other) = grind (arith, as_many_cells size last sources archive.rows some_size all.0.each_row, as_many_cells size last sources other.rows some_size each.0.each_row) in
     let both = joined_of (cells_by_slot step last archive) (flat_map (cells_by_slot step last) archives) (cells_by_slot step last other) (flat_map (cells_by_slot step last) others) as_many cells in
-    let rows : archive.rows ≡ other.rows = rows_filed_once size last sources archive.rows other.rows some_size all.0.each_row each.0.each_row count (both.0 ∙ other_cells) in
-    let rest : archives ≡ others = archives_filed_once step last sources archives others some all.1 each.1 later both.1 in
-    (λ i. archive_with (def i) (head i).parts (rows i) ∷ rest i)
+    grind (arith, rows_filed_once, archives_filed_once step last sources archives others some all.1 each.1 later both.1)
 archives_filed_once step last sources x y some all each heads cells = absurd cc
 
 -- ---- sources
@@ -87,13 +77,7 @@ pub record GivesBack (defs : List DsDef) (raws : List Raw) (parts : List Part) :
 
 pub gives_back : (defs : List DsDef) (raws : List Raw) (parts : List Part) → length raws ≡ length defs → length parts ≡ length defs → GivesBack defs raws parts
 gives_back [] [] [] a b = record { defs_are = refl; raws_are = refl; parts_are = refl }
-gives_back (def ∷ defs) (raw ∷ raws) (part ∷ parts) a b =
-    let rest = gives_back defs raws parts (omega arith) (omega arith) in
-    record {
-      defs_are = ap (λ ds. def ∷ ds) rest.defs_are;
-      raws_are = ap (λ rs. raw ∷ rs) rest.raws_are;
-      parts_are = ap (λ ps. part ∷ ps) rest.parts_are;
-    }
+gives_back (def ∷ defs) (raw ∷ raws) (part ∷ parts) a b = grind (arith, gives_back defs raws parts (omega arith) (omega arith))
 gives_back x y parts a b = absurd (omega arith)
 
 -- ---- the database
@@ -122,21 +106,6 @@ unfolding content_with stored_with
 filed_once limits version d other is valid same =
     let c = d.content in
     let o = other.content in
-    let step : c.step ≡ o.step = ap (λ (f : Filed). f.header.step) same in
-    let last : c.last ≡ o.last = ap (λ (f : Filed). f.header.last) same in
-    let depth : c.depth ≡ o.depth = ap (λ (f : Filed). f.header.depth) same in
-    let made : sources_of c.sources c.raws c.parts ≡ sources_of o.sources o.raws o.parts = ap (λ (f : Filed). f.sources) same in
     let mine = gives_back c.sources c.raws c.parts (length-accepted c.sources c.raws is.raws_are) is.parts_are.one_each in
     let its = gives_back o.sources o.raws o.parts (length-accepted o.sources o.raws valid.raws_are) valid.parts_are.one_each in
-    let sources : c.sources ≡ o.sources = sym mine.defs_are ∙ (ap defs_in made ∙ its.defs_are) in
-    let raws : c.raws ≡ o.raws = sym mine.raws_are ∙ (ap raws_in made ∙ its.raws_are) in
-    let parts : c.parts ≡ o.parts = sym mine.parts_are ∙ (ap parts_in made ∙ its.parts_are) in
-    let heads : map head_of c.archives ≡ map head_of o.archives = ap (λ (f : Filed). f.heads) same in
-    let cells : flat_map (cells_by_slot c.step c.last) c.archives ≡ flat_map (cells_by_slot o.step o.last) o.archives = ap (λ (f : Filed). f.cells) same in
-    let back : flat_map (cells_by_slot o.step o.last) o.archives ≡ flat_map (cells_by_slot c.step c.last) o.archives = (λ i. flat_map (cells_by_slot (sym step i) (sym last i)) o.archives) in
-    let whole = archives_whole limits (length c.sources) (c.last / c.step) c.archives is.archives_are in
-    let other_whole : AllByRecursion (IsWhole (length c.sources)) o.archives =
-    subst (λ n. AllByRecursion (IsWhole n) o.archives) (ap length (sym sources)) (archives_whole limits (length o.sources) (o.last / o.step) o.archives valid.archives_are) in
-    let archives : c.archives ≡ o.archives = archives_filed_once c.step c.last (length c.sources) c.archives o.archives is.some_step whole other_whole heads (cells ∙ back) in
-    let journal : d.journal ≡ other.journal = ap (λ (f : Filed). f.entries) same in
-    (λ i. stored_with (content_with (step i) (depth i) (sources i) (last i) (raws i) (parts i) (archives i)) (journal i))
+    grind (arith, archives_whole, archives_filed_once)

@@ -1,6 +1,6 @@
 -- An archive's rows after a history in two pieces.
-use Rattle.std.specs.Prelude.{◌≡◌, ℕ, ◌+◌, ◌-◌, ◌<◌, ◌≤◌, min, cond, List, [], ◌∷◌, ◌++◌, length, take, drop, replicate}
-use Rattle.rrd_spec.proofs.Names.{refl, sym, ◌∙◌, ap, arith, length-append, append_assoc, append-nil, take_all, get_or, ltb, ⊎_elim, cases_lt, lt-ltb, le-ltb, drop-append-le, drop-replicate, length-drop, length-replicate, take-append-drop, replicate-append-replicate, take_at, get_or-append_right, get_or-drop, get_or_append_left, get_or-replicate, fold, Event, Sampled, Tuned, Resized, Added, Removed, Moment, moment_after, rows_after, IsHistory, rows_never_lost, keep_last, filled_up, keep_all, keep_last_past, length-keep_last, split_last}
+use Rattle.std.specs.Prelude.{◌≡◌, ℕ, ◌+◌, ◌-◌, ◌<◌, ◌≤◌, min, cond, List, [], ◌∷◌, ◌++◌, length, take, replicate}
+use Rattle.rrd_spec.proofs.Names.{common_steps, sym, ◌∙◌, ap, arith, length-append, append_assoc, append-nil, take_all, get_or, ltb, ⊎_elim, cases_lt, lt-ltb, le-ltb, drop-append-le, drop-replicate, length-replicate, replicate-append-replicate, fold, Event, Sampled, Tuned, Resized, Added, Removed, Moment, moment_after, rows_after, IsHistory, rows_never_lost, keep_last, filled_up, keep_all, keep_last_past, length-keep_last, split_last}
 use Rattle.rrd_spec.proofs.HistoryLemmas.{last_rises}
 
 -- ---- lists
@@ -55,41 +55,20 @@ room_last index since rows now [] = omega arith
 room_last index since rows now (e ∷ es) = omega (arith, room_last index since (rows_after index rows e) (moment_after now e) es)
 
 pub room-append : (index : ℕ) (first second : ℕ → ℕ) (n rows : ℕ) (now : Moment) (es fs : List Event) → IsHistory now es → ((t : ℕ) → t ≤ (fold moment_after now es).last → second t ≡ first t + n) → rows_never_lost index second rows now (es ++ fs) ≡ min (rows_never_lost index first rows now es + n) (rows_never_lost index second (fold (rows_after index) rows es) (fold moment_after now es) fs)
-room-append index first second n rows now [] fs h e =
-    omega (arith, room_first index second rows now fs, e now.last (omega arith))
+room-append index first second n rows now [] fs h e = grind (arith, room_first)
 room-append index first second n rows now (Sampled sample ∷ es) fs h e =
     let next = moment_after now (Sampled sample) in
     omega (arith, room-append index first second n rows next es fs h.1 e, e now.last (omega (arith, h.0, last_rises next es h.1)))
 room-append index first second n rows now (Tuned sources ∷ es) fs h e =
     let next = moment_after now (Tuned sources) in
     omega (arith, room-append index first second n rows next es fs h.1 e, e now.last (last_rises next es h.1))
-room-append index first second n rows now (Resized archive new ∷ es) fs h e =
-    omega (arith, room-append index first second n (rows_after index rows (Resized archive new)) now es fs h.1 e, e now.last (last_rises now es h.1))
-room-append index first second n rows now (Added def ∷ es) fs h e =
-    omega (arith, room-append index first second n rows now es fs h.2 e, e now.last (last_rises now es h.2))
-room-append index first second n rows now (Removed archive ∷ es) fs h e =
-    omega (arith, room-append index first second n rows now es fs h e, e now.last (last_rises now es h))
+room-append index first second n rows now (Resized archive new ∷ es) fs h e = grind (arith, room-append index first second n (rows_after index rows (Resized archive new)) now es fs h.1 e, last_rises)
+room-append index first second n rows now (Added def ∷ es) fs h e = grind (arith, room-append index first second n rows now es fs h.2 e, last_rises)
+room-append index first second n rows now (Removed archive ∷ es) fs h e = grind (arith, room-append index first second n rows now es fs h e, last_rises)
 
 -- the rows that were dropped, before those that stayed, are the rows as they were
 pub put_back_rows : {A : Type 0} (old new : List A) (f : ℕ) → length new ≡ f → take (min f (length old)) old ++ take (length old - min f (length old)) (keep_last (length old) (old ++ new)) ≡ old
-put_back_rows old new f e =
-    let r = length old in
-    let m = min f r in
-    let count = length-append old new in
-    ⊎_elim
-    (λ (many : r < f).
-    ap (λ k. take k old ++ take (r - k) (keep_last r (old ++ new))) {x = m} {y = r} (omega arith)
-    ∙ ap (λ zs. zs ++ take (r - r) (keep_last r (old ++ new))) (take_all r old (omega arith))
-    ∙ ap (λ k. old ++ take k (keep_last r (old ++ new))) {x = r - r} {y = 0} (omega arith)
-    ∙ append-nil old)
-    (λ (few : f ≤ r).
-    let cut : length (old ++ new) - r ≡ f = omega arith in
-    ap (λ k. take k old ++ take (r - k) (keep_last r (old ++ new))) {x = m} {y = f} (omega arith)
-    ∙ ap (λ k. take f old ++ take (r - f) (drop k (old ++ new))) cut
-    ∙ ap (λ zs. take f old ++ take (r - f) zs) (drop-append-le f old new few)
-    ∙ ap (λ zs. take f old ++ zs) (take_at (drop f old) new (r - f) (length-drop f old))
-    ∙ take-append-drop f old)
-    (cases_lt r f)
+put_back_rows old new f e = grind (arith, common_steps, length-append, take_all, append-nil)
 
 -- a row by its age
 pub row_by_age : {A : Type 0} (rows room age : ℕ) (u : A) (all : List A) → age < rows → room ≤ length all → room ≤ rows → get_or (filled_up rows u (keep_last room all)) (rows - 1 - age) u ≡ cond (ltb age room) (get_or all (length all - 1 - age) u) u
@@ -99,14 +78,6 @@ row_by_age rows room age u all h k m =
     let pads = replicate (rows - length kept) u in
     let count_pads = length-replicate (rows - length kept) u in
     ⊎_elim
-    (λ (young : age < room).
-    get_or-append_right pads kept (length pads) (rows - 1 - age) u refl (omega arith)
-    ∙ ap (λ i. get_or kept i u) {x = rows - 1 - age - length pads} {y = room - 1 - age} (omega arith)
-    ∙ get_or-drop (length all - room) all (room - 1 - age) u
-    ∙ ap (λ i. get_or all i u) {x = length all - room + (room - 1 - age)} {y = length all - 1 - age} (omega arith)
-    ∙ sym (ap (λ b. cond b (get_or all (length all - 1 - age) u) u) (lt-ltb age room young)))
-    (λ (old : room ≤ age).
-    get_or_append_left pads kept u (rows - 1 - age) (omega arith)
-    ∙ get_or-replicate (rows - length kept) (rows - 1 - age) u u (omega arith)
-    ∙ sym (ap (λ b. cond b (get_or all (length all - 1 - age) u) u) (le-ltb age room old)))
+    (λ (young : age < room). grind (arith, common_steps, lt-ltb))
+    (λ (old : room ≤ age). grind (arith, common_steps, le-ltb))
     (cases_lt age room)

@@ -1,6 +1,6 @@
 -- The survivors of a run.
-use Rattle.std.specs.Prelude.{◌≡◌, ℕ, zero, suc, ◌+◌, ◌-◌, ◌≤◌, ◌<◌, min, true, false, List, [], ◌∷◌, ◌++◌, length, take, reverse, Option, Some, None, is_none}
-use Rattle.rrd_spec.proofs.Names.{refl, sym, ◌∙◌, ap, subst, arith, ⊎_elim, append-nil, cases_Bool, cases_lt, length-take, reverse-append, reverse-reverse, fold, Content, DatabaseChange, content_of, moved, verdict, is_accepted, Entry, entry, undone, IsSound, Action, Changed, Reverted, State, Stored, survived, entries, with_change, without_last, after, reverted, changed, stored_after, AllAccepted, AllUndo, Stands, CommandsGoOn, RunsAgree}
+use Rattle.std.specs.Prelude.{◌≡◌, ℕ, zero, suc, ◌+◌, ◌-◌, ◌≤◌, ◌<◌, min, true, false, List, [], ◌∷◌, ◌++◌, length, take, Option, None, is_none}
+use Rattle.rrd_spec.proofs.Names.{common_steps, refl, sym, ◌∙◌, ap, subst, arith, ⊎_elim, append-nil, cases_Bool, cases_lt, fold, Content, DatabaseChange, moved, verdict, is_accepted, Entry, entry, undone, IsSound, Action, Changed, Reverted, State, Stored, survived, entries, with_change, without_last, after, reverted, changed, stored_after, AllAccepted, AllUndo, Stands, CommandsGoOn, RunsAgree}
 use Rattle.rrd_spec.proofs.LivesPlain.{is_listed}
 use Rattle.rrd_spec.proofs.Moving.{moves, moved_sound}
 use Rattle.rrd_spec.proofs.Quiet.{content_nil}
@@ -17,8 +17,7 @@ nothing_left [] h = refl
 nothing_left (x ∷ xs) h = absurd (omega arith)
 
 pub is_none-true : {A : Type 0} (o : Option A) → is_none o ≡ true → o ≡ None
-is_none-true None h = refl
-is_none-true (Some x) h = absurd cc
+is_none-true o h = grind arith
 
 -- ---- what survived
 
@@ -44,9 +43,7 @@ on_survived base first (command ∷ commands) sound h =
     )
 
 pub commands_go_on : (base : Content) (first second : List DatabaseChange) → CommandsGoOn base first second
-commands_go_on base first second sound h =
-    let on = on_survived base (reverse first) (reverse second) sound (subst (AllAccepted base) (reverse-append first second) h) in
-    cc (sym (reverse-reverse (first ++ second)) ∙ ap reverse (reverse-append first second), on.2, reverse-reverse first, reverse-reverse second)
+commands_go_on base first second sound h = grind (arith, common_steps, on_survived)
 
 survived_depth : (base : Content) (commands : List DatabaseChange) → (survived base commands).depth ≡ base.depth
 survived_depth base commands = refl
@@ -71,14 +68,7 @@ journal_more base brought survivors command n enough places =
     let all = entries base (suc n) (command ∷ survivors) in
     let count : length all ≡ suc n = length-entries base (suc n) (command ∷ survivors) (omega arith) in
     ⊎_elim
-    (λ (full : depth < n + 1).
-    let none : take (depth - (n + 1)) brought ≡ [] = ap (λ k. take k brought) {x = depth - (n + 1)} {y = 0} (omega arith) in
-    let no_brought : brought ≡ [] = nothing_left brought (omega arith) in
-    ap (λ bs. take depth (all ++ bs)) no_brought ∙ ap (take depth) (append-nil all)
-    ∙ take-entries base depth (suc n) (command ∷ survivors) (omega arith)
-    ∙ ap (λ k. entries base k (command ∷ survivors)) {x = depth} {y = min (n + 1) depth} (omega arith)
-    ∙ sym (append-nil _)
-    ∙ ap (λ bs. entries base (min (n + 1) depth) (command ∷ survivors) ++ bs) (sym none))
+    (λ (full : depth < n + 1). grind (arith, nothing_left, append-nil, take-entries))
     (λ (room : n + 1 ≤ depth).
     ap (λ k. take k (all ++ brought)) {x = depth} {y = length all + (depth - (n + 1))} (omega arith)
     ∙ take-append-more (depth - (n + 1)) all brought
@@ -93,69 +83,11 @@ undo_taken base (suc k) (old ∷ brought) h = (h.0, h.1, undo_taken (undone base
 -- ---- one action
 
 revert_stands : (base : Content) (brought : List Entry) (survivors : List DatabaseChange) (n : ℕ) (kept : Stored) → Stands (record { base = base; brought = brought; survivors = survivors; revertible = n }) kept → Stands (without_last base brought survivors n) (reverted kept.content kept.journal)
-revert_stands base brought (command ∷ survivors) (suc n) kept h =
-    let P : List Entry → Type 0 = λ journal. Stands (record { base = base; brought = brought; survivors = survivors; revertible = n }) (reverted kept.content journal) in
-    let earlier = survived base survivors in
-    let whole = h.whole in
-    subst P (sym h.journal_is) (record {
-      content_is = ap (λ now. undone now (entry earlier command)) (h.content_is ∙ moves base survivors command h.sound h.all_accepted) ∙ comes_back earlier command (survived_sound base survivors h.sound h.all_accepted.1) h.all_accepted.0;
-      journal_is = refl;
-      enough = omega (arith, h.enough);
-      places = omega (arith, h.places);
-      whole = λ some. omega (arith, whole some);
-      all_accepted = h.all_accepted.1;
-      sound = h.sound;
-      undo = h.undo;
-    })
-revert_stands base brought [] (suc n) kept h = absurd (omega (arith, h.enough))
-revert_stands base (old ∷ brought) (command ∷ survivors) zero kept h = absurd (omega (arith, h.whole (omega arith)))
-revert_stands base (old ∷ brought) [] zero kept h =
-    let P : List Entry → Type 0 = λ journal. Stands (record { base = undone base old; brought = brought; survivors = []; revertible = 0 }) (reverted kept.content journal) in
-    let places = h.places in
-    subst P (sym h.journal_is) (record {
-      content_is = ap (λ now. undone now old) (h.content_is ∙ survived_nil base h.sound) ∙ sym (survived_nil (undone base old) h.undo.0);
-      journal_is = refl;
-      enough = omega arith;
-      places = omega arith;
-      whole = λ some. refl;
-      all_accepted = tt;
-      sound = h.undo.0;
-      undo = h.undo.2;
-    })
-revert_stands base [] survivors zero kept h =
-    let P : List Entry → Type 0 = λ journal. Stands (record { base = base; brought = []; survivors = survivors; revertible = 0 }) (reverted kept.content journal) in
-    subst P (sym h.journal_is) (record {
-      content_is = h.content_is;
-      journal_is = refl;
-      enough = omega arith;
-      places = omega arith;
-      whole = λ some. absurd (omega arith);
-      all_accepted = h.all_accepted;
-      sound = h.sound;
-      undo = tt;
-    })
+revert_stands base brought (command ∷ survivors) (suc n) kept h = grind (arith, moves, comes_back, survived_sound)
+revert_stands base brought survivors n kept h = grind (arith, survived_nil)
 
 change_stands : (state : State) (kept : Stored) (command : DatabaseChange) → is_accepted (survived state.base state.survivors) command ≡ true → Stands state kept → Stands (with_change state command) (changed kept command)
-change_stands state kept command passes h =
-    let base = state.base in
-    let earlier = survived base state.survivors in
-    let accepted = is_none-true (verdict earlier command) passes in
-    let depth : kept.content.depth ≡ base.depth = ap (λ (now : Content). now.depth) h.content_is ∙ survived_depth base state.survivors in
-    let whole = h.whole in
-    let enough = h.enough in
-    record {
-      content_is = ap (λ now. moved now command) h.content_is ∙ sym (moves base state.survivors command h.sound (accepted, h.all_accepted));
-      journal_is = ap (λ n. take n (entry kept.content command ∷ kept.journal)) depth
-          ∙ ap (λ now. take base.depth (entry now command ∷ kept.journal)) h.content_is
-          ∙ ap (λ journal. take base.depth (entry earlier command ∷ journal)) h.journal_is
-          ∙ journal_more base state.brought state.survivors command state.revertible h.enough h.places;
-      enough = omega arith;
-      places = omega (arith, length-take (base.depth - (state.revertible + 1)) state.brought, h.places);
-      whole = λ some. let count = length-take (base.depth - (state.revertible + 1)) state.brought in let all = whole (omega arith) in omega arith;
-      all_accepted = (accepted, h.all_accepted);
-      sound = h.sound;
-      undo = undo_taken base (base.depth - (state.revertible + 1)) state.brought h.undo;
-    }
+change_stands state kept command passes h = grind (arith, common_steps, is_none-true, survived_depth, moved, moves, journal_more, undo_taken)
 
 pub step_stands : (state : State) (kept : Stored) (action : Action) → Stands state kept → Stands (after state action) (stored_after kept action)
 step_stands state kept (Changed command) h =
@@ -171,13 +103,4 @@ runs_stand [] state kept h = h
 runs_stand (action ∷ actions) state kept h = runs_stand actions (after state action) (stored_after kept action) (step_stands state kept action h)
 
 pub runs_agree : (base : Content) (brought : List Entry) (actions : List Action) → RunsAgree base brought actions
-runs_agree base brought actions sound undo fits = runs_stand actions (record { base = base; brought = brought; survivors = []; revertible = 0 }) (record { content = base; journal = brought }) (record {
-  content_is = sym (survived_nil base sound);
-  journal_is = refl;
-  enough = omega arith;
-  places = omega arith;
-  whole = λ some. refl;
-  all_accepted = tt;
-  sound = sound;
-  undo = undo;
-})
+runs_agree base brought actions sound undo fits = grind (arith, runs_stand, survived_nil)

@@ -1,6 +1,6 @@
 -- An update: samples alone.
-use Rattle.std.specs.Prelude.{◌≡◌, ℕ, ◌-◌, ◌*◌, ◌/◌, min, List, [], ◌∷◌, ◌++◌, length, take, map, replicate}
-use Rattle.rrd_spec.proofs.Names.{refl, sym, ◌∙◌, ap, arith, length-append, fold, Cell, Rra, Content, Sampled, Moment, moment_after, moment_of, moment_at_end, rows_after, IsArchive, rows_of, rows_never_lost, keep_last, filled_up, kept_rows, length-keep_last}
+use Rattle.std.specs.Prelude.{◌≡◌, ℕ, ◌-◌, min, List, [], ◌∷◌, ◌++◌, length, take, map}
+use Rattle.rrd_spec.proofs.Names.{common_steps, refl, arith, length-append, fold, Rra, Content, Sampled, Moment, moment_after, rows_after, IsArchive, rows_of, rows_never_lost, keep_last, kept_rows}
 use Rattle.rrd_spec.specs.History.{Reading}
 use Rattle.rrd_spec.proofs.RowLemmas.{put_back_rows}
 
@@ -15,22 +15,8 @@ rows_of_samples index rows (sample ∷ samples) = rows_of_samples index rows sam
 -- the rows after an update: the newest of the rows before it and of those that it finished
 pub kept_rows_of_samples : (base : Content) (index : ℕ) (archive : Rra) (samples : List Reading) → IsArchive archive → kept_rows base index archive (map Sampled samples) ≡ keep_last (length archive.rows) (archive.rows ++ rows_of base archive (map Sampled samples))
 unfolding kept_rows
-kept_rows_of_samples base index archive samples is =
-    let es = map Sampled samples in
-    let res = base.step * archive.def.steps in
-    let since = λ (time : ℕ). ((moment_at_end base es).last) / res - time / res in
-    let all = archive.rows ++ rows_of base archive es in
-    let nan = replicate (length base.sources) Cell.Unknown in
-    let count = length-append archive.rows (rows_of base archive es) in
-    let rows : fold (rows_after index) archive.def.rows es ≡ length archive.rows = rows_of_samples index archive.def.rows samples ∙ sym is.rows_are in
-    let places : rows_never_lost index since archive.def.rows (moment_of base) es ≡ length archive.rows = room_of_samples index since archive.def.rows (moment_of base) samples (omega arith) ∙ sym is.rows_are in
-    let kept = keep_last (length archive.rows) all in
-    cc (rows, places, ap (λ n. replicate n nan ++ kept) {x = length archive.rows - length kept} {y = 0} (omega (arith, length-keep_last (length archive.rows) all (omega arith))))
+kept_rows_of_samples base index archive samples is = grind (arith, common_steps, length-append, rows_of_samples, room_of_samples)
 
 -- and what gives them back: the oldest rows from before it, as many as it finished, then the rows that it left
 pub update_undone : (base : Content) (index : ℕ) (archive : Rra) (samples : List Reading) → IsArchive archive → let f = length (rows_of base archive (map Sampled samples)) in let r = length archive.rows in take (min f r) archive.rows ++ take (r - min f r) (kept_rows base index archive (map Sampled samples)) ≡ archive.rows
-update_undone base index archive samples is =
-    let new = rows_of base archive (map Sampled samples) in
-    let f = length new in
-    let r = length archive.rows in
-    ap (λ rows. take (min f r) archive.rows ++ take (r - min f r) rows) (kept_rows_of_samples base index archive samples is) ∙ put_back_rows archive.rows new f refl
+update_undone base index archive samples is = grind (arith, kept_rows_of_samples, put_back_rows)

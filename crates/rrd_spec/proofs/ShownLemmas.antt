@@ -1,7 +1,6 @@
 -- What is shown of an archive, and what makes a new one good.
 use Rattle.std.specs.Prelude.{◌<◌, List, length}
-use Rattle.rrd_spec.proofs.Names.{sym, ◌∙◌, ap, get_or, arith, cell_of_archive, length-map, slice_get_within, slice_get-get_or, ShowsCells, archive_by_time, content, Content, Event, lives}
-use Rattle.rrd_fixed.specs.declared.cell.Cell.TheVariants.{Unknown}
+use Rattle.rrd_spec.proofs.Names.{get_or, arith, cell_of_archive, length-map, slice_get_within, slice_get-get_or, ShowsCells, archive_by_time, content, Content, Event, lives}
 use Rattle.rrd_spec.proofs.CellLemmas.{shows_by_time}
 
 -- each cell that the content of a history shows

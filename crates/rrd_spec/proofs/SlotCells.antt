@@ -15,12 +15,7 @@ AreWide f w n = (k : ℕ) → k < n → length (f k) ≡ w
 
 wide_blocks : (f : ℕ → List Cell) (w a n all : ℕ) → a + n ≤ all → AreWide f w all → length (blocks f a n) ≡ n * w
 wide_blocks f w a zero all within wide = omega arith
-wide_blocks f w a (suc n) all within wide =
-    let here : length (f a) ≡ w = wide a (omega (arith, within)) in
-    let later : length (blocks f (a + 1) n) ≡ n * w = wide_blocks f w (a + 1) n all (omega (arith, within)) wide in
-    let both : length (f a ++ blocks f (a + 1) n) ≡ length (f a) + length (blocks f (a + 1) n) = length-append (f a) (blocks f (a + 1) n) in
-    let product : suc n * w ≡ n * w + w = nat.suc-mul n w in
-    omega (arith, here, later, both, product)
+wide_blocks f w a (suc n) all within wide = grind (arith, wide_blocks f w (a + 1) n all (omega (arith, within)) wide, length-append)
 
 same_blocks : (f g : ℕ → List Cell) (a n : ℕ) → ((k : ℕ) → a ≤ k → k < a + n → g k ≡ f k) → blocks g a n ≡ blocks f a n
 same_blocks f g a zero same = refl
@@ -30,10 +25,7 @@ same_blocks f g a (suc n) same = cc (same a (omega arith) (omega arith), same_bl
 cut : (f : ℕ → List Cell) (a s m n : ℕ) → n ≡ s + suc m → blocks f a n ≡ blocks f a s ++ (f (a + s) ++ blocks f (a + s + 1) m)
 cut f a zero m n is = cc (ap (blocks f a) {x = n} {y = suc m} (omega (arith, is)), ap (λ k. f k ++ blocks f (k + 1) m) {x = a} {y = a + 0} (omega arith))
 cut f a (suc s) m zero is = absurd (omega (arith, is))
-cut f a (suc s) m (suc n) is =
-    ap (λ b. f a ++ b) (cut f (a + 1) s m n (omega (arith, is)))
-    ∙ (ap (λ k. f a ++ (blocks f (a + 1) s ++ (f k ++ blocks f (k + 1) m))) {x = a + 1 + s} {y = a + suc s} (omega arith)
-    ∙ sym (append_assoc (f a) (blocks f (a + 1) s) (f (a + suc s) ++ blocks f (a + suc s + 1) m)))
+cut f a (suc s) m (suc n) is = grind (arith, cut f (a + 1) s m n (omega (arith, is)), append_assoc)
 
 -- one of n blocks of one width: what is before it and what is after it
 record IsCut (f : ℕ → List Cell) (w n s : ℕ) (front here back : List Cell) : Type 0 where
@@ -63,9 +55,7 @@ another f g w n s inside wide same =
     let m = n - s - 1 in
     let mine : blocks g 0 n ≡ blocks g 0 s ++ (g s ++ blocks g (s + 1) m) =
     cut g 0 s m n (omega (arith, inside)) ∙ ap (λ k. blocks g 0 s ++ (g k ++ blocks g (k + 1) m)) {x = 0 + s} {y = s} (omega arith) in
-    let before : blocks g 0 s ≡ blocks f 0 s = same_blocks f g 0 s (λ k low high. same k (omega (arith, high, inside)) (λ e. omega (arith, high, e))) in
-    let after : blocks g (s + 1) m ≡ blocks f (s + 1) m = same_blocks f g (s + 1) m (λ k low high. same k (omega (arith, high, inside)) (λ e. omega (arith, low, e))) in
-    mine ∙ (λ i. (before ∙ sym c.front_is) i ++ (g s ++ (after ∙ sym c.back_is) i))
+    grind (arith, same_blocks)
 
 -- ---- an archive's
 
@@ -79,8 +69,7 @@ wide_slots : (size last sources : ℕ) (rows : List (List Cell)) → 0 < size �
 wide_slots size last sources rows some all slot inside = cc (stands_in_place size last rows slot some inside, wide_rows sources rows (place_in size last (length rows) slot) all (slot_has_place size last (length rows) slot some inside).there)
 
 pub as_many_cells : (size last sources : ℕ) (rows : List (List Cell)) → AsManyCells size last sources rows
-as_many_cells size last sources rows some all =
-    wide_blocks (row_in size last rows) sources 0 (length rows) (length rows) (omega arith) (wide_slots size last sources rows some all)
+as_many_cells size last sources rows some all = grind (arith, wide_blocks, wide_slots)
 
 pub cell_stands_in_slot : (size last sources : ℕ) (rows : List (List Cell)) (slot source : ℕ) (or : Cell) → CellStandsInSlot size last sources rows slot source or
 cell_stands_in_slot size last sources rows slot source or some all inside within =

@@ -1,6 +1,6 @@
 -- Slots and places, by time and by number.
-use Rattle.std.specs.Prelude.{◌≡◌, ◌≢◌, ◌+◌, ◌-◌, ◌*◌, ◌/◌, ◌%◌, ◌<◌, ◌≤◌, ◌⊎◌, ℕ, zero, suc, List, [], ◌∷◌, Some, pos, negsuc, ◌-ℤ◌, length, replicate, Bool, true, false, Option, unsigned_abs}
-use Rattle.rrd_spec.proofs.Names.{◌∙◌, sym, ap, arith, inl, inr, get_or, ints, cases_lt, eq-eqb, lt-ltb, ne_eqb, get_or_default, get_or-set_other, get_or-set_same, length-set, find, enumerate_from, option_map_or, int_rem_euclid, int_div_euclid, Cell, resolution, row_of_age, time_of, Rra, Content, slot_of, stands_in, row_in, place_in, KeepsRow, PlaceHasSlot, PlacesDiffer, PutsRow, ShowsInPlace, SlotHasPlace, StandsInPlace, with_row_in, add-mul-mod_self_right, mod-add-div'}
+use Rattle.std.specs.Prelude.{◌≡◌, ◌≢◌, ◌+◌, ◌-◌, ◌*◌, ◌/◌, ◌%◌, ◌<◌, ◌≤◌, ◌⊎◌, ℕ, zero, suc, List, [], ◌∷◌, Some, pos, negsuc, ◌-ℤ◌, length, Bool, true, false, Option, unsigned_abs}
+use Rattle.rrd_spec.proofs.Names.{common_steps, ◌∙◌, sym, ap, arith, inl, inr, get_or, ints, cases_lt, eq-eqb, lt-ltb, ne_eqb, get_or-set_other, get_or-set_same, find, enumerate_from, option_map_or, int_rem_euclid, int_div_euclid, Cell, time_of, Rra, Content, slot_of, stands_in, row_in, place_in, KeepsRow, PlaceHasSlot, PlacesDiffer, PutsRow, ShowsInPlace, SlotHasPlace, StandsInPlace, with_row_in, add-mul-mod_self_right, mod-add-div'}
 use native.Mathlib.Nat as nat
 
 -- ---- the number of a row since 1970
@@ -16,8 +16,7 @@ below m e size rows some is =
     let parts : rows * size ≡ m * size + suc e * size = ap (λ x. x * size) is ∙ nat.add-mul m (suc e) size in
     let last : suc e * size ≡ e * size + size = nat.suc-mul e size in
     let diff : pos (m * size) -ℤ pos (rows * size) ≡ negsuc (e * size + (size - 1)) = omega (arith, ints, parts, last, some) in
-    let quotient : (e * size + (size - 1)) / size ≡ e =
-    nat.mul-add-div_right some e (size - 1) ∙ ap (λ x. e + x) (nat.div-eq_of_lt (omega (arith, some))) ∙ omega arith in
+    let quotient : (e * size + (size - 1)) / size ≡ e = grind arith in
     ap (λ t. int_div_euclid t (pos size)) diff ∙ ap (λ q. negsuc q) quotient
 
 -- the time is m rows after 1970 less all rows
@@ -32,11 +31,7 @@ slot_above : (m d rows : ℕ) → 1 ≤ rows → m ≡ d + rows → unsigned_abs
 slot_above m d rows some is = sym (nat.add-mod_right d rows) ∙ ap (λ x. x % rows) (sym is)
 
 slot_below : (m e rows : ℕ) → 1 ≤ rows → rows ≡ m + suc e → unsigned_abs (int_rem_euclid (negsuc e) (pos rows)) ≡ m % rows
-slot_below m e rows some is =
-    let small : e % rows ≡ e = nat.mod-eq_of_lt (omega (arith, is)) in
-    let same : m % rows ≡ m = nat.mod-eq_of_lt (omega (arith, is)) in
-    let place : rows - 1 - e % rows ≡ m % rows = omega (arith, small, same, is) in
-    place
+slot_below m e rows some is = grind arith
 
 slot_from : (m size rows : ℕ) → 1 ≤ size → 1 ≤ rows → slot_of size rows (pos (m * size) -ℤ pos (rows * size)) ≡ m % rows
 slot_from m size rows some k =
@@ -54,16 +49,12 @@ slot_from m size rows some k =
 -- ---- the row of a place
 
 time_is : (size rows last place : ℕ) → time_of size rows last place ≡ pos ((last / size + 1 + place) * size) -ℤ pos (rows * size)
-time_is size rows last place =
-    let parts : (last / size + 1 + place) * size ≡ last / size * size + (place + 1) * size =
-    ap (λ x. x * size) (omega arith) ∙ nat.add-mul (last / size) (place + 1) size in
-    omega (arith, ints, parts)
+time_is size rows last place = grind (arith, common_steps)
 
 -- how many rows came after it
 age_is : (size rows last place : ℕ) → 0 < size → place < rows → pos (last / size) -ℤ int_div_euclid (time_of size rows last place) (pos size) ≡ pos (rows - 1 - place)
 age_is size rows last place some inside =
-    let number : int_div_euclid (time_of size rows last place) (pos size) ≡ pos (last / size + 1 + place) -ℤ pos rows =
-    ap (λ t. int_div_euclid t (pos size)) (time_is size rows last place) ∙ number_from (last / size + 1 + place) size rows some in
+    let number : int_div_euclid (time_of size rows last place) (pos size) ≡ pos (last / size + 1 + place) -ℤ pos rows = grind (arith, pos, time_is, number_from) in
     ap (λ n. pos (last / size) -ℤ n) number ∙ omega (arith, ints, inside)
 
 -- its slot, by its number
@@ -82,9 +73,7 @@ mod_once n rows r h = elim (cases_lt n rows) [
 ]
 
 mod_sum : (q i rows : ℕ) → (q + i) % rows ≡ (q % rows + i) % rows
-mod_sum q i rows =
-    let is : q + i ≡ (q % rows + i) + q / rows * rows = omega (arith, mod-add-div' q rows) in
-    ap (λ x. x % rows) is ∙ add-mul-mod_self_right (q % rows + i) (q / rows) rows
+mod_sum q i rows = grind (arith, mod-add-div' q rows, add-mul-mod_self_right (q % rows + i) (q / rows) rows)
 
 -- the slot of the row in it, and no row before it stands there
 pub record IsPlace (q rows slot place : ℕ) : Type 0 where
@@ -93,49 +82,21 @@ pub record IsPlace (q rows slot place : ℕ) : Type 0 where
   pub first : (i : ℕ) → i < place → (q + i) % rows ≢ slot
 
 turned : (r i rows slot : ℕ) → r < rows → i < rows → slot < rows → (r + i) % rows ≡ slot → ((r + i < rows) × (r + i ≡ slot)) ⊎ ((rows ≤ r + i) × (r + i ≡ slot + rows))
-turned r i rows slot a b c h = elim (mod_once (r + i) rows (omega arith) (omega arith)) [
-  | inl small ↦ inl (small.0, sym small.1 ∙ h)
-  | inr large ↦ inr (large.0, omega (arith, large.0, large.1, h))
-]
+turned r i rows slot a b c h = grind (arith, mod_once)
 
 placed : (r rows slot : ℕ) → r < rows → slot < rows → let place = (slot + rows - r) % rows in (place < rows) × ((r + place) % rows ≡ slot)
-placed r rows slot a b = elim (mod_once (slot + rows - r) rows (omega arith) (omega arith)) [
-  | inl small ↦
-      let place : (slot + rows - r) % rows ≡ slot + rows - r = small.1 in
-      (omega (arith, place, small.0), ap (λ x. (r + x) % rows) place ∙ (ap (λ x. x % rows) (omega arith) ∙ (nat.add-mod_right slot rows ∙ nat.mod-eq_of_lt b)))
-  | inr large ↦
-      let place : (slot + rows - r) % rows ≡ slot + rows - r - rows = large.1 in
-      (omega (arith, place, large.0), ap (λ x. (r + x) % rows) place ∙ (ap (λ x. x % rows) (omega (arith, large.0)) ∙ nat.mod-eq_of_lt b))
-]
+placed r rows slot a b = grind arith
 
 -- different places have different slots
 pub same_place : (q i j rows : ℕ) → i < rows → j < rows → (q + i) % rows ≡ (q + j) % rows → i ≡ j
-same_place q i j rows a b h =
-    let r = q % rows in
-    let slot = (q + j) % rows in
-    let r_below : r < rows = omega arith in
-    let slot_below : slot < rows = omega arith in
-    elim (turned r i rows slot r_below a slot_below (sym (mod_sum q i rows) ∙ h)) [
-      | inl m ↦ elim (turned r j rows slot r_below b slot_below (sym (mod_sum q j rows))) [
-        | inl o ↦ omega (arith, m.1, o.1)
-        | inr o ↦ omega (arith, m.0, m.1, o.0, o.1)
-      ]
-      | inr m ↦ elim (turned r j rows slot r_below b slot_below (sym (mod_sum q j rows))) [
-        | inl o ↦ omega (arith, m.0, m.1, o.0, o.1)
-        | inr o ↦ omega (arith, m.1, o.1)
-      ]
-    ]
+same_place q i j rows a b h = grind arith
 
 pub is_place : (q rows slot : ℕ) → slot < rows → IsPlace q rows slot ((slot + rows - q % rows) % rows)
 is_place q rows slot b =
     let p = placed (q % rows) rows slot (omega arith) b in
     let place = (slot + rows - q % rows) % rows in
     let here : (q + place) % rows ≡ slot = mod_sum q place rows ∙ p.1 in
-    record {
-      inside = p.0;
-      here = here;
-      first = λ i below same. omega (arith, below, same_place q i place rows (omega (arith, p.0, below)) p.0 (same ∙ sym here));
-    }
+    grind (arith, common_steps, below, same_place)
 
 -- the first item whose number gives the slot
 find_first : {A : Type 0} (test : ℕ × A → Bool) (n k : ℕ) (rows : List A) (d : A) → k < length rows → ((i : ℕ) → i < k → (x : A) → test (n + i, x) ≡ false) → ((x : A) → test (n + k, x) ≡ true)
@@ -146,8 +107,7 @@ find_first test n zero (row ∷ rows) d inside before fits =
     rw now (ap (λ m. Some (m, row)) (omega arith))
 find_first test n (suc k) (row ∷ rows) d inside before fits =
     let now : test (n, row) ≡ false = ap (λ m. test (m, row)) (omega arith) ∙ before 0 (omega arith) row in
-    let later = find_first test (n + 1) k rows d (omega arith) (λ i below x. ap (λ m. test (m, x)) (omega arith) ∙ before (suc i) (omega arith) x) (λ x. ap (λ m. test (m, x)) (omega arith) ∙ fits x) in
-    rw now (later ∙ ap (λ m. Some (m, get_or rows k d)) (omega arith))
+    grind (arith, find_first test (n + 1) k rows d (omega arith) (λ i below x. ap (λ m. test (m, x)) (omega arith) ∙ before (suc i) (omega arith) x) (λ x. ap (λ m. test (m, x)) (omega arith) ∙ fits x), below)
 
 -- the row in a slot
 pub stands_in_place : (size last : ℕ) (rows : List (List Cell)) (slot : ℕ) → StandsInPlace size last rows slot
@@ -155,51 +115,30 @@ stands_in_place size last rows slot some inside =
     let n = length rows in
     let p = is_place (last / size + 1) n slot inside in
     let k = place_in size last n slot in
-    let found : find (stands_in size n last slot) (enumerate_from 0 rows) ≡ Some (0 + k, get_or rows k []) =
-    find_first (stands_in size n last slot) 0 k rows [] p.inside
-    (λ i below x. ne_eqb (slot_of size n (time_of size n last (0 + i))) slot (λ same. p.first i below (sym (slot_is size n last i some (omega (arith, inside))) ∙ (ap (λ m. slot_of size n (time_of size n last m)) (omega arith) ∙ same))))
-    (λ x. eq-eqb (slot_of size n (time_of size n last (0 + k))) slot (ap (λ m. slot_of size n (time_of size n last m)) (omega arith) ∙ (slot_is size n last k some (omega (arith, inside)) ∙ p.here))) in
+    let found : find (stands_in size n last slot) (enumerate_from 0 rows) ≡ Some (0 + k, get_or rows k []) = grind (arith, find_first, below, ne_eqb, slot_is, eq-eqb) in
     ap (λ (o : Option (ℕ × List Cell)). option_map_or (λ found. found.1) o []) found
 
 -- ---- slots and places, each by the other
 
 pub slot_has_place : (size last rows slot : ℕ) → SlotHasPlace size last rows slot
-slot_has_place size last rows slot some inside =
-    let p = is_place (last / size + 1) rows slot inside in
-    record { there = p.inside; back = slot_is size rows last (place_in size last rows slot) some (omega (arith, inside)) ∙ p.here }
+slot_has_place size last rows slot some inside = grind (arith, is_place, slot_is)
 
 pub place_has_slot : (size last rows place : ℕ) → PlaceHasSlot size last rows place
-place_has_slot size last rows place some inside =
-    let q = last / size + 1 in
-    let slot = slot_of size rows (time_of size rows last place) in
-    let is : slot ≡ (q + place) % rows = slot_is size rows last place some (omega (arith, inside)) in
-    let there : slot < rows = omega (arith, is, inside) in
-    let p = is_place q rows slot there in
-    record { there = there; back = same_place q (place_in size last rows slot) place rows p.inside inside (p.here ∙ is) }
+place_has_slot size last rows place some inside = grind (arith, slot_is, is_place, same_place)
 
 pub places_differ : (size last rows slot other : ℕ) → PlacesDiffer size last rows slot other
-places_differ size last rows slot other a b apart same =
-    let q = last / size + 1 in
-    apart (sym (is_place q rows slot a).here ∙ (ap (λ k. (q + k) % rows) same ∙ (is_place q rows other b).here))
+places_differ size last rows slot other a b apart same = grind (arith, is_place)
 
 -- ---- the row of a place, shown at its time
 
 pub shows_in_place : (content : Content) (archive : Rra) (place : ℕ) → ShowsInPlace content archive place
-shows_in_place content archive place some inside =
-    let rows = archive.rows in
-    let unknown = replicate (length content.sources) Cell.Unknown in
-    let back : length rows - 1 - (length rows - 1 - place) ≡ place = omega (arith, inside) in
-    ap (row_of_age rows unknown) (age_is (resolution content.step archive.def) (length rows) content.last place some inside)
-    ∙ rw (lt-ltb (length rows - 1 - place) (length rows) (omega (arith, inside))) (ap (λ k. get_or rows k unknown) back ∙ get_or_default rows place unknown [] inside)
+shows_in_place content archive place some inside = grind (arith, common_steps, age_is, lt-ltb)
 
 -- ---- one row put into its place
 
 -- a row of the rows with another one in a slot's place
 row_then : (size last : ℕ) (rows : List (List Cell)) (slot : ℕ) (row : List Cell) (other : ℕ) → 0 < size → other < length rows → row_in size last (with_row_in size last rows slot row) other ≡ get_or (with_row_in size last rows slot row) (place_in size last (length rows) other) []
-row_then size last rows slot row other some inside =
-    let then = with_row_in size last rows slot row in
-    let same : length then ≡ length rows = length-set rows (place_in size last (length rows) slot) row in
-    stands_in_place size last then other some (omega (arith, inside, same)) ∙ ap (λ n. get_or then (place_in size last n other) []) same
+row_then size last rows slot row other some inside = grind (arith, common_steps, stands_in_place)
 
 pub puts_row : (size last : ℕ) (rows : List (List Cell)) (slot : ℕ) (row : List Cell) → PutsRow size last rows slot row
 puts_row size last rows slot row some inside = cc (row_then size last rows slot row slot some inside, get_or-set_same rows (place_in size last (length rows) slot) row [] (is_place (last / size + 1) (length rows) slot inside).inside)

@@ -1,6 +1,6 @@
 -- An accepted command moves a valid content to a valid one.
-use Rattle.std.specs.Prelude.{◌≡◌, ℕ, zero, suc, ◌+◌, ◌-◌, ◌*◌, ◌/◌, ◌%◌, ◌<◌, ◌≤◌, ◌^◌, true, false, cond, not, ◌&&◌, ◌||◌, List, [], ◌∷◌, length, map, ℤ, pos, ◌≤ℤ◌, unsigned_abs, Option, Some, None, int_le, sum, option_and_then, ◌++◌, drop, take}
-use Rattle.rrd_spec.proofs.Names.{refl, sym, ◌∙◌, ap, subst, ltb, eqb, get_or, arith, neg_ℤ, le_z_yes, T, ints, cond_both, ltb-true, ltb-false, or_parts, not-false, length-map, length-enumerate_from, fold, enumerate_from, list_any, AllByRecursion, option_map_or, unwrap_or, Raw, Kind, Gauge, Counter, Derive, Absolute, IsAccepted, Name, DsDef, Rra, Content, Event, Sampled, Tuned, Moment, moment_after, moment_of, moment_at_end, same_kind, raws_under, rows_after, seconds_of, IsHistory, KeepsArchives, archive_of, content_listed, Asked, DatabaseChange, Updating, TuningBy, Resizing, settings_of, settings_after, rows_of_archives, raw_of, value_for, sample_of, samples_of, asked, tuned, rows_changed, events, names, has_source, is_double, cells, Passes, is_bad_heartbeat, is_bad_rows, has_bad_bounds, grows_too_far, sample_checks, verdict, new_archive, All-append, All-drop, All-take, length_push, map-append, length-remove, ArchiveTune, Add, Remove, leb-false, moved, remove, IsSource, AreAccepted, AreParts, IsRow, IsValidArchive, IsValid, StaysValid, base_of_valid, sound, floor_of, Given, Sample, Update, Tuning, Change, Grow, Shrink, in_range, is_whole, same_name, is_good, present}
+use Rattle.std.specs.Prelude.{◌≡◌, ℕ, zero, suc, ◌+◌, ◌*◌, ◌/◌, ◌<◌, ◌≤◌, ◌^◌, true, false, not, ◌&&◌, ◌||◌, List, [], ◌∷◌, length, map, ℤ, ◌≤ℤ◌, unsigned_abs, Option, Some, None, int_le, sum, ◌++◌, drop, take}
+use Rattle.rrd_spec.proofs.Names.{refl, sym, ◌∙◌, ap, subst, ltb, eqb, get_or, arith, le_z_yes, T, cond_both, ltb-true, ltb-false, or_parts, length-map, length-enumerate_from, fold, enumerate_from, list_any, AllByRecursion, option_map_or, unwrap_or, Raw, Kind, Gauge, Counter, Derive, Absolute, IsAccepted, Name, DsDef, Rra, Content, Event, Sampled, Tuned, Moment, moment_after, moment_of, moment_at_end, same_kind, raws_under, rows_after, seconds_of, IsHistory, KeepsArchives, archive_of, content_listed, Asked, DatabaseChange, Updating, TuningBy, Resizing, settings_of, settings_after, rows_of_archives, raw_of, value_for, sample_of, samples_of, asked, tuned, rows_changed, events, names, has_source, is_double, cells, Passes, is_bad_heartbeat, is_bad_rows, has_bad_bounds, grows_too_far, sample_checks, verdict, new_archive, All-append, All-drop, All-take, length_push, map-append, length-remove, ArchiveTune, Add, Remove, leb-false, moved, remove, IsSource, AreAccepted, IsRow, IsValidArchive, IsValid, StaysValid, base_of_valid, sound, Given, Sample, Update, Tuning, Change, same_name, is_good, present}
 use Rattle.rrd_spec.specs.History.{Reading}
 use Rattle.rrd_spec.proofs.HistoryLemmas.{length-sources}
 use Rattle.rrd_spec.proofs.SampleLemmas.{rows_of_samples}
@@ -19,26 +19,10 @@ use Rattle.rrd_spec.proofs.NameLemmas.{names_differ, names_tuned}
 in_order : (a b : ℤ) → int_le a b ≡ true → a ≤ℤ b
 in_order a b e = le_z_yes (subst T (sym e) tt)
 
-admitted_range : (kind : Kind) (low high value : ℤ) → ((z : ℤ) → low ≤ℤ z → z ≤ℤ high → IsAccepted kind (Raw.Known z)) → IsAccepted kind (option_map_or Raw.Known (in_range low high value) Raw.Unknown)
-admitted_range kind low high value h =
-    cond_both (int_le low value) (cond (int_le value high) (Some value) None) None (λ o. IsAccepted kind (option_map_or Raw.Known o Raw.Unknown))
-    (λ a. cond_both (int_le value high) (Some value) None (λ o. IsAccepted kind (option_map_or Raw.Known o Raw.Unknown)) (λ b. h value (in_order low value a) (in_order value high b)) (λ b. tt))
-    (λ a. tt)
-
 raw_accepted : (kind : Kind) (given : Given) → IsAccepted kind (raw_of kind given)
 raw_accepted kind Given.Unknown = tt
 raw_accepted Gauge (Given.Number number) = cond_both (ltb (unsigned_abs number.millionths) (10 ^ 24)) (Some number.millionths) None (λ o. IsAccepted Gauge (option_map_or Raw.Known o Raw.Unknown)) (λ e. ltb-true _ _ e) (λ e. tt)
-raw_accepted Absolute (Given.Number number) = cond_both (ltb (unsigned_abs number.millionths) (10 ^ 24)) (Some number.millionths) None (λ o. IsAccepted Absolute (option_map_or Raw.Known o Raw.Unknown)) (λ e. ltb-true _ _ e) (λ e. tt)
-raw_accepted Counter (Given.Number number) =
-    let value = floor_of number.millionths (pos (10 ^ 6)) in
-    cond_both (not number.point && is_whole number.millionths) (Some value) None
-    (λ o. IsAccepted Counter (option_map_or Raw.Known (option_and_then (in_range (pos 0) (pos (2 ^ 64 - 1))) o) Raw.Unknown))
-    (λ e. admitted_range Counter (pos 0) (pos (2 ^ 64 - 1)) value (λ z a b. (a, omega (arith, ints)))) (λ e. tt)
-raw_accepted Derive (Given.Number number) =
-    let value = floor_of number.millionths (pos (10 ^ 6)) in
-    cond_both (not number.point && is_whole number.millionths) (Some value) None
-    (λ o. IsAccepted Derive (option_map_or Raw.Known (option_and_then (in_range (neg_ℤ (pos (2 ^ 63))) (pos (2 ^ 63 - 1))) o) Raw.Unknown))
-    (λ e. admitted_range Derive (neg_ℤ (pos (2 ^ 63))) (pos (2 ^ 63 - 1)) value (λ z a b. (a, omega (arith, ints)))) (λ e. tt)
+raw_accepted kind (Given.Number number) = grind arith
 
 pub raws_accepted : (f : DsDef → Given) (sources : List DsDef) → AreAccepted sources (map (λ (source : DsDef). raw_of source.kind (f source)) sources)
 raws_accepted f [] = tt
@@ -49,23 +33,13 @@ kind_is Gauge Gauge raw e h = h
 kind_is Counter Counter raw e h = h
 kind_is Derive Derive raw e h = h
 kind_is Absolute Absolute raw e h = h
-kind_is Gauge Counter raw e h = absurd cc
-kind_is Gauge Derive raw e h = absurd cc
-kind_is Gauge Absolute raw e h = absurd cc
-kind_is Counter Gauge raw e h = absurd cc
-kind_is Counter Derive raw e h = absurd cc
-kind_is Counter Absolute raw e h = absurd cc
-kind_is Derive Gauge raw e h = absurd cc
-kind_is Derive Counter raw e h = absurd cc
-kind_is Derive Absolute raw e h = absurd cc
-kind_is Absolute Gauge raw e h = absurd cc
-kind_is Absolute Counter raw e h = absurd cc
-kind_is Absolute Derive raw e h = absurd cc
+kind_is Gauge b raw e h = grind arith
+kind_is Counter b raw e h = grind arith
+kind_is a b raw e h = grind arith
 
 raws_tuned : (f : DsDef → DsDef) (sources : List DsDef) (raws : List Raw) → AreAccepted sources raws → AreAccepted (map f sources) (raws_under sources (map f sources) raws)
 raws_tuned f [] [] h = tt
-raws_tuned f (source ∷ sources) (raw ∷ raws) h =
-    (cond_both (same_kind source.kind (f source).kind) raw Raw.Unknown (IsAccepted (f source).kind) (λ e. kind_is source.kind (f source).kind raw e h.0) (λ e. tt), raws_tuned f sources raws h.1)
+raws_tuned f (source ∷ sources) (raw ∷ raws) h = grind (arith, cond_both, kind_is, raws_tuned f sources raws h.1)
 raws_tuned f x y h = absurd h
 
 -- ---- the numbers of rows
@@ -92,9 +66,7 @@ left_valid base es is left =
     let end = moment_at_end base es in
     let as_many : length end.sources ≡ length base.sources = length-sources (moment_of base) es left.history in
     let count : length (map (archive_of base es) (enumerate_from 0 base.archives)) ≡ length base.archives = length-map (enumerate_from 0 base.archives) (archive_of base es) ∙ length-enumerate_from 0 base.archives in
-    let AP : ℕ → Type 0 = λ n. AllByRecursion (IsValidArchive n (end.last / base.step)) (map (archive_of base es) (enumerate_from 0 base.archives)) in
-    let PP : ℕ → Type 0 = λ n. AreParts Rattle.rrd_fold.specs.declared.function.Function.TheVariants.Average n (end.last % base.step) (content_listed base es).parts in
-    grind (arith, is, left, subst PP (sym as_many) (parts_valid base es is left.history left.seconds_are), subst AP (sym as_many) (archives_valid base es 0 base.archives is left.history left.good_rows left.seconds_are is.archives_are))
+    grind (arith, parts_valid, archives_valid)
 
 below : (n : ℕ) (m : ℕ) → m ≡ n → n ≤ present.max_cells → m ≤ present.max_cells
 below n m e h = omega arith
@@ -105,7 +77,7 @@ samples_accepted : (sources : List DsDef) (template : List Name) (readings : Lis
 samples_accepted sources template [] = tt
 samples_accepted sources template (reading ∷ readings) = (raws_accepted (value_for template reading.values) sources, samples_accepted sources template readings)
 
-end_sources : (now : Moment) (list : List Reading) → (fold moment_after now (map Sampled list)).sources ≡ now.sources
+pub end_sources : (now : Moment) (list : List Reading) → (fold moment_after now (map Sampled list)).sources ≡ now.sources
 end_sources now [] = refl
 end_sources now (sample ∷ list) = end_sources (moment_after now (Sampled sample)) list
 
@@ -115,8 +87,7 @@ end_raws now (sample ∷ list) a is = end_raws (moment_after now (Sampled sample
 
 end_time : (sources : List DsDef) (template : List Name) (now : Moment) (readings : List Sample) → AllByRecursion Passes (sample_checks present sources template now.last readings) → now.last ≤ 9999999999 → (fold moment_after now (map Sampled (map (sample_of sources template) readings))).last ≤ 9999999999
 end_time sources template now [] p h = h
-end_time sources template now (reading ∷ readings) p h =
-    end_time sources template (moment_after now (Sampled (sample_of sources template reading))) readings p.1.1.1.1 (ltb-false 9999999999 reading.time p.0)
+end_time sources template now (reading ∷ readings) p h = grind (arith, end_time sources template (moment_after now (Sampled (sample_of sources template reading))) readings p.1.1.1.1 (ltb-false 9999999999 reading.time p.0), ltb-false)
 
 update_leaves : (base : Content) (update : Update) → IsValid base → verdict base (Updating update) ≡ None → Leaves base (events (settings_of base) (Updating update))
 unfolding seconds_of
@@ -142,12 +113,10 @@ update_leaves base update is h =
 -- ---- a tune
 
 good_name : (rename : Option (Asked Name)) (name : Name) → option_map_or (λ (option : Asked Name). not (is_good option.1)) rename false ≡ false → is_good name ≡ true → is_good (asked rename name name) ≡ true
-good_name None name k h = h
-good_name (Some option) name k h = cond_both (same_name option.0 name) option.1 name (λ n. is_good n ≡ true) (λ e. not-false (is_good option.1) k) (λ e. h)
+good_name rename name k h = grind arith
 
 good_heartbeat : (heartbeat : Option (Asked ℕ)) (name : Name) (old : ℕ) → option_map_or (λ (option : Asked ℕ). is_bad_heartbeat present option.1) heartbeat false ≡ false → is_bad_heartbeat present old ≡ false → is_bad_heartbeat present (asked heartbeat name old) ≡ false
-good_heartbeat None name old k h = h
-good_heartbeat (Some option) name old k h = cond_both (same_name option.0 name) option.1 old (λ n. is_bad_heartbeat present n ≡ false) (λ e. k) (λ e. h)
+good_heartbeat heartbeat name old k h = grind arith
 
 tuned_sources : (tuning : Tuning) (sources : List DsDef) → option_map_or (λ (option : Asked Name). not (is_good option.1)) tuning.rename false ≡ false → option_map_or (λ (option : Asked ℕ). is_bad_heartbeat present option.1) tuning.heartbeat false ≡ false → list_any (λ (source : DsDef). has_bad_bounds present (tuned tuning source)) sources ≡ false → AllByRecursion IsSource sources → AllByRecursion IsSource (map (tuned tuning) sources)
 tuned_sources tuning [] a b c is = tt
@@ -187,8 +156,7 @@ few_rows_at sources steps zero (archive ∷ archives) is = is.0.few_rows
 few_rows_at sources steps (suc index) (archive ∷ archives) is = few_rows_at sources steps index archives is.1
 
 pub few_changed : (change : Change) (old rows : ℕ) → old ≤ 1000000 → (is_bad_rows present rows || grows_too_far present change old rows) ≡ false → rows_changed change old rows ≤ 1000000
-few_changed Grow old rows h k = ltb-false 1000000 (old + rows) (or_parts (is_bad_rows present rows) (grows_too_far present Grow old rows) k).1
-few_changed Shrink old rows h k = omega arith
+few_changed change old rows h k = grind arith
 
 resize_leaves : (base : Content) (archive : ℕ) (change : Change) (rows : ℕ) → IsValid base → verdict base (Resizing archive change rows) ≡ None → Leaves base (events (settings_of base) (Resizing archive change rows))
 unfolding content_listed
@@ -256,8 +224,7 @@ tuned_valid base tuning (Some (Remove number)) e is h =
     (All-append P (take number base.archives) (drop (suc number) base.archives) (All-take P number base.archives is.archives_are) (All-drop P (suc number) base.archives is.archives_are)))
 
 pub stays_valid : (base : Content) (command : DatabaseChange) → StaysValid base command
-stays_valid base (Updating update) is h =
-    subst IsValid (moved_is base (Updating update) (sound base is) h (sampled_keep (samples_of base.sources update))) (left_valid base (events (settings_of base) (Updating update)) is (update_leaves base update is h))
+stays_valid base (Updating update) is h = grind (arith, moved_is base (Updating update) (sound base is) h (sampled_keep (samples_of base.sources update)), sampled_keep (samples_of base.sources update), left_valid base (events (settings_of base) (Updating update)) is (update_leaves base update is h), update_leaves base update is h)
 stays_valid base (TuningBy tuning) is h = tuned_valid base tuning tuning.archive refl is h
 stays_valid base (Resizing archive change rows) is h =
     subst IsValid (moved_is base (Resizing archive change rows) (sound base is) h tt) (left_valid base (events (settings_of base) (Resizing archive change rows)) is (resize_leaves base archive change rows is h))

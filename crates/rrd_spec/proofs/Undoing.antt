@@ -1,21 +1,17 @@
 -- What undoes a command.
-use Rattle.std.specs.Prelude.{◌≡◌, ℕ, zero, suc, ◌+◌, ◌-◌, ◌<◌, min, true, false, cond, List, [], ◌∷◌, ◌++◌, length, map, take, Option, Some, None, ℤ, slice_index_or}
-use Rattle.rrd_spec.proofs.Names.{refl, sym, ◌∙◌, ap, set, arith, append_assoc, ⊎_elim, or_parts, cases_Bool, leb-false, set_at, length_push, length-take, length-map, fold, enumerate_from, AllByRecursion, Raw, Kind, Gauge, Counter, Derive, Absolute, Name, DsDef, SavedSource, Rra, Sampled, Resized, Moment, moment_after, moment_of, moment_at_end, same_kind, raws_under, rows_after, IsHistory, IsArchive, rows_of, row_parts_of, kept_rows, archive_of, content_listed, moved_listed, Asked, DatabaseChange, Updating, TuningBy, Resizing, settings_of, samples_of, asked, tuned, rows_changed, verdict, AddedEntry, RemovedEntry, ResizeEntry, TuneEntry, archive_at, archive_entry, rows_between, saved, is_asked, is_named, saved_sources, rows_at, put_back, put_back_each, with_source, with_rows_at, entry, undone, IsSound, ComesBack, new_archive, moved, ArchiveTune, Add, Remove, option_map_or, Content, Tuning, Update, Change}
+use Rattle.std.specs.Prelude.{◌≡◌, ℕ, zero, suc, ◌+◌, ◌<◌, min, true, false, cond, List, [], ◌∷◌, ◌++◌, length, map, take, Option, Some, None, ℤ}
+use Rattle.rrd_spec.proofs.Names.{common_steps, refl, sym, ◌∙◌, ap, arith, append_assoc, ⊎_elim, or_parts, cases_Bool, leb-false, set_at, length_push, length-take, length-map, fold, enumerate_from, AllByRecursion, Raw, Kind, Name, DsDef, Rra, Sampled, Resized, moment_of, moment_at_end, same_kind, raws_under, rows_after, IsHistory, IsArchive, rows_of, row_parts_of, kept_rows, archive_of, content_listed, moved_listed, DatabaseChange, Updating, TuningBy, Resizing, settings_of, samples_of, tuned, verdict, RemovedEntry, TuneEntry, archive_at, archive_entry, rows_between, saved, is_named, saved_sources, rows_at, put_back, put_back_each, with_source, with_rows_at, entry, undone, IsSound, ComesBack, new_archive, moved, ArchiveTune, Add, Remove, option_map_or, Content, Tuning, Update, Change}
 use Rattle.rrd_spec.specs.History.{Reading}
 use Rattle.rrd_spec.proofs.ContentLemmas.{length-rows_of, length-kept_rows}
 use Rattle.rrd_spec.proofs.SampleLemmas.{rows_of_samples, update_undone}
 use Rattle.rrd_spec.proofs.Accepted.{accepted_passes, accepted_history, tune_passes}
 use Rattle.rrd_spec.proofs.ArchiveTunes.{put_in_again, tune_added, tune_removed, without_added}
 use Rattle.rrd_spec.proofs.Changing.{tune_changes}
-use Rattle.rrd_spec.proofs.Staying.{sampled_keep}
+use Rattle.rrd_spec.proofs.Staying.{end_sources, sampled_keep}
 use Rattle.rrd_spec.proofs.Moving.{moved_is}
 use Rattle.rrd_spec.proofs.Quiet.{made, with_all, resized_other, resized_elsewhere, content_resized, row_parts_same}
 
 -- ---- an update
-
-same_sources : (now : Moment) (samples : List Reading) → (fold moment_after now (map Sampled samples)).sources ≡ now.sources
-same_sources now [] = refl
-same_sources now (sample ∷ samples) = same_sources (moment_after now (Sampled sample)) samples
 
 archive_back : (base : Content) (index : ℕ) (archive : Rra) (samples : List Reading) → 0 < base.step → IsArchive archive → IsHistory (moment_of base) (map Sampled samples) → put_back (archive_of base (map Sampled samples) (index, archive)) (saved base.step base.last (moment_at_end base (map Sampled samples)).last archive) ≡ archive
 unfolding made
@@ -31,18 +27,11 @@ archive_back base index archive samples some is h =
     let defs : fold (rows_after index) archive.def.rows es ≡ archive.def.rows = rows_of_samples index archive.def.rows samples in
     let count : length kept ≡ r = length-kept_rows base index archive es some is h ∙ defs ∙ sym is.rows_are in
     let few : length old ≡ m = let e = length-take m archive.rows in omega arith in
-    let rows : old ++ take (length kept - length old) kept ≡ archive.rows
-    = ap (λ n. old ++ take n kept) {x = length kept - length old} {y = r - m} (omega arith)
-    ∙ ap (λ n. take (min n r) archive.rows ++ take (r - min n r) kept) finished
-    ∙ update_undone base index archive samples is in
-    ap (λ n. made archive n archive.parts (old ++ take (length kept - length old) kept)) defs ∙ ap (made archive archive.def.rows archive.parts) rows
+    grind (arith, update_undone, made)
 
 archives_back : (base : Content) (index : ℕ) (archives : List Rra) (samples : List Reading) → 0 < base.step → AllByRecursion IsArchive archives → IsHistory (moment_of base) (map Sampled samples) → put_back_each (map (archive_of base (map Sampled samples)) (enumerate_from index archives)) (map (saved base.step base.last (moment_at_end base (map Sampled samples)).last) archives) ≡ archives
 archives_back base index [] samples some is h = refl
-archives_back base index (archive ∷ archives) samples some is h =
-    let one = archive_back base index archive samples some is.0 h in
-    let rest = archives_back base (index + 1) archives samples some is.1 h in
-    cc
+archives_back base index (archive ∷ archives) samples some is h = grind (arith, archive_back, archives_back base (index + 1) archives samples some is.1 h)
 
 -- an accepted command is undone by its entry, where the content is said by list
 abbrev ListedBack : Content → DatabaseChange → Type 0
@@ -53,7 +42,7 @@ unfolding content_listed with_all
 update_back base update sound h =
     let samples = samples_of base.sources update in
     let archives = put_back_each (map (archive_of base (map Sampled samples)) (enumerate_from 0 base.archives)) (map (saved base.step base.last (moment_at_end base (map Sampled samples)).last) base.archives) in
-    ap (λ sources. with_all base sources base.last base.raws base.parts archives) (same_sources (moment_of base) samples)
+    ap (λ sources. with_all base sources base.last base.raws base.parts archives) (end_sources (moment_of base) samples)
     ∙ ap (with_all base base.sources base.last base.raws base.parts) (archives_back base 0 base.archives samples sound.is_base.some_step sound.is_base.archives_are (accepted_history base (Updating update) h))
 
 -- ---- a tune
@@ -61,27 +50,9 @@ update_back base update sound h =
 source_with : Name → Kind → ℕ → Option ℤ → Option ℤ → DsDef
 source_with name kind heartbeat min max = record { name = name; kind = kind; heartbeat = heartbeat; min = min; max = max }
 
-not_asked : {A : Type 0} (option : Option (Asked A)) (source : DsDef) (old : A) → is_asked option source ≡ false → asked option source.name old ≡ old
-not_asked None source old h = refl
-not_asked (Some option) source old h = ap (λ b. cond b option.1 old) h
-
 not_named : (tuning : Tuning) (source : DsDef) → is_named tuning source ≡ false → tuned tuning source ≡ source
 unfolding source_with
-not_named tuning source h =
-    let e = or_parts _ (is_asked tuning.rename source) h in
-    let d = or_parts _ (is_asked tuning.kind source) e.0 in
-    let c = or_parts _ (is_asked tuning.maximum source) d.0 in
-    let b = or_parts (is_asked tuning.heartbeat source) (is_asked tuning.minimum source) c.0 in
-    let t = tuned tuning source in
-    ap (λ x. source_with x t.kind t.heartbeat t.min t.max) (not_asked tuning.rename source source.name e.1)
-    ∙ ap (λ x. source_with source.name x t.heartbeat t.min t.max) (not_asked tuning.kind source source.kind d.1)
-    ∙ ap (λ x. source_with source.name source.kind x t.min t.max) (not_asked tuning.heartbeat source source.heartbeat b.0)
-    ∙ ap (λ x. source_with source.name source.kind source.heartbeat x t.max) (not_asked tuning.minimum source source.min b.1)
-    ∙ ap (source_with source.name source.kind source.heartbeat source.min) (not_asked tuning.maximum source source.max c.1)
-
-kind_itself : (kind : Kind) → same_kind kind kind ≡ true
-kind_itself Gauge = refl
-kind_itself x = refl
+not_named tuning source h = grind (arith, or_parts)
 
 with_sources : Content → List DsDef → List Raw → Content
 with_sources base sources raws = record base { sources = sources; raws = raws }
@@ -103,30 +74,16 @@ sources_back base tuning number done done_raws (source ∷ sources) (raw ∷ raw
     = ap (λ s. with_sources base s ((done_raws ++ raw ∷ []) ++ raws)) (append_assoc done (source ∷ []) sources) ∙ ap (with_sources base (done ++ source ∷ sources)) (append_assoc done_raws (raw ∷ []) raws) in
     let go_on : fold with_source (with_sources base (done ++ source ∷ news) (done_raws ++ raw ∷ new_raws)) rest ≡ with_sources base (done ++ source ∷ sources) (done_raws ++ raw ∷ raws)
     = ap (λ now. fold with_source now rest) before ∙ on ∙ after in
-    let here : SavedSource = record { number = number; source = source; raw = raw } in
-    let now = with_sources base (done ++ source_now ∷ news) (done_raws ++ raw_now ∷ new_raws) in
     ⊎_elim
-    (λ (named : is_named tuning source ≡ true).
-    ap (λ b. fold with_source now (cond b (here ∷ rest) rest)) named
-    ∙ ap (λ s. fold with_source (with_sources base s (set (done_raws ++ raw_now ∷ new_raws) number raw)) rest) (set_at done source_now news source number d)
-    ∙ ap (λ s. fold with_source (with_sources base (done ++ source ∷ news) s) rest) (set_at done_raws raw_now new_raws raw number r)
-    ∙ go_on)
-    (λ (other : is_named tuning source ≡ false).
-    let same = not_named tuning source other in
-    let same_raw : raw_now ≡ raw = ap (λ (s : DsDef). cond (same_kind source.kind s.kind) raw Raw.Unknown) same ∙ ap (λ b. cond b raw Raw.Unknown) (kind_itself source.kind) in
-    ap (λ b. fold with_source now (cond b (here ∷ rest) rest)) other
-    ∙ ap (λ s. fold with_source (with_sources base (done ++ s ∷ news) (done_raws ++ raw_now ∷ new_raws)) rest) same
-    ∙ ap (λ s. fold with_source (with_sources base (done ++ source ∷ news) (done_raws ++ s ∷ new_raws)) rest) same_raw
-    ∙ go_on)
+    (λ (named : is_named tuning source ≡ true). grind (arith, set_at))
+    (λ (other : is_named tuning source ≡ false). grind (arith, not_named))
     (cases_Bool (is_named tuning source))
 
 -- other settings, or an archive that comes or goes
 tuned_back : (base : Content) (tuning : Tuning) (archive : Option ArchiveTune) → tuning.archive ≡ archive → IsSound base → verdict base (TuningBy tuning) ≡ None → undone (moved base (TuningBy tuning)) (option_map_or (archive_entry base) archive (TuneEntry (saved_sources tuning 0 base.sources base.raws))) ≡ base
 unfolding with_sources
 tuned_back base tuning None e sound h = cc (tune_changes base tuning sound.is_base e, sources_back base tuning 0 [] [] base.sources base.raws refl refl sound.one_raw_each)
-tuned_back base tuning (Some (Add def)) e sound h =
-    ap (λ now. undone now AddedEntry) (tune_added base tuning def sound.is_base e h)
-    ∙ ap (λ archives. let x : Content = record base { archives = archives } in x) (without_added base.archives (new_archive (length base.sources) def))
+tuned_back base tuning (Some (Add def)) e sound h = grind (arith, tune_added base tuning def sound.is_base e h, without_added base.archives (new_archive (length base.sources) def))
 tuned_back base tuning (Some (Remove number)) e sound h =
     let p = tune_passes base tuning (Some (Remove number)) e h in
     let there : number < length base.archives = omega (arith, leb-false (length (settings_of base).rows) number p.0, length-map base.archives (λ (a : Rra). a.def.rows)) in
@@ -146,8 +103,7 @@ unfolding made
 archives_resized_back base at rows first index [] e is h = absurd (omega arith)
 archives_resized_back base at rows first zero (archive ∷ archives) e is h =
     let one = resized_here base at rows first archive (omega arith) is.0 in
-    let rest = resized_elsewhere base at rows (first + 1) archives (omega arith) is.1 in
-    cc
+    grind (arith, common_steps, resized_elsewhere)
 archives_resized_back base at rows first (suc index) (archive ∷ archives) e is h =
     let one = resized_other base at rows first archive (λ k. absurd (omega arith)) is.0 in
     let rest = archives_resized_back base at rows (first + 1) index archives (omega arith) is.1 (omega arith) in
@@ -159,11 +115,8 @@ with_archives base archives = record base { archives = archives }
 resize_back : (base : Content) (archive : ℕ) (change : Change) (rows : ℕ) → ListedBack base (Resizing archive change rows)
 unfolding with_archives
 resize_back base archive change rows sound h =
-    let new = rows_changed change (slice_index_or (settings_of base).rows archive 0) rows in
     let p = accepted_passes base (Resizing archive change rows) h in
-    let there : archive < length base.archives = omega (arith, leb-false (length (settings_of base).rows) archive p.0, length-map base.archives (λ (a : Rra). a.def.rows)) in
-    ap (λ now. undone now (ResizeEntry archive (rows_at base.archives archive))) (content_resized base archive new sound.is_base)
-    ∙ ap (λ archives. with_archives base archives) (archives_resized_back base archive new 0 archive base.archives (omega arith) sound.is_base.archives_are there)
+    grind (arith, common_steps, leb-false, content_resized, archives_resized_back)
 
 pub comes_back : (base : Content) (command : DatabaseChange) → ComesBack base command
 comes_back base (Updating update) sound h = cc (moved_is base (Updating update) sound h (sampled_keep (samples_of base.sources update)), update_back base update sound h)

@@ -1,6 +1,6 @@
 -- What a valid database's numbers are, so that its bytes are counted.
 use Rattle.std.specs.Prelude.{◌≡◌, ◌+◌, ◌*◌, ◌/◌, ◌<◌, ℕ, zero, suc, List, [], ◌∷◌, Some, length, take, slice_get}
-use Rattle.rrd_file.proofs.Names.{◌∙◌, ap, refl, sym, get_or, arith, length-append, AllByRecursion, flat_map, sum_by, add-mul, flat_map-cons, sum_by-cons, sum_by_more, get_or_from_slice_get, slice_get_within, mul-le, Cell, all_cells, cells_by_slot, Content, Rra, SavedArchive, AsManyCells, HasOneEach, resolution, FitEach, IsRow, IsValid, IsValidArchive, IsWide, rows_of}
+use Rattle.rrd_file.proofs.Names.{◌∙◌, ap, refl, sym, get_or, arith, length-append, AllByRecursion, flat_map, sum_by, add-mul, flat_map-cons, sum_by-cons, sum_by_more, get_or_from_slice_get, slice_get_within, mul-le, Cell, all_cells, cells_by_slot, Content, Rra, SavedArchive, AsManyCells, resolution, FitEach, IsValid, IsValidArchive, IsWide, rows_of}
 use Rattle.rrd_base.proofs.Dues.{one_each}
 
 -- the sum of one item more
@@ -15,12 +15,7 @@ pub record AreWide (sources count : ℕ) (olds : List SavedArchive) : Type 0 whe
 
 pub saved_wide : (step sources from to : ℕ) (archives : List Rra) (olds : List SavedArchive) → FitEach step sources from to archives olds → AreWide sources (length archives) olds
 saved_wide step sources from to [] [] fit = record { many = refl; wide = tt }
-saved_wide step sources from to (archive ∷ archives) (old ∷ olds) fit =
-    let rest = saved_wide step sources from to archives olds fit.1 in
-    record {
-      many = ap suc rest.many;
-      wide = (record { one_part_each = fit.0.one_part_each; one_cell_each = fit.0.one_cell_each }, rest.wide);
-    }
+saved_wide step sources from to (archive ∷ archives) (old ∷ olds) fit = grind (arith, saved_wide step sources from to archives olds fit.1)
 saved_wide step sources from to x y fit = absurd fit
 
 pub wide_at : (sources : ℕ) (olds : List SavedArchive) (i : ℕ) (d : SavedArchive) → i < length olds → AllByRecursion (IsWide sources) olds → IsWide sources (get_or olds i d)

@@ -1,9 +1,7 @@
 -- How many bytes runs of pieces have: so many each, as often as they come.
 use Rattle.std.specs.Prelude.{◌≡◌, ◌+◌, ◌*◌, ◌≤◌, ◌++◌, ℕ, List, [], ◌∷◌, map, length}
-use Rattle.rrd_file.proofs.Names.{◌∙◌, ap, refl, arith, length-append, suc-mul, AllByRecursion, flat_map, sum_by, flat_map-append, flat_map-cons, length-flat_map, Cell, Raw, Part, HasWidth, DsDef, SavedSource, Source, filed, head_of, header_of, sources_of, Rra, BeforeUpdate, SavedArchive, UpdateEntry, TuneEntry, ResizeEntry, AddedEntry, RemovedEntry, IsSavedSource, Stored, newest, present, AreAccepted, IsSource, IsValidArchive, front_bytes, journal_bytes, entry_pieces, head_pieces, layout, raws_and_parts, row_pieces, saved_pieces, spelled, Piece, Mark, OfVersion, OfHeader, OfSource, OfArchive, OfPrep, OfCell, OfTag, OfTime, OfRawAndPart, OfRows, OfCount, OfSavedSource, OfNumber, AnUpdate, ATune, AResize, ARemoval, spell, cell_number, part_bytes, raw_bytes, raw_number, source_bytes, IsWide}
-use Rattle.rrd_file.specs.Encoded.{cell_bytes}
+use Rattle.rrd_file.proofs.Names.{◌∙◌, ap, refl, arith, length-append, suc-mul, AllByRecursion, flat_map, sum_by, flat_map-append, flat_map-cons, length-flat_map, Cell, Raw, Part, HasWidth, DsDef, SavedSource, Source, filed, head_of, sources_of, Rra, BeforeUpdate, SavedArchive, UpdateEntry, TuneEntry, ResizeEntry, AddedEntry, RemovedEntry, IsSavedSource, Stored, newest, present, AreAccepted, IsSource, IsValidArchive, front_bytes, entry_pieces, head_pieces, raws_and_parts, row_pieces, saved_pieces, spelled, Piece, OfSource, OfArchive, OfPrep, OfCell, OfTag, OfRawAndPart, OfRows, OfCount, OfSavedSource, OfNumber, ATune, AResize, spell, cell_number, part_bytes, raw_bytes, raw_number, source_bytes, IsWide}
 use Rattle.rrd_file.proofs.Gathering.{flat_flat}
-use Rattle.rrd_file.proofs.Joined.{joined_layout}
 use Rattle.rrd_file.proofs.Lengths.{length_source, part_length, short_name, source_length}
 use Rattle.rrd_file.proofs.SignedBytes.{signed_length}
 
@@ -54,32 +52,26 @@ cells_have cells = all_have OfCell 16 cells cell_has
 
 pub rows_have : (sources : ℕ) (rows : List (List Cell)) → HasWidth sources rows → length (spelled (row_pieces rows)) ≡ length rows * sources * 16
 rows_have sources [] is = omega arith
-rows_have sources (row ∷ rows) is =
-    let first : row_pieces (row ∷ rows) ≡ map OfCell row ++ row_pieces rows = flat_map-cons (λ (r : List Cell). map OfCell r) row rows in
-    omega (arith, ap (λ l. length (spelled l)) first, joined (map OfCell row) (row_pieces rows), cells_have row, is.0, rows_have sources rows is.1, suc-mul (length rows) sources)
+rows_have sources (row ∷ rows) is = grind (arith, joined, cells_have, rows_have sources rows is.1, suc-mul)
 
 pub raws_have : (raws : List Raw) (parts : List Part) → length raws ≡ length parts → length (spelled (raws_and_parts raws parts)) ≡ length raws * 36
 raws_have [] parts same = refl
 raws_have (raw ∷ raws) [] same = absurd (omega (arith, same))
-raws_have (raw ∷ raws) (part ∷ parts) same =
-    omega (arith, first_and_rest spell (OfRawAndPart raw part) (raws_and_parts raws parts), raw_and_part_has raw part, raws_have raws parts (omega (arith, same)))
+raws_have (raw ∷ raws) (part ∷ parts) same = grind (arith, first_and_rest, raw_and_part_has, raws_have raws parts (omega (arith, same)))
 
 pub olds_have : (olds : List SavedSource) → AllByRecursion (IsSavedSource present) olds → length (spelled (map OfSavedSource olds)) ≡ length olds * 79
 olds_have [] are = refl
-olds_have (old ∷ olds) are =
-    omega (arith, first_and_rest spell (OfSavedSource old) (map OfSavedSource olds), saved_source_has old (short_name old.source.name are.0.0.good_name), olds_have olds are.1)
+olds_have (old ∷ olds) are = grind (arith, first_and_rest, saved_source_has, short_name, olds_have olds are.1)
 
 -- ---- entries
 
 pub saved_has : (sources : ℕ) (old : SavedArchive) → IsWide sources old → length (spelled (saved_pieces old)) ≡ sources * 20 + 4 + length old.rows * sources * 16
 unfolding spell
-saved_has sources old is =
-    omega (arith, joined (map OfPrep old.parts) (OfRows (length old.rows) ∷ row_pieces old.rows), preps_have old.parts, is.one_part_each, first_and_rest spell (OfRows (length old.rows)) (row_pieces old.rows), rows_have sources old.rows is.one_cell_each)
+saved_has sources old is = grind (arith, joined, preps_have, first_and_rest, rows_have)
 
 pub update_has : (old : BeforeUpdate) → length old.raws ≡ length old.parts → length (spelled (entry_pieces (UpdateEntry old))) ≡ 9 + length old.raws * 36 + length (spelled (flat_map saved_pieces old.archives))
 unfolding spell
-update_has old same =
-    omega (arith, joined (OfTag AnUpdate ∷ OfTime old.last ∷ []) (raws_and_parts old.raws old.parts ++ flat_map saved_pieces old.archives), joined (raws_and_parts old.raws old.parts) (flat_map saved_pieces old.archives), raws_have old.raws old.parts same)
+update_has old same = grind (arith, joined, raws_have)
 
 pub tune_has : (olds : List SavedSource) → AllByRecursion (IsSavedSource present) olds → length (spelled (entry_pieces (TuneEntry olds))) ≡ 3 + length olds * 79
 unfolding spell
@@ -95,8 +87,7 @@ added_has = refl
 
 pub removed_has : (number sources : ℕ) (archive : Rra) → HasWidth sources archive.rows → length (spelled (entry_pieces (RemovedEntry number archive))) ≡ 16 + length archive.parts * 20 + length archive.rows * sources * 16
 unfolding spell
-removed_has number sources archive is =
-    omega (arith, joined (OfTag ARemoval ∷ OfNumber number ∷ OfArchive archive.def ∷ []) (map OfPrep archive.parts ++ row_pieces archive.rows), joined (map OfPrep archive.parts) (row_pieces archive.rows), preps_have archive.parts, rows_have sources archive.rows is)
+removed_has number sources archive is = grind (arith, joined, preps_have, rows_have)
 
 -- ---- what is before the cells
 
@@ -104,9 +95,7 @@ pub sources_have : (defs : List DsDef) (raws : List Raw) (parts : List Part) →
 sources_have [] raws parts are taken same = refl
 sources_have (def ∷ defs) [] parts are taken same = absurd taken
 sources_have (def ∷ defs) (raw ∷ raws) [] are taken same = absurd (omega (arith, same))
-sources_have (def ∷ defs) (raw ∷ raws) (part ∷ parts) are taken same =
-    let s : Source = record { def = def; raw = raw; part = part } in
-    omega (arith, first_and_rest spell (OfSource s) (map OfSource (sources_of defs raws parts)), source_has s (short_name def.name are.0.good_name), sources_have defs raws parts are.1 taken.1 (omega (arith, same)))
+sources_have (def ∷ defs) (raw ∷ raws) (part ∷ parts) are taken same = grind (arith, first_and_rest, source_has, short_name, sources_have defs raws parts are.1 taken.1 (omega (arith, same)))
 
 pub head_has : (archive : Rra) → length (spelled (head_pieces (head_of archive))) ≡ 13 + length archive.parts * 20
 unfolding spell
@@ -114,20 +103,10 @@ head_has archive = omega (arith, first_and_rest spell (OfArchive archive.def) (m
 
 pub heads_have : (sources steps : ℕ) (archives : List Rra) → AllByRecursion (IsValidArchive sources steps) archives → length (spelled (flat_map head_pieces (map head_of archives))) ≡ length archives * (13 + 20 * sources)
 heads_have sources steps [] are = omega arith
-heads_have sources steps (archive ∷ archives) are =
-    let first : flat_map head_pieces (map head_of (archive ∷ archives)) ≡ head_pieces (head_of archive) ++ flat_map head_pieces (map head_of archives) = flat_map-cons head_pieces (head_of archive) (map head_of archives) in
-    omega (arith, ap (λ l. length (spelled l)) first, joined (head_pieces (head_of archive)) (flat_map head_pieces (map head_of archives)), head_has archive, are.0.parts_are.one_each, heads_have sources steps archives are.1, suc-mul (length archives) (13 + 20 * sources))
+heads_have sources steps (archive ∷ archives) are = grind (arith, joined (head_pieces (head_of archive)) (flat_map head_pieces (map head_of archives)), head_has archive, heads_have sources steps archives are.1, suc-mul (length archives) (13 + 20 * sources))
 
 -- ---- the whole
 
 pub front_has : (d : Stored) → let f = filed newest d in length (front_bytes d) ≡ 30 + length (spelled (map OfSource f.sources)) + length (spelled (flat_map head_pieces f.heads))
 unfolding spell
-front_has d =
-    let f = filed newest d in
-    let sources = spelled (map OfSource f.sources) in
-    let heads = spelled (flat_map head_pieces f.heads) in
-    omega (arith, length-append (spelled (Mark ∷ OfVersion newest ∷ OfHeader (header_of newest d) ∷ [])) (sources ++ heads), length-append sources heads)
-
-pub layout_has : (d : Stored) → length (layout d) ≡ length (front_bytes d) + length (cell_bytes d.content) + length (journal_bytes d)
-layout_has d =
-    omega (arith, ap length (joined_layout d), length-append (front_bytes d) (cell_bytes d.content ++ journal_bytes d), length-append (cell_bytes d.content) (journal_bytes d))
+front_has d = grind (arith, length-append)

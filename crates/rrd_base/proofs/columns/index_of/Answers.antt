@@ -1,4 +1,4 @@
-use Rattle.rrd_base.proofs.Common.{sym, ◌∙◌, ap, get_or, value_for, template_of, own_value}
+use Rattle.rrd_base.proofs.Common.{own_value}
 use Rattle.rrd_base.proofs.columns.index_of.Goals as goal
 
 pub returns-in-None : goal.returns-in-None

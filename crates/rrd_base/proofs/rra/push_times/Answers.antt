@@ -1,4 +1,4 @@
-use Rattle.rrd_base.proofs.Common.{refl, sym, ◌∙◌, ap, ◌+◌, ◌++◌, List, [], ◌∷◌, min, drop, replicate, length, subst, arith, length-append, length-drop, Cell, HasWidth, HasWidth-append, HasWidth-drop, keep_last, push_more, push_all}
+use Rattle.rrd_base.proofs.Common.{refl, sym, ◌∙◌, ap, ◌++◌, List, [], ◌∷◌, min, drop, replicate, length, subst, arith, length-append, length-drop, Cell, HasWidth, HasWidth-append, HasWidth-drop, keep_last, push_more, push_all}
 use Rattle.rrd_base.proofs.rra.push_times.Goals as goal
 
 pub loop-i-preserved : goal.loop-i-preserved

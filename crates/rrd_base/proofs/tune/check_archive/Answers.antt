@@ -1,5 +1,4 @@
-use Rattle.rrd_base.proofs.Common.{◌∙◌, ap, sym, Some, length-map, Rra, present, settings}
-use Rattle.rrd_spec.specs.Commands.Verdict as verdict
+use Rattle.rrd_base.proofs.Common.{length-map, Rra, settings}
 use Rattle.rrd_base.proofs.tune.check_archive.Goals as goal
 
 pub returns-in-Remove : goal.returns-in-Remove

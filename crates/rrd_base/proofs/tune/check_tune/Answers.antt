@@ -1,4 +1,4 @@
-use Rattle.rrd_base.proofs.Common.{◌∙◌, ap, sym, err_from_is_err_and, archive_tune_checks, first_refusal, option_checks, present, settings, refused}
+use Rattle.rrd_base.proofs.Common.{err_from_is_err_and, archive_tune_checks, option_checks, present, settings, refused}
 use Rattle.rrd_base.proofs.tune.check_tune.Goals as goal
 
 pub returns-in_err-check_options : goal.returns-in_err-check_options

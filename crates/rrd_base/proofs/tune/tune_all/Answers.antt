@@ -1,4 +1,4 @@
-use Rattle.rrd_base.proofs.Common.{◌≡◌, ◌∙◌, ap, suc, ◌+◌, ◌++◌, ◌<◌, map, take, drop, set, get_or, length, arith, DsDef, raws_under, get_or_default, map_more, map_next, raws_more, raws_next}
+use Rattle.rrd_base.proofs.Common.{◌≡◌, ◌∙◌, ap, suc, ◌+◌, ◌++◌, ◌<◌, map, take, drop, set, get_or, length, arith, raws_under, get_or_default, map_more, map_next, raws_more, raws_next}
 use Rattle.rrd_fixed.specs.declared.raw.Raw.TheVariants.{Unknown}
 use Rattle.rrd_spec.specs.Commands as commands
 use Rattle.rrd_base.proofs.tune.tune_all.Goals as goal

@@ -13,8 +13,7 @@ loop-word-preserved c =
 pub returns-then-is_empty : goal.returns-then-is_empty
 returns-then-is_empty c =
     let bytes = c.args.bytes.now in
-    let all : c.loop-word.word-index ≡ length bytes / 8 =
-    omega (arith, c.loop-word-test.false, c.loop-word.auto.word-index-end, c.as_chunks.ensures.front_len) in
+    let all : c.loop-word.word-index ≡ length bytes / 8 = grind arith in
     let none = eqb-true (length c.as_chunks.result.1.now) 0 (sym c.is_empty.ensures ∙ c.if-is_empty.true) in
     c.loop-word.invariant ∙ ap (λ n. mix_words c.args.start bytes n) all
     ∙ words_whole c.args.start bytes (sym c.as_chunks.ensures.back_len ∙ none)
@@ -22,8 +21,7 @@ returns-then-is_empty c =
 pub returns-else-is_empty : goal.returns-else-is_empty
 returns-else-is_empty c =
     let bytes = c.args.bytes.now in
-    let all : c.loop-word.word-index ≡ length bytes / 8 =
-    omega (arith, c.loop-word-test.false, c.loop-word.auto.word-index-end, c.as_chunks.ensures.front_len) in
+    let all : c.loop-word.word-index ≡ length bytes / 8 = grind arith in
     let some = eqb-false (length c.as_chunks.result.1.now) 0 (sym c.is_empty.ensures ∙ c.if-is_empty.false) in
     let more : 0 < length bytes % 8 = omega (arith, c.as_chunks.ensures.back_len, some) in
     c.mix.ensures ∙ ap (λ s. mix s c.short_word.result) (c.loop-word.invariant ∙ ap (λ n. mix_words c.args.start bytes n) all)

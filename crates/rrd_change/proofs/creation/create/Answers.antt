@@ -1,4 +1,4 @@
-use Rattle.rrd_change.proofs.Common.{rules, ◌≡◌, [], length, take, inl, ArePut, IsSized, IsEmpty, IsMadeTo, IsDatabase, All, Effect, Stores, fails_all, stores_all, IsBegun, IsBehind, begun_sized, behind_made, made_whole, unmade_first, made_marked, does_then, failed, steps_then}
+use Rattle.rrd_change.proofs.Common.{arith, rules, ◌≡◌, length, take, inl, ArePut, IsSized, IsEmpty, IsMadeTo, IsDatabase, All, Effect, Stores, fails_all, stores_all, IsBehind, begun_sized, made_whole, unmade_first, made_marked, does_then, failed, steps_then}
 use Rattle.rrd_change.proofs.creation.create.Goals as goal
 
 pub returns-in_err-write_pieces : goal.returns-in_err-write_pieces
@@ -14,7 +14,5 @@ returns g c =
     let all = stores_all (IsBehind new) (λ f. f ≡ new) (ArePut 0 (take 16 new)) v w (λ y z h put. made_whole new y z is_new h put) s (b e) in
     record { is = is_new; world = record { held = all.held; leave = λ f left. inl (all.leave f left); keep = λ f kept. inl (all.keep f kept) } })
     (λ u v w b f e. made_marked new v w is_new f (b e))
-    (steps_then (Stores (IsSized 16)) (Stores (IsMadeTo (length new) new)) Behind _ _ _ (λ u v w s m e.
-    stores_all IsBegun (IsBehind new) (IsMadeTo (length new) new) v w (λ x y b made. behind_made new x y is_new b made) m
-    (stores_all (λ x. x ≡ []) IsBegun (IsSized 16) u v (λ x y e s. begun_sized x y e s) s e)) c.in_ok-resize_and_sync.ensures c.in_ok-write_pieces.ensures)
+    (steps_then (Stores (IsSized 16)) (Stores (IsMadeTo (length new) new)) Behind _ _ _ (λ u v w s m e. grind arith) c.in_ok-resize_and_sync.ensures c.in_ok-write_pieces.ensures)
     c.mark_and_sync.ensures

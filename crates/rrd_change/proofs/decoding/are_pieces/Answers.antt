@@ -11,11 +11,7 @@ pub returns-then-bytes-at-clause-no : goal.returns-then-bytes-at-clause-no
 returns-then-bytes-at-clause-no c e h =
     let next = next_piece c.args.bytes.now c.loop.at c.args.count c.loop.counter c.args.end c.number_at-start.result c.number_at-size.result c.loop-test.true c.number_at-start.ensures c.number_at-size.ensures
     c.number_at-size.type_inv (c.loop.invariant.no h) in
-    elim c.then-bytes-at.branch [
-      | then-bytes-at-via-then-bytes-at w ↦ omega (arith, next.within, w.if-bytes-at.true)
-      | then-bytes-at-via-else-bytes-at+then-end-size w ↦ omega (arith, next.below, w.if-end-size.true)
-      | then-bytes-at-via-else-bytes-at+else-end-size+then-end-size-2 w ↦ omega (arith, next.below, w.if-end-size-2.true)
-    ]
+    grind arith
 
 pub loop-preserved : goal.loop-preserved
 loop-preserved c =

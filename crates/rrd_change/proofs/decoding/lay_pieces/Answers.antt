@@ -59,7 +59,6 @@ loop-preserved c =
     let split : spelled_pieces (count - i) (drop at bytes) ≡ p ∷ spelled_pieces left (drop (at + (16 + n)) bytes) = ap (λ k. spelled_pieces k (drop at bytes)) (left_more count i low) ∙ next.split in
     let body_size : length body ≡ n = omega (arith, length-take n (drop (at + 16) bytes), length-drop (at + 16) bytes, next.within) in
     let db = c.loop.database in
-    let all = spelled_pieces count bytes in
     let first = spelled_pieces left (drop (at + (16 + n)) bytes) in
     let width : at + 16 + (start + n - start) - (at + 16) ≡ n = omega arith in
     let copied : c.copy_from_slice.new.self ≡ body = c.copy_from_slice.ensures.after ∙ ap (λ k. take k (drop (at + 16) bytes)) width in

@@ -1,4 +1,4 @@
-use Rattle.rrd_file.proofs.Common.{◌≡◌, ◌∙◌, ◌*◌, ◌≤◌, ℕ, List, ap, subst, sym, arith, length, take, AllByRecursion, length-take-le, take-take, IsBounded, Cell, All-take, cells_bytes, first_bytes, rules}
+use Rattle.rrd_file.proofs.Common.{◌≡◌, ◌*◌, ◌≤◌, ℕ, List, subst, arith, length, take, AllByRecursion, length-take-le, take-take, IsBounded, Cell, All-take, cells_bytes, first_bytes, rules}
 use Rattle.rrd_file.proofs.cells.cells_before_unknown_end.Goals as goal
 
 -- the first of the cells, and their bytes

@@ -1,4 +1,4 @@
-use Rattle.rrd_file.proofs.Common.{◌≡◌, ◌∙◌, ap, refl, true, false, Bool, One, Two, first_begins}
+use Rattle.rrd_file.proofs.Common.{◌≡◌, refl, true, false, One, Two, first_begins}
 use Rattle.rrd_file.proofs.encoded.is_newest.Goals as goal
 
 pub returns : goal.returns

@@ -1,4 +1,4 @@
-use Rattle.rrd_file.proofs.Common.{◌∙◌, ◌*◌, ap, drop, after_body, after_cells, after_entries, head_size}
+use Rattle.rrd_file.proofs.Common.{◌∙◌, ◌*◌, ap, drop, after_body, after_cells, after_entries}
 use Rattle.rrd_file.proofs.end.after_body.Goals as goal
 
 pub returns : goal.returns

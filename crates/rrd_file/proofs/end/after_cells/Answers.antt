@@ -1,4 +1,4 @@
-use Rattle.rrd_file.proofs.Common.{◌∙◌, ◌-◌, ◌+◌, ap, sym, drop, after_cells, four_in, head_size, rows_size, cells_done, cells_more}
+use Rattle.rrd_file.proofs.Common.{◌∙◌, ◌-◌, ◌+◌, ap, sym, drop, after_cells, four_in, rows_size, cells_done, cells_more}
 use Rattle.rrd_file.proofs.end.after_cells.Goals as goal
 
 pub loop-preserved : goal.loop-preserved

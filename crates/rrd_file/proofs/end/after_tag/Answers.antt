@@ -1,4 +1,4 @@
-use Rattle.rrd_file.proofs.Common.{◌∙◌, ◌+◌, ◌*◌, ap, sym, drop, after_all_saved, after_tag, tag_said}
+use Rattle.rrd_file.proofs.Common.{◌∙◌, ap, sym, after_tag, tag_said}
 use Rattle.rrd_file.proofs.end.after_tag.Goals as goal
 
 pub returns-in-AnUpdate : goal.returns-in-AnUpdate

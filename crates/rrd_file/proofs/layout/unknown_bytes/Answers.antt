@@ -1,4 +1,4 @@
-use Rattle.rrd_file.proofs.Common.{◌∙◌, ℕ, List, ap, flat_map, take-replicate, Unknown, cell_bytes, signed_bytes, unknown_flat}
+use Rattle.rrd_file.proofs.Common.{take-replicate, Unknown, cell_bytes, signed_bytes, unknown_flat}
 use Rattle.rrd_file.proofs.layout.unknown_bytes.Goals as goal
 
 pub returns-clause-bytes : goal.returns-clause-bytes

@@ -1,4 +1,4 @@
-use Rattle.rrd_file.proofs.Common.{◌∙◌, ◌/◌, ◌%◌, ◌^◌, ℤ, ap, sym, arith, w128, to_be_bytes, to_z-of_z, signed_bytes, halves}
+use Rattle.rrd_file.proofs.Common.{◌/◌, ◌%◌, ◌^◌, arith, w128, to_z-of_z, signed_bytes, halves}
 use Rattle.rrd_file.proofs.values.halves_of.Goals as goal
 
 pub returns : goal.returns

@@ -1,4 +1,4 @@
-use Rattle.rrd_base.proofs.Common.{refill, refilled, ◌≡◌, sym, ◌∙◌, ap, subst, ℕ, ◌+◌, ◌*◌, ◌/◌, ◌%◌, ◌≤◌, ◌∷◌, map, replicate, length, arith, fold, AllByRecursion, with_items, with_items_is, Average, Part, nothing, with_each, step_cell, Content, passed, archive_passed, IsRow, content_of, parts_more, few_known, within_step, ends, stays}
+use Rattle.rrd_base.proofs.Common.{refill, refilled, ◌≡◌, sym, ◌∙◌, ap, subst, ℕ, ◌+◌, ◌*◌, ◌/◌, ◌%◌, ◌≤◌, ◌∷◌, map, replicate, length, arith, fold, AllByRecursion, with_items, with_items_is, Average, Part, nothing, with_each, step_cell, Content, archive_passed, IsRow, content_of, parts_more, few_known, within_step, ends, stays}
 use Rattle.rrd_base.proofs.content.Content.end_steps.Goals as goal
 
 pub close_steps-requires-clause-fits : goal.close_steps-requires-clause-fits

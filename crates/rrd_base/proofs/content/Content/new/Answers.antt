@@ -1,5 +1,4 @@
 use Rattle.rrd_base.proofs.Common.{length-map, arith, ℕ, List, [], ◌∷◌, map, ◌≡◌, sym, ap, subst, length, ◌<◌, ◌≤◌, ◌/◌, AllByRecursion, RraDef, created, new_archive, IsValidArchive}
-use Rattle.rrd_fixed.specs.declared.raw.Raw.TheVariants as Raw
 use Rattle.rrd_base.proofs.content.Content.new.Goals as goal
 
 -- new archives that are valid have a number of rows that can be

@@ -1,4 +1,4 @@
-use Rattle.rrd_base.proofs.Common.{rules, ◌≡◌, ℕ, sym, ◌∙◌, ap, subst, FitsSigned, ◌*◌, ◌/◌, ◌<◌, pos, ◌-ℤ◌, length, replicate, get_or, arith, ◌-◌, ℤ, negsuc, nat_lt, Option, Some, None, List, cond_both, ltb-true, AllByRecursion, IfNone, Cell, get_or-replicate, length-replicate, IfSome_then, int_div_euclid, w64, w128, RraDef, Content, content_of, row_at, row_of_age, cell_at, IsRow, IsValidArchive, cell_of_archive, All-at}
+use Rattle.rrd_base.proofs.Common.{rules, ◌≡◌, ℕ, sym, ◌∙◌, ap, subst, FitsSigned, ◌*◌, ◌/◌, ◌<◌, pos, ◌-ℤ◌, length, replicate, get_or, arith, ◌-◌, ℤ, negsuc, nat_lt, Option, Some, None, List, cond_both, ltb-true, AllByRecursion, IfNone, Cell, get_or-replicate, length-replicate, IfSome_then, int_div_euclid, w64, w128, Content, content_of, row_at, row_of_age, cell_at, IsRow, IsValidArchive, cell_of_archive, All-at}
 use Rattle.std.proofs.lemmas.Int.{to_z-of_z}
 use Rattle.rrd_fixed.specs.declared.cell.Cell.TheVariants.{Unknown}
 use Rattle.rrd_base.proofs.content.Content.row.Goals as goal

@@ -1,4 +1,4 @@
-use Rattle.rrd_base.proofs.Common.{◌≡◌, refl, sym, ◌∙◌, ap, subst, ◌+◌, ◌≤◌, [], ◌∷◌, length, map, drop, get_or, arith, AllByRecursion, DsDef, with_items_is, drop_all, Content, Reading, Sampled, definitions, content_listed, sample_of, value_for, raw_of, in_all, least_of_sample, most_of_sample, template_of, sample_checks, sample_leaves, turns_next, same_least, same_most, base_of_valid, with_items, HasPlaces, few_turns, one_taken, later_sample, accepted_raws, drop_here, present, rules}
+use Rattle.rrd_base.proofs.Common.{◌≡◌, sym, ◌∙◌, ap, subst, ◌+◌, ◌≤◌, [], ◌∷◌, length, map, drop, get_or, arith, AllByRecursion, DsDef, with_items_is, drop_all, Content, Reading, Sampled, definitions, content_listed, sample_of, value_for, raw_of, in_all, least_of_sample, most_of_sample, template_of, sample_checks, sample_leaves, turns_next, same_least, same_most, base_of_valid, with_items, HasPlaces, few_turns, one_taken, later_sample, accepted_raws, drop_here, present}
 use Rattle.rrd_spec.specs.Laws.Commands.{Passes}
 use Rattle.rrd_base.proofs.content.Content.take_samples.Goals as goal
 

@@ -1,4 +1,4 @@
-use Rattle.rrd_base.proofs.Common.{◌≡◌, refl, sym, ◌∙◌, ap, subst, Resizing, moved, rows_at, entry_of, Stored, changed, IsValid, added, resized_is}
+use Rattle.rrd_base.proofs.Common.{◌≡◌, refl, sym, ◌∙◌, ap, subst, Resizing, moved, entry_of, Stored, changed, IsValid, added, resized_is}
 use Rattle.rrd_base.specs.declared.journal.Entry.TheVariants as entry
 use Rattle.rrd_spec.specs.Journal.Entries as entries
 use Rattle.rrd_spec.specs.Journal.Entries.{entry as entry_for}

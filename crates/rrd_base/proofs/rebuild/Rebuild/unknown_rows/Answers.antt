@@ -1,4 +1,4 @@
-use Rattle.rrd_base.proofs.Common.{◌≤◌, ◌∙◌, ap, subst, arith, length-replicate, take-replicate, MayCells, with_cells, rules}
+use Rattle.rrd_base.proofs.Common.{◌≤◌, ◌∙◌, ap, subst, arith, length-replicate, take-replicate, MayCells, with_cells}
 use Rattle.rrd_fixed.specs.declared.cell.Cell.TheVariants.{Unknown}
 use Rattle.rrd_base.proofs.rebuild.Rebuild.unknown_rows.Goals as goal
 

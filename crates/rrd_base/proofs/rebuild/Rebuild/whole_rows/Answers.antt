@@ -1,4 +1,4 @@
-use Rattle.rrd_base.proofs.Common.{List, ◌≡◌, ◌∙◌, ◌+◌, ◌-◌, ◌*◌, ◌<◌, ◌≤◌, refl, sym, ap, subst, arith, length, take, ◌⊎◌, AllByRecursion, length-take-le, IsBounded, Cell, width, with_rows, CellDue, RraDef, Rra, present, Filed, IsArchiveDef, due, resolution, place_in, KnowsPlace, filled_by, IsCursor, IsRebuilding, coming, filed_in, All-take, run_cells, MayCells, GoesOn, StaysIn, at_cell, cell_came, cell_here, cells_come, place_there, with_more, are_put, may_come, one_item, passes_on, whole_few, within, with_cells_is, few_archives, rules}
+use Rattle.rrd_base.proofs.Common.{List, ◌≡◌, ◌∙◌, ◌+◌, ◌-◌, ◌*◌, ◌<◌, ◌≤◌, refl, sym, ap, subst, arith, length, take, ◌⊎◌, AllByRecursion, length-take-le, IsBounded, Cell, width, with_rows, CellDue, RraDef, Rra, present, Filed, IsArchiveDef, due, resolution, place_in, KnowsPlace, filled_by, IsCursor, IsRebuilding, coming, filed_in, All-take, run_cells, MayCells, GoesOn, StaysIn, at_cell, cell_came, cell_here, cells_come, place_there, with_more, are_put, may_come, one_item, passes_on, whole_few, within, with_cells_is, rules}
 use Rattle.rrd_base.specs.Rebuild.Cursors.{Passes}
 use Rattle.rrd_base.proofs.RowsCome.{width_is, with_rows_at}
 use Rattle.rrd_base.proofs.rebuild.Rebuild.whole_rows.Goals as goal

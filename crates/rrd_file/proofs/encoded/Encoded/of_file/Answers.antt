@@ -1,4 +1,4 @@
-use Rattle.rrd_file.proofs.Common.{◌≡◌, ◌∙◌, ap, subst, sym, refl, Version, layout, layout_in, joined_layout, file_is_layout}
+use Rattle.rrd_file.proofs.Common.{◌∙◌, ap, Version, layout_in, joined_layout, file_is_layout}
 use Rattle.rrd_file.proofs.encoded.Encoded.of_file.Goals as goal
 
 pub returns-clause-encodes : goal.returns-clause-encodes

@@ -1,4 +1,4 @@
-use Rattle.rrd_file.proofs.Common.{All, rules, ◌≡◌, ◌∙◌, ◌++◌, ◌≤◌, List, [], ◌∷◌, ◌+◌, Some, get_or, length-take, ℕ, ap, append_assoc, arith, drop, length, length-append, refl, subst, sym, take, take_at, Writes, front_bytes, journal_bytes, IsBeside, span, updated_agrees}
+use Rattle.rrd_file.proofs.Common.{All, rules, ◌≡◌, ◌∙◌, ◌++◌, ◌≤◌, List, [], ◌∷◌, ◌+◌, Some, get_or, length-take, ℕ, ap, append_assoc, arith, drop, length, length-append, subst, sym, take, take_at, Writes, front_bytes, journal_bytes, IsBeside, span, updated_agrees}
 use Rattle.rrd_file.specs.Encoded.{cell_bytes}
 use Rattle.rrd_file.proofs.encoded.Encoded.updated.Goals as goal
 

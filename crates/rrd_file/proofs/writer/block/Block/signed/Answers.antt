@@ -1,4 +1,4 @@
-use Rattle.rrd_file.proofs.Common.{◌∙◌, ◌++◌, ℤ, ap, append_assoc, w128, to_z-of_z, eight_bytes, signed_bytes}
+use Rattle.rrd_file.proofs.Common.{◌∙◌, ℤ, ap, append_assoc, w128, to_z-of_z, eight_bytes, signed_bytes}
 use Rattle.rrd_file.proofs.writer.block.Block.signed.Goals as goal
 
 pub returns-clause-bytes : goal.returns-clause-bytes
