@@ -242,14 +242,14 @@ class Batches(unittest.TestCase):
         _, _, said = self.fed(b"a 10:1", {b"a": [Outcome(again="cannot open")] * 9}, patience=0)
         self.assertEqual(said, "rrdi-feed: a: cannot open; 1 samples may be lost\nrrdi-feed: may be lost: a 10:1\n")
 
-    def test_what_an_earlier_change_has_done(self) -> None:
-        """Only the samples after it are tried again, or may be lost."""
-        some = Outcome(again="out of memory", done=2)
+    def test_samples_that_are_left(self) -> None:
+        """Only these are tried again, or may be lost."""
+        some = Outcome(again="out of memory", left=(b"30:5",))
         writer, feeder, said = self.fed(b"a 10:1\na 20:3\na 30:5", {b"a": [some]})
         self.assertEqual((writer.batches[1:], feeder.count, said), ([(b"a", [b"30:5"])], 0, ""))
-        _, _, said = self.fed(b"a 10:1\na 20:3\na 30:5", {b"a": [Outcome(lost="cannot write", done=1)]})
+        _, _, said = self.fed(b"a 10:1\na 20:3\na 30:5", {b"a": [Outcome(lost="cannot write", left=(b"20:3", b"30:5"))]})
         self.assertEqual(said, "rrdi-feed: a: cannot write; 2 samples may be lost\nrrdi-feed: may be lost: a 20:3 30:5\n")
-        every = Outcome(lost="cannot write", refused=((b"20:3", "bad value"),), done=3)
+        every = Outcome(lost="cannot write", refused=((b"20:3", "bad value"),), left=())
         _, _, said = self.fed(b"a 10:1\na 20:3\na 30:5", {b"a": [every]})
         self.assertEqual(said, "rrdi-feed: a: cannot write; 0 samples may be lost\nrrdi-feed: a 20:3: bad value\n")
 

@@ -22,7 +22,7 @@ from rrdi import choice
 from rrdi.by_ctypes import FileByWords
 from rrdi.by_program import ByProgram
 from rrdi.feeding.feeder import Feeder, FeedOptions
-from rrdi.feeding.grouped import GroupWriter
+from rrdi.feeding.opened import OpenWriter
 from rrdi.feeding.ordering import in_order, seconds_of
 from rrdi.feeding.writers import BatchWriter, Outcome
 from rrdi.graphite import store as stores
@@ -233,8 +233,8 @@ class PutIn(BackfillCase):
             self.assertEqual(self.put("35:2", "50:5"),
                              Outcome(lost="out of memory; a part only", left=(b"35:2", b"40:4", b"50:5")))
         self.check_like("10:1", "30:3", "40:4")
-        with mock.patch.object(self.writer().writer.__class__, "write", return_value=Outcome(again="full", done=1)):
-            self.assertEqual(self.put("20:2", "50:5", "60:6"), Outcome(again="full", left=(b"60:6",)))
+        with mock.patch.object(self.writer().writer.__class__, "write", return_value=Outcome(again="full")):
+            self.assertEqual(self.put("20:2", "50:5", "60:6"), Outcome(again="full", left=(b"50:5", b"60:6")))
         self.check_like("10:1", "20:2", "30:3", "40:4")
         with mock.patch.object(backfill, "history_of", side_effect=MemoryError):
             self.assertEqual(self.put("25:2", "50:5"), Outcome(again="out of memory"))
@@ -342,7 +342,7 @@ class PutInByLibrary(PutIn):
         self.addCleanup(loaded.stop)
 
     def writer(self) -> BackfillWriter:
-        return BackfillWriter(GroupWriter(load_library()))
+        return BackfillWriter(OpenWriter(load_library()))
 
 
 # ---- The tool

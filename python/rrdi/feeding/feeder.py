@@ -289,7 +289,6 @@ class Feeder:
             pass
 
     def end_batch(self, file: bytes, samples: List[bytes], outcome: Outcome) -> None:
-        samples = samples[outcome.done:] if outcome.done else samples
         if outcome.left is not None:
             samples = list(outcome.left)
         if outcome.lost:

@@ -24,14 +24,12 @@ class Reason(str):
 
 
 class Outcome(NamedTuple):
-    """The outcome of a batch. At most one of the reasons has a text. Each of them is about the samples after the first
-    `done` ones."""
+    """The outcome of a batch. At most one of the reasons has a text."""
 
     again: str = ""  # why feed has to try samples again: rrdi has none of them
     lost: str = ""  # why samples may be lost
     refused: Tuple[Tuple[bytes, str], ...] = ()  # each refused sample, and why: a `Reason` if rrdi refused it
-    done: int = 0  # of the first samples, those that an earlier change has stored or refused
-    left: Optional[Tuple[bytes, ...]] = None  # the samples that `again` or `lost` is about, if not those after `done`
+    left: Optional[Tuple[bytes, ...]] = None  # the samples that `again` or `lost` is about, if not all
 
 
 class Writer(Protocol):
@@ -63,15 +61,15 @@ def lines_of(samples: List[bytes]) -> bytes:
     return b"update " + b"\nupdate ".join(samples)
 
 
-def outcome_of(file: bytes, samples: List[bytes], answer: Answer, before: int = 0) -> Outcome:
-    """Returns the outcome of a batch that had a line for each of these samples, and `before` other lines before them."""
+def outcome_of(file: bytes, samples: List[bytes], answer: Answer) -> Outcome:
+    """Returns the outcome of a batch that had a line for each of these samples."""
     is_empty = answer.fault == TRUNCATED and answer.at == 0
     if answer.fault in (CANNOT_OPEN, NO_MEMORY) or is_empty and may_be_made(file):
         return Outcome(again=reason_of(answer.fault, answer.output))
     if answer.fault != OK:
         return Outcome(lost=reason_of(answer.fault, answer.output))
     reasons, details = reasons_in(text_of(answer.output)), details_in(answer.explanation)
-    return Outcome(refused=tuple((samples[number - 1 - before], Reason(why, details.get(number, "")))
+    return Outcome(refused=tuple((samples[number - 1], Reason(why, details.get(number, "")))
                                  for number, why in zip(answer.refused, reasons)))
 
 

@@ -12,15 +12,15 @@ the time at which the line arrived.
 
 options:
   --seconds SECONDS    hold the samples of a FILE this long (default: 60)
-  --jobs JOBS          write so many files at a time (default: 4)
-  --held SAMPLES       at so many samples, read no more lines until some are
-                       written (default: 1000000)
+  --jobs JOBS          write this many files at a time (default: 4)
+  --held SAMPLES       while this many samples are held, read no more lines
+                       (default: 1000000)
   --patience SECONDS   at the end, go on trying files that cannot be opened
                        for this long (default: 30)
-  --open-files FILES   keep up to so many files open that get samples all the
-                       time (default: 256; 0: none)
+  --open-files FILES   keep up to this many files open, of those that get
+                       samples all the time (default: 256; 0: none)
   --open-seconds SECONDS
-                       for so long; others can read an open file, and not
+                       for this long; others can read an open file, but not
                        change it (default: 2)
   --open-memory MEGABYTES
                        with no more memory than this (default: 64)
@@ -58,8 +58,8 @@ from typing import List, NamedTuple, Optional
 
 from ..choice import chosen, chosen_library
 from ..feeding.feeder import Feeder, FeedOptions
-from ..feeding.grouped import GroupWriter
 from ..feeding.metrics import Creating, MetricFeeder
+from ..feeding.opened import OpenWriter
 from ..feeding.rules import EACH_NAME, BadRule, Names, Rule, read_rules
 from ..feeding.writers import BatchWriter, Reason, Writer
 from ..making import is_there
@@ -137,7 +137,7 @@ def is_directory(path: str) -> bool:
 
 def chosen_writer(files: OpenFiles, fills: bool) -> Writer:
     library = chosen_library()
-    writer = GroupWriter(library, files) if library is not None else BatchWriter(chosen())
+    writer = OpenWriter(library, files) if library is not None else BatchWriter(chosen())
     if not fills:
         return writer
     from .fixing.backfill import BackfillWriter  # most runs take no old samples
