@@ -470,8 +470,8 @@ class DifferingRows(unittest.TestCase):
         for one, cell, why in (
                 (self.fine, DifferingCell(1110, 2.0, NAN), "the old row may be from before a gap that was longer than the archive"),
                 (self.fine, DifferingCell(1140, 1e9, 1e9 + 1), "large numbers that nearly cancel out lose digits"),
-                (self.fine, DifferingCell(1140, 2.0, 3.0), "which steps of a gap were unknown is a guess"),
-                (self.fine, DifferingCell(1140, NAN, 3.0), "which steps of a gap were unknown is a guess"),
+                (self.fine, DifferingCell(1140, 2.0, 3.0), "how many steps of the rows beside a gap were unknown is a guess"),
+                (self.fine, DifferingCell(1140, NAN, 3.0), "how many steps of the rows beside a gap were unknown is a guess"),
                 (self.coarse, DifferingCell(1200, 6.0, 5.0), "the row comes from rows of AVERAGE of 30 s"),
                 (self.odd, DifferingCell(1200, 7.0, 5.0), "the row has parts of rows of 30 s")):
             with self.subTest(cell=cell):
@@ -485,12 +485,22 @@ class DifferingRows(unittest.TestCase):
         own, mean, short = archive(0, "MAX", 6, [5.0, 6.0]), archive(1, "AVERAGE", 6, [5.0, 6.0]), archive(2, "MAX", 3, [5.0] * 4)
         for one in (own, mean, short):
             one.place(10, 1200)
-        for source, why in ((own, "which steps of a gap were unknown is a guess"), (mean, "the row comes from rows of AVERAGE of 60 s"),
+        for source, why in ((own, "how many steps of the rows beside a gap were unknown is a guess"), (mean, "the row comes from rows of AVERAGE of 60 s"),
                             (short, "the row comes from rows of MAX of 30 s")):
             with self.subTest(why=why):
                 self.assertEqual(reason(own, plan([source], 1200), DifferingCell(1200, 6.0, 5.0)), why)
 
+    def test_the_reason_of_another_xff(self) -> None:
+        """Of two archives with rows of the same time, one is taken; the other one may know a row that is unknown there."""
+        strict, loose = (RrdArchive(number, "AVERAGE", 3, share, [NAN], [0], array("d", [1.0, cell]), 1)
+                         for number, share, cell in ((4, 0.0, NAN), (5, 0.9, 2.0)))
+        for one in (strict, loose):
+            one.place(10, 1200)
+        spans, cell = plan([strict, loose], 1200), DifferingCell(1200, 2.0, NAN)
+        self.assertEqual(reason(loose, spans, cell), "archive 4 has rows of the same time, with another xff")
+        self.assertEqual(reason(strict, spans, cell), "how many steps of the rows beside a gap were unknown is a guess")
+
     def test_a_line_for_each_archive(self) -> None:
         rows = [new_rows({1110: 2.0, 1140: 3.0, 1170: 5.0}), new_rows({1140: 5.0, 1200: 6.0})]
         self.assertEqual(list(differing_archives([self.fine, self.coarse], self.spans, [0], rows.__getitem__)), [
-            "archive 0, AVERAGE of 30 s: 2 of 4 cells differ, the newest at 1170: which steps of a gap were unknown is a guess"])
+            "archive 0, AVERAGE of 30 s: 2 of 4 cells differ, the newest at 1170: how many steps of the rows beside a gap were unknown is a guess"])

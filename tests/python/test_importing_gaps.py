@@ -211,13 +211,30 @@ class Gaps(unittest.TestCase):
         """No average tells of a gap that is in a known row; rows of maximums of 36 steps come from those of 6."""
         self.assertEqual(self.differing([Kind("MAX", 6, 18), Kind("MAX", 36, 3)], range(4)), {})
 
+    def test_extremes_of_longer_rows_alone(self) -> None:
+        """A peak goes into the row with the greatest average, and a low into that with the least one."""
+        for kinds in ([self.ROWS, Kind("MAX", 36, 3), Kind("MIN", 36, 3)], [self.ROWS, Kind("MAX", 36, 3), Kind("MAX", 108, 1)],
+                      [self.ROWS, self.COARSER, Kind("MAX", 108, 1), Kind("MIN", 108, 1)]):
+            with self.subTest(kinds=kinds):
+                self.assertEqual(self.differing(kinds, (0,), (108,)), {})
+
     def test_three_lengths_of_rows(self) -> None:
         for kinds in ([self.ROWS, self.COARSER, self.COARSEST], with_extremes((6, 18), (36, 3), (108, 1))):
             with self.subTest(kinds=kinds):
                 self.assertEqual(self.differing(kinds, range(5)), {})
 
+    def test_one_gap_below_three_lengths_of_rows(self) -> None:
+        """The coarsest row tells how many steps are known of the row in which a gap begins or ends, if it is the only known one
+        of its coarser row, or of one with an unknown row that has known steps."""
+        munin = [Kind("AVERAGE", *size, 0.99) for size in ((6, 18), (36, 3), (108, 1))]
+        for kinds, counts, places in ((munin, (56, 57, 63, 64), range(8, 12)),
+                                      ([self.ROWS, self.COARSER, self.COARSEST], (6, 7, 8), range(36, 54))):
+            with self.subTest(kinds=kinds):
+                self.PLACES = tuple(places)
+                self.assertEqual(self.differing(kinds, counts, (108,)), {})
+
     def test_long_gaps_below_three_lengths_of_rows(self) -> None:
-        """Which steps at the ends of a gap were unknown is a guess: the coarsest row may differ, but no other one."""
+        """How many steps at the ends of a gap were unknown may be a guess: the coarsest row may differ, but no other one."""
         self.PLACES = (*range(36, 46), *range(65, 72))
         tries = len(LONG) * len(self.PLACES)
         for kinds, top, most in (([self.ROWS, self.COARSER, self.COARSEST], 2, 0.4 * tries),
@@ -251,11 +268,11 @@ class Parts(unittest.TestCase):
             with self.subTest(wanted=wanted, mean=mean, size=size):
                 self.assertEqual(is_mean(wanted, mean, size), is_same_mean)
 
-    def known_steps(self, rows: List[float], top: float, mean: float) -> int:
+    def known_steps(self, rows: List[float], top: float, mean: float, fine: Iterable[float] = ()) -> int:
         """Returns how many steps of the last row but one of 36 are known, by the last row of 108 steps."""
-        archives = [archive_of(0, self.FINE, [1.0] * 36, 216), archive_of(1, self.COARSE, rows, 216),
+        archives = [archive_of(0, self.FINE, list(fine) or [1.0] * 36, 216), archive_of(1, self.COARSE, rows, 216),
                     archive_of(2, Kind("AVERAGE", 108, 2), [77.0, top], 216)]
-        return SourceRates(0, 1, 216, Converter()).known_steps(Span(0, 216, archives[0], archives), 180, mean)
+        return SourceRates(0, 1, 216, Converter()).known_steps(Span(0, 216, archives[0], archives), 180, mean, [])
 
     def test_how_many_steps_are_known(self) -> None:
         """The two other rows have the mean 15; with so many steps of 40 more, the mean of all is another one."""
@@ -265,19 +282,35 @@ class Parts(unittest.TestCase):
                 mean = (72 * 15 + count * 40) / (72 + count)
                 self.assertEqual(self.known_steps([*before, 10.0, 40.0, 20.0], mean, 40.0), known)
                 mean = (36 * 20 + count * 40) / (36 + count)
-                self.assertEqual(self.known_steps([*before, NAN, 40.0, 20.0], mean, 40.0), known)
+                self.assertEqual(self.known_steps([*before, NAN, 40.0, 20.0], mean, 40.0, [NAN] * 36), known)
         self.assertEqual(self.known_steps([*before, 10.0, 40.0, 20.0], NAN, 40.0), 0)
         self.assertEqual(self.known_steps([*before, 40.0, 40.0, 40.0], 40.0, 40.0), 0)
+
+    def test_the_known_steps_of_other_rows(self) -> None:
+        """They are those of the rows of which they consist, of which one may have unknown steps."""
+        before, coarse = [500.0, 600.0, 700.0], [1.0] * 18
+        for fine, steps in (([10.0] * 6, 36), ([10.0] * 2 + [NAN] * 4, 12), ([NAN] * 6, 0)):
+            with self.subTest(fine=fine):
+                mean = (36 * 20 + steps * 10 + 5 * 40) / (36 + steps + 5)
+                for own in (10.0, NAN) if steps < 18 else (10.0,):
+                    if steps or math.isnan(own):
+                        rows, below = [*before, own, 40.0, 20.0], [*coarse, *fine, *coarse[:12]]
+                        self.assertEqual(self.known_steps(rows, mean, 40.0, below), 5)
+        # Five of six rows have the mean 10 and the last one 22, of which three steps are known: 33 steps with the mean 120 / 11.
+        own = (30 * 10 + 3 * 22) / 33
+        mean = (36 * 20 + 33 * own + 5 * 40) / (36 + 33 + 5)
+        below = [*coarse, *[10.0] * 5, 22.0, *coarse[:12]]
+        self.assertEqual(self.known_steps([*before, own, 40.0, 20.0], mean, 40.0, below), 5)
 
     def test_no_row_that_tells(self) -> None:
         """There is no archive above, or its row is not finished."""
         rates = SourceRates(0, 1, 216, Converter())
         fine = archive_of(0, self.FINE, [1.0] * 36, 216)
         coarse = archive_of(1, self.COARSE, [1.0, 2.0] * 3, 216)
-        self.assertEqual(rates.known_steps(Span(0, 216, fine, [fine]), 180, 1.0), 0)
-        self.assertEqual(rates.known_steps(Span(0, 216, fine, [fine, coarse]), 180, 1.0), 0)
+        self.assertEqual(rates.known_steps(Span(0, 216, fine, [fine]), 180, 1.0, []), 0)
+        self.assertEqual(rates.known_steps(Span(0, 216, fine, [fine, coarse]), 180, 1.0, []), 0)
         top = archive_of(2, Kind("AVERAGE", 144, 1), [1.5], 216)
-        self.assertEqual(rates.known_steps(Span(0, 216, fine, [fine, coarse, top]), 180, 1.0), 0)
+        self.assertEqual(rates.known_steps(Span(0, 216, fine, [fine, coarse, top]), 180, 1.0, []), 0)
 
     def test_the_unfinished_step(self) -> None:
         """First its unknown seconds, then the mean of the others."""

@@ -50,7 +50,8 @@ def differing_cells(archive: RrdArchive, columns: Sequence[int], rows: NewRows) 
 
 def reason(archive: RrdArchive, spans: Sequence[Span], cell: DifferingCell) -> str:
     """Returns why a row may not be the same: by what it was made of."""
-    source = next((span.archive for span in spans if span.begin <= cell.time - archive.seconds < span.end), None)
+    span = next((span for span in spans if span.begin <= cell.time - archive.seconds < span.end), None)
+    source, own = (span.archive, span.beside.get(archive.function)) if span else (None, None)
     if cell.time == archive.begin + archive.seconds and math.isnan(cell.after):
         return "the old row may be from before a gap that was longer than the archive"
     if cell.apart <= FEW_DIGITS * max(abs(cell.before), abs(cell.after), 1.0):
@@ -61,7 +62,9 @@ def reason(archive: RrdArchive, spans: Sequence[Span], cell: DifferingCell) -> s
         return f"the row has parts of rows of {source.seconds} s"
     if archive.function != "AVERAGE" and (source.seconds != archive.seconds or source.function != archive.function):
         return f"the row comes from rows of {source.function} of {source.seconds} s"
-    return "which steps of a gap were unknown is a guess"
+    if own is not None and own.steps == archive.steps and own.share != archive.share:
+        return f"archive {own.number} has rows of the same time, with another xff"
+    return "how many steps of the rows beside a gap were unknown is a guess"
 
 
 def differing_archives(archives: Sequence[RrdArchive], spans: Sequence[Span], columns: Sequence[int],

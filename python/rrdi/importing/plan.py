@@ -18,7 +18,8 @@ class Span:
     `beside` has the archives with rows of the same length, by their function: for each function the archive that reaches
     back farthest. `above` is the next coarser archive of averages whose rows consist of whole rows of this archive,
     `above_beside` has the archives with rows as long as those of `above`, and `above_twice` is the next coarser archive.
-    If there is none, `overlapping` is the next coarser archive of averages.
+    If there is none, `overlapping` is the next coarser archive of averages. `longer` has the archives of minimums and of
+    maximums with the shortest rows that consist of whole rows of this archive, if no such archive is beside it.
     """
 
     def __init__(self, begin: int, end: int, archive: RrdArchive, archives: list[RrdArchive]):
@@ -30,6 +31,10 @@ class Span:
                                                         other.seconds > archive.seconds), key=lambda other: other.seconds,
                                                        default=None)
         self.above_beside = self.companions(self.above, archives) if self.above else {}
+        self.longer = [] if "AVERAGE" not in self.beside else [
+            min(found, key=lambda other: other.seconds) for found in (
+                [other for other in archives if other.function == function and other.seconds % archive.seconds == 0]
+                for function in ("MIN", "MAX") if function not in self.beside) if found]
         # How many steps of a known row may be unknown, and how many of an unknown row may be known, in all archives
         # with rows of this length.
         allowed = [other.allowed_unknown() for other in archives if other.steps == archive.steps]

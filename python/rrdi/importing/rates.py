@@ -3,7 +3,7 @@
 from __future__ import annotations
 
 import math
-from dataclasses import dataclass, field
+from dataclasses import dataclass, field, replace
 
 from ..amounts import MILLION
 from .rounding import Converter
@@ -117,11 +117,29 @@ class SourceRates:
             if not row.has_average:
                 shown = next((cell for cell in (row.latest, row.maximum, row.minimum) if cell is not None), None)
                 row.average = math.nan if shown is None else shown / MILLION
+            else:
+                self.add_extremes(span, row, time)
             if time <= span.end:
                 self.lay_whole_row(rates, span, row, begin, time, later)
             else:
                 self.lay_part(rates, span, row, begin, time, later)
         return rates
+
+    def add_extremes(self, span: Span, row: Row, time: int) -> None:
+        """Gives a row without its own minimum or maximum that of a longer row, if its average is the least or the greatest of
+        those in the longer row: most likely the step is in this row."""
+        for longer in span.longer:
+            end = time - 1 - (time - 1) % longer.seconds + longer.seconds
+            cell = self.cell(longer, end) if end <= longer.end else None
+            if cell is None or not row.is_known or end - longer.seconds < span.begin or end > span.end:
+                continue
+            seconds, average = span.archive.seconds, span.beside["AVERAGE"]
+            others = [self.exact(average, at) for at in range(end - longer.seconds + seconds, end + 1, seconds)]
+            known = [other for other in others if not math.isnan(other)]
+            if longer.function == "MIN" and row.average == min(known):
+                row.minimum = min(cell, round(row.average * MILLION))
+            elif longer.function == "MAX" and row.average == max(known):
+                row.maximum = max(cell, round(row.average * MILLION))
 
     def wanted(self, row: Row, steps: int) -> Wanted:
         """Returns the numbers that `steps` steps must have for a row; without averages any sum is right."""
@@ -239,9 +257,10 @@ class SourceRates:
             if not self.find_below_unknown(span, above, coarser, excess, later):
                 self.drop_until_unknown(span, coarser, parts, excess)
         elif parts.count > 0 and is_mean(mean, parts.total / parts.count, parts.size):
-            return
+            if parts.unknown and len(parts.known) == 1:
+                self.find_dropped_alone(span, coarser, parts, mean, later)
         elif not self.find_dropped(span, coarser, parts, mean):
-            self.find_hidden(span, above, coarser, parts, mean)
+            self.find_hidden(span, above, coarser, parts, mean, later)
 
     def can_drop(self, span: Span, time: int, steps: int) -> bool:
         """Checks whether a known row can have this many unknown steps."""
@@ -286,7 +305,15 @@ class SourceRates:
                     return True
         return False
 
-    def find_hidden(self, span: Span, above: RrdArchive, coarser: Coarser, parts: Parts, mean: float) -> None:
+    def find_dropped_alone(self, span: Span, coarser: Coarser, parts: Parts, mean: float, later: Stretches) -> None:
+        """Finds the unknown steps of a row that is the only known one, and has the mean of the coarser row with any number of
+        them: the average above tells the number."""
+        (time,) = parts.known
+        known = self.known_steps(span, coarser.end, mean, later)
+        if known > 0 and 1 <= parts.count - known <= span.most_dropped and self.can_drop(span, time, parts.count - known):
+            coarser.dropped[time] = parts.count - known
+
+    def find_hidden(self, span: Span, above: RrdArchive, coarser: Coarser, parts: Parts, mean: float, later: Stretches) -> None:
         """Sets the number of known steps of the unknown rows, their mean, and their minimum and maximum.
 
         If there is an average above the coarser row, this average gives the number. Otherwise the number is the largest that
@@ -299,7 +326,10 @@ class SourceRates:
         is_minimum_shown = any(self.cell(span.beside.get("MIN"), time) == least for time in parts.known)
         is_maximum_shown = any(self.cell(span.beside.get("MAX"), time) == most for time in parts.known)
         limit = parts.unknown * span.most_hidden
-        likely = self.known_steps(span, coarser.end, mean) - parts.count
+        known = self.known_steps(span, coarser.end, mean, later)
+        likely = known - parts.count
+        if known > 0 and not 1 <= likely <= limit:
+            parts, likely = self.with_dropped(span, coarser, parts, mean, known, row)
         fewest = max(above.steps - above.allowed_unknown() - parts.count, span.most_hidden)
         for steps in (likely, *range(fewest, limit + 1)):
             if not 1 <= steps <= limit:
@@ -310,6 +340,30 @@ class SourceRates:
                 coarser.hidden_minimum = None if is_minimum_shown else least
                 coarser.hidden_maximum = None if is_maximum_shown else most
                 return
+
+    def with_dropped(self, span: Span, coarser: Coarser, parts: Parts, mean: float, known: int,
+                     row: Row) -> tuple[Parts, int]:
+        """Finds the known row before or after a gap that has unknown steps too, if `known` steps of the coarser row are known.
+
+        Returns the parts without these steps, and how many steps of the unknown rows are known: those with which their mean
+        is nearest to the mean of the coarser row.
+        """
+        seconds, found = span.archive.seconds, []
+        for time, own in parts.known.items():
+            if all(other in parts.known for other in (time - seconds, time + seconds)):
+                continue
+            for dropped in range(1, span.most_dropped + 1):
+                count, total = parts.count - dropped, parts.total - dropped * own
+                steps = known - count
+                if 1 <= steps <= parts.unknown * span.most_hidden and self.can_drop(span, time, dropped):
+                    hidden_mean = (mean * known - total) / steps
+                    if row.may_have(hidden_mean, known):
+                        found.append((abs(hidden_mean - mean), time, dropped, steps))
+        if not found:
+            return parts, 0
+        _, time, dropped, steps = min(found)
+        coarser.dropped[time] = dropped
+        return replace(parts, count=parts.count - dropped, total=parts.total - dropped * parts.known[time]), steps
 
     def find_below_unknown(self, span: Span, above: RrdArchive, coarser: Coarser, excess: int, later: Stretches) -> bool:
         """Finds unknown steps of known rows, or known steps of unknown rows, in an unknown coarser row.
@@ -364,10 +418,11 @@ class SourceRates:
                 return None
         return parts
 
-    def known_steps(self, span: Span, end: int, mean: float) -> int:
+    def known_steps(self, span: Span, end: int, mean: float, later: Stretches) -> int:
         """Returns the number of known steps of the coarser row that ends at `end`, by the row above it.
 
-        Returns 0 if the row above does not show the number. All steps of the other known rows count as known.
+        Returns 0 if the row above does not show the number. All steps of another row count as known, unless the rows of which
+        it consists show how many are.
         """
         above, top = span.above, span.above_twice
         if above is None or top is None:
@@ -377,10 +432,23 @@ class SourceRates:
         if math.isnan(wanted) or wanted == mean:
             return 0
         times = range(top_end - top.seconds + above.seconds, top_end + 1, above.seconds)
-        others = [self.exact(above, time) for time in times if time != end]
-        known = [other for other in others if not math.isnan(other)]
-        count = (sum(known) - wanted * len(known)) * above.steps / (wanted - mean)
+        others = [self.known_of(span, above, time, later) for time in times if time != end]
+        count = sum((own - wanted) * steps for own, steps in others if steps > 0) / (wanted - mean)
         return round(count) if 0 < count <= above.steps and abs(count - round(count)) < 0.01 else 0
+
+    def known_of(self, span: Span, above: RrdArchive, time: int, later: Stretches) -> tuple[float, int]:
+        """Returns the mean of the known steps of a coarser row, and how many these are."""
+        mean = self.exact(above, time)
+        if above.seconds > time - span.begin or time - above.seconds >= span.end:
+            return mean, 0 if math.isnan(mean) else above.steps
+        parts, coarser = self.parts_of(span, above, time, later), Coarser(time)
+        if math.isnan(mean):
+            return (parts.total / parts.count if parts.count else mean), parts.count
+        if parts.count and is_mean(mean, parts.total / parts.count, parts.size):
+            return mean, parts.count
+        if self.find_dropped(span, coarser, parts, mean):
+            return mean, parts.count - sum(coarser.dropped.values())
+        return mean, above.steps
 
 
 def unfinished_step(source: RrdSource, whole: int, last: int, converter: Converter) -> Stretches:
