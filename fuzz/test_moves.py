@@ -1,7 +1,7 @@
 # SPDX-License-Identifier: MIT OR Apache-2.0
 """Random files of RRDtool lose no row on the way to rrdi and back.
 
-Each cell must agree to a millionth and to the eleventh digit: in the new file, in the file that `rrdtool restore`
+Each cell must agree to a millionth and a ten-billionth of its value: in the new file, in the file that `rrdtool restore`
 creates from it, and, of gauges, in both after more samples. Of files of every kind, `rrdi-import` must name each archive
 that differs, and no other. --seeds=FIRST:COUNT tries other files."""
 from __future__ import annotations

@@ -12,7 +12,7 @@ import sys
 import time
 import unittest
 from pathlib import Path
-from typing import List, Tuple
+from typing import List, Set, Tuple
 from unittest import mock
 
 from cases import HANG, needs_program
@@ -72,13 +72,15 @@ class Children(unittest.TestCase):
                 os.kill(os.getpid(), 9)
             return ChildAnswer(True, f"{number} {os.getpid()}")
         real = os.fork
+        children: Set[int] = set()
         for forks, pids in (([True, False, False, False, True], 2), ([True, True, False, False], 2)):
             left = iter(forks)
 
             def fork() -> int:
                 if not next(left, False):
                     raise BlockingIOError
-                return real()
+                children.add(child := real())
+                return child
             with mock.patch.object(os, "fork", fork):
                 found = list(answers(range(3), work, 3))
                 self.assertEqual([answer.text.split()[0] for _, answer in found], ["0", "1", "2"])
@@ -88,7 +90,8 @@ class Children(unittest.TestCase):
             one = answers(range(5), work, 1)
             self.assertEqual([next(one)[1].is_done for _ in range(4)], [True, True, True, False])
             self.assertRaises(BlockingIOError, next, one)
-        self.assertRaises(ChildProcessError, os.waitpid, -1, os.WNOHANG)
+        for child in children:
+            self.assertRaises(ChildProcessError, os.waitpid, child, os.WNOHANG)
 
     def test_no_pipe_is_left_open(self) -> None:
         """If the system has no second pipe, or no process, the pipes that were opened are closed."""

@@ -349,8 +349,16 @@ class Pictures(FileCase):
     def test_settings_are_read_once(self) -> None:
         """Those that are given are taken."""
         with mock.patch.object(program, "settings", side_effect=AssertionError):
-            found = composing.picture_of(self.options(start=str(START - 600), end=str(START)), self.file.settings())
+            found, = composing.pictures_of(self.options(start=str(START - 600), end=str(START)), self.file.settings())
         self.assertEqual(found.rows.end, START)
+
+    def test_a_picture_for_each_size(self) -> None:
+        """In a stack all sources have one axis."""
+        self.use(File("load bytes", START, {("AVERAGE", 60): lambda at: [2.0, 2e6]}))
+        for flags, names in (((), [["load"], ["bytes"]]), (("--stack",), [["load", "bytes"]])):
+            found = composing.pictures_of(self.options(*flags), self.file.settings())
+            self.assertEqual([[one.name for one in picture.series] for picture in found], names)
+        self.assertEqual([one.name for one in self.picture().series], ["load", "bytes"])
 
 
 class Commands(FileCase):

@@ -21,7 +21,7 @@ from rrdi.tools.plotting.labels import DISTANCES, Label, distance_of, label_days
 from rrdi.tools.plotting.legend import legend_of
 from rrdi.tools.plotting.look import LEAST_PLOT_HEIGHT, LIGHT, UNTITLED, plot_height, size_of, title_room
 from rrdi.tools.plotting.numbers import axis, number_text
-from rrdi.tools.plotting.spikes import CutMark, cut, cut_curve, cut_marks, range_of, runs
+from rrdi.tools.plotting.spikes import alike, CutMark, cut, cut_curve, cut_marks, range_of, runs
 from rrdi.tools.plotting.svg import STYLES, path_of, svg_of
 
 DAY = 86_400
@@ -237,6 +237,18 @@ class Ranges(unittest.TestCase):
         self.assertEqual(range_of([curve_of([0.0] * 99 + [5.0])], False, True, cuts), (0, 5))  # all others are equal
         few = curve_of([math.nan] * 97 + [70.0, 80.0, 75.0])
         self.assertEqual(range_of([curve_of(usual + [1.0, 1.0]), few], False, True, cuts), (0, 80))
+
+    def test_sources_that_have_one_axis(self) -> None:
+        """None has less than a hundredth of another one's usual value; what is 0 or unknown goes with the one before it."""
+        for greatest, groups in (([1.0, 100.0], [[0, 1]]), ([1.0, 101.0], [[0], [1]]), ([-101.0, 1.0, 50.0], [[0, 2], [1]]),
+                                 ([2.0, 5e6, 3.0, 0.0, 4e6, math.nan], [[0, 2, 3], [1, 4, 5]]), ([0.0, 5.0], [[0], [1]]),
+                                 ([math.nan, 0.0], [[0, 1]]), ([1.0, 60.0, 3600.0], [[0], [1, 2]])):
+            with self.subTest(greatest=greatest):
+                series = [curve_of([one] * 3) for one in greatest]
+                self.assertEqual([[next(at for at, one in enumerate(series) if one is found) for found in group]
+                                  for group in alike(series)], groups)
+        usual = [1.0] * 99
+        self.assertEqual(len(alike([curve_of([*usual, 900.0]), curve_of([99.0] * 100)])), 1)  # a spike is not usual
 
     def test_spikes_of_a_band(self) -> None:
         """Of the rows of a band, one of four may be a spike."""

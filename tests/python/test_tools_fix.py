@@ -214,7 +214,7 @@ class Files(FixCase):
                 self.assertEqual(self.fix("f.rrdi", *words).err, "")
                 self.assertEqual(self.read("f.rrdi"), self.read("wanted.rrdi"))
         self.filled("f.rrdi", changes, *sources)
-        self.stays("f.rrdi: give 2 values, for the sources a, b, not 1", "20", "2")
+        self.stays("f.rrdi: give 2 values, for the sources a, b, not 1; or one of them, with --source", "20", "2")
         self.stays("f.rrdi: 20:850:2.5: bad value", "20", "2.5", "--source", "b")
 
     def test_updates_of_several_samples(self) -> None:

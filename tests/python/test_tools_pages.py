@@ -176,6 +176,20 @@ class Pages(ToolCase):
         self.assertNotIn("cut values", self.page("load.rrdi.html"))
         self.assertIn(">5 k<", self.page("load.rrdi.html"))
 
+    def test_sources_of_other_sizes(self) -> None:
+        """A load is not flat beside bytes: each has an axis of its own, and its numbers below."""
+        self.create("tree/all.rrdi", "DS:load:GAUGE:700:U:U", "DS:bytes:GAUGE:700:U:U", "RRA:AVERAGE:0.5:1:300", start=START,
+                    step=600)
+        self.rrdi("update", "tree/all.rrdi", *(f"{START + 600 * at}:{1 + at % 3}:{8_000_000 + at}" for at in range(1, 289)))
+        self.assertEqual(self.draw("-e", str(END)).status, 0)
+        text = self.page("all.rrdi.html").partition("<h2>Week")[0]
+        self.assertEqual(re.findall('aria-label="(.*?)"', text), ["all.rrdi, day: load", "all.rrdi, day: bytes"])
+        for one in (">2.0<", ">8 M<"):
+            self.assertIn(one, text)
+        self.assertEqual(re.findall("</span>(.*?)</td>", text), ["load", "bytes"])
+        self.assertEqual(re.findall('aria-label="(.*?)"', self.page("load.rrdi.html"))[0], "load.rrdi, day")
+        self.assertEqual(self.page("index.html").count("all.rrdi, day: "), 2)
+
     def test_options(self) -> None:
         self.assertEqual(self.draw("MAX", "--source", "out", "--unit", "<B>", "--max", "80", "--area", "--width", "700",
                                    "--title", "All").status, 0)

@@ -7,7 +7,7 @@ usage: rrdi-check FILE SOURCE [--above N] [--below N] [-w RANGE] [-c RANGE]
 examples:
   rrdi-check room.rrdi temp --above 30 --below 5 --for 5m
   rrdi-check net.rrdi in -w 8000000 -c 10000000 --stale 10m
-  * * * * * rrdi-check room.rrdi temp --above 30 --changes temp.state
+  * * * * * /usr/local/bin/rrdi-check t.rrdi temp --above 30 --changes t.state
 
 It prints one line, and its status is 0 (OK), 1 (WARNING), 2 (CRITICAL) or 3
 (UNKNOWN). The value is the newest known row of the finest archive. A source

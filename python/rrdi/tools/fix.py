@@ -176,7 +176,7 @@ def new_sample(options: FixOptions, names: List[str], old: OneSample) -> Optiona
     if len(options.values) != wanted:
         sources = f"the sources {', '.join(names)}" if wanted > 1 else f"the source {options.source or names[0]}"
         raise Failure(f"{options.file}: give {wanted} value{'s' * (wanted > 1)}, for {sources}, "
-                      f"not {len(options.values)}")
+                      f"not {len(options.values)}{'; or one of them, with --source' * (wanted > 1)}")
     if options.source is None:
         return OneSample(old.time, options.values)
     by_name: Dict[str, str] = {**dict(zip(names, old.values)), options.source: options.values[0]}

@@ -35,7 +35,7 @@ options:
   --fit                do not begin the axis at 0
   --min N, --max N     let the axis begin at N or below, end at N or above
   --rigid              cut what is beyond --min and --max
-  --cut-spikes         let few values that are far from all others go beyond
+  --cut-spikes         let a few values far from all others go beyond
                        the axis
   --keep-spikes        do not cut them on pages
   --no-band            draw no band

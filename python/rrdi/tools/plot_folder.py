@@ -21,7 +21,7 @@ from .import_many import NEW_END, RRDTOOL_END
 from .many_files import OldFile, counted, found_below
 from .plotting.asked import PlotOptions
 from .plotting.columns import NothingToDraw
-from .plotting.composing import picture_of, span
+from .plotting.composing import pictures_of, span
 from .plotting.gnuplot import Picture
 from .plotting.pages import BEGIN, INDEX, PAGE_END, NotDrawn, Section, age_text, card, file_page, index_page
 from .spans import DAY, time_text, zone_of
@@ -45,18 +45,19 @@ class PagesAsked(NamedTuple):
         return PlotOptions(path, "", self.function, {**self.values, **others}, self.flags)
 
 
-def picture_or_none(options: PlotOptions, settings: Settings) -> Optional[Picture]:
+def pictures(options: PlotOptions, settings: Settings) -> List[Picture]:
+    """Returns the pictures of a length of time, or none."""
     try:
-        return picture_of(options, settings)
+        return pictures_of(options, settings)
     except NothingToDraw:
-        return None
+        return []
 
 
 def section(asked: PagesAsked, path: str, settings: Settings, name: str, until: int, size: Dict[str, str]) -> Section:
     """Draws a length of time of a file. Its settings are read once for all lengths: a file is read whole each time."""
     begin = max(until - LENGTHS[name], 0)
     times = {"start": str(begin), "end": str(until)}
-    return Section(name, begin, until, picture_or_none(asked.of_file(path, {**times, **size}), settings))
+    return Section(name, begin, until, pictures(asked.of_file(path, {**times, **size}), settings))
 
 
 def check_page(path: str) -> None:

@@ -48,7 +48,7 @@ class BackfillWriter:
             return first._replace(left=tuple(in_order([*(first.left or ()), *newer])))
         second = self.writer.write(file, newer) if newer else Outcome()
         if second.again or second.lost:
-            second = second._replace(done=0, left=tuple(newer[second.done:]))
+            second = second._replace(left=tuple(newer))
         outcome = self._put_overtaken(file, second._replace(refused=first.refused + second.refused))
         return with_left(outcome, first) if first.again else outcome
 

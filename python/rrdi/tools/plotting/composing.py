@@ -18,7 +18,7 @@ from .gnuplot import Picture
 from .legend import legend_of
 from .look import DARK, EDGE, LEAST_PLOT_HEIGHT, LIGHT, UNTITLED, plot_height, size_of, title_room
 from .numbers import Axis, axis, number_text
-from .spikes import CutMark, cut_curve, cut_marks, range_of
+from .spikes import CutMark, alike, cut_curve, cut_marks, range_of
 
 MOST_BANDS = 4  # more of them hide each other
 ROW_WIDTH = 1.75  # points of a row that is chosen for the picture
@@ -166,12 +166,24 @@ def cut_text(marks: List[CutMark], what: Shown, unit: str) -> List[str]:
     return [f"cut values go {' and '.join(ways)}"]
 
 
-def picture_of(options: PlotOptions, settings: Optional[Settings] = None) -> Picture:
-    """Reads the rows and returns the picture of them; reads the settings too, unless they are given."""
-    width, height = read_size(options.values)
-    settings = settings or program.settings(options.file)
+def picture_of(options: PlotOptions) -> Picture:
+    """Reads the settings and the rows of a file, and returns the picture of them."""
+    settings = program.settings(options.file)
     function = options.function or settings.archives[0].function
-    what = shown(options, settings, function, width)
+    return composed(options, function, shown(options, settings, function, read_size(options.values)[0]))
+
+
+def pictures_of(options: PlotOptions, settings: Settings) -> List[Picture]:
+    """Reads the rows of a file, and returns the pictures of them for a page: one for sources with values of a size."""
+    function = options.function or settings.archives[0].function
+    what = shown(options, settings, function, read_size(options.values)[0])
+    groups = [what.series] if options.style == "stack" else alike(what.series)
+    return [composed(options, function, what._replace(series=group)) for group in groups]
+
+
+def composed(options: PlotOptions, function: str, what: Shown) -> Picture:
+    """Returns the picture of rows."""
+    width, height = read_size(options.values)
     unit, subtitle = escaped(options.values.get("unit", "")), subtitle_of(function, what.rows, width)
     top = title_room(len(subtitle)) if options.picture else UNTITLED
     legend = legend_of(width, what.series, unit) if options.picture and "--no-legend" not in options.flags else None

@@ -4,7 +4,7 @@ from __future__ import annotations
 
 import os
 from html import escape
-from typing import List, NamedTuple, Optional, Sequence
+from typing import List, NamedTuple, Sequence
 from urllib.parse import quote
 
 from ...escaping import escaped
@@ -23,6 +23,7 @@ LAYOUT = """body{margin:0 auto;padding:1.5rem;max-width:60rem;background:var(--g
 font:15px/1.45 sans-serif}
 body.all{max-width:86rem}h1{font-size:1.5rem;margin:0 0 .2rem}h2{font-size:1.1rem;margin:2rem 0 0}a{color:inherit}
 p{margin:.2rem 0 .6rem;color:var(--faint);font-size:.87rem}p.old{color:var(--text);font-weight:bold}
+table+p{margin-top:1.2rem}
 table{border-collapse:collapse;font-size:.87rem;margin-top:.4rem}
 td,th{padding:.1rem 0 .1rem 1.2rem;text-align:right;font-weight:normal}
 th{color:var(--faint)}td.name,li{text-align:left;padding-left:0;overflow-wrap:anywhere}
@@ -52,12 +53,12 @@ def page(title: str, kind: str, parts: Sequence[str]) -> str:
 
 
 class Section(NamedTuple):
-    """A length of time on a file's page: its name, its times, and its picture if there is something to draw."""
+    """A length of time on a file's page: its name, its times, and its pictures if there is something to draw."""
 
     name: str
     begin: int
     end: int
-    picture: Optional[Picture]
+    pictures: List[Picture]
 
 
 def swatch(number: int) -> str:
@@ -77,10 +78,19 @@ def table(picture: Picture, unit: str) -> List[str]:
 def section_of(one: Section, name: str, unit: str) -> List[str]:
     """Returns the part of a page for a length of time."""
     head = f"<h2>{one.name}</h2>"
-    if one.picture is None:
+    if not one.pictures:
         return [head, "<p>No value is known in this time, or there are fewer than two rows.</p>"]
-    return [head, f"<p>{escape('; '.join(one.picture.subtitle))}</p>",
-            svg_of(one.picture, one.begin, one.end, f"{escaped(name)}, {one.name.lower()}"), *table(one.picture, unit)]
+    parts = [head]
+    for picture in one.pictures:
+        parts += [f"<p>{escape('; '.join(picture.subtitle))}</p>",
+                  svg_of(picture, one.begin, one.end, about(name, one, picture)), *table(picture, unit)]
+    return parts
+
+
+def about(name: str, one: Section, picture: Picture) -> str:
+    """Returns what a picture shows, for those who don't see it."""
+    names = ": " + ", ".join(curve.name for curve in picture.series) if len(one.pictures) > 1 else ""
+    return escaped(f"{name}, {one.name.lower()}{names}")
 
 
 def age_text(last: str, is_old: bool) -> str:
@@ -100,13 +110,15 @@ def file_page(name: str, age: str, sections: Sequence[Section], unit: str) -> st
 def card(name: str, age: str, section: Section) -> str:
     """Returns what the page of all files shows of one."""
     head = f'<div><h2><a href="{link_to(name)}">{shown_name(name)}</a></h2>'
-    if section.picture is None:
+    if not section.pictures:
         return "\n".join([head, age, "<p>No value is known in this day.</p></div>"])
-    cut = [f"<p>{escape(section.picture.subtitle[-1])}</p>"] if section.picture.marks else []
-    keys = [f'<span class="key">{swatch(number)}{shown_name(one.name)}</span>'
-            for number, one in enumerate(section.picture.series)]
-    picture = svg_of(section.picture, section.begin, section.end, f"{escaped(name)}, day")
-    return "\n".join([head, age, picture, *keys, *cut, "</div>"])
+    parts = [head, age]
+    for picture in section.pictures:
+        parts.append(svg_of(picture, section.begin, section.end, about(name, section, picture)))
+        parts += [f'<span class="key">{swatch(number)}{shown_name(one.name)}</span>'
+                  for number, one in enumerate(picture.series)]
+        parts += [f"<p>{escape(picture.subtitle[-1])}</p>"] if picture.marks else []
+    return "\n".join([*parts, "</div>"])
 
 
 class NotDrawn(NamedTuple):

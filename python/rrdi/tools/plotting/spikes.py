@@ -11,6 +11,8 @@ RARE, RARE_IN_BAND = 50, 4  # one row of so many may be a spike, by its line or 
 ROUNDING = 2e-9  # of an axis: its ends are at round values in floating point
 FAR = 2  # a spike is beyond the other values by more than so many times their range
 
+FLAT = 100  # a source whose values are below one of so many parts of another one's is flat beside it
+
 Range = Tuple[float, float]
 
 
@@ -19,6 +21,25 @@ def all_but(cells: Column, part: int) -> Column:
     cells = sorted(known(cells))
     left_out = len(cells) // part
     return cells[left_out:len(cells) - left_out]
+
+
+def usual_size(curve: Curve) -> float:
+    """Returns the greatest absolute value of a source that is usual; 0 if none is known."""
+    return max((abs(cell) for cell in all_but(curve.values, RARE)), default=0.0)
+
+
+def alike(series: List[Curve]) -> List[List[Curve]]:
+    """Returns the sources that can have one axis together, because none is flat beside another one. A source that is 0 or
+    unknown goes with the one before it."""
+    sizes: List[float] = []
+    for one in series:
+        sizes.append(usual_size(one) or (sizes[-1] if sizes else 0.0))
+    groups: List[List[int]] = []
+    for number in sorted(range(len(series)), key=lambda number: -sizes[number]):
+        if not groups or sizes[number] * FLAT < sizes[groups[-1][0]]:
+            groups.append([])
+        groups[-1].append(number)
+    return [[series[number] for number in group] for group in sorted(sorted(group) for group in groups)]
 
 
 def range_without_spikes(curve: Curve, has_band: bool, has_zero: bool) -> Range:
