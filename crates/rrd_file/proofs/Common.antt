@@ -14,6 +14,7 @@ pub use Rattle.rrd_file.proofs.Fronts.{first_begins, file_begins, front_has_the_
 pub use Rattle.rrd_file.proofs.Gathering.{all_added, item_added, item_at, item_broken, mapped_at, breaks_stop, gathers_then, flat_flat, no_room, piece_added, adds_then, breaks_then, all_written, front_written}
 pub use Rattle.rrd_file.proofs.Joined.{joined_head, joined_layout, head_parts, six_parts, three_parts, joined_three, joined_two, two_parts, joined_saved, four_parts}
 pub use Rattle.rrd_file.proofs.Judged.{cut_body, prep_refused, prep_taken, refusal_is, head_refused, head_taken, head_unread, cell_refused, cell_taken, same_bytes, cut_header, header_refused, header_taken, cut_mark, mark_refused, mark_taken, other_bytes, cut_version, version_refused, version_taken, entry_refusal_is, ended, trails, source_refused, source_taken, source_unread}
+pub use Rattle.rrd_file.proofs.JournalKept.{journal_joined, stay_within, taken_at}
 pub use Rattle.rrd_file.proofs.Kept.{ReadRowPrep, broken, kept, ReadRemovedNumber, validated, validates, ReadRemovedHead, unread_head, ReadNumber, ReadOldRows, ReadRowCell, ReadCount, ReadNamed, unread, ReadRawAndPart, ReadRows, ReadTime}
 pub use Rattle.rrd_file.proofs.OneAnswer.{file_is_layout, layout_is_file, layout_is_no_other, layouts_differ, one_answer, revert_restores_bytes, revert_restores_bytes_but_oldest}
 pub use Rattle.rrd_file.proofs.OneEntry.{one_entry}
@@ -32,5 +33,5 @@ pub use Rattle.rrd_file.proofs.Turned.{all_rows, rows_on, rows_spelled, run_spel
 pub use Rattle.rrd_file.proofs.Turns.{all_more, more_preps, none_less, one_less, more_cell, taken_all, more_map, named_less, dropped_all, more_flat, next_archive, shaped_more, more_raws, next_source, after_entry, more_entries}
 pub use Rattle.rrd_file.proofs.Walked.{saved_done, saved_more, cells_done, cells_more, no_version, right_version, entries_bad, entries_done, entries_more, entries_short, four_first, no_four, no_two, two_first}
 pub use Rattle.rrd_file.proofs.Whole.{whole, one_byte}
-pub use Rattle.rrd_file.proofs.length.Numbers.{wide_at, all_cells_are, sum_next, saved_wide}
+pub use Rattle.rrd_file.proofs.length.Numbers.{wide_at, all_cells_are, sum_next, sum_split, saved_wide}
 pub use Rattle.rrd_file.proofs.length.Pieces.{items_have, cells_have, added_has, front_has, heads_have, sources_have, removed_has, resize_has, saved_has, tune_has, update_has}

@@ -30,6 +30,7 @@ pub mod Filled
 pub mod Reached
 pub mod OneShape
 pub mod Coming
+pub mod JournalKept
 pub mod Judged
 pub mod Kept
 pub mod Whole

@@ -1,6 +1,6 @@
 -- Definition: the bytes of a file that stay in memory; and, as glue, the rows and cells among them (own).
 use Rattle.std.specs.Prelude.{◌≡◌, ℕ, ◌+◌, ◌-◌, ◌<◌, List, [], ◌∷◌, ◌++◌, length, map, slice_index_or}
-use Rattle.rrd_file.specs.Names.{AllByRecursion, flat_map, Cell, filed, header_of, all_cells, cells_by_slot, Rra, Content, Stored, HasOneEach, IsLater, MovesOn, newest, IsValid}
+use Rattle.rrd_file.specs.Names.{AddsEntries, AllByRecursion, flat_map, Cell, filed, header_of, all_cells, cells_by_slot, Rra, Content, Stored, HasOneEach, IsLater, MovesOn, newest, IsValid}
 use Rattle.rrd_file.specs.Layout.{entry_pieces, head_pieces, row_pieces, spelled}
 use Rattle.rrd_file.specs.Layout.Pieces.{Mark, OfCell, OfHeader, OfSource, OfVersion}
 use Rattle.rrd_file.specs.declared.encoded.Encoded.{Encoded}
@@ -32,12 +32,19 @@ pub record Encodes (e : Encoded) (d : Stored) : Type 0 where
   pub cells_end : e.cells_end ≡ e.cells_at + length (cell_bytes d.content)
   pub last_is : e.last ≡ d.content.last
 
--- the bytes are the file of a database that became this one by an update
-pub record Precedes (e : Encoded) (now : Stored) : Type 0 where
+-- the bytes are the file of a database that became this one by as many updates
+pub record Precedes (e : Encoded) (updates : ℕ) (now : Stored) : Type 0 where
   pub before : Stored
   pub encodes : Encodes e before
   pub valid : IsValid before.content
   pub later : IsLater before.content now.content
+  pub adds : AddsEntries updates before now
+
+-- the bytes are the journal of a database that became this one by as many updates
+pub record HoldsJournal (bytes : List ℕ) (updates : ℕ) (now : Stored) : Type 0 where
+  pub before : Stored
+  pub bytes_are : bytes ≡ journal_bytes before
+  pub adds : AddsEntries updates before now
 
 -- ---- cells of an earlier time, of which some stay
 

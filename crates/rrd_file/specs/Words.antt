@@ -1,5 +1,5 @@
 -- Glue: the words of this crate that contracts and the crates above import, passed on from one place.
-pub use Rattle.rrd_file.specs.Encoded.{HoldsBeforeJournal, HoldsCells, HoldsRows, HoldsSlots, cell_bytes, front_bytes, journal_bytes, row_bytes}
+pub use Rattle.rrd_file.specs.Encoded.{HoldsBeforeJournal, HoldsCells, HoldsJournal, HoldsRows, HoldsSlots, cell_bytes, front_bytes, journal_bytes, row_bytes}
 pub use Rattle.rrd_file.specs.End.{archives_before, by_tag, by_version, count_in, head_size, parts_size, rows_size}
 pub use Rattle.rrd_file.specs.Faults.{Front, IsAnswer, IsBad, IsFault, IsFile, IsTrailing, IsTruncated, IsValidIn, IsWhole, bad_at, bad_in_body}
 pub use Rattle.rrd_file.specs.Journal.{AreRows, AreSavedShaped, HasOneMore, HasSmallNumber, IsEntryOfSome, IsRemovedShaped, IsSavedShaped, IsShaped, IsUpdateShaped, tag_said}

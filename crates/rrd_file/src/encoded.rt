@@ -1,12 +1,12 @@
 //! The bytes of a file that stay in memory, and the few of them that an update changes.
-ghost use Rattle.std.specs.Prelude.{◌≡◌, ◌+◌, ◌<◌, ◌≤◌, ◌++◌, ◌^◌, IfSome, IsTrue, List, OnOk, Some, length, map, slice_get, slice_index, slice_range, ℕ};
-ghost use Rattle.rrd_file.specs.Names.{All, AllByRecursion, Writes, cells_by_slot, Rra, Stored, HasOneEach, newest, present, Version};
-ghost use Rattle.rrd_file.specs.Words.{HoldsBeforeJournal, HoldsCells, HoldsRows, HoldsSlots, cell_bytes, front_bytes, journal_bytes, row_bytes, layout_in, spelled, OfCell, IsBeside, IsWithin};
+ghost use Rattle.std.specs.Prelude.{◌≡◌, ◌+◌, ◌<◌, ◌≤◌, ◌++◌, ◌^◌, IfSome, IsTrue, List, OnOk, Some, length, map, slice_get, slice_index, slice_range, take, ℕ};
+ghost use Rattle.rrd_file.specs.Names.{All, AllByRecursion, flat_map, Writes, cells_by_slot, Rra, Stored, HasOneEach, newest, present, Version};
+ghost use Rattle.rrd_file.specs.Words.{HoldsBeforeJournal, HoldsCells, HoldsJournal, HoldsRows, HoldsSlots, cell_bytes, entry_pieces, front_bytes, journal_bytes, row_bytes, layout_in, spelled, OfCell, IsBeside, IsWithin};
 
 use crate::cells::write_cells;
-use crate::journal::write_entries;
+use crate::journal::write_newest;
 use crate::layout::{CELL_SIZE, NEWEST};
-use crate::length::{cells_span, newest_entry_length};
+use crate::length::{cells_span, entries_length, newest_entry_length};
 use crate::writer::{PieceWriter, put_cells};
 use crate::{Span, encoded_length, write_front};
 use rrd_base::{Database, database_is_valid};
@@ -55,13 +55,30 @@ fn encode_cells<W: Write>(database: &Database, out: &mut W) -> Result<(), WriteF
     pieces.write_rest()
 }
 
-// Writes the bytes of the journal.
-fn encode_journal<W: Write>(database: &Database, out: &mut W) -> Result<(), WriteFault>
-    ensures { Writes (W.contents out.old) (W.contents out.new) (journal_bytes database.now) result }
+// Writes the bytes of the journal's newest entries, as many as `count`.
+fn encode_newest<W: Write>(database: &Database, count: u64, out: &mut W) -> Result<(), WriteFault>
+    requires { count ≤ length database.now.journal }
+    ensures { Writes (W.contents out.old) (W.contents out.new)
+        (spelled (flat_map entry_pieces (take count database.now.journal))) result }
 {
     let mut pieces = PieceWriter::new(out);
-    write_entries(&mut pieces, database)?;
+    write_newest(&mut pieces, database, count)?;
     pieces.write_rest()
+}
+
+// Returns the bytes of the journal after as many updates as `updates`. `before` are those from before them: its entries stay
+// behind the new ones, as many as there is room for.
+fn journal_after(alloc: Global, database: &Database, updates: u64, before: &[u8]) -> Option<Vec<u8>>
+    requires { HoldsJournal before.now updates database.now }
+    ensures { IfSome result (λ journal. journal.items ≡ journal_bytes database.now) }
+{
+    let newest = updates.min(database.undoable());
+    let stay = entries_length(database, newest) as usize;
+    let more = newest_entry_length(database) as usize;
+    let mut journal = Vec::with_capacity(alloc, more.saturating_add(stay)).ok()?;
+    encode_newest(database, newest, &mut journal).ok()?;
+    journal.extend_from_slice(&before[..stay]).ok()?;
+    Some(journal)
 }
 
 // Writes rows, from index `from` to before `to`, over as many rows of an earlier time. Those below index `kept` stay.
@@ -222,7 +239,7 @@ impl Encoded {
         let cells_at = bytes.len();
         encode_cells(database, &mut bytes).ok()?;
         let cells_end = bytes.len();
-        encode_journal(database, &mut bytes).ok()?;
+        encode_newest(database, database.undoable(), &mut bytes).ok()?;
         Some(Encoded {
             bytes,
             cells_at,
@@ -249,12 +266,12 @@ impl Encoded {
         })
     }
 
-    /// Changes the bytes to those of `database`, which is the database after an update, and tells where.
+    /// Changes the bytes to those of `database`, which is the database after as many updates as `updates`, and tells where.
     ///
-    /// Writes the cells of the rows that ended since, so the work does not grow with the rows that stay. Returns `None`
-    /// if memory runs out.
-    pub fn updated(self, alloc: Global, database: &Database) -> Option<Updated>
-        requires { Precedes self database.now }
+    /// Writes the cells of the rows that ended since, and the new entries of the journal, so the work does not grow with
+    /// the rows that stay. Returns `None` if memory runs out.
+    pub fn updated(self, alloc: Global, updates: u64, database: &Database) -> Option<Updated>
+        requires { Precedes self updates database.now }
         ensures encodes { IfSome result (λ updated. Encodes updated.encoded database.now) }
         ensures agrees { IfSome result (λ updated. AgreesOutside updated.changed.items (bytes_in self) (bytes_in updated.encoded)) }
     {
@@ -271,9 +288,10 @@ impl Encoded {
         }
         let mut changed = Vec::with_capacity(alloc, most_spans(database)).ok()?;
         make_room(&mut bytes, database).ok()?;
+        let journal = journal_after(alloc, database, updates, &bytes[cells_end..])?;
         bytes.truncate(cells_end);
         put_before_journal(&mut bytes, &front, database, last, &mut changed).ok()?;
-        encode_journal(database, &mut bytes).ok()?;
+        bytes.extend_from_slice(&journal).ok()?;
         changed
             .push(Span {
                 start: 0,

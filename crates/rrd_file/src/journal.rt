@@ -1,5 +1,5 @@
 //! The entries of the journal, newest first: writing and reading.
-ghost use Rattle.std.specs.Prelude.{◌≡◌, ◌∷◌, [], ℕ, IfOk, List, OnOk, true};
+ghost use Rattle.std.specs.Prelude.{◌≡◌, ◌≤◌, ◌∷◌, [], ℕ, IfOk, List, OnOk, length, take, true};
 ghost use Rattle.rrd_file.specs.Names.{flat_map, due, limits, outline_left, EntryDue, entry_of};
 ghost use Rattle.rrd_file.specs.Words.{Gathers, HasOneMore, IsEntryOfSome, IsShaped, tag_said, entry_pieces, spelled, OfTag, Body, IsTagWithin, first_due, Brings, Closes, Reaches, Stands};
 
@@ -38,6 +38,24 @@ fn write_entry<W: Write>(out: &mut PieceWriter<'_, W>, entry: &Entry) -> Result<
     }
 }
 
+/// Writes the newest entries, as many as `count`, newest first.
+pub(crate) fn write_newest<W: Write>(
+    out: &mut PieceWriter<'_, W>,
+    database: &Database,
+    count: u64,
+) -> Result<(), WriteFault>
+    requires { count ≤ length database.now.journal }
+    ensures { Gathers W.contents out.old out.new
+        (spelled (flat_map entry_pieces (take count database.now.journal))) result }
+{
+    // The prover needs that each entry is one of a valid content, so that its numbers fit their bytes.
+    database_is_valid(database);
+    for number in 0..count {
+        write_entry(out, database.entry(number))?;
+    }
+    Ok(())
+}
+
 /// Writes all entries, newest first.
 pub(crate) fn write_entries<W: Write>(
     out: &mut PieceWriter<'_, W>,
@@ -46,12 +64,7 @@ pub(crate) fn write_entries<W: Write>(
     ensures { Gathers W.contents out.old out.new
         (spelled (flat_map entry_pieces database.now.journal)) result }
 {
-    // The prover needs that each entry is one of a valid content, so that its numbers fit their bytes.
-    database_is_valid(database);
-    for number in 0..database.undoable() {
-        write_entry(out, database.entry(number))?;
-    }
-    Ok(())
+    write_newest(out, database, database.undoable())
 }
 
 // Returns whether the file's version has this tag: only the newest version has entries for added and removed archives.

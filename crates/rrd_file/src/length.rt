@@ -1,6 +1,6 @@
 //! The size of a database's file. The size follows from the numbers of data sources, archives, rows and entries, so no
 //! cell is read.
-ghost use Rattle.std.specs.Prelude.{ℕ, ◌≡◌, ◌≤◌, ◌+◌, ◌*◌, length};
+ghost use Rattle.std.specs.Prelude.{ℕ, ◌≡◌, ◌≤◌, ◌+◌, ◌*◌, drop, length};
 ghost use Rattle.rrd_file.specs.Names.{AllByRecursion, flat_map, sum_by, entry_of, update_of, max_rows, max_sources, RemovedEntry, ResizeEntry, TuneEntry, UpdateEntry, present};
 ghost use Rattle.rrd_file.specs.Words.{IsEntryOfSome, cell_bytes, front_bytes, entry_pieces, layout, saved_pieces, spelled, IsWide, most_of_all_saved, most_of_cells, most_of_entries, most_of_entry, most_of_front, most_of_rows, most_of_saved, max_rows_in_all, rows_of};
 
@@ -153,15 +153,16 @@ pub(crate) fn newest_entry_length(database: &Database) -> u64
     entry_length(database.entry(0))
 }
 
-// Returns the size of all entries.
-fn entries_length(database: &Database) -> u64
-    ensures count { result ≡ length (spelled (flat_map entry_pieces database.now.journal)) }
+/// Returns the size of the entries from number `from` on. Entry 0 is the newest.
+pub(crate) fn entries_length(database: &Database, from: u64) -> u64
+    requires { from ≤ length database.now.journal }
+    ensures count { result ≡ length (spelled (flat_map entry_pieces (drop from database.now.journal))) }
     ensures few { result ≤ most_of_entries }
 {
     // The prover needs that each entry is one of a valid content, so that its numbers are small.
     database_is_valid(database);
     let mut length = 0;
-    for number in 0..database.undoable() {
+    for number in from..database.undoable() {
         length += entry_length(database.entry(number));
     }
     length
@@ -221,5 +222,5 @@ pub(crate) fn cells_span(database: &Database) -> Span
 pub fn encoded_length(database: &Database) -> u64
     ensures { result ≡ length (layout database.now) }
 {
-    front_length(database) + cells_length(database) + entries_length(database)
+    front_length(database) + cells_length(database) + entries_length(database, 0)
 }

@@ -33,7 +33,7 @@ pub use Rattle.rrd_spec.specs.Laws.ListedLives.{archive_for}
 pub use Rattle.rrd_spec.specs.Laws.Outlines.{FiledOutline, JournalTakes, JournalTook, MayUndoEach, OutlineFollows, OutlineIsNeeded, OutlineSuffices, OutlinesAreNeeded, OutlinesSuffice}
 pub use Rattle.rrd_spec.specs.Laws.Passing.{PassesInPieces, PassesWithin, SampledPasses, archive_passed, passed}
 pub use Rattle.rrd_spec.specs.Laws.Slots.{AsManyCells, CellStandsInSlot, CellStaysInSlot, HasOneEach, KeepsRow, PlaceHasSlot, PlacesDiffer, PutsBlock, PutsCell, PutsRow, ShowsInPlace, SlotHasPlace, StandsInPlace, StaysInSlot, with_row_in}
-pub use Rattle.rrd_spec.specs.Laws.Updates.{IsLater, MoveOn, MovesOn, UpdateIsLater, dropped}
+pub use Rattle.rrd_spec.specs.Laws.Updates.{AddsEntries, IsLater, MoveOn, MovesOn, UpdateIsLater, dropped}
 pub use Rattle.rrd_spec.specs.Laws.Validity.{ArchiveStaysValid, CreatedIsValid, PartsGrow, StaysValid, StaysValidFor}
 pub use Rattle.rrd_spec.specs.Laws.Versions.{ContentIsWithin, DatabaseIsWithin, EntryIsWithin, FirstTellsNoArchive, JournalIsWithin}
 pub use Rattle.rrd_spec.specs.Lemmas.Cells.{cell_of_archive, prep_of_archive}

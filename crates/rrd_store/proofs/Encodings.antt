@@ -1,11 +1,12 @@
 -- The bytes of a file that stay in memory are those of the database before a command.
 use Rattle.std.proofs.Common.{arith}
-use Rattle.std.proofs.Common.{◌≡◌, ◌∙◌, ℕ, false, List, [], Option, Some, None, IfErr, IfOk, IfSome, Result, Ok, Err, Bor, refl, sym, ap, subst}
+use Rattle.std.proofs.Common.{◌≡◌, ◌∙◌, ℕ, Bool, false, true, List, [], Option, Some, None, IfErr, IfOk, IfSome, Result, Ok, Err, Bor, refl, sym, ap, subst}
 use Rattle.std.specs.Option.{option_copied}
 use Rattle.std.specs.Result.{result_err}
 use Rattle.rrd_spec.specs.Journal.Survivors.{Stored}
 use Rattle.rrd_spec.specs.Laws.Updates.{UpdateIsLater}
 use Rattle.rrd_spec.specs.History.{Content}
+use Rattle.rrd_spec.specs.Validity.{IsValid}
 use Rattle.rrd_spec.specs.declared.requests.update.Update.{Update}
 use Rattle.rrd_file.specs.Encoded.{Encodes, bytes_in}
 use Rattle.rrd_file.specs.Faults.{IsFile, IsValidStored}
@@ -19,17 +20,15 @@ use Rattle.rrd_tool.specs.Execution.{Executes, database_left, has_changed}
 use Rattle.rrd_tool.specs.declared.commands.Command.{Command}
 use Rattle.rrd_tool.specs.declared.execution.Outcome.{Outcome}
 use Rattle.rrd_tool.specs.declared.execution.Outcome.TheVariants.{Printed, Changed, Refused as WasRefused}
-use Rattle.rrd_store.specs.Encoding.{AreOf, IsBefore, IsBeforeBatch, IsOf, encoded_by, encoded_in}
+use Rattle.rrd_store.specs.Encoding.{AreOf, IsBefore, IsBeforeCommand, IsOf, encoded_by, encoded_in}
 use Rattle.rrd_store.specs.Sessions.{HasBytes, first_there, kept_by, kept_unless}
 use Rattle.rrd_store.specs.Single.{Ends}
 use Rattle.rrd_store.specs.Storages.{Becomes, Bytes, DiffersWithin, Held, IsAnyFile, Leaves, Missing, Stays}
 use Rattle.rrd_store.specs.declared.encoding.Encoding.{Encoding}
-use Rattle.rrd_store.specs.declared.encoding.Reach.{Reach}
-use Rattle.rrd_store.specs.declared.encoding.Reach.TheVariants.{NewestRows}
 use Rattle.rrd_store.specs.declared.faults.TaskFault.{TaskFault}
 use Rattle.rrd_store.specs.declared.faults.TaskFault.TheVariants as task
-use Rattle.rrd_tool.proofs.Moved.{accepted, executes_same, not_refused}
-use Rattle.rrd_tool.specs.Batch.Moved.{IsChangedBy, IsUpdate}
+use Rattle.rrd_tool.proofs.Moved.{changed_once, executes_same, updates}
+use Rattle.rrd_tool.specs.Batch.Moved.{IsChangedBy, IsUpdate, with_change}
 use Rattle.rrd_tool.specs.declared.changed_by.ChangedBy.{ChangedBy}
 use Rattle.rrd_tool.specs.declared.changed_by.ChangedBy.TheVariants.{Nothing, Updates, Anything}
 use Rattle.rrd_store.proofs.Sessions.{stays_same}
@@ -37,21 +36,30 @@ use Rattle.rrd_store.proofs.Sessions.{stays_same}
 some_same : {A : Type 0} (x y : A) → Some x ≡ Some y → x ≡ y
 some_same x y e = cc
 
-pub is_before : (e : Encoded) (reach : Reach) (found : Option Stored) (command : Command) (a b : Option (List ℕ)) (outcome : Outcome)
-    → Executes found command a b outcome → IsOf e found → ((d : Stored) → found ≡ Some d → IsValidStored d) → (reach ≡ NewestRows → IsUpdate (effect command))
-    → ((base : Content) (update : Update) → UpdateIsLater base update) → IsBefore e reach outcome
-is_before e reach found command a b outcome executed of valid reaches law = grind (arith, executes_same, accepted, some_same, not_refused)
-
--- the bytes from before a batch
-before_batch : (e : Encoded) (by : ChangedBy) (found left : Option Stored) → IsOf e found → IsChangedBy by found left → IsBeforeBatch e by left
-before_batch e Nothing found left of is = grind arith
-before_batch e Updates found left of is = grind arith
-before_batch e Anything found left of is = grind arith
+-- the bytes from before what has changed the database
+before_changed : (e : Encoded) (by : ChangedBy) (found left : Option Stored) → IsOf e found → IsChangedBy by found left → IsBefore e by left
+before_changed e Nothing found left of is = grind arith
+before_changed e (Updates count) found left of is = grind arith
+before_changed e Anything found left of is = grind arith
 
 pub before_lines : (encoded : Option Encoded) (by : ChangedBy) (found left : Option Stored) → IfSome encoded (λ e. IsOf e found) → IsChangedBy by found left
-    → IfSome encoded (λ e. IsBeforeBatch e by left)
+    → IfSome encoded (λ e. IsBefore e by left)
 before_lines None by found left of is = tt
-before_lines (Some e) by found left of is = before_batch e by found left of is
+before_lines (Some e) by found left of is = before_changed e by found left of is
+
+-- the bytes from before a command
+before_command : (e : Encoded) (is_update : Bool) (found : Option Stored) (command : Command) (a b : Option (List ℕ)) (outcome : Outcome)
+    → Executes found command a b outcome → IsOf e found → ((d : Stored) → found ≡ Some d → IsValid d.content) → (is_update ≡ true → IsUpdate (effect command))
+    → ((base : Content) (update : Update) → UpdateIsLater base update) → IsBeforeCommand e (with_change Nothing is_update) outcome
+before_command e is_update found command a b (Changed new) executed of valid is law =
+    let by : IsChangedBy (with_change Nothing is_update) found (Some new) =
+    changed_once Nothing is_update found found (Some new)
+    (λ yes. let u = is yes in updates found command u.0 a b new u.1 valid law executed) refl in
+    record { same = λ no. absurd cc; changed = λ yes. before_changed e (with_change Nothing is_update) found (Some new) of by }
+before_command e is_update found command a b outcome executed of valid is law = record {
+  same = λ no. subst (IsOf e) (sym (executes_same found command a b outcome executed no)) of;
+  changed = λ yes. absurd cc;
+}
 
 -- the bytes of the database that a command left are those of the database that stays in memory
 first_is : (left other : Option Stored) (e : Encoded) (d : Stored) → IsOf e left → first_there left other ≡ Some d → Encodes e d
@@ -68,12 +76,13 @@ kept_is other outcome (Err (task.File fault)) e d of kept = first_is (database_l
 
 -- ---- the same of bytes that there may be
 
-pub before_of : (encoded : Option Encoded) (reach : Reach) (found : Option Stored) (command : Command) (a b : Option (List ℕ)) (outcome : Outcome)
-    → Executes found command a b outcome → IfSome encoded (λ e. IsOf e found) → IfSome found IsValidStored → (reach ≡ NewestRows → IsUpdate (effect command))
-    → ((base : Content) (update : Update) → UpdateIsLater base update) → IfSome encoded (λ e. IsBefore e reach outcome)
-before_of None reach found command a b outcome executed of valid reaches law = tt
-before_of (Some e) reach found command a b outcome executed of valid reaches law =
-    is_before e reach found command a b outcome executed of (λ d is. subst (λ (k : Option Stored). IfSome k IsValidStored) is valid) reaches law
+pub before_of : (encoded : Option Encoded) (is_update : Bool) (by : ChangedBy) (found : Option Stored) (command : Command) (a b : Option (List ℕ)) (outcome : Outcome)
+    → by ≡ with_change Nothing is_update → Executes found command a b outcome → IfSome encoded (λ e. IsOf e found) → IfSome found IsValidStored
+    → (is_update ≡ true → IsUpdate (effect command)) → ((base : Content) (update : Update) → UpdateIsLater base update) → IfSome encoded (λ e. IsBeforeCommand e by outcome)
+before_of None is_update by found command a b outcome by_is executed of valid is law = tt
+before_of (Some e) is_update by found command a b outcome by_is executed of valid is law =
+    subst (λ (k : ChangedBy). IsBeforeCommand e k outcome) (sym by_is)
+    (before_command e is_update found command a b outcome executed of (λ d same. (subst (λ (k : Option Stored). IfSome k IsValidStored) same valid).content_is) is law)
 
 pub taken_is : (encoded taken : Option Encoded) (database : Option Stored) (d : Stored) → taken ≡ encoded → database ≡ Some d → AreOf encoded database → IfSome taken (λ e. IsOf e database)
 taken_is None taken database d same is of = subst (λ (o : Option Encoded). IfSome o (λ e. IsOf e database)) (sym same) tt

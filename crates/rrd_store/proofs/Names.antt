@@ -67,8 +67,6 @@ pub use Rattle.rrd_store.specs.Single.{EndsBy, FindsOne, RunsAs, RunsFrom, Start
 pub use Rattle.rrd_store.specs.Storages.{Held, Leaves, Missing, IsNoFile, Becomes, Bytes, DiffersWithin, IsAnyFile, Stays, Finds, HasNone, Reads}
 pub use Rattle.rrd_store.specs.declared.stored_batch.FileBatchEnd.{FileBatchEnd}
 pub use Rattle.rrd_store.specs.declared.encoding.Encoding.{Encoding}
-pub use Rattle.rrd_store.specs.declared.encoding.Reach.{Reach}
-pub use Rattle.rrd_store.specs.declared.encoding.Reach.TheVariants.{NewestRows}
 pub use Rattle.rrd_store.specs.declared.faults.TaskFault.{TaskFault}
 pub use Rattle.rrd_store.specs.declared.faults.TaskFault.TheVariants.{Stream, File, CannotOpen, CannotWrite}
 pub use Rattle.rrd_store.specs.declared.usage.TheConstants.{USAGE}

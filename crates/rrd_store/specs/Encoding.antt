@@ -11,8 +11,6 @@ use Rattle.rrd_store.specs.Storages.{DiffersWithin, Held}
 use Rattle.rrd_store.specs.declared.encoding.Changed.{Changed}
 use Rattle.rrd_store.specs.declared.encoding.Changed.TheVariants.{Anywhere, Within}
 use Rattle.rrd_store.specs.declared.encoding.Encoding.{Encoding}
-use Rattle.rrd_store.specs.declared.encoding.Reach.{Reach}
-use Rattle.rrd_store.specs.declared.encoding.Reach.TheVariants.{NewestRows}
 use Rattle.rrd_store.specs.declared.faults.TaskFault.{TaskFault}
 use Rattle.rrd_store.specs.declared.faults.TaskFault.TheVariants as task
 
@@ -26,18 +24,15 @@ pub record IsOf (e : Encoded) (database : Option Stored) : Type 0 where
   pub is : database ≡ Some here
   pub encodes : Encodes e here
 
--- the bytes are the file of the database from before a command: the same after a command that changed nothing, and the one
--- before after an update
-pub record IsBefore (e : Encoded) (reach : Reach) (outcome : Outcome) : Type 0 where
-  pub same : has_changed outcome ≡ false → IsOf e (database_left outcome)
-  pub updated :
-      reach ≡ NewestRows → has_changed outcome ≡ true → (now : Stored) → database_left outcome ≡ Some now
-      → Precedes e now
-
--- the bytes are the file of the database from before a batch
-pub record IsBeforeBatch (e : Encoded) (by : ChangedBy) (left : Option Stored) : Type 0 where
+-- the bytes are the file of the database from before what has changed it
+pub record IsBefore (e : Encoded) (by : ChangedBy) (left : Option Stored) : Type 0 where
   pub same : by ≡ Nothing → IsOf e left
-  pub updated : by ≡ Updates → (now : Stored) → left ≡ Some now → Precedes e now
+  pub updated : (count : ℕ) (now : Stored) → by ≡ Updates count → left ≡ Some now → Precedes e count now
+
+-- the bytes are the file of the database from before a command
+pub record IsBeforeCommand (e : Encoded) (by : ChangedBy) (outcome : Outcome) : Type 0 where
+  pub same : has_changed outcome ≡ false → IsOf e (database_left outcome)
+  pub changed : has_changed outcome ≡ true → IsBefore e by (database_left outcome)
 
 -- the bytes may be written over these contents, where they say that they differ
 abbrev pub DiffersBy : Changed → Option Held → List ℕ → Type 0

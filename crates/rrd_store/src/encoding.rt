@@ -3,30 +3,18 @@ ghost use Rattle.std.specs.Prelude.{◌≡◌, IfSome, IsTrue, Option, Some, Non
 ghost use Rattle.rrd_file.specs.Encoded.{Encodes, Precedes, bytes_in};
 ghost use Rattle.rrd_file.specs.Laws.{IsValidStored};
 ghost use Rattle.rrd_file.specs.Spans.{AgreesOutside};
-ghost use Rattle.rrd_tool.specs.Batch.Moved.{IsUpdate};
-ghost use Rattle.rrd_tool.specs.Commands.{effect};
 ghost use Rattle.rrd_tool.specs.Execution.{database_left, has_changed};
-ghost use Rattle.rrd_store.specs.Encoding.{AreOf, IsBefore, IsBeforeBatch, IsOf, DiffersBy, MayReplace, encoded_by, encoded_in};
+ghost use Rattle.rrd_store.specs.Encoding.{AreOf, IsBefore, IsBeforeCommand, IsOf, DiffersBy, MayReplace, encoded_by, encoded_in};
 ghost use Rattle.rrd_store.specs.Sessions.{HasBytes};
 ghost use Rattle.rrd_store.specs.Storages.{Held, IsAnyFile};
-ghost use Rattle.rrd_store.specs.declared.encoding.Reach.TheVariants.{NewestRows as OfNewestRows};
 
 use crate::TaskFault;
 use crate::differing::differing;
 use rrd_base::{Database, database_is_valid};
 use rrd_file::laws::{encoded_is_layout, layout_is_file};
 use rrd_file::{Encoded, Span, Updated};
-use rrd_tool::{ChangedBy, Command, Outcome};
+use rrd_tool::{ChangedBy, Outcome};
 use std::alloc::Global;
-
-/// How much of a file a command may change.
-#[derive(Clone, Copy, Debug, PartialEq, Eq)]
-pub(crate) enum Reach {
-    /// Of the rows only the newest, which take the slots of the oldest.
-    NewestRows,
-    /// Any rows.
-    AllRows,
-}
 
 /// Where the bytes of a file after a command may differ from those before it.
 #[derive(Drop)]
@@ -42,24 +30,6 @@ pub(crate) enum Changed {
 pub(crate) struct Encoding {
     pub(crate) encoded: Encoded,
     pub(crate) changed: Changed,
-}
-
-/// Returns how much of a file a command may change.
-pub(crate) fn reach_of(command: &Command) -> Reach
-    ensures { result ≡ OfNewestRows → IsUpdate (effect command.now) }
-{
-    match command {
-        Command::Update(_) => Reach::NewestRows,
-        Command::Create(_)
-        | Command::Tune(_)
-        | Command::Resize { .. }
-        | Command::Fetch(_)
-        | Command::First { .. }
-        | Command::Last
-        | Command::LastUpdate
-        | Command::Info
-        | Command::Revert => Reach::AllRows,
-    }
 }
 
 /// Takes the bytes of the database that a command runs on, if there is one.
@@ -84,14 +54,19 @@ pub(crate) fn take_encoded(
     }
 }
 
-// Encodes a database after an update, whose bytes before it are `before`.
+// Encodes a database after as many updates as `updates`, whose bytes before them are `before`.
 #[tactic(auto, using(crate::proofs::Encodings::may_differ))]
-fn encode_update(alloc: Global, before: Encoded, database: &Database) -> Option<Encoding>
-    requires { Precedes before database.now }
+fn encode_updates(
+    alloc: Global,
+    before: Encoded,
+    updates: u64,
+    database: &Database,
+) -> Option<Encoding>
+    requires { Precedes before updates database.now }
     ensures of { IfSome result (λ e. Encodes e.encoded database.now) }
     ensures may { (held : Option Held) → HasBytes held (Some before) → IsAnyFile (bytes_in before) → IfSome result (MayReplace held) }
 {
-    let Updated { encoded, changed } = before.updated(alloc, database)?;
+    let Updated { encoded, changed } = before.updated(alloc, updates, database)?;
     Some(Encoding {
         encoded,
         changed: Changed::Within(changed),
@@ -139,21 +114,23 @@ fn encode_same(alloc: Global, before: Encoded) -> Encoding
     }
 }
 
-/// Encodes the database that a batch left, if this has changed it. `before` are the bytes before the batch, if they are known.
-/// Returns `None` if memory runs out.
-pub(crate) fn encode_batch(
+/// Encodes a database after what has changed it, if anything. `before` are the bytes before that, if they are known. Returns
+/// `None` if memory runs out.
+pub(crate) fn encode_changed(
     alloc: Global,
     before: Option<Encoded>,
     changed_by: ChangedBy,
     database: &Database,
 ) -> Option<Encoding>
-    requires { IfSome before (λ e. IsBeforeBatch e changed_by (Some database.now)) }
+    requires { IfSome before (λ e. IsBefore e changed_by (Some database.now)) }
     ensures of { IfSome result (λ e. Encodes e.encoded database.now) }
     ensures may { (held : Option Held) → HasBytes held before → IfSome before (λ b. IsAnyFile (bytes_in b)) → IfSome result (MayReplace held) }
 {
     match (before, changed_by) {
         (Some(before), ChangedBy::Nothing) => Some(encode_same(alloc, before)),
-        (Some(before), ChangedBy::Updates) => encode_update(alloc, before, database),
+        (Some(before), ChangedBy::Updates(count)) => {
+            encode_updates(alloc, before, count, database)
+        }
         (before, _) => encode_all(alloc, before, database),
     }
 }
@@ -172,25 +149,22 @@ fn unchanged(before: Option<Encoded>) -> Option<Encoding>
     }
 }
 
-/// Returns the bytes of the file after a command, which are `before` if the command changed nothing. Returns `None` if
-/// there are none, or memory runs out.
+/// Returns the bytes of the file after a command, which are `before` if the command changed nothing; `changed_by` says what
+/// the command is otherwise. Returns `None` if there are none, or memory runs out.
 pub(crate) fn encoded_after(
     alloc: Global,
     before: Option<Encoded>,
-    reach: Reach,
+    changed_by: ChangedBy,
     outcome: &Outcome,
 ) -> Option<Encoding>
-    requires { IfSome before (λ e. IsBefore e reach outcome.now) }
+    requires { IfSome before (λ e. IsBeforeCommand e changed_by outcome.now) }
     ensures of { IfSome result (λ e. IsOf e.encoded (database_left outcome.now)) }
     ensures same { has_changed outcome.now ≡ false → encoded_in result ≡ before }
     ensures may { (held : Option Held) → HasBytes held before → IfSome before (λ b. IsAnyFile (bytes_in b)) → IfSome result (MayReplace held) }
 {
     match outcome {
         Outcome::Printed(_) | Outcome::Refused { .. } => unchanged(before),
-        Outcome::Changed(database) => match (before, reach) {
-            (Some(before), Reach::NewestRows) => encode_update(alloc, before, database),
-            (before, _) => encode_all(alloc, before, database),
-        },
+        Outcome::Changed(database) => encode_changed(alloc, before, changed_by, database),
     }
 }
 

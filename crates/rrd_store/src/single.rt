@@ -13,7 +13,7 @@ ghost use Rattle.rrd_store.specs.Single.{Ends, HoldsOfChange, IsSingle, RunsFrom
 ghost use Rattle.rrd_store.specs.Encoding.{IsOf, MayReplace, encoded_in};
 ghost use Rattle.rrd_store.specs.Storages.{Bytes, Held, IsAnyFile, Leaves, Stays};
 
-use crate::encoding::{Encoding, encoded_after, reach_of, take_encoded};
+use crate::encoding::{Encoding, encoded_after, take_encoded};
 use crate::stored::{store, store_encoded};
 use crate::{Access, Loaded, Storage, TaskFault};
 use rrd_base::Database;
@@ -21,7 +21,7 @@ use rrd_file::Encoded;
 use rrd_file::laws::encoded_is_layout;
 use rrd_fixed::flush;
 use rrd_spec::laws::updates_keep_newest_rows;
-use rrd_tool::{Command, Fault, Observer, Outcome, Words, execute, read_command};
+use rrd_tool::{ChangedBy, Command, Fault, Observer, Outcome, Words, execute, read_command};
 use std::alloc::Global;
 use std::io::Write;
 
@@ -192,9 +192,9 @@ pub(crate) fn carry_out<P: Storage, W: Write, V: Observer>(
 {
     encoded_is_layout();
     updates_keep_newest_rows();
-    let reach = reach_of(&command);
+    let changed_by = ChangedBy::Nothing.and(command.is_update());
     let outcome = execute(alloc, database, command, out);
-    let encoding = encoded_after(alloc, before, reach, &outcome);
+    let encoding = encoded_after(alloc, before, changed_by, &outcome);
     show_refusal(&outcome, observer);
     let end = finish(alloc, &outcome, encoding.as_ref(), storage, out);
     Carried {

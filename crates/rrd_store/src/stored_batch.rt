@@ -4,11 +4,11 @@ ghost use Rattle.std.specs.Result.{result_err};
 ghost use Rattle.rrd_file.specs.Encoded.{bytes_in};
 ghost use Rattle.rrd_file.specs.Laws.{IsValidStored};
 ghost use Rattle.rrd_store.specs.Batch.{HoldsOfLeft, IsFileBatch, IsStored, RunsLines};
-ghost use Rattle.rrd_store.specs.Encoding.{AreOf, IsBeforeBatch, IsOf};
+ghost use Rattle.rrd_store.specs.Encoding.{AreOf, IsBefore, IsOf};
 ghost use Rattle.rrd_store.specs.Sessions.{HasBytes, IsLinesOn, kept_unless};
 ghost use Rattle.rrd_store.specs.Storages.{Bytes, Held, IsAnyFile, Leaves, Stays};
 
-use crate::encoding::{encode_batch, take_encoded};
+use crate::encoding::{encode_changed, take_encoded};
 use crate::stored::store_encoded;
 use crate::{Loaded, Storage, TaskFault};
 use rrd_base::{Database, database_is_valid};
@@ -70,7 +70,7 @@ fn store_allowed<P: Storage, G: Gate>(
     gate: &G,
 ) -> Result<Option<Encoded>, TaskFault>
     requires file { IfSome before (λ e. IsAnyFile (bytes_in e)) }
-    requires before { IfSome before (λ e. IsBeforeBatch e changed_by (option_map (λ d. d.now) database)) }
+    requires before { IfSome before (λ e. IsBefore e changed_by (option_map (λ d. d.now) database)) }
     ensures falls { (s : Option Held) → P.is_honest s storage.new → P.is_honest s storage.old }
     ensures sound { (s : Option Held) → P.is_honest s storage.new → P.is_sound s storage.old
         → HasBytes (P.contents s storage.old) before → P.is_sound s storage.new }
@@ -94,7 +94,7 @@ fn store_allowed<P: Storage, G: Gate>(
     if !gate.allows() {
         return Err(TaskFault::CannotWrite);
     }
-    let Some(encoding) = encode_batch(alloc, before, changed_by, database) else {
+    let Some(encoding) = encode_changed(alloc, before, changed_by, database) else {
         return Err(TaskFault::CannotWrite);
     };
     store_encoded(storage, &encoding, database)?;

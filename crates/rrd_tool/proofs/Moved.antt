@@ -1,14 +1,14 @@
 -- The database that updates and other commands leave.
-use Rattle.std.specs.Prelude.{◌≡◌, ◌≤◌, ◌+◌, ◌-◌, ◌/◌, ◌++◌, ◌⊎◌, ℕ, Bool, true, false, List, [], ◌∷◌, Option, Some, None, length, take, drop, min, option_map, suc, zero}
+use Rattle.std.specs.Prelude.{◌≡◌, ◌≤◌, ◌+◌, ◌-◌, ◌/◌, ◌++◌, ◌^◌, ◌⊎◌, ℕ, Bool, true, false, if◌then◌else◌, nat_lt, List, [], ◌∷◌, Option, Some, None, length, take, drop, min, option_map, suc, zero}
 use Rattle.rrd_tool.proofs.Names.{◌∙◌, refl, sym, ap, subst, arith, inl, inr, cases_lt, take-append-drop, Command, Outcome, Fault, Line, Refused, NoDatabase, Output, Refusal, Stored, Rra, Content, Executes, Comes, Effect, Changes, effect, stored_next, verdict_on, database_left, has_changed, verdict}
 use Rattle.std.proofs.Math.Nat.{div-mul-le_self}
 use Rattle.std.proofs.Math.Seq.{take-add}
-use Rattle.std.proofs.lemmas.List.{length-take, append_cancel_left, drop_all, drop-drop, drop-take, take_at}
+use Rattle.std.proofs.lemmas.List.{append_assoc, length-append, length-take, take-take, append_cancel_left, drop_all, drop-drop, drop-take, take_at}
 use Rattle.std.proofs.lemmas.Nat.{le-div}
 use Rattle.rrd_spec.specs.Commands.{Updating}
 use Rattle.rrd_spec.specs.Journal.Survivors.{changed}
-use Rattle.rrd_spec.specs.Laws.Updates.{IsLater, MoveOn, MovesOn, UpdateIsLater, dropped}
-use Rattle.rrd_spec.specs.Journal.Entries.{rows_between}
+use Rattle.rrd_spec.specs.Laws.Updates.{AddsEntries, IsLater, MoveOn, MovesOn, UpdateIsLater, dropped}
+use Rattle.rrd_spec.specs.Journal.Entries.{entry, rows_between}
 use Rattle.rrd_spec.specs.Settings.{resolution}
 use Rattle.rrd_spec.specs.Validity.{IsValid}
 use Rattle.rrd_spec.specs.declared.requests.update.Update.{Update}
@@ -95,6 +95,34 @@ later_still old mid new x y =
       archives_are = move_on old.step old.last mid.last new.last (omega (arith, x.later)) (omega (arith, y.later)) old.archives mid.archives new.archives x.archives_are (subst Move x.step_is y.archives_are);
     }
 
+-- ---- more and more entries
+
+-- what has no room at once has none later
+room_stays : {A : Type 0} (n room : ℕ) (new old : List A) → n ≤ room → take n (new ++ take room old) ≡ take n (new ++ old)
+room_stays n room [] old few = take-take n room old few
+room_stays zero room (x ∷ new) old few = refl
+room_stays (suc n) room (x ∷ new) old few = ap (λ l. x ∷ l) (room_stays n room new old (omega (arith, few)))
+
+adds_still : (n m : ℕ) (old mid new : Stored) → AddsEntries n old mid → AddsEntries m mid new → AddsEntries (n + m) old new
+adds_still n m old mid new x y =
+    let depth = old.content.depth in
+    record {
+      added = y.added ++ x.added;
+      as_many = omega (arith, length-append y.added x.added, x.as_many, y.as_many);
+      depth_is = y.depth_is ∙ x.depth_is;
+      journal_is =
+          y.journal_is ∙ ap (λ room. take room (y.added ++ mid.journal)) x.depth_is ∙ ap (λ l. take depth (y.added ++ l)) x.journal_is
+          ∙ room_stays depth depth y.added (x.added ++ old.journal) (omega arith) ∙ ap (take depth) (sym (append_assoc y.added x.added old.journal));
+    }
+
+adds_one : (d : Stored) (update : Update) → AddsEntries 1 d (changed d (Updating update))
+adds_one d update = record {
+  added = entry d.content (Updating update) ∷ [];
+  as_many = refl;
+  depth_is = refl;
+  journal_is = refl;
+}
+
 -- ---- one more change
 
 abbrev pub UpdateLaw : Type 0
@@ -103,8 +131,8 @@ UpdateLaw = (base : Content) (update : Update) → UpdateIsLater base update
 some_same : {A : Type 0} (x y : A) → Some x ≡ Some y → x ≡ y
 some_same x y e = cc
 
-updated_still : (old mid new : Option Stored) → IsUpdated old mid → IsUpdated mid new → IsUpdated old new
-updated_still old mid new x y =
+updated_still : (count : ℕ) (old mid new : Option Stored) → IsUpdated count old mid → IsUpdated 1 mid new → IsUpdated (count + 1) old new
+updated_still count old mid new x y =
     let same : y.before ≡ x.now = some_same y.before x.now (sym y.old_is ∙ x.new_is) in
     let later : IsLater x.now.content y.now.content = subst (λ (d : Stored). IsLater d.content y.now.content) same y.later in
     record {
@@ -114,15 +142,21 @@ updated_still old mid new x y =
       new_is = y.new_is;
       valid = x.valid;
       later = later_still x.before.content x.now.content y.now.content x.later later;
+      adds = adds_still count 1 x.before x.now y.now x.adds (subst (λ (d : Stored). AddsEntries 1 d y.now) same y.adds);
     }
 
-pub changed_once : (by : ChangedBy) (is_update : Bool) (start old new : Option Stored) → (is_update ≡ true → IsUpdated old new) → IsChangedBy by start old
+counted_so : (count : ℕ) (start new : Option Stored) → IsUpdated count start new → (fits : Bool) → IsChangedBy (if fits then Updates count else Anything) start new
+counted_so count start new is true = is
+counted_so count start new is false = tt
+
+pub changed_once : (by : ChangedBy) (is_update : Bool) (start old new : Option Stored) → (is_update ≡ true → IsUpdated 1 old new) → IsChangedBy by start old
     → IsChangedBy (with_change by is_update) start new
-changed_once Nothing true start old new is was = subst (λ (d : Option Stored). IsUpdated d new) was (is refl)
-changed_once Updates true start old new is was = updated_still start old new was (is refl)
+changed_once Nothing true start old new is was = subst (λ (d : Option Stored). IsUpdated 1 d new) was (is refl)
+changed_once (Updates count) true start old new is was =
+    counted_so (count + 1) start new (updated_still count start old new was (is refl)) (nat_lt (count + 1) (2 ^ 64))
 changed_once Anything true start old new is was = tt
 changed_once Nothing false start old new is was = tt
-changed_once Updates false start old new is was = tt
+changed_once (Updates count) false start old new is was = tt
 changed_once Anything false start old new is was = tt
 
 -- ---- a command that was run
@@ -141,13 +175,15 @@ not_refused None h = refl
 not_refused (Some refusal) h = absurd cc
 
 update_of : (found : Option Stored) (update : Update) (new : Stored) → ((d : Stored) → found ≡ Some d → IsValid d.content) → UpdateLaw
-    → verdict_on found (Changes (Updating update)) ≡ None → Some new ≡ stored_next found (Changes (Updating update)) → IsUpdated found (Some new)
+    → verdict_on found (Changes (Updating update)) ≡ None → Some new ≡ stored_next found (Changes (Updating update)) → IsUpdated 1 found (Some new)
 update_of None update new valid law taken next = absurd cc
-update_of (Some d) update new valid law taken next = grind arith
+update_of (Some d) update new valid law taken next = grind (arith, adds_one d update)
 
 pub updates : (found : Option Stored) (command : Command) (update : Update) (a b : Option (List ℕ)) (new : Stored) → effect command ≡ Changes (Updating update)
-    → ((d : Stored) → found ≡ Some d → IsValid d.content) → UpdateLaw → Executes found command a b (Outcome.Changed new) → IsUpdated found (Some new)
-updates found command update a b new is valid law executed = grind arith
+    → ((d : Stored) → found ≡ Some d → IsValid d.content) → UpdateLaw → Executes found command a b (Outcome.Changed new) → IsUpdated 1 found (Some new)
+updates found command update a b new is valid law executed =
+    let taken : (verdict_on found (Changes (Updating update)) ≡ None) × (Some new ≡ stored_next found (Changes (Updating update))) = grind arith in
+    update_of found update new valid law taken.0 taken.1
 
 -- ---- a command that changed nothing leaves the database that it ran on
 

@@ -1,9 +1,12 @@
 -- What a valid database's numbers are, so that its bytes are counted.
-use Rattle.std.specs.Prelude.{◌≡◌, ◌+◌, ◌*◌, ◌/◌, ◌<◌, ℕ, zero, suc, List, [], ◌∷◌, Some, length, take, slice_get}
-use Rattle.rrd_file.proofs.Names.{◌∙◌, ap, refl, sym, get_or, arith, length-append, AllByRecursion, flat_map, sum_by, add-mul, flat_map-cons, sum_by-cons, sum_by_more, get_or_from_slice_get, slice_get_within, mul-le, Cell, all_cells, cells_by_slot, Content, Rra, SavedArchive, AsManyCells, resolution, FitEach, IsValid, IsValidArchive, IsWide, rows_of}
+use Rattle.std.specs.Prelude.{◌≡◌, ◌+◌, ◌*◌, ◌/◌, ◌<◌, ℕ, zero, suc, List, [], ◌∷◌, Some, length, drop, take, slice_get}
+use Rattle.rrd_file.proofs.Names.{◌∙◌, ap, refl, sym, get_or, arith, length-append, AllByRecursion, flat_map, sum_by, add-mul, flat_map-cons, sum_by-append, take-append-drop, sum_by-cons, sum_by_more, get_or_from_slice_get, slice_get_within, mul-le, Cell, all_cells, cells_by_slot, Content, Rra, SavedArchive, AsManyCells, resolution, FitEach, IsValid, IsValidArchive, IsWide, rows_of}
 use Rattle.rrd_base.proofs.Dues.{one_each}
 
 -- the sum of one item more
+pub sum_split : {A : Type 0} (f : A → ℕ) (n : ℕ) (xs : List A) → sum_by f (take n xs) + sum_by f (drop n xs) ≡ sum_by f xs
+sum_split f n xs = sym (sum_by-append f (take n xs) (drop n xs)) ∙ ap (sum_by f) (take-append-drop n xs)
+
 pub sum_next : {A : Type 0} (f : A → ℕ) (xs : List A) (i : ℕ) (x : A) → slice_get xs i ≡ Some x → sum_by f (take (i + 1) xs) ≡ sum_by f (take i xs) + f x
 sum_next f xs i x is = sum_by_more f xs i x (slice_get_within xs i x is) ∙ ap (λ y. sum_by f (take i xs) + f y) (get_or_from_slice_get xs i x x is)
 

@@ -1,10 +1,11 @@
--- Law: the rows that an update leaves in the archives.
+-- Law: the rows that an update leaves in the archives, and what it adds to the journal.
 use Rattle.std.specs.Prelude.{◌≡◌, ℕ, ◌-◌, ◌<◌, min, List, [], ◌∷◌, ◌++◌, length, take, None}
 use Rattle.rrd_spec.specs.declared.requests.update.Update.{Update}
 use Rattle.rrd_spec.specs.History.{Rra, Content}
 use Rattle.rrd_spec.specs.Commands.{Updating, moved}
 use Rattle.rrd_spec.specs.Commands.Verdict.{verdict}
-use Rattle.rrd_spec.specs.Journal.Entries.{rows_between}
+use Rattle.rrd_spec.specs.Journal.Entries.{Entry, rows_between}
+use Rattle.rrd_spec.specs.Journal.Survivors.{Stored}
 use Rattle.rrd_spec.specs.Validity.{IsValid}
 
 -- the number of rows that an archive drops between two times: as many as end in between, at most all
@@ -30,6 +31,13 @@ pub record IsLater (old new : Content) : Type 0 where
   pub sources_are : new.sources ≡ old.sources
   pub later : old.last < new.last
   pub archives_are : MoveOn old.step old.last new.last old.archives new.archives
+
+-- the journal got as many entries as this since, and has room for `depth` of all
+pub record AddsEntries (count : ℕ) (old new : Stored) : Type 0 where
+  pub added : List Entry
+  pub as_many : length added ≡ count
+  pub depth_is : new.content.depth ≡ old.content.depth
+  pub journal_is : new.journal ≡ take old.content.depth (added ++ old.journal)
 
 -- an accepted update leads to a later time
 abbrev pub UpdateIsLater : Content → Update → Type 0

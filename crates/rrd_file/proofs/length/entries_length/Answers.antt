@@ -1,4 +1,4 @@
-use Rattle.rrd_file.proofs.Common.{ap, length, sym, arith, sum_by, take_all, Entry, entry_pieces, spelled, entry_of_some, sum_next, items_have}
+use Rattle.rrd_file.proofs.Common.{ap, drop, length, sym, arith, sum_by, sum_split, take_all, Entry, entry_pieces, spelled, entry_of_some, sum_next, items_have}
 use Rattle.rrd_file.proofs.length.entries_length.Goals as goal
 
 pub entry_length-length-requires : goal.entry_length-length-requires
@@ -13,5 +13,6 @@ loop-number-preserved c = record {
 pub returns-clause-count : goal.returns-clause-count
 returns-clause-count c =
     let journal = c.args.database.now.journal in
-    let all = ap (sum_by (λ (entry : Entry). length (spelled (entry_pieces entry)))) (take_all c.loop-number.number journal (omega (arith, c.undoable-number-end.ensures.count, c.loop-number-test.false))) in
-    omega (arith, items_have entry_pieces journal, all, c.loop-number.invariant.counted)
+    let size = λ (entry : Entry). length (spelled (entry_pieces entry)) in
+    let all = ap (sum_by size) (take_all c.loop-number.number journal (omega (arith, c.undoable-number-end.ensures.count, c.loop-number-test.false))) in
+    omega (arith, items_have entry_pieces (drop c.args.from journal), sum_split size c.args.from journal, all, c.loop-number.invariant.counted)

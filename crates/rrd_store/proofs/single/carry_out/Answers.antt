@@ -11,8 +11,8 @@ change_holds outcome text old new end Q ends holds = λ database changed left. h
 
 pub encoded_after-encoding-requires : goal.encoded_after-encoding-requires
 encoded_after-encoding-requires g c =
-    before_of c.args.before c.reach_of-reach.result c.args.database c.args.command (g.W.Write.contents c.args.out.now) (g.W.Write.contents c.execute-outcome.new.out) c.execute-outcome.result
-    c.execute-outcome.ensures.kept c.requires.of c.requires.valid c.reach_of-reach.ensures c.updates_keep_newest_rows.ensures
+    before_of c.args.before c.is_update.result c.and-changed_by.result c.args.database c.args.command (g.W.Write.contents c.args.out.now) (g.W.Write.contents c.execute-outcome.new.out) c.execute-outcome.result
+    c.and-changed_by.ensures c.execute-outcome.ensures.kept c.requires.of c.requires.valid c.is_update.ensures c.updates_keep_newest_rows.ensures
 
 pub returns-clause-sound : goal.returns-clause-sound
 returns-clause-sound g c s honest sound had =

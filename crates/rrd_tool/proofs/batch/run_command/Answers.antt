@@ -34,7 +34,7 @@ returns-in_default-clause-moved g c s0 s =
 pub returns-in-Changed-clause-changed : goal.returns-in-Changed-clause-changed
 returns-in-Changed-clause-changed g c start was =
     let executed = rw (c.take.ensures.value, c.in-Changed.is) at c.execute.ensures.kept in
-    let update : c.is_update-is_update.result ≡ true → IsUpdated c.args.database.now (Some c.in-Changed.changed) = λ is.
+    let update : c.is_update-is_update.result ≡ true → IsUpdated 1 c.args.database.now (Some c.in-Changed.changed) = λ is.
     let u = c.is_update-is_update.ensures is in
     updates c.args.database.now c.args.command u.0 (g.W.Write.contents c.args.out.now) (g.W.Write.contents c.execute.new.out) c.in-Changed.changed u.1 c.all_are_valid.ensures c.updates_keep_newest_rows.ensures executed in
     rw c.and.ensures (changed_once c.args.changed_by.now c.is_update-is_update.result start c.args.database.now (Some c.in-Changed.changed) update was)
