@@ -1,5 +1,5 @@
 -- Lemmas on a change that is appended to a log.
-use Rattle.rrd_change.proofs.Names.{common_steps, ◌≡◌, ℕ, ◌+◌, ◌^◌, ◌<◌, ◌≤◌, List, [], ◌∷◌, ◌++◌, length, take, get_or, refl, sym, ◌∙◌, ap, subst, arith, inl, inr, ◌⊎◌, cases_lt, length_push, take_all, length-take, get_or-take, take-append-le, StandsAt, AreAny, ArePut, IsCut, Change, IsRight, change_bytes, change_size, changes_in, last_size, Fill, HaveByte, IsLogged, Leads, Makes, TouchByte, chain_end, first_of, IsLogHeld, IsOnDisk, IsStopped, Torn, AgreesOutside, AreSpans, IsIn, change_of, Follows, IsDatabase, IsOpen, All, Fails, World, Span}
+use Rattle.rrd_change.proofs.Names.{common_steps, ◌≡◌, ℕ, ◌+◌, ◌^◌, ◌<◌, ◌≤◌, List, [], ◌∷◌, ◌++◌, length, take, refl, sym, ◌∙◌, ap, subst, arith, inl, inr, ◌⊎◌, cases_lt, length_push, take_all, length-take, get_or-take, take-append-le, AreAny, ArePut, IsCut, Change, IsRight, change_bytes, change_size, changes_in, last_size, Fill, HaveByte, IsLogged, Leads, Makes, TouchByte, chain_end, first_of, IsLogHeld, IsStopped, Torn, AgreesOutside, AreSpans, IsIn, change_of, Follows, IsDatabase, IsOpen, All, Fails, World, Span, rules}
 use Rattle.rrd_change.proofs.Holding.{fails_disk, held_left}
 use Rattle.rrd_change.proofs.Chains.{chain_all, chain_count}
 use Rattle.rrd_change.proofs.Laying.{leads_more, leads_size}
@@ -21,26 +21,11 @@ pub record IsNext (old : List ℕ) (tail : ℕ) (cs : List Change) (c : Change) 
 
 pub whole_appended : (old : List ℕ) (tail : ℕ) (cs : List Change) (c : Change) (at : ℕ) (bytes x f : List ℕ) → IsNext old tail cs c at bytes → IsOpen old tail cs x → ArePut at bytes x f →
     IsOpen old tail (cs ++ c ∷ []) f
-whole_appended old tail cs c at bytes x f next is put =
-    let end = chain_end tail (first_of old ∷ cs) in
-    let size : length bytes ≡ change_size c = ap length next.spelled ∙ length-change tail at c in
-    let len : length f ≡ end + change_size c = omega (arith, put.len, next.here, size, is.ends) in
-    let stands : StandsAt f at (change_bytes tail at c) = grind arith in
-    record {
-      logged = append_whole old tail cs c x f is.logged next.right (λ k low high. put.outside k (inl (omega (arith, high, next.here)))) (subst (λ (n : ℕ). StandsAt f n (change_bytes tail n c)) next.here stands) len;
-      ends = len ∙ sym (end_more tail (first_of old ∷ cs) c);
-    }
+whole_appended old tail cs c at bytes x f next is put = grind (arith, common_steps, length-change tail, append_whole old tail cs c x f is.logged next.right, end_more tail (first_of old ∷ cs) c)
 
 part_appended : (old : List ℕ) (tail : ℕ) (cs : List Change) (c : Change) (at n : ℕ) (bytes x f : List ℕ) → IsNext old tail cs c at bytes → IsOpen old tail cs x → n < length bytes →
     ArePut at (take n bytes) x f → IsLogged old tail cs f
-part_appended old tail cs c at n bytes x f next is few put =
-    let size : length bytes ≡ change_size c = ap length next.spelled ∙ length-change tail at c in
-    let took : length (take n bytes) ≡ n = omega (arith, length-take n bytes, few) in
-    let front : (i : ℕ) → at + i < length f → get_or f (at + i) 0 ≡ get_or (change_bytes tail at c) i 0 = λ i k.
-    let low : i < n = omega (arith, k, put.len, took, is.ends, next.here) in
-    put.inside i (omega (arith, low, took)) ∙ get_or-take n bytes i 0 low ∙ ap (λ xs. get_or xs i 0) next.spelled in
-    append_cut old tail cs c x f is.logged next.right (λ k low high. put.outside k (inl (omega (arith, high, next.here)))) (omega (arith, put.len, is.ends))
-    (omega (arith, put.len, took, few, size, is.ends, next.here)) (subst (λ (m : ℕ). (i : ℕ) → m + i < length f → get_or f (m + i) 0 ≡ get_or (change_bytes tail m c) i 0) next.here front)
+part_appended old tail cs c at n bytes x f next is few put = grind (arith, common_steps, length-change tail, length-take n bytes, get_or-take n bytes, append_cut old tail cs c x f is.logged next.right)
 
 -- an append that was cut short: the change is in the log, or not
 pub cut_appended : (old : List ℕ) (tail : ℕ) (cs : List Change) (c : Change) (at : ℕ) (bytes x f : List ℕ) → IsNext old tail cs c at bytes → IsOpen old tail cs x → IsCut at bytes x f →
@@ -107,10 +92,7 @@ follows_more old now new cs log next changed h is are agrees below tail end coun
 
 -- the first of these changes are the first of more
 pub first_of_more : (xs : List Change) (c : Change) (n : ℕ) → (m : ℕ) × (take n xs ≡ take m (xs ++ c ∷ []))
-first_of_more xs c n = elim (cases_lt n (length xs)) [
-  | inl low ↦ (n, sym (take-append-le n xs (c ∷ []) (omega (arith, low))))
-  | inr all ↦ (length xs, take_all n xs all ∙ sym (take_all (length xs) xs (omega arith)) ∙ sym (take-append-le (length xs) xs (c ∷ []) (omega arith)))
-]
+first_of_more xs c n = grind (arith, common_steps, cases_lt n (length xs), take-append-le n xs (c ∷ []), take_all n xs, take_all (length xs) xs, take-append-le (length xs) xs (c ∷ []))
 
 pub logged_all : (old : List ℕ) (tail : ℕ) (cs : List Change) (f : List ℕ) → IsLogged old tail cs f → changes_in tail f ≡ first_of old ∷ cs
 logged_all old tail cs f h = chain_all tail f (first_of old ∷ cs) h.log.chain h.log.begun
@@ -126,10 +108,7 @@ next_made old now new cs log changed bytes h is are below spelled fits few = gri
 torn_held : (other now old : List ℕ) (tail at : ℕ) (cs all : List Change) (bytes : List ℕ) (u v : World) → at ≡ chain_end tail (first_of old ∷ cs) →
     (all ≡ cs) ⊎ ((c : Change) × (all ≡ cs ++ c ∷ []) × Leads old cs other × Fill (length old) cs) → All (IsOpen old tail cs) u → Fails (IsCut at bytes) (AreAny at (length bytes)) u v →
     IsLogged old tail all v.held → IsLogHeld Torn other now old tail all v
-torn_held other now old tail at cs all bytes u v here last is f held =
-    let to : (x z : List ℕ) → IsOpen old tail cs x → AreAny at (length bytes) x z → IsOnDisk Torn other now old tail all z = grind arith in
-    let disk = fails_disk (IsOpen old tail cs) (IsOnDisk Torn other now old tail all) (IsCut at bytes) (AreAny at (length bytes)) u v (λ x z is_open cut. to x z is_open cut.any) to f is.leave is.keep in
-    record { held = held; leave = disk.0; keep = disk.1 }
+torn_held other now old tail at cs all bytes u v here last is f held = search (rules, fails_disk)
 
 pub append_stopped : (old now new : List ℕ) (tail at : ℕ) (cs : List Change) (c : Change) (bytes : List ℕ) (u v : World) → IsNext old tail cs c at bytes → Leads old cs now → Makes c now new →
     Fill (length old) cs → Fill (length old) (cs ++ c ∷ []) → All (IsOpen old tail cs) u → Fails (IsCut at bytes) (AreAny at (length bytes)) u v → IsStopped Torn now new v

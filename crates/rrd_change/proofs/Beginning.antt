@@ -1,5 +1,5 @@
 -- Lemmas on the beginning of a log.
-use Rattle.rrd_change.proofs.Names.{◌≡◌, ℕ, ◌+◌, ◌-◌, ◌^◌, ◌<◌, ◌≤◌, max, List, [], ◌∷◌, ◌++◌, length, get_or, refl, sym, ◌∙◌, ap, subst, arith, inl, inr, ◌⊎◌, append_assoc, replicate, append-nil, length-append, length-replicate, get_or_append_left, get_or-append-add, StandsAt, AreAny, ArePut, AreWholeOrNot, IsTorn, Change, IsRight, change_bytes, change_size, Fill, IsUnderCut, Leads, chain_end, first_of, log_mark, AgreesOutside, AreSpans, IsIn, change_of, Began, Follows, IsDatabase, IsFirst, IsInPlace, IsOpen, IsReady, Represents, cut_of, Base, Log, Span, World, Fails, All}
+use Rattle.rrd_change.proofs.Names.{◌≡◌, ℕ, ◌+◌, ◌-◌, ◌^◌, ◌<◌, ◌≤◌, max, List, [], ◌∷◌, ◌++◌, length, refl, sym, ◌∙◌, ap, subst, arith, inl, inr, ◌⊎◌, append_assoc, replicate, append-nil, length-append, length-replicate, get_or_append_left, get_or-append-add, StandsAt, AreAny, ArePut, AreWholeOrNot, IsTorn, Change, IsRight, change_bytes, change_size, Fill, IsUnderCut, Leads, chain_end, first_of, log_mark, AgreesOutside, AreSpans, change_of, Began, Follows, IsDatabase, IsFirst, IsInPlace, IsOpen, IsReady, Represents, cut_of, Base, Log, Span, World, Fails, All, common_steps}
 use Rattle.rrd_change.proofs.Holding.{marks_all}
 use Rattle.rrd_change.proofs.Spanned.{have_in, in_have, pieces_within, spans_fill, spans_make}
 use Rattle.rrd_change.proofs.Logs.{log_begins}
@@ -9,15 +9,7 @@ use Rattle.rrd_change.proofs.Resumed.{put_any}
 
 -- bytes in the middle of those that were put
 pub put_stands : (at : ℕ) (xs ys zs old new : List ℕ) → ArePut at (xs ++ (ys ++ zs)) old new → StandsAt new (at + length xs) ys
-put_stands at xs ys zs old new p =
-    let size = length-append xs (ys ++ zs) in
-    let rest = length-append ys zs in
-    record {
-      within = omega (arith, p.len, size, rest);
-      each = λ i k.
-          let here : at + length xs + i ≡ at + (length xs + i) = omega arith in
-          ap (λ n. get_or new n 0) here ∙ p.inside (length xs + i) (omega (arith, k, size, rest)) ∙ get_or-append-add xs (ys ++ zs) i 0 ∙ get_or_append_left ys zs 0 i k;
-    }
+put_stands at xs ys zs old new p = grind (arith, common_steps, length-append xs (ys ++ zs), length-append ys zs, get_or-append-add xs (ys ++ zs), get_or_append_left ys zs 0)
 
 pub length-first : (old : List ℕ) → 16 ≤ length old → change_size (first_of old) ≡ 80
 length-first old enough = grind arith
@@ -69,15 +61,7 @@ ready_put old tail c at bytes x f h fits few e put =
 
 -- the log mark names the log
 pub open_put : (old : List ℕ) (tail : ℕ) (cs : List Change) (x f : List ℕ) → IsReady old tail cs x → ArePut 0 (log_mark tail) x f → IsOpen old tail cs f
-open_put old tail cs x f ready put =
-    let p = ready.prepared in
-    let begun = p.begun in
-    let len : length f ≡ length x = omega (arith, put.len, begun, p.enough, p.below) in
-    record {
-      logged = log_begins old tail cs x f p len (λ k low high. put_behind (log_mark tail) x f k put low)
-          (record { within = omega (arith, put.len); each = put.inside });
-      ends = len ∙ ready.ends;
-    }
+open_put old tail cs x f ready put = grind (arith, common_steps, log_begins old tail cs x f, put_behind (log_mark tail) x f)
 
 abbrev pub IsReadyOrOpen : List ℕ → ℕ → List Change → List ℕ → Type 0
 IsReadyOrOpen old tail cs f = IsReady old tail cs f ⊎ (IsOpen old tail cs f × IsInPlace old f)
@@ -122,15 +106,4 @@ fill_first old new changed are agrees = (λ k high low. spans_fill changed old n
 pub follows_first : (base : Base) (old new : List ℕ) (changed : List Span) (log : Log) (bytes : List ℕ) → IsDatabase new → AreSpans (length new) changed → AgreesOutside changed old new →
     IsFirst old log.tail (change_of (length new) new changed) base.length bytes → log.end ≡ base.length + length bytes → log.changes ≡ 1 → log.spans.items ≡ changed →
     Follows old new (change_of (length new) new changed ∷ []) log
-follows_first base old new changed log bytes is are agrees h ends count spans =
-    let P : ℕ → List Span → Type 0 = λ k xs. IsIn k xs in
-    record {
-      is = is;
-      leads = leads_first old new changed are agrees;
-      fill = fill_first old new changed are agrees;
-      below = h.within;
-      ends = ends ∙ first_length old log.tail (change_of (length new) new changed) base.length bytes h;
-      count = count;
-      each = grind (arith, have_in);
-      only = λ k high is_in. inl (in_have new changed k are (subst (P k) spans is_in));
-    }
+follows_first base old new changed log bytes is are agrees h ends count spans = grind (arith, common_steps, leads_first old new changed are agrees, fill_first old new changed are agrees, first_length old log.tail (change_of (length new) new changed) base.length bytes h, have_in, in_have new changed)

@@ -15,10 +15,7 @@ has_any k (s ∷ spans) (inr h) = rw (has_any k spans h) (or-true (has k s))
 any_has : (k : ℕ) (spans : List Span) → list_any (has k) spans ≡ true → IsIn k spans
 unfolding has
 any_has k [] e = cc
-any_has k (s ∷ spans) e = elim (or_cases (has k s) (list_any (has k) spans) e) [
-  | inl is ↦ let parts = and_parts (nat_le s.start k) (nat_lt k s.end) is in inl (leb-true s.start k parts.0, ltb-true k s.end parts.1)
-  | inr rest ↦ inr (any_has k spans rest)
-]
+any_has k (s ∷ spans) e = grind (arith, common_steps, or_cases (has k s) (list_any (has k) spans) e, and_parts (nat_le s.start k) (nat_lt k s.end), leb-true s.start k, ltb-true k s.end, any_has k spans)
 
 pub in_permuted : (k : ℕ) (xs ys : List Span) → IsPermutation xs ys → IsIn k xs → IsIn k ys
 in_permuted k xs ys p h = any_has k ys (sym (list_any-IsPermutation (has k) xs ys p) ∙ has_any k xs h)
@@ -29,32 +26,15 @@ in_permuted_back k xs ys p h = any_has k xs (list_any-IsPermutation (has k) xs y
 -- the last span takes up one that begins within it or at its end
 pub in_grown : (k : ℕ) (all : List Span) (last s : Span) (end : ℕ) → last.start ≤ s.start → s.start ≤ last.end → end ≡ max last.end s.end →
     IsIn k (all ++ record { start = last.start; end = end } ∷ []) → IsIn k ((all ++ last ∷ []) ++ s ∷ [])
-in_grown k all last s end low high e h = elim (in_join k all (record { start = last.start; end = end } ∷ []) h) [
-  | inl front ↦ in_left k (all ++ last ∷ []) (s ∷ []) (in_left k all (last ∷ []) front)
-  | inr (inl here) ↦ grind (arith, common_steps, in_left, in_right)
-  | inr (inr none) ↦ absurd none
-]
+in_grown k all last s end low high e h = grind (arith, common_steps, in_join k all (record { start = last.start; end = end } ∷ []) h, in_left k (all ++ last ∷ []) (s ∷ []), in_left k all (last ∷ []), in_left, in_right)
 
 pub grown_in : (k : ℕ) (all : List Span) (last s : Span) (end : ℕ) → last.start ≤ s.start → end ≡ max last.end s.end → IsIn k ((all ++ last ∷ []) ++ s ∷ []) →
     IsIn k (all ++ record { start = last.start; end = end } ∷ [])
-grown_in k all last s end low e h =
-    let one : List Span = record { start = last.start; end = end } ∷ [] in
-    elim (in_join k (all ++ last ∷ []) (s ∷ []) h) [
-      | inl most ↦ elim (in_join k all (last ∷ []) most) [
-        | inl front ↦ in_left k all one front
-        | inr (inl here) ↦ in_right k all one (inl (here.0, omega (arith, here.1, e)))
-        | inr (inr none) ↦ absurd none
-      ]
-      | inr (inl there) ↦ in_right k all one (inl (omega (arith, there.0, low), omega (arith, there.1, e)))
-      | inr (inr none) ↦ absurd none
-    ]
+grown_in k all last s end low e h = grind (arith, common_steps, in_join k (all ++ last ∷ []) (s ∷ []) h, in_join k all (last ∷ []), in_left k all, in_right k all)
 
 -- one more span on both sides
 pub in_more : (k : ℕ) (xs ys : List Span) (s : Span) → (IsIn k xs → IsIn k ys) → IsIn k (xs ++ s ∷ []) → IsIn k (ys ++ s ∷ [])
-in_more k xs ys s to h = elim (in_join k xs (s ∷ []) h) [
-  | inl front ↦ in_left k ys (s ∷ []) (to front)
-  | inr back ↦ in_right k ys (s ∷ []) back
-]
+in_more k xs ys s to h = grind (arith, common_steps, in_join k xs (s ∷ []) h, in_left k ys (s ∷ []), in_right k ys (s ∷ []))
 
 -- ---- bringing into place
 

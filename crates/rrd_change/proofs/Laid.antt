@@ -7,23 +7,7 @@ use Rattle.rrd_change.proofs.Laying.{inside_is, not_inside}
 
 -- a piece is written
 pub laid_mid : (p : Piece) (n k : ℕ) (xs : List ℕ) → p.start + n ≤ length xs → length p.bytes ≡ n → get_or (put_mid p.start n xs p.bytes) k 0 ≡ laid p k (get_or xs k 0)
-laid_mid p n k xs few size =
-    let s = p.start in
-    let front = take s xs in
-    let back = drop n (drop s xs) in
-    let front_size : length front ≡ s = omega (arith, length-take s xs, few) in
-    elim (cases_lt k s) [
-      | inl low ↦ get_or_append_left front (p.bytes ++ back) 0 k (omega (arith, low, front_size)) ∙ get_or-take s xs k 0 low ∙ sym (not_inside p k (get_or xs k 0) (λ h. omega (arith, h.0, low)))
-      | inr high ↦
-          let behind = get_or-append_right front (p.bytes ++ back) s k 0 front_size high in
-          elim (cases_lt k (s + n)) [
-            | inl within ↦ behind ∙ get_or_append_left p.bytes back 0 (k - s) (omega (arith, within, high, size)) ∙ sym (inside_is p k (get_or xs k 0) (high, omega (arith, within, size)))
-            | inr past ↦
-                let here : s + n + (k - s - n) ≡ k = omega (arith, past) in
-                behind ∙ get_or-append_right p.bytes back n (k - s) 0 size (omega (arith, past)) ∙ ap (λ ys. get_or ys (k - s - n) 0) (drop-drop n s xs)
-                ∙ get_or-drop (s + n) xs (k - s - n) 0 ∙ ap (λ m. get_or xs m 0) here ∙ sym (not_inside p k (get_or xs k 0) (λ h. omega (arith, h.1, past, size)))
-          ]
-    ]
+laid_mid p n k xs few size = grind (arith, common_steps, length-take, cases_lt, get_or_append_left, get_or-take, not_inside, get_or-append_right, inside_is, drop-drop, get_or-drop)
 
 -- ---- spans and pieces
 
@@ -143,13 +127,7 @@ pub head_laid : (old bytes new next : List ℕ) (spans more : List Span) (done c
     IsLaid (record { size = h.size; pieces = spelled_pieces h.pieces (take (done + 48 + h.length - (done + 48)) (drop (done + 48) bytes)) }) new next →
     more ≡ spans ++ spans_of (spelled_pieces h.pieces (take (done + 48 + h.length - (done + 48)) (drop (done + 48) bytes))) →
     IsPartRead old bytes next more (done + 48 + h.length) (changes + 1) h.size
-head_laid old bytes new next spans more done changes size h part at laid more_is =
-    let c = at.change in
-    let F : ℕ → List Piece → Change = λ n ps. record { size = n; pieces = ps } in
-    let ps = spelled_pieces h.pieces (take (done + 48 + h.length - (done + 48)) (drop (done + 48) bytes)) in
-    let is : F h.size ps ≡ c = ap (λ n. F n ps) at.size ∙ ap (λ qs. F c.size qs) at.pieces in
-    subst (IsPartRead old bytes next more (done + 48 + h.length) (changes + 1)) (sym at.size) (subst (λ (n : ℕ). IsPartRead old bytes next more (done + 48 + n) (changes + 1) c.size) (sym at.count) (one_laid old bytes new next spans more done changes size c part at.read (omega (arith, at.within, at.count)) (omega (arith, at.below, at.size)) (subst (λ (d : Change). IsLaid d new next) is laid)
-    (more_is ∙ ap (λ qs. spans ++ spans_of qs) at.pieces)))
+head_laid old bytes new next spans more done changes size h part at laid more_is = grind (arith, common_steps, one_laid old bytes new next spans more done changes size)
 
 pub none_at : (old bytes : List ℕ) (done : ℕ) → read_change (length old) (length old + done) (take (length bytes - done) (drop done bytes)) ≡ None →
     read_change (length old) (length old + done) (drop done bytes) ≡ None

@@ -1,5 +1,5 @@
 -- Lemmas on repairs of files with a mark.
-use Rattle.rrd_change.proofs.Names.{◌≡◌, ◌⊎◌, ℕ, List, length, get_or, ap, arith, inl, inr, ArePut, AreWholeOrNot, IsTorn, IsUnderCut, IsCutLeft, IsLoose, IsUncut, IsDatabase, IsPlain, All, Fails, Stores, World}
+use Rattle.rrd_change.proofs.Names.{◌≡◌, ◌⊎◌, ℕ, List, length, get_or, ap, arith, inl, inr, ArePut, AreWholeOrNot, IsTorn, IsUnderCut, IsCutLeft, IsLoose, IsUncut, IsDatabase, IsPlain, All, Fails, Stores, World, common_steps}
 use Rattle.rrd_change.proofs.Holding.{fails_disk, unless}
 use Rattle.rrd_change.proofs.Marking.{cut_under}
 use Rattle.rrd_change.proofs.Settling.{cut_front_of, cut_placed, length-front}
@@ -21,27 +21,10 @@ front_put : (other now x f : List ℕ) → IsDatabase now → IsLoose other now 
 front_put other now x f is h put = cut_placed now x f is h.reaches h.placed put
 
 pub front_stored : (other now : List ℕ) (u v : World) → Stores (ArePut 0 (cut_front_of now)) u v → IsUncut other now u → All (IsUnderCut now) v
-front_stored other now u v s h = record {
-  held = front_put other now u.held v.held h.is (held_loose other now u.held h.is h.held) s.held;
-  leave = λ z left. let was = s.leave z left in front_put other now was.0 z h.is (h.keep was.0 was.1) was.2;
-  keep = λ z kept. let was = s.keep z kept in front_put other now was.0 z h.is (h.keep was.0 was.1) was.2;
-}
+front_stored other now u v s h = grind (arith, common_steps, front_put other now u.held v.held h.is (held_loose other now u.held h.is h.held) s.held, held_loose other now u.held h.is h.held, front_put other now)
 
 pub front_failed : (other now : List ℕ) (u v : World) → Fails (AreWholeOrNot 0 (cut_front_of now)) (IsTorn 0 (cut_front_of now)) u v → IsUncut other now u → IsUncut other now v
-front_failed other now u v f h =
-    let mark = cut_front_of now in
-    let H : List ℕ → Type 0 = λ xs. (xs ≡ now) ⊎ IsUnderCut now xs in
-    let put : (x y : List ℕ) → IsLoose other now x → ArePut 0 mark x y → IsUnderCut now y = λ x y loose p. front_put other now x y h.is loose p in
-    let to : (x y : List ℕ) → IsLoose other now x → AreWholeOrNot 0 mark x y → IsLoose other now y = λ x y loose.
-    unless (IsLoose other now) (ArePut 0 mark x y) x y loose (λ p. under_loose other now y (put x y loose p)) in
-    let disk = fails_disk (IsLoose other now) (IsLoose other now) (AreWholeOrNot 0 mark) (IsTorn 0 mark) u v to
-    (λ x y loose t. to x y loose (t.whole (omega (arith, length-front now h.is.enough, h.is.enough, loose.reaches)))) f h.leave h.keep in
-    record {
-      is = h.is;
-      held = unless H (ArePut 0 mark u.held v.held) u.held v.held h.held (λ p. inr (put u.held v.held (held_loose other now u.held h.is h.held) p)) f.held;
-      leave = disk.0;
-      keep = disk.1;
-    }
+front_failed other now u v f h = grind (arith, common_steps, front_put other now, unless (IsLoose other now), under_loose other now, fails_disk (IsLoose other now) (IsLoose other now), length-front now h.is.enough, unless, held_loose other now u.held h.is h.held)
 
 -- ---- what is left
 
@@ -52,17 +35,8 @@ plain_held : (now f : List ℕ) → IsDatabase now → IsPlain now f → (f ≡ 
 plain_held now f is h = grind arith
 
 pub plain_uncut : (other now : List ℕ) (w : World) → IsDatabase now → All (IsPlain now) w → IsUncut other now w
-plain_uncut other now w is a = record {
-  is = is;
-  held = plain_held now w.held is a.held;
-  leave = λ c left. plain_loose other now c is (a.leave c left);
-  keep = λ c kept. plain_loose other now c is (a.keep c kept);
-}
+plain_uncut other now w is a = grind (arith, common_steps, plain_held now w.held is a.held, plain_loose other now)
 
 -- the mark that programs read stays
 pub front_under : (other now : List ℕ) (u v : World) → Fails (AreWholeOrNot 0 (cut_front_of now)) (IsTorn 0 (cut_front_of now)) u v → IsCutLeft other now u → IsCutLeft other now v
-front_under other now u v f h =
-    record {
-      under = grind (arith, front_put, under_loose);
-      uncut = front_failed other now u v f h.uncut;
-    }
+front_under other now u v f h = grind (arith, common_steps, front_put, under_loose, front_failed other now u v f h.uncut)

@@ -1,5 +1,5 @@
 -- Lemmas on a file that is written for the first time.
-use Rattle.rrd_change.proofs.Names.{◌≡◌, ℕ, ◌+◌, ◌-◌, ◌<◌, ◌≤◌, List, [], length, take, drop, get_or, sym, ◌∙◌, ap, arith, inl, inr, cases_lt, length-take, length-drop, get_or-take, get_or-drop, ext_get_or, AreAny, ArePut, AreWholeOrNot, IsSized, IsTorn, IsMadeTo, IsUnmade, StaysFirst, IsDatabase, World, Fails, All}
+use Rattle.rrd_change.proofs.Names.{◌≡◌, ℕ, ◌+◌, ◌-◌, ◌<◌, ◌≤◌, List, [], length, take, drop, get_or, sym, ◌∙◌, ap, arith, inl, inr, cases_lt, length-take, length-drop, get_or-take, get_or-drop, ext_get_or, AreAny, ArePut, AreWholeOrNot, IsSized, IsTorn, IsMadeTo, IsUnmade, StaysFirst, IsDatabase, World, Fails, All, common_steps}
 use Rattle.rrd_change.proofs.Holding.{marks_all}
 use Rattle.rrd_change.proofs.Marking.{put_behind, put_front}
 
@@ -44,15 +44,7 @@ pub record IsBehind (new file : List ℕ) : Type 0 where
   pub zero_first : get_or file 0 0 ≡ 0
 
 pub made_whole : (new x f : List ℕ) → IsDatabase new → IsBehind new x → ArePut 0 (take 16 new) x f → f ≡ new
-made_whole new x f is b put =
-    let enough = is.enough in
-    let size : length (take 16 new) ≡ 16 = omega (arith, length-take 16 new, enough) in
-    ext_get_or 0 f new (omega (arith, put.len, size, b.len, enough))
-    (λ k low. elim (cases_lt k 16) [
-      | inl front ↦ put_front (take 16 new) x f k put (omega (arith, size, front)) ∙ get_or-take 16 new k 0 front
-      | inr behind ↦ put_behind (take 16 new) x f k put (omega (arith, size, behind)) ∙ b.made k behind (omega (arith, low, put.len, size, b.len, enough))
-    ])
+made_whole new x f is b put = grind (arith, common_steps, length-take 16 new, ext_get_or 0 f new, cases_lt, put_front (take 16 new) x f, get_or-take 16 new, put_behind (take 16 new) x f)
 
 pub made_marked : (new : List ℕ) (u v : World) → IsDatabase new → Fails (AreWholeOrNot 0 (take 16 new)) (IsTorn 0 (take 16 new)) u v → All (IsBehind new) u → All (IsUnmade new) v
-made_marked new u v is f a = marks_all (IsBehind new) (IsUnmade new) (take 16 new) u v (λ x b. inl b.zero_first) (λ x b. omega (arith, length-take 16 new, b.len, is.enough))
-    (λ x y b put. inr (made_whole new x y is b put)) f a
+made_marked new u v is f a = grind (arith, common_steps, marks_all (IsBehind new) (IsUnmade new) (take 16 new) u v, length-take 16 new, made_whole new)

@@ -1,5 +1,5 @@
 -- Lemmas on the marks of a file.
-use Rattle.rrd_change.proofs.Names.{◌≡◌, ℕ, ◌<◌, ◌≤◌, List, length, drop, get_or, refl, sym, ◌∙◌, ap, arith, inl, inr, zero-add, length-append, length-drop, get_or_append_left, ext_get_or, AreAny, ArePut, AreWholeOrNot, IsTorn, IsUnderCut, cut_mark, database_mark, IsAtRest, IsDatabase, IsMarked, IsPlain, Represents, cut_of, All, Fails, FailsToWriteWhole, Stores, World, WritesWhole}
+use Rattle.rrd_change.proofs.Names.{◌≡◌, ℕ, ◌<◌, ◌≤◌, List, length, drop, get_or, sym, ◌∙◌, ap, arith, inl, inr, zero-add, length-append, length-drop, get_or_append_left, ext_get_or, AreAny, ArePut, AreWholeOrNot, IsTorn, IsUnderCut, cut_mark, database_mark, IsAtRest, IsDatabase, IsMarked, IsPlain, Represents, cut_of, All, Fails, FailsToWriteWhole, Stores, World, WritesWhole, common_steps}
 use Rattle.rrd_change.proofs.Holding.{held_all, moves_all, stores_all, marks_all}
 
 pub length-cut : (bytes : List ℕ) → 4 ≤ length bytes → length (cut_of bytes) ≡ length bytes
@@ -30,11 +30,7 @@ is_cut_of bytes file enough len front behind = ext_get_or 0 file (cut_of bytes) 
     (λ k low. grind (arith, cut_front, cut_each))
 
 pub cut_put : (bytes old new : List ℕ) → IsDatabase bytes → IsPlain bytes old → ArePut 0 cut_mark old new → new ≡ cut_of bytes
-cut_put bytes old new is plain p =
-    let enough = is.enough in
-    let size = plain_length bytes old (omega (arith, enough)) plain in
-    is_cut_of bytes new (omega (arith, enough)) (omega (arith, p.len, size, enough)) (λ k low. put_front cut_mark old new k p low)
-    (λ k high. put_behind cut_mark old new k p high ∙ plain_each bytes old k high plain)
+cut_put bytes old new is plain p = grind (arith, common_steps, plain_length bytes old, is_cut_of bytes new, put_front cut_mark old new, put_behind cut_mark old new, plain_each bytes old)
 
 pub uncut_put : (bytes old new : List ℕ) → IsDatabase bytes → old ≡ cut_of bytes → ArePut 0 database_mark old new → new ≡ bytes
 uncut_put bytes old new is e p =
@@ -46,16 +42,10 @@ uncut_put bytes old new is e p =
 -- ---- marking a database
 
 pub marked : (bytes : List ℕ) (u v : World) → Stores (ArePut 0 cut_mark) u v → IsAtRest bytes u → IsMarked bytes v
-marked bytes u v s rest = record {
-  is = rest.is;
-  world = stores_all (IsPlain bytes) (λ c. c ≡ cut_of bytes) (ArePut 0 cut_mark) u v (λ x y plain p. cut_put bytes x y rest.is plain p) s (held_all bytes (IsPlain bytes) u (inl refl) rest.world);
-}
+marked bytes u v s rest = grind (arith, common_steps, stores_all, cut_put, held_all)
 
 pub not_marked : (bytes : List ℕ) (u v : World) → Fails (AreWholeOrNot 0 cut_mark) (IsTorn 0 cut_mark) u v → IsAtRest bytes u → All (IsPlain bytes) v
-not_marked bytes u v f rest =
-    let enough = rest.is.enough in
-    marks_all (IsPlain bytes) (IsPlain bytes) cut_mark u v (λ x plain. plain) (λ x plain. omega (arith, plain_length bytes x (omega (arith, enough)) plain, enough))
-    (λ x y plain put. inr (cut_put bytes x y rest.is plain put)) f (held_all bytes (IsPlain bytes) u (inl refl) rest.world)
+not_marked bytes u v f rest = grind (arith, common_steps, marks_all, plain_length, cut_put, held_all)
 
 -- ---- removing the mark
 
@@ -63,19 +53,10 @@ uncut_or_not : (bytes x y : List ℕ) → IsDatabase bytes → x ≡ cut_of byte
 uncut_or_not bytes x y is e h = grind (arith, uncut_put)
 
 uncut_torn : (bytes x y : List ℕ) → IsDatabase bytes → x ≡ cut_of bytes → IsTorn 0 database_mark x y → IsPlain bytes y
-uncut_torn bytes x y is e t =
-    let enough = is.enough in
-    uncut_or_not bytes x y is e (t.whole (omega (arith, plain_length bytes x (omega (arith, enough)) (inr e), enough)))
+uncut_torn bytes x y is e t = grind (arith, common_steps, uncut_or_not, plain_length)
 
 pub unmarked : (bytes : List ℕ) (u v : World) → WritesWhole 0 database_mark u v → IsMarked bytes u → IsAtRest bytes v
-unmarked bytes u v m was = record {
-  is = was.is;
-  world = record {
-    held = uncut_put bytes u.held v.held was.is was.world.held m.held;
-    leave = λ z left. let h = m.leave z left in uncut_torn bytes h.0 z was.is (was.world.leave h.0 h.1) h.2;
-    keep = λ z kept. let h = m.keep z kept in inl (uncut_put bytes h.0 z was.is (was.world.keep h.0 h.1) h.2);
-  };
-}
+unmarked bytes u v m was = grind (arith, common_steps, uncut_put, uncut_torn)
 
 pub not_unmarked : (bytes : List ℕ) (u v : World) → FailsToWriteWhole 0 database_mark u v → IsMarked bytes u → All (IsPlain bytes) v
 not_unmarked bytes u v m was = grind (arith, moves_all, uncut_or_not, uncut_torn)

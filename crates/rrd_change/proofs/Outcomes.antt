@@ -1,5 +1,5 @@
 -- Lemmas on what files represent, by what they stand for.
-use Rattle.rrd_change.proofs.Names.{arith, ◌≡◌, ℕ, List, refl, inl, inr, AllStand, AllStandAsTold, IsEither, IsWhole, settled, IsAtRest, IsBroken, IsLogOf, IsMarked, IsPlain, Represents, RepresentsEither, cut_of, All, World, Log}
+use Rattle.rrd_change.proofs.Names.{arith, ◌≡◌, ℕ, List, refl, inl, inr, AllStand, AllStandAsTold, IsEither, IsWhole, settled, IsAtRest, IsBroken, IsLogOf, IsMarked, IsPlain, Represents, RepresentsEither, cut_of, All, World, Log, common_steps}
 use Rattle.rrd_change.proofs.Holding.{all_as, held_all}
 use Rattle.rrd_change.proofs.Logs.{cut_stands, log_stands, plain_stands}
 use Rattle.rrd_change.proofs.Marking.{cut_under, plain_represents}
@@ -13,18 +13,10 @@ either end_of old new file was is (inl h) = inl (stands end_of old file was h)
 either end_of old new file was is (inr h) = inr (stands end_of new file is h)
 
 pub all_stand : (end_of : List ℕ → ℕ) (now : List ℕ) (w : World) → IsWhole end_of now → All (Represents now) w → AllStand end_of (λ b. b ≡ now) w
-all_stand end_of now w whole a = record {
-  held = stands end_of now w.held whole a.held;
-  left = λ c left. stands end_of now c whole (a.leave c left);
-  later = λ c kept. stands end_of now c whole (a.keep c kept);
-}
+all_stand end_of now w whole a = grind (arith, common_steps, stands)
 
 pub either_stand : (end_of : List ℕ → ℕ) (old new : List ℕ) (w : World) → IsWhole end_of old → IsWhole end_of new → All (RepresentsEither old new) w → AllStand end_of (IsEither old new) w
-either_stand end_of old new w was is a = record {
-  held = either end_of old new w.held was is a.held;
-  left = λ c left. either end_of old new c was is (a.leave c left);
-  later = λ c kept. either end_of old new c was is (a.keep c kept);
-}
+either_stand end_of old new w was is a = grind (arith, common_steps, either)
 
 pub broken_stand : (end_of : List ℕ → ℕ) (now new : List ℕ) (w : World) → IsWhole end_of now → IsWhole end_of new → IsBroken now new w → AllStandAsTold end_of (IsEither now new) w
 broken_stand end_of now new w was is b = record {

@@ -1,5 +1,5 @@
 -- Lemmas on the bytes of a file over which the changes of its log are laid.
-use Rattle.rrd_change.proofs.Names.{◌≡◌, ℕ, ◌<◌, ◌≤◌, List, [], ◌∷◌, ◌++◌, length, take, drop, get_or, refl, sym, subst, ◌∙◌, ap, arith, true, false, append-nil, ext_get_or, get_or-take, get_or_append_left, length-append, length-take, take_all, drop_all, begins_with, Change, all_changed, changes_in, laid_over, last_size, chain_end, IsLogIn, IsLogMark, IsMarkOf, IsLogRead, cut_mark, log_mark, settled, settled_by, spelled_tail, unmarked, Mark, Log}
+use Rattle.rrd_change.proofs.Names.{◌≡◌, ℕ, ◌<◌, ◌≤◌, List, [], ◌∷◌, ◌++◌, length, take, drop, get_or, refl, sym, subst, ◌∙◌, ap, arith, true, false, append-nil, ext_get_or, get_or-take, get_or_append_left, length-append, length-take, take_all, drop_all, begins_with, Change, all_changed, changes_in, laid_over, last_size, chain_end, IsLogIn, IsLogMark, IsMarkOf, IsLogRead, cut_mark, log_mark, settled, settled_by, spelled_tail, unmarked, Mark, Log, common_steps}
 use Rattle.rrd_change.proofs.Chains.{chain_count, none_left}
 use Rattle.rrd_change.proofs.Logs.{by_mark, is_cut, is_log, is_plain}
 use Rattle.rrd_change.proofs.Reading.{past_read}
@@ -34,11 +34,7 @@ no_changes (c ∷ cs) at e = absurd (omega (arith, chain_count at (c ∷ cs), e)
 
 pub unlaid : (file old rest new : List ℕ) (tail n size : ℕ) (log : Log) → file ≡ old ++ rest → length old ≡ tail → n ≡ length file → IsLogRead old rest new log size → log.end ≡ tail →
     take n (new ++ rest ++ drop (length (new ++ rest)) file) ≡ laid_over (changes_in tail file) file
-unlaid file old rest new tail n size log all tail_is n_is read at =
-    let len : length (new ++ rest) ≡ length file = omega (arith, ap length all, length-append new rest, length-append old rest, read.len) in
-    let none : changes_in (length old) (old ++ rest) ≡ [] = no_changes (changes_in (length old) (old ++ rest)) (length old) (sym read.end ∙ at ∙ sym tail_is) in
-    let same : new ≡ old = ext_get_or 0 new old read.len (λ k low. read.each k ∙ ap (λ cs. all_changed cs k (get_or old k 0)) none) in
-    grind (arith, clipped)
+unlaid file old rest new tail n size log all tail_is n_is read at = grind (arith, common_steps, length-append new rest, length-append old rest, no_changes (changes_in (length old) (old ++ rest)) (length old), ext_get_or 0 new old read.len, clipped)
 
 pub past_log : (tail : ℕ) (file : List ℕ) → length file < tail → changes_in tail file ≡ []
 past_log tail file past = none_left tail file (length file) tail (past_read tail tail file (omega (arith, past)))

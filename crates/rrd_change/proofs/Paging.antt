@@ -1,5 +1,5 @@
 -- Lemmas on a file of one page, which one write replaces.
-use Rattle.rrd_change.proofs.Names.{◌≡◌, ℕ, ◌≤◌, List, length, ◌∙◌, arith, inl, inr, Result, ext_get_or, ArePut, AreWholeOrNot, IsStopped, Whole, Began, IsAtRest, IsDatabase, Does, Moves, View, World, seen, Never, Base}
+use Rattle.rrd_change.proofs.Names.{◌≡◌, ℕ, ◌≤◌, List, length, ◌∙◌, arith, inl, inr, Result, ext_get_or, ArePut, AreWholeOrNot, IsStopped, Whole, Began, IsAtRest, IsDatabase, Does, Moves, View, World, seen, Never, Base, common_steps}
 use Rattle.rrd_change.proofs.Marking.{put_front}
 
 -- a call on a file that is never synced: nothing is said of the disk
@@ -20,8 +20,7 @@ module _ (base : Base) (old new : List ℕ) (longer : base.length ≤ length new
   page_held u v p rest = grind (arith, put_whole)
 
   at_rest : (bytes : List ℕ) (v : World) → IsDatabase bytes → v.held ≡ bytes → ((c : List ℕ) → v.may_leave c → ⊥) → ((c : List ℕ) → v.may_keep c → ⊥) → IsAtRest bytes v
-  at_rest bytes v database held leave keep =
-      record { is = database; world = record { held = held; leave = λ c left. absurd (leave c left); keep = λ c kept. absurd (keep c kept) } }
+  at_rest bytes v database held leave keep = grind (arith, common_steps)
 
   pub page_put : (u v : World) → Puts (ArePut 0 new) u v → IsAtRest old u → IsAtRest new v
   page_put u v m rest = at_rest new v is (page_held u v m.held rest) m.leave m.keep

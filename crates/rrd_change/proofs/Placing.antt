@@ -1,5 +1,5 @@
 -- Lemmas on bringing spans into place.
-use Rattle.rrd_change.proofs.Names.{◌≡◌, ℕ, zero, suc, ◌+◌, ◌-◌, ◌<◌, ◌≤◌, max, min, List, [], ◌∷◌, ◌++◌, length, take, drop, get_or, refl, sym, ◌∙◌, ap, subst, arith, inl, inr, ◌⊎◌, cases_lt, length-take, length-drop, get_or-take, get_or-drop, take-append-drop, AreAny, ArePut, IsIn, AreAnyIn, ArePutIn, Span}
+use Rattle.rrd_change.proofs.Names.{◌≡◌, ℕ, zero, suc, ◌+◌, ◌-◌, ◌<◌, ◌≤◌, max, min, List, [], ◌∷◌, ◌++◌, length, take, drop, get_or, refl, sym, ◌∙◌, ap, subst, arith, inl, inr, ◌⊎◌, cases_lt, length-take, length-drop, get_or-take, get_or-drop, take-append-drop, AreAny, ArePut, IsIn, AreAnyIn, ArePutIn, Span, common_steps}
 
 pub in_join : (k : ℕ) (xs ys : List Span) → IsIn k (xs ++ ys) → IsIn k xs ⊎ IsIn k ys
 in_join k [] ys h = inr h
@@ -70,9 +70,7 @@ put_any_in spans new old file p = record { longer = p.longer; bound = p.bound; s
 -- a part of a span is written, in the terms of the code
 pub in_part : (spans : List Span) (n : ℕ) (none : Span) (new : List ℕ) (start end : ℕ) → n < length spans → start ≡ max (get_or spans n none).start 16 →
     end ≡ min (get_or spans n none).end (length new) → start < end → (old file : List ℕ) → AreAny start (length (take (end - start) (drop start new))) old file → AreAnyIn spans new old file
-in_part spans n none new start end low at_start at_end some old file a =
-    let size : length (take (end - start) (drop start new)) ≡ end - start = omega (arith, length-take (end - start) (drop start new), length-drop start new, at_end) in
-    grind (arith, span_any, in_at)
+in_part spans n none new start end low at_start at_end some old file a = grind (arith, common_steps, length-take, length-drop, span_any, in_at)
 
 in_take : (k : ℕ) (spans : List Span) (n : ℕ) → IsIn k (take n spans) → IsIn k spans
 in_take k spans n h = let P : List Span → Type 0 = λ xs. IsIn k xs in subst P (take-append-drop n spans) (in_left k (take n spans) (drop n spans) h)

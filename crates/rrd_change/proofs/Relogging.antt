@@ -1,5 +1,5 @@
 -- Lemmas on a log whose bytes and mark are written again.
-use Rattle.rrd_change.proofs.Names.{◌≡◌, ◌⊎◌, ℕ, ◌+◌, ◌-◌, ◌<◌, ◌≤◌, List, [], ◌∷◌, ◌++◌, length, get_or, refl, sym, ◌∙◌, ap, subst, arith, inl, inr, cases_lt, append-nil, ext_get_or, SameIn, StandsAt, AreMixed, ArePut, AreRestored, AreWholeOrNot, IsSized, IsSizedOrNot, IsTorn, Change, change_size, AreSaid, IsChain, IsLogged, chain_end, first_of, IsLogHeld, IsOnDisk, IsTornLog, IsUnlogged, LogEnd, log_mark, IsOpen, All, Fails, FailsToRestore, Stores, StoresAgain, World}
+use Rattle.rrd_change.proofs.Names.{◌≡◌, ◌⊎◌, ℕ, ◌+◌, ◌-◌, ◌<◌, ◌≤◌, List, [], ◌∷◌, ◌++◌, length, get_or, refl, sym, ◌∙◌, ap, subst, arith, inl, inr, cases_lt, append-nil, ext_get_or, SameIn, StandsAt, AreMixed, ArePut, AreRestored, AreWholeOrNot, IsSized, IsSizedOrNot, IsTorn, Change, change_size, AreSaid, IsChain, IsLogged, chain_end, first_of, IsLogHeld, IsOnDisk, IsTornLog, IsUnlogged, LogEnd, log_mark, IsOpen, All, Fails, FailsToRestore, Stores, StoresAgain, World, common_steps}
 use Rattle.rrd_change.proofs.Holding.{fails_disk, unless}
 use Rattle.rrd_change.proofs.Appending.{end_more}
 use Rattle.rrd_change.proofs.Chains.{chain_count, chain_stays}
@@ -102,39 +102,14 @@ module _ (end : LogEnd) (other now old : List ℕ) (tail : ℕ) (cs : List Chang
   -- the file ends where the log ends
   disk_sized : (h b f : List ℕ) → IsLogged old tail cs h → IsOnDisk end other now old tail cs b → IsSized (chain_end tail (first_of old ∷ cs)) b f → IsOnDisk end other now old tail cs f
   disk_sized h b f is (inl logged) s = inl (logged_sized old tail cs b f logged s)
-  disk_sized h b f is (inr (inl u)) s =
-      let count = chain_count tail (first_of old ∷ cs) in
-      inr (inl (unlogged_front other now old tail cs b f u (old_below old tail cs h is) (omega (arith, s.len, count)) (λ k high low. s.below k (omega (arith, low, count)))))
-  disk_sized h b f is (inr (inr (may, t))) s =
-      let few = (sure_all other old tail cs b t).2 in
-      inr (inr (may, torn_front other old tail cs b f t (omega (arith, s.len, few)) (λ k high low. s.below k (omega (arith, low, few)) ∙ t.same k high low)))
+  disk_sized h b f is (inr (inl u)) s = grind (arith, common_steps, chain_count tail (first_of old ∷ cs), unlogged_front other now old tail cs b f u (old_below old tail cs h is), old_below old tail cs h is)
+  disk_sized h b f is (inr (inr (may, t))) s = grind (arith, common_steps, sure_all other old tail cs b t, torn_front other old tail cs b f t)
 
   disk_mixed : (h b f : List ℕ) → IsLogged old tail cs h → IsOnDisk end other now old tail cs b →
       length b ≡ chain_end tail (first_of old ∷ cs) → AreMixed h tail (chain_end tail (first_of old ∷ cs)) b f → IsOnDisk end other now old tail cs f
-  disk_mixed h b f is (inl logged) len m =
-      let n = chain_end tail (first_of old ∷ cs) in
-      let long : n ≤ length b = omega (arith, len) in
-      let e : f ≡ b = ext_get_or 0 f b (m.len long) (λ k low. elim (m.each long k) [
-        | inl same ↦ same
-        | inr (from, to, read) ↦ read ∙ log_same old tail cs [] b h logged (subst (λ (xs : List Change). IsLogged old tail xs h) (sym (append-nil cs)) is) k from to
-      ]) in
-      inl (subst (IsLogged old tail cs) (sym e) logged)
-  disk_mixed h b f is (inr (inl u)) len m =
-      let n = chain_end tail (first_of old ∷ cs) in
-      let long : n ≤ length b = omega (arith, len) in
-      inr (inl (unlogged_front other now old tail cs b f u (old_below old tail cs h is) (omega (arith, m.len long, len, chain_count tail (first_of old ∷ cs))) (mixed_front h tail n b f m long)))
-  disk_mixed h b f is (inr (inr (may, t))) len m =
-      let n = chain_end tail (first_of old ∷ cs) in
-      let long : n ≤ length b = omega (arith, len) in
-      let all = sure_all other old tail cs b t in
-      let few = all.2 in
-      inr (inr (
-        may,
-        torn_front other old tail cs b f t (omega (arith, m.len long, len, few)) (λ k high low. elim (m.each long k) [
-          | inl same ↦ same ∙ t.same k high low
-          | inr (from, to, read) ↦ read ∙ log_same old tail t.sure all.0 t.whole h t.logged (subst (λ (xs : List Change). IsLogged old tail xs h) all.1 is) k from low
-        ]),
-      ))
+  disk_mixed h b f is (inl logged) len m = grind (arith, common_steps, ext_get_or 0 f b, log_same old tail cs, append-nil cs)
+  disk_mixed h b f is (inr (inl u)) len m = grind (arith, common_steps, unlogged_front other now old tail cs b f u (old_below old tail cs h is), old_below old tail cs h is, chain_count tail (first_of old ∷ cs), mixed_front h tail)
+  disk_mixed h b f is (inr (inr (may, t))) len m = grind (arith, common_steps, sure_all other old tail cs b t, torn_front other old tail cs b f t, log_same old tail t.sure)
 
   disk_open : (h b f : List ℕ) → IsLogged old tail cs h → IsOnDisk end other now old tail cs b →
       length b ≡ chain_end tail (first_of old ∷ cs) → SameIn tail (chain_end tail (first_of old ∷ cs)) h b → ArePut 0 (log_mark tail) b f → IsOpen old tail cs f

@@ -1,5 +1,5 @@
 -- Lemmas on repairs by what was found of a file.
-use Rattle.rrd_change.proofs.Names.{◌≡◌, ℕ, ◌+◌, ◌≤◌, max, Bool, true, false, List, [], ◌∷◌, length, drop, refl, sym, ◌∙◌, ap, subst, arith, inl, inr, lit<, length-take, StandsAt, begins_with, ArePut, AreWholeOrNot, IsSized, IsSizedOrNot, IsTorn, Change, change_size, changes_in, last_size, IsChain, IsUnderCut, TouchByte, chain_end, first_of, IsLogIn, IsMarkOf, IsCutLeft, IsFound, IsLeft, IsLogFound, IsLogHeld, IsLogLeft, IsMarkedFor, LogEnd, Whole, cut_mark, database_mark, log_mark, spelled_tail, Follows, IsAtRest, IsDatabase, IsLogFor, IsLogOf, IsOpen, Represents, All, Effect, Fails, FailsToRestore, Stores, StoresAgain, World, Mark, Log, IsAlone}
+use Rattle.rrd_change.proofs.Names.{◌≡◌, ℕ, ◌+◌, ◌≤◌, max, Bool, true, false, List, [], ◌∷◌, length, drop, refl, sym, ◌∙◌, ap, subst, arith, inl, inr, lit<, length-take, StandsAt, begins_with, ArePut, AreWholeOrNot, IsSized, IsSizedOrNot, IsTorn, Change, change_size, changes_in, last_size, IsChain, IsUnderCut, TouchByte, chain_end, first_of, IsLogIn, IsMarkOf, IsCutLeft, IsFound, IsLeft, IsLogFound, IsLogHeld, IsLogLeft, IsMarkedFor, LogEnd, Whole, cut_mark, database_mark, log_mark, spelled_tail, Follows, IsAtRest, IsDatabase, IsLogFor, IsLogOf, IsOpen, Represents, All, Effect, Fails, FailsToRestore, Stores, StoresAgain, World, Mark, Log, IsAlone, common_steps}
 use Rattle.rrd_change.proofs.Appending.{logged_all}
 use Rattle.rrd_change.proofs.Chains.{chain_count}
 use Rattle.rrd_change.proofs.Fronts.{front_of}
@@ -136,12 +136,10 @@ abbrev pub Leaves : Log → Effect
 Leaves log u v = (end : LogEnd) (other now : List ℕ) → IsLogFound end other now log u → IsLogLeft end other now v
 
 pub cuts : (log : Log) (u v : World) → Stores (IsSized log.end) u v → Cuts log u v
-cuts log u v s end other now h =
-    cut_stored end other now h.left.old h.left.tail h.left.changes u v (subst (λ (n : ℕ). Stores (IsSized n) u v) (log_ends end other now log u h) s) h.left.world
+cuts log u v s end other now h = grind (arith, common_steps, cut_stored end other now h.left.old h.left.tail h.left.changes u v, log_ends end other now log u h)
 
 pub cut_leaves : (log : Log) (u v : World) → Fails (IsSizedOrNot log.end) (IsSizedOrNot log.end) u v → Leaves log u v
-cut_leaves log u v f end other now h =
-    with_world end other now u v h.left (cut_failed end other now h.left.old h.left.tail h.left.changes u v (subst (λ (n : ℕ). Fails (IsSizedOrNot n) (IsSizedOrNot n) u v) (log_ends end other now log u h) f) h.left.world)
+cut_leaves log u v f end other now h = grind (arith, common_steps, with_world end other now u v h.left, cut_failed end other now h.left.old h.left.tail h.left.changes u v, log_ends end other now log u h)
 
 log_reach : (end : LogEnd) (other now : List ℕ) (log : Log) (w : World) (h : IsLogFound end other now log w) →
     max log.tail log.end ≡ chain_end h.left.tail (first_of h.left.old ∷ h.left.changes)

@@ -1,5 +1,5 @@
 -- Lemmas on writes that are taken up again.
-use Rattle.rrd_change.proofs.Names.{◌≡◌, ℕ, ◌+◌, ◌-◌, ◌<◌, ◌≤◌, List, ◌++◌, length, take, drop, get_or, refl, sym, ◌∙◌, ap, subst, arith, inl, inr, take-add, cases_lt, take_all, length-take, length-drop, length-append, get_or_append_left, get_or-append_right, AreAny, ArePut, IsCut, IsFrontPut}
+use Rattle.rrd_change.proofs.Names.{◌≡◌, ℕ, ◌+◌, ◌<◌, ◌≤◌, List, ◌++◌, length, take, drop, sym, ◌∙◌, subst, arith, inl, inr, take-add, cases_lt, take_all, length-take, length-drop, length-append, get_or_append_left, get_or-append_right, AreAny, ArePut, IsCut, IsFrontPut, common_steps}
 
 pub put_any : (at : ℕ) (bytes old new : List ℕ) → ArePut at bytes old new → AreAny at (length bytes) old new
 put_any at bytes old new p = record { longer = omega (arith, p.len); bound = omega (arith, p.len); outside = p.outside }
@@ -12,26 +12,10 @@ pub any_then : (at count : ℕ) (old mid new : List ℕ) → AreAny at count old
 any_then at count old mid new a b = grind arith
 
 pub put_then : (at : ℕ) (xs ys old mid new : List ℕ) → ArePut at xs old mid → ArePut (at + length xs) ys mid new → ArePut at (xs ++ ys) old new
-put_then at xs ys old mid new p q =
-    let size = length-append xs ys in
-    record {
-      len = omega (arith, p.len, q.len, size);
-      inside = λ i k. elim (cases_lt i (length xs)) [
-        | inl first ↦ q.outside (at + i) (inl (omega (arith, first))) ∙ p.inside i first ∙ sym (get_or_append_left xs ys 0 i first)
-        | inr second ↦
-            let here : at + length xs + (i - length xs) ≡ at + i = omega (arith, second) in
-            ap (λ n. get_or new n 0) (sym here) ∙ q.inside (i - length xs) (omega (arith, size, k, second))
-            ∙ sym (get_or-append_right xs ys (length xs) i 0 refl second)
-      ];
-      outside = λ k far. grind arith;
-    }
+put_then at xs ys old mid new p q = grind (arith, common_steps, length-append, cases_lt, get_or_append_left, get_or-append_right)
 
 pub front_any : (at n : ℕ) (bytes old new : List ℕ) → n ≤ length bytes → IsFrontPut at n bytes old new → AreAny at (length bytes) old new
-front_any at n bytes old new few p = elim (cases_lt 0 n) [
-  | inl some ↦
-      let size : length (take n bytes) ≡ n = omega (arith, length-take n bytes, few) in grind arith
-  | inr low ↦ grind arith
-]
+front_any at n bytes old new few p = grind (arith, common_steps, cases_lt 0 n, length-take n bytes)
 
 -- a part, and then a part of the rest
 pub front_then : (at d n : ℕ) (bytes old mid new : List ℕ) → d ≤ length bytes → IsFrontPut at d bytes old mid → IsFrontPut (at + d) n (drop d bytes) mid new →

@@ -1,5 +1,5 @@
 -- Lemmas on bringing the changes of a log into place.
-use Rattle.rrd_change.proofs.Names.{◌≡◌, ℕ, ◌+◌, ◌-◌, ◌<◌, ◌≤◌, List, ◌++◌, length, drop, get_or, refl, sym, ◌∙◌, ap, arith, inl, inr, ◌⊎◌, zero-add, slice_range, cases_lt, length-append, length-take, length-drop, get_or-take, get_or-drop, get_or-append_right, get_or_past, ArePut, IsSized, IsSizedOrNot, Change, IsUnderCut, cut_mark, AreAnyIn, ArePutIn, Follows, IsDatabase, IsInPlace, IsLogOf, IsOpen, Represents, cut_of, All, World, Log}
+use Rattle.rrd_change.proofs.Names.{◌≡◌, ℕ, ◌-◌, ◌<◌, ◌≤◌, List, ◌++◌, length, drop, get_or, sym, ◌∙◌, ap, arith, inl, inr, ◌⊎◌, zero-add, slice_range, cases_lt, length-append, length-take, length-drop, get_or-take, get_or-drop, get_or-append_right, get_or_past, ArePut, IsSized, IsSizedOrNot, Change, IsUnderCut, cut_mark, AreAnyIn, ArePutIn, Follows, IsDatabase, IsInPlace, IsLogOf, IsOpen, Represents, cut_of, All, World, Log, common_steps}
 use Rattle.rrd_change.proofs.Beginning.{open_stands}
 use Rattle.rrd_change.proofs.Holding.{all_as}
 use Rattle.rrd_change.proofs.Laying.{touched_said}
@@ -27,12 +27,7 @@ pub record IsPlaced (old now : List ℕ) (cs : List Change) (log : Log) (f : Lis
 
 pub placed_put : (old now : List ℕ) (cs : List Change) (log : Log) (x f : List ℕ) → Follows old now cs log → IsOpen old log.tail cs x → ArePutIn log.spans.items now x f →
     IsPlaced old now cs log f
-placed_put old now cs log x f follows is p =
-    let after = open_any old now cs log x f follows is (record { longer = p.longer; bound = p.bound; same = p.same }) in
-    record {
-      is = after;
-      placed = λ k high low. grind (arith, others_in_place old now log.tail cs f after.logged follows.leads follows.fill k high low);
-    }
+placed_put old now cs log x f follows is p = grind (arith, common_steps, open_any old now cs log x f follows is (record { longer = p.longer; bound = p.bound; same = p.same }), others_in_place old now log.tail cs f)
 
 -- ---- the first bytes
 
@@ -43,10 +38,7 @@ pub length-front : (new : List ℕ) → 16 ≤ length new → length (cut_front_
 length-front new enough = omega (arith, length-append cut_mark (slice_range new 4 16), length-take 12 (drop 4 new), length-drop 4 new, enough)
 
 front_rest : (new : List ℕ) (k : ℕ) → 4 ≤ k → k < 16 → get_or (cut_front_of new) k 0 ≡ get_or new k 0
-front_rest new k high low =
-    let here : 4 + (k - 4) ≡ k = omega (arith, high) in
-    get_or-append_right cut_mark (slice_range new 4 16) 4 k 0 refl high ∙ get_or-take 12 (drop 4 new) (k - 4) 0 (omega (arith, high, low)) ∙ get_or-drop 4 new (k - 4) 0
-    ∙ ap (λ n. get_or new n 0) here
+front_rest new k high low = grind (arith, common_steps, get_or-append_right cut_mark (slice_range new 4 16) 4 k 0, get_or-take 12 (drop 4 new) (k - 4) 0, get_or-drop 4 new (k - 4) 0)
 
 pub cut_placed : (now x f : List ℕ) → IsDatabase now → length now ≤ length x → IsInPlace now x → ArePut 0 (cut_front_of now) x f → IsUnderCut now f
 cut_placed now x f is reach placed put =

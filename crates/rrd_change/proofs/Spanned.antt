@@ -1,5 +1,5 @@
 -- Lemmas on the change that spans of new bytes make.
-use Rattle.rrd_change.proofs.Names.{common_steps, ◌≡◌, ℕ, ◌+◌, ◌-◌, ◌<◌, ◌≤◌, Bool, true, false, cond, List, [], ◌∷◌, length, drop, get_or, refl, sym, ◌∙◌, ap, arith, inl, inr, ◌&&◌, nat_le, nat_lt, and_from, le-leb, leb-true, ltb-true, length-take, length-drop, all_laid, are_within, laid, HaveByte, Makes, AgreesOutside, AreSpans, IsIn, change_of, piece_of, pieces_of, Span}
+use Rattle.rrd_change.proofs.Names.{common_steps, ◌≡◌, ℕ, ◌+◌, ◌-◌, ◌<◌, ◌≤◌, Bool, true, false, cond, List, [], ◌∷◌, length, drop, get_or, refl, ap, arith, inl, inr, ◌&&◌, nat_le, nat_lt, and_from, le-leb, leb-true, ltb-true, length-take, length-drop, all_laid, are_within, laid, HaveByte, Makes, AgreesOutside, AreSpans, IsIn, change_of, piece_of, pieces_of, Span}
 use Rattle.rrd_change.proofs.Laying.{changed_inside, pieces_say}
 
 length-piece : (bytes : List ℕ) (s : Span) → s.start ≤ s.end → s.end ≤ length bytes → length (piece_of bytes s).bytes ≡ s.end - s.start
@@ -31,15 +31,7 @@ pieces_keep bytes (s ∷ spans) k h = grind (arith, piece_keeps, pieces_keep byt
 
 -- the spans make the new bytes of the old ones
 pub spans_make : (spans : List Span) (old new : List ℕ) → AreSpans (length new) spans → AgreesOutside spans old new → Makes (change_of (length new) new spans) old new
-spans_make spans old new are agrees = record {
-  size = refl;
-  each = λ k low.
-      changed_inside (change_of (length new) new spans) k (get_or old k 0) low
-      ∙ elim (agrees.each k low) [
-        | inl is ↦ pieces_say k (pieces_of new spans) (in_have new spans k are is) (get_or old k 0) (get_or new k 0) ∙ pieces_keep new spans k are
-        | inr (_, same) ↦ ap (λ b. all_laid (pieces_of new spans) k b) (sym same) ∙ pieces_keep new spans k are
-      ];
-}
+spans_make spans old new are agrees = grind (arith, common_steps, changed_inside (change_of (length new) new spans), pieces_say, in_have new spans, pieces_keep new spans)
 
 -- the bytes that come are in the spans
 pub spans_fill : (spans : List Span) (old new : List ℕ) (k : ℕ) → AreSpans (length new) spans → AgreesOutside spans old new → length old ≤ k → k < length new →

@@ -1,5 +1,5 @@
 -- Lemmas on what is left of a file when a change stops.
-use Rattle.rrd_change.proofs.Names.{◌≡◌, ◌⊎◌, ℕ, ◌<◌, ◌≤◌, List, [], ◌∷◌, ◌++◌, length, take, get_or, refl, sym, ◌∙◌, ap, subst, arith, inl, inr, length_push, length-take, StandsAt, ArePut, AreWholeOrNot, IsTorn, Change, changes_in, AreSaid, ChangesTell, Fill, IsLogged, IsUnderCut, Leads, first_of, IsCutLeft, IsLeft, IsLogLeft, IsLoose, IsOnDisk, IsStopped, IsTornLog, IsUnlogged, LogEnd, Whole, log_mark, Follows, IsBroken, IsDatabase, IsLogOf, IsMarked, IsOpen, IsPlain, Represents, RepresentsEither, Tells, cut_of, All, World, Log, Fails, Option, IsKept, Some, None}
+use Rattle.rrd_change.proofs.Names.{◌≡◌, ◌⊎◌, ℕ, ◌<◌, ◌≤◌, List, [], ◌∷◌, ◌++◌, length, take, get_or, sym, ◌∙◌, ap, subst, arith, inl, inr, length_push, length-take, StandsAt, ArePut, AreWholeOrNot, IsTorn, Change, changes_in, AreSaid, ChangesTell, Fill, IsLogged, IsUnderCut, Leads, first_of, IsCutLeft, IsLeft, IsLogLeft, IsLoose, IsOnDisk, IsStopped, IsTornLog, IsUnlogged, LogEnd, Whole, log_mark, Follows, IsBroken, IsDatabase, IsLogOf, IsMarked, IsOpen, IsPlain, Represents, RepresentsEither, Tells, cut_of, All, World, Log, Fails, Option, IsKept, Some, None, common_steps}
 use Rattle.rrd_change.proofs.Appending.{first_of_more, logged_all}
 use Rattle.rrd_change.proofs.Beginning.{IsReadyOrOpen}
 use Rattle.rrd_change.proofs.Chains.{chain_count}
@@ -22,10 +22,7 @@ pub marked_left : (other now : List ℕ) (w : World) → IsMarked now w → IsCu
 marked_left other now w m = under_left other now w m.is (all_as (λ f. f ≡ cut_of now) (IsUnderCut now) w (λ f e. cut_under now f m.is e) m.world)
 
 pub plain_left : (end : LogEnd) (other now : List ℕ) (w : World) → IsDatabase now → All (IsPlain now) w → IsLeft end other now w
-plain_left end other now w is a = elim a.held [
-  | inl e ↦ inl (record { is = is; world = record { held = e; leave = a.leave; keep = a.keep } })
-  | inr e ↦ inr (inl (record { under = cut_under now w.held is e; uncut = plain_uncut other now w is a }))
-]
+plain_left end other now w is a = grind (arith, common_steps, cut_under now w.held is, plain_uncut other now w is a)
 
 -- ---- a log
 
@@ -78,8 +75,7 @@ front_put old now cs log x f follows below p put = grind (arith, length-front no
 
 pub placed_marked : (old now : List ℕ) (cs : List Change) (log : Log) (u v : World) → Follows old now cs log → length old ≤ log.tail →
     Fails (AreWholeOrNot 0 (cut_front_of now)) (IsTorn 0 (cut_front_of now)) u v → All (IsPlaced old now cs log) u → All (IsPlacedOrCut old now cs log) v
-placed_marked old now cs log u v follows below f a = marks_all (IsPlaced old now cs log) (IsPlacedOrCut old now cs log) (cut_front_of now) u v (λ x p. inl p)
-    (λ x p. omega (arith, length-front now follows.is.enough, p.is.logged.log.begun, follows.below, follows.is.enough)) (λ x y p put. inr (front_put old now cs log x y follows below p put)) f a
+placed_marked old now cs log u v follows below f a = grind (arith, common_steps, marks_all, length-front, front_put)
 
 placed_on_disk : (end : LogEnd) (other old now : List ℕ) (cs : List Change) (log : Log) (f : List ℕ) → Follows old now cs log → IsPlacedOrCut old now cs log f → IsOnDisk end other now old log.tail cs f
 placed_on_disk end other old now cs log f follows h = grind arith
@@ -147,14 +143,9 @@ disk_told end other now old tail cs h f leads fill held (inr (inl u)) tells = un
 disk_told end other now old tail cs h f leads fill held (inr (inr (may, t))) tells = torn_either other now old tail cs h f leads fill held t tells
 
 pub left_either : (other now : List ℕ) (w : World) → IsLeft Whole other now w → All (RepresentsEither other now) w
-left_either other now w (inl rest) =
-    all_as (IsPlain now) (RepresentsEither other now) w (λ f plain. inr (plain_represents now f rest.is plain)) (held_all now (IsPlain now) w (inl refl) rest.world)
+left_either other now w (inl rest) = grind (arith, common_steps, all_as, plain_represents, held_all)
 left_either other now w (inr (inl c)) = record { held = inr (inr (inl c.under)); leave = λ f left. (c.uncut.leave f left).stands; keep = λ f kept. (c.uncut.keep f kept).stands }
-left_either other now w (inr (inr l)) = record {
-  held = inr (left_held Whole other now w (inr (inr l)));
-  leave = λ f left. disk_either other now l.old l.tail l.changes f l.leads l.fill (l.world.leave f left);
-  keep = λ f kept. disk_either other now l.old l.tail l.changes f l.leads l.fill (l.world.keep f kept);
-}
+left_either other now w (inr (inr l)) = grind (arith, common_steps, left_held, disk_either)
 
 either_told : (other now : List ℕ) (w : World) → All (RepresentsEither other now) w → IsBroken other now w
 either_told other now w all = record { held = all.held; leave = λ f left told. all.leave f left; keep = λ f kept told. all.keep f kept }

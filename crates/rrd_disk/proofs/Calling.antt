@@ -1,5 +1,5 @@
 -- What the calls of the module once say, by the events that they note.
-use Rattle.rrd_disk.proofs.Names.{◌≡◌, ℕ, ◌+◌, ◌-◌, ◌<◌, ◌≤◌, inl, inr, List, ◌∷◌, ◌++◌, length, take, slice_index, IsTrue, Result, Ok, Err, IfOk, sym, ◌∙◌, ap, arith, length-append, length-take, get_or-take, ReadsAtMost, get_or_append_left, get_or-append_right, cases_lt, AreGot, IsGotAtOnce, Event, Got, World, bytes_after, is_honest_after, is_honest_read}
+use Rattle.rrd_disk.proofs.Names.{◌≡◌, ℕ, ◌+◌, ◌-◌, ◌<◌, ◌≤◌, inl, inr, List, ◌∷◌, ◌++◌, length, take, slice_index, IsTrue, Result, Ok, Err, IfOk, sym, ◌∙◌, ap, arith, length-append, length-take, get_or-take, ReadsAtMost, get_or_append_left, get_or-append_right, cases_lt, AreGot, IsGotAtOnce, Event, Got, World, bytes_after, is_honest_after, is_honest_read, common_steps}
 use Rattle.rrd_disk.proofs.Replaying.{read-AreGot, read_ends, read_is, read_within}
 
 -- ---- reading
@@ -7,9 +7,7 @@ use Rattle.rrd_disk.proofs.Replaying.{read-AreGot, read_ends, read_is, read_with
 -- the bytes of one honest read
 got_once : (file : List ℕ) (at wanted n : ℕ) (bytes : List ℕ) → n ≤ length bytes → wanted ≡ length bytes
     → IsTrue (is_honest_read file at wanted (take n bytes)) → IsGotAtOnce file at n bytes
-got_once file at wanted n bytes few all honest =
-    let len : length (take n bytes) ≡ n = omega (arith, length-take n bytes) in
-    grind (arith, read-AreGot, read_within, read_ends)
+got_once file at wanted n bytes few all honest = grind (arith, common_steps, length-take, read-AreGot, read_within, read_ends)
 
 -- one call of the system
 pub got_some : {E : Type 0} (r : Result ℕ E) (old mid new : List Event) (at : ℕ) (before bytes : List ℕ)

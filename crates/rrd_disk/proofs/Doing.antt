@@ -1,5 +1,5 @@
 -- Calls that change the file, one after another, and what they are for `rrd_change`.
-use Rattle.rrd_disk.proofs.Names.{◌≡◌, ℕ, zero, suc, ◌+◌, ◌%◌, ◌<◌, ◌≤◌, nat_le, List, [], ◌∷◌, length, take, Result, Ok, Err, IfOk, OnErr, OnOk, IsTrue, refl, sym, ◌∙◌, ap, subst, inl, arith, and_parts, leb-true, true≢false, AreAny, AreAt, ArePut, AreWholeOrNot, IsCut, IsFrontPut, IsSized, IsSizedOrNot, IsTorn, Counts, Does, Effect, FailsToSize, FailsToWrite, FailsToWritePage, FailsToWriteWhole, IsSynced, IsUnsynced, Moves, Reads, Stays, Steps, Writes, WritesPage, WritesWhole, moves_as, moves_then, file_of, view_of, world_asked, world_for, world_of, Did, DidOr, Falls, IsCutShort, IsPartPut, PlaceStays, Rests, Event, Put, PutFailed, Sized, SizeFailed, Synced, SyncFailed, HasLength, AreTorn, Follows, Leaves, moved, world_after, World, bytes_after, bytes_left, bytes_of, held_after, is_honest_after, is_honest_of, is_honest_part, is_small, is_there, left, overlaid, padded, padded_or_not, part_after, Held, Missing, Bytes}
+use Rattle.rrd_disk.proofs.Names.{◌≡◌, ℕ, zero, suc, ◌+◌, ◌%◌, ◌<◌, ◌≤◌, nat_le, List, [], ◌∷◌, length, take, Result, Ok, Err, IfOk, OnErr, OnOk, IsTrue, refl, sym, ◌∙◌, ap, subst, inl, arith, and_parts, leb-true, true≢false, AreAny, AreAt, ArePut, AreWholeOrNot, IsCut, IsFrontPut, IsSized, IsSizedOrNot, IsTorn, Counts, Does, Effect, FailsToSize, FailsToWrite, FailsToWritePage, FailsToWriteWhole, IsSynced, IsUnsynced, Moves, Reads, Stays, Steps, Writes, WritesPage, WritesWhole, moves_as, moves_then, file_of, view_of, world_asked, world_for, world_of, Did, DidOr, Falls, IsCutShort, IsPartPut, PlaceStays, Rests, Event, Put, PutFailed, Sized, SizeFailed, Synced, SyncFailed, HasLength, AreTorn, Follows, Leaves, moved, world_after, World, bytes_after, bytes_left, bytes_of, held_after, is_honest_after, is_honest_of, is_honest_part, is_small, is_there, left, overlaid, padded, padded_or_not, part_after, Held, Missing, Bytes, common_steps}
 use Rattle.std.specs.Result.{IsErr}
 use Rattle.rrd_disk.proofs.Asked.{for_each, honest_in}
 use Rattle.rrd_disk.proofs.Overlays.{padded-IsSized}
@@ -65,10 +65,7 @@ module _ (at : ℕ) (bytes : List ℕ) where
   put_honest : (taken : ℕ) (h : Held) (part : ℕ) → IsTrue (is_honest_of h part (Put at bytes taken))
       → (h ≡ Bytes (bytes_of h)) × ((file : List ℕ) → IsPartPut taken at bytes file (overlaid file at (take taken bytes)))
   put_honest taken Missing part honest = absurd (true≢false (sym honest))
-  put_honest taken (Bytes file) part honest =
-      let both = and_parts (nat_le taken (length bytes)) (is_honest_part at bytes taken) honest in
-      let few : taken ≤ length bytes = leb-true taken (length bytes) both.0 in
-      (refl, λ any. put_part at bytes any taken taken both.1 (omega (arith, few)))
+  put_honest taken (Bytes file) part honest = grind (arith, common_steps, and_parts, leb-true, put_part)
 
   put_place : (taken : ℕ) (h : Held) (part : ℕ) → is_there (left h part (Put at bytes taken)) ≡ is_there h
   put_place taken Missing part = refl
@@ -124,26 +121,10 @@ unsync_held (Bytes file) part = refl
 
 module _ (old : List Event) where
   synced_once : Did IsSynced old (Synced ∷ old)
-  synced_once = record {
-    falls = λ s honest. honest_before s old Synced honest;
-    place = λ s. ap is_there (sync_held (held_after s old) (part_after s old));
-    does = λ d w honest. record {
-      held = held_is d w (Synced ∷ old) ∙ ap bytes_of (sync_held (held_after w old) (part_after w old)) ∙ sym (held_is d w old);
-      leave = λ c may. may;
-      keep = λ c may. may;
-    };
-  }
+  synced_once = grind (arith, common_steps, honest_before, sync_held, held_is)
 
   unsynced_once : Did IsUnsynced old (SyncFailed ∷ old)
-  unsynced_once = record {
-    falls = λ s honest. honest_before s old SyncFailed honest;
-    place = λ s. ap is_there (unsync_held (held_after s old) (part_after s old));
-    does = λ d w honest. record {
-      held = held_is d w (SyncFailed ∷ old) ∙ ap bytes_of (unsync_held (held_after w old) (part_after w old)) ∙ sym (held_is d w old);
-      leave = λ c may. may;
-      keep = λ c may. may;
-    };
-  }
+  unsynced_once = grind (arith, common_steps, honest_before, unsync_held, held_is)
 
   pub sync_did : {A E : Type 0} (r : Result A E) (new : List Event) → OnOk r (new ≡ Synced ∷ old) → OnErr r (new ≡ SyncFailed ∷ old) → DidOr (λ x. IsSynced) IsUnsynced r old new
   sync_did (Ok x) new ok err = subst (λ (events : List Event). Did IsSynced old events) (sym ok) synced_once
@@ -170,8 +151,7 @@ module _ (at : ℕ) (bytes : List ℕ) where
   Part least = Moves (IsPartPut least at bytes) (AreTorn at bytes)
 
   pub part_any : (least : ℕ) (old new : List Event) → Did (Part least) old new → Did (Part 0) old new
-  part_any least old new did = did_as (Part least) (Part 0) old new
-      (moves_as (IsPartPut least at bytes) (IsPartPut 0 at bytes) (AreTorn at bytes) (AreTorn at bytes) (λ f g. part_less at bytes least 0 f g (omega arith)) (λ f g torn. torn)) did
+  part_any least old new did = grind (arith, common_steps, did_as, moves_as, part_less)
 
   -- a second call after one that wrote some of the bytes
   pub put_more : (first least : ℕ) (old mid new : List Event) → Did (Part first) old mid → Did (Part least) mid new → Did (Part least) old new
@@ -182,8 +162,7 @@ module _ (at : ℕ) (bytes : List ℕ) where
 
   -- all bytes were written
   pub put_whole : (least : ℕ) (old new : List Event) → 0 < length bytes → length bytes ≤ least → Did (Part least) old new → Did (Moves (ArePut at bytes) (AreTorn at bytes)) old new
-  put_whole least old new some all did = did_as (Part least) (Moves (ArePut at bytes) (AreTorn at bytes)) old new
-      (moves_as (IsPartPut least at bytes) (ArePut at bytes) (AreTorn at bytes) (AreTorn at bytes) (λ f g. part_all at bytes least f g some all) (λ f g torn. torn)) did
+  put_whole least old new some all did = grind (arith, common_steps, did_as, moves_as, part_all)
 
 pub did_failed : {A E : Type 0} (well : A → Effect) (badly : Effect) (r : Result A E) (old new : List Event) → IsErr r → Did badly old new → DidOr well badly r old new
 did_failed well badly (Ok x) old new is did = absurd cc
@@ -325,9 +304,7 @@ module _ (bytes : List ℕ) (old new : List Event) where
       (moves_as (ArePut 0 bytes) (ArePut 0 bytes) (AreTorn 0 bytes) (AreAny 0 (length bytes)) (λ f g put. put) (λ f g torn. torn.any)) did)
 
   pub page_fails : length bytes ≤ 4096 → Did (Part 0 bytes 0) old new → Steps (FailsToWritePage bytes) (view_of old) (view_of new)
-  page_fails few did = did_steps (FailsToWritePage bytes) (moves_forget (AreWholeOrNot 0 bytes) (AreAny 0 (length bytes))) old new
-      (did_as (Part 0 bytes 0) (FailsToWritePage bytes) old new
-      (moves_as (IsPartPut 0 0 bytes) (AreWholeOrNot 0 bytes) (AreTorn 0 bytes) (AreAny 0 (length bytes)) (λ f g. part_whole 0 bytes 0 f g (within_page (length bytes) few)) (λ f g torn. torn.any)) did)
+  page_fails few did = grind (arith, common_steps, did_steps, moves_forget, did_as, moves_as, part_whole, within_page)
 
   pub page_unmade : length bytes ≤ 4096 → Rests old new → Steps (FailsToWritePage bytes) (view_of old) (view_of new)
   page_unmade few rests = page_fails few (did_as Stays (Part 0 bytes 0) old new

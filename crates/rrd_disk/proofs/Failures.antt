@@ -1,5 +1,5 @@
 -- A failure of the power after any call of a change, or in the next one.
-use Rattle.rrd_disk.proofs.Names.{left_represents, alone_left, ◌≡◌, ◌⊎◌, ◌∙◌, ℕ, ◌<◌, ◌≤◌, Bool, IsTrue, List, [], ◌∷◌, ◌++◌, length, Result, Ok, Err, OnOk, inl, inr, refl, sym, ap, subst, arith, and_parts, true≢false, IsLogged, IsUnderCut, AllStandAsTold, IsEither, IsLeft, IsStopped, LogEnd, Whole, settled, IsAtRest, IsDatabase, Represents, Tells, Stays, Syncs, Ordered, broken_stand, left_told, file_end, Held, Missing, Bytes, IsAnyFile, Event, Put, PutFailed, Sized, SizeFailed, Synced, SyncFailed, are_failed, interrupted, is_failed, moved, world_after, world_before, World, bytes_after, bytes_left, bytes_of, failures, held_after, is_honest_after, is_there, part_after, Laws, Becomes, BecomesOrNot, DoesOr, IsChange, IsChanged, Survives, SurvivesFailure, SurvivesPower, found_after}
+use Rattle.rrd_disk.proofs.Names.{left_represents, alone_left, ◌≡◌, ◌⊎◌, ◌∙◌, ℕ, ◌<◌, ◌≤◌, Bool, IsTrue, List, [], ◌∷◌, ◌++◌, length, Result, Ok, Err, OnOk, inl, inr, refl, sym, ap, subst, arith, and_parts, true≢false, IsLogged, AllStandAsTold, IsEither, IsLeft, IsStopped, LogEnd, Whole, settled, IsAtRest, IsDatabase, Represents, Tells, Stays, Syncs, Ordered, broken_stand, left_told, file_end, Held, Missing, Bytes, IsAnyFile, Event, Put, PutFailed, Sized, SizeFailed, Synced, SyncFailed, are_failed, interrupted, is_failed, moved, world_after, world_before, World, bytes_after, bytes_of, failures, held_after, is_honest_after, is_there, part_after, Laws, Becomes, BecomesOrNot, DoesOr, IsChange, IsChanged, Survives, SurvivesFailure, SurvivesPower, found_after, common_steps}
 use Rattle.rrd_disk.proofs.Asked.{bytes_there, stays_there}
 use Rattle.rrd_disk.proofs.Kills.{counted_same, cut, cut_held, cut_honest, is_counted, interrupted_as, missed_held, missed_honest, no_part_after, nothing_laid}
 use Rattle.rrd_disk.proofs.Parts.{torn_none}
@@ -11,23 +11,11 @@ use Rattle.rrd_change.specs.Views as views
 
 module _ (u v : views.World) (same : Stays u v) where
   pub stays_rest : (now : List ℕ) → IsAtRest now u → IsAtRest now v
-  stays_rest now rest = record {
-    is = rest.is;
-    world = record { held = same.held ∙ rest.world.held; leave = λ c may. rest.world.leave c (same.leave c may); keep = λ c may. rest.world.keep c (same.keep c may) };
-  }
+  stays_rest now rest = grind (arith, common_steps)
 
   pub stays_left : (end : LogEnd) (other now : List ℕ) → IsLeft end other now u → IsLeft end other now v
   stays_left end other now (inl rest) = inl (stays_rest now rest)
-  stays_left end other now (inr (inl left)) =
-      inr (inl (record {
-        under = subst (IsUnderCut now) (sym same.held) left.under;
-        uncut = record {
-          is = left.uncut.is;
-          held = subst (λ (b : List ℕ). (b ≡ now) ⊎ IsUnderCut now b) (sym same.held) left.uncut.held;
-          leave = λ c may. left.uncut.leave c (same.leave c may);
-          keep = λ c may. left.uncut.keep c (same.keep c may);
-        };
-      }))
+  stays_left end other now (inr (inl left)) = grind (arith, common_steps)
   stays_left end other now (inr (inr log)) =
       inr (inr (record {
         old = log.old;
@@ -44,12 +32,7 @@ module _ (u v : views.World) (same : Stays u v) where
 
   module _ (P : List ℕ → Type 0) where
     stays_told : AllStandAsTold file_end P u → AllStandAsTold file_end P v
-    stays_told all =
-        record {
-          held = subst (λ (b : List ℕ). P (settled file_end b)) (sym same.held) all.held;
-          left = λ c may told. all.left c (same.leave c may) (subst (λ (b : List ℕ). Tells b c) same.held told);
-          later = λ c may told. all.later c (same.keep c may) (subst (λ (b : List ℕ). Tells b c) same.held told);
-        }
+    stays_told all = grind (arith, common_steps)
 
     pub stays_surviving : SurvivesPower P u → SurvivesPower P v
     stays_surviving power =
@@ -69,43 +52,19 @@ pub record Wider (u v : views.World) : Type 0 where
 -- one more call, in which the same is left
 module _ (x y : List ℕ) (p q : ℕ) (u v : views.World) (wide : Wider u v) where
   wider_then : (e : Event) → (IsTrue (is_counted e) → p ≡ q) → Wider (moved x p e u) (moved y q e v)
-  wider_then (Put at bytes taken) part = record {
-    leave = λ c may. (may.0, wide.leave may.0 may.1, may.2);
-    keep = λ c may. (may.0, wide.keep may.0 may.1, may.2);
-  }
-  wider_then (PutFailed at bytes) part = record {
-    leave = λ c may. (may.0, wide.leave may.0 may.1, may.2);
-    keep = λ c may. (may.0, wide.keep may.0 may.1, may.2 ∙ ap (λ (k : ℕ). bytes_left may.0 k (PutFailed at bytes)) (part refl));
-  }
-  wider_then (Sized count) part = record {
-    leave = λ c may. (may.0, wide.leave may.0 may.1, may.2);
-    keep = λ c may. (may.0, wide.keep may.0 may.1, may.2);
-  }
-  wider_then (SizeFailed count) part = record {
-    leave = λ c may. (may.0, wide.leave may.0 may.1, may.2);
-    keep = λ c may. (may.0, wide.keep may.0 may.1, may.2 ∙ ap (λ (k : ℕ). bytes_left may.0 k (SizeFailed count)) (part refl));
-  }
+  wider_then (Put at bytes taken) part = grind (arith, common_steps)
+  wider_then (PutFailed at bytes) part = grind (arith, common_steps)
+  wider_then (Sized count) part = grind (arith, common_steps)
+  wider_then (SizeFailed count) part = grind (arith, common_steps)
   wider_then Synced part = record { leave = wide.keep; keep = wide.keep }
-  wider_then SyncFailed part = record {
-    leave = wide.leave;
-    keep = λ c may. elim may [
-      | inl kept ↦ inl (wide.keep c kept)
-      | inr left ↦ inr (wide.leave c left)
-    ];
-  }
+  wider_then SyncFailed part = grind (arith, common_steps)
   wider_then _ part = record { leave = wide.leave; keep = wide.keep }
 
 -- a call that failed may have left nothing
 module _ (x : List ℕ) (u : views.World) where
   wider_failed : (e : Event) (k : ℕ) → k ≡ 0 → IsTrue (is_failed e) → Wider u (moved x k e u)
-  wider_failed (PutFailed at bytes) k none is = record {
-    leave = λ c may. (c, may, torn_none at bytes c);
-    keep = λ c may. (c, may, sym (ap (λ (n : ℕ). bytes_left c n (PutFailed at bytes)) none ∙ nothing_laid c at bytes));
-  }
-  wider_failed (SizeFailed count) k none is = record {
-    leave = λ c may. (c, may, inl refl);
-    keep = λ c may. (c, may, sym (ap (λ (n : ℕ). bytes_left c n (SizeFailed count)) none));
-  }
+  wider_failed (PutFailed at bytes) k none is = grind (arith, common_steps, torn_none, nothing_laid)
+  wider_failed (SizeFailed count) k none is = grind (arith, common_steps)
   wider_failed SyncFailed k none is = record { leave = λ c may. may; keep = λ c may. inl may }
   wider_failed _ k none is = absurd (true≢false (sym is))
 
@@ -161,8 +120,7 @@ there_start (Bytes bytes) some = refl
 
 module _ (laws : Laws) (bytes : List ℕ) where
   there_before : (P : List ℕ → Type 0) (d : List ℕ) (w : World) → Survives P (world_after d w []) → IsTrue (is_there w.start)
-  there_before P d w s = there_start w.start
-      (long_under s.now (bytes_of w.start) (left_represents s.end s.other s.now (world_after d w []) s.left) (any_database laws s.now s.is))
+  there_before P d w s = grind (arith, common_steps, there_start, long_under, left_represents, any_database)
 
   pub cut_power : (missed events : List Event) → IsTrue (are_failed missed) → (d : List ℕ) (w : World) → IsTrue (is_honest_after w events) → (P : List ℕ → Type 0) → Survives P (world_after d w [])
       → (IsTrue (is_honest_after (cut w (failures events)) (missed ++ events)) → SurvivesPower P (world_after d (cut w (failures events)) (missed ++ events)))

@@ -1,5 +1,5 @@
 -- Runs on the file at a path, by the records of their calls.
-use Rattle.rrd_disk.proofs.Names.{◌≡◌, IsTrue, List, [], ◌∷◌, map, Option, Some, None, refl, sym, ◌∙◌, subst, Stored, Held, held_of, world_in, IsSound, contents_after, is_honest_by, represented, Event, World, held_after, is_honest_after, AreHonest, AreRuns, FilesFollowSpecification, IsRecordOf, IsRun, Recorded, left_by, Laws, is_sound_by, Found, Unopened}
+use Rattle.rrd_disk.proofs.Names.{◌≡◌, IsTrue, List, [], ◌∷◌, map, Option, Some, None, refl, sym, ◌∙◌, subst, Stored, Held, held_of, world_in, IsSound, contents_after, is_honest_by, represented, Event, World, held_after, is_honest_after, AreHonest, AreRuns, FilesFollowSpecification, IsRecordOf, IsRun, Recorded, left_by, Laws, is_sound_by, Found, Unopened, arith, common_steps}
 use Rattle.rrd_disk.proofs.Asked.{world_in_held}
 use Rattle.rrd_disk.proofs.Storing.{database_unmarked, file_database, itself, sound_as, sound_unmarked}
 use Rattle.rrd_disk.specs.Runs.{last_of}
@@ -51,7 +51,4 @@ module _ (laws : Laws) where
 
   pub files_follow : ((old : Held) (first : Option Stored) (events : List runs.Event) (new : Held) → runs.RunsFollowSpecification old first events new)
       → (start : Held) (first : Option Stored) (recorded : List Recorded) → FilesFollowSpecification start first recorded
-  files_follow follow start first recorded = λ is are honest.
-      let all = happened start recorded (first_sound start first is) are honest in
-      let last : Held = represented (last_of start recorded) in
-      follow start first (happenings recorded) last is (subst (λ (h : Held). runs.HappenedAll h (happenings recorded) last) (first_itself start first is) all)
+  files_follow follow start first recorded = grind (arith, common_steps, happened, first_sound, first_itself)

@@ -37,10 +37,7 @@ unmarked_file file front begins cut =
 module _ (laws : Laws) (one : (bytes : List ℕ) → HasOneAnswer bytes) (law : (front rest : List ℕ) (fault : FileFault) → FrontHasTheFault front rest fault) where
   -- the database ends behind the first bytes, which are its beginning
   longer : (now front rest : List ℕ) → length front < length now → take (length now) (front ++ rest) ≡ now → Begins now front
-  longer now front rest less same = record {
-    within = omega (arith, less);
-    each = λ i low. sym (sym (ap (λ (xs : List ℕ). slice_index xs i) same) ∙ get_or-take (length now) (front ++ rest) i 0 (omega (arith, low, less)) ∙ get_or_append_left front rest 0 i low);
-  }
+  longer now front rest less same = grind (arith, common_steps, slice_index, get_or-take, get_or_append_left)
 
   -- it ends with them or before
   shorter : (now front rest : List ℕ) → IsAnyFile now → length now ≤ length front → length front ≤ file_end front → take (length now) (front ++ rest) ≡ now → now ≡ front

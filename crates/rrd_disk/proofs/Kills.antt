@@ -1,5 +1,5 @@
 -- The calls that a killed run did not make: with them, or without them, the file is the same.
-use Rattle.rrd_disk.proofs.Names.{◌≡◌, ◌∙◌, ℕ, suc, ◌≤◌, ◌&&◌, not, Bool, true, false, IsTrue, List, [], ◌∷◌, ◌++◌, length, take, inl, inr, refl, sym, ap, subst, arith, get_or-take, length-take, or-true, and_from, and_parts, true≢false, append_assoc, get_or_past, Held, Missing, Bytes, IsSound, represented, Event, Made, PutFailed, SizeFailed, SyncFailed, NotFound, are_failed, interrupted, is_failed, World, bytes_of, failures, held_after, is_honest_after, is_honest_of, is_small, left, padded_or_not, part_after, IsKilledRun, IsRun}
+use Rattle.rrd_disk.proofs.Names.{◌≡◌, ◌∙◌, ℕ, suc, ◌≤◌, ◌&&◌, not, Bool, true, false, IsTrue, List, [], ◌∷◌, ◌++◌, length, take, inl, inr, refl, sym, ap, subst, arith, get_or-take, length-take, or-true, and_from, and_parts, true≢false, append_assoc, get_or_past, Held, Missing, Bytes, IsSound, represented, Event, Made, PutFailed, SizeFailed, SyncFailed, NotFound, are_failed, interrupted, is_failed, World, bytes_of, failures, held_after, is_honest_after, is_honest_of, is_small, left, padded_or_not, part_after, IsKilledRun, IsRun, common_steps}
 use Rattle.rrd_disk.specs.Replayed.{is_honest_part, overlaid}
 use Rattle.rrd_store.specs.Runs as runs
 
@@ -111,9 +111,7 @@ module _ (w : World) (m : ℕ) where
         ∙ failed_left (held_after cut (more ++ events)) e both.0 ∙ missed_held more both.1
 
     honest_there : (h : Held) (k : ℕ) (e : Event) → h ≡ Bytes (bytes_of h) → k ≡ 0 → IsTrue (is_failed e) → IsTrue (is_honest_of h k e)
-    honest_there h k e there none is =
-        subst (λ (n : ℕ). IsTrue (is_honest_of h n e)) (sym none)
-        (subst (λ (g : Held). IsTrue (is_honest_of g 0 e)) (sym there) (failed_honest (bytes_of h) e is))
+    honest_there h k e there none is = grind (arith, common_steps, failed_honest)
 
     pub missed_honest : (missed : List Event) → IsTrue (are_failed missed) → held_after cut events ≡ Bytes (bytes_of (held_after cut events))
         → IsTrue (is_honest_after cut events) → IsTrue (is_honest_after cut (missed ++ events))
@@ -158,11 +156,8 @@ module _ (w : World) (missed events : List Event) (run : runs.Run) where
   -- where no file came to be, nothing changed
   killed_at : (now : Held) → held_after w events ≡ now → IsTrue (are_failed missed)
       → IsTrue (is_honest_after w events) → IsSound w.start → IsKilledRun (missed ++ events) run → Left
-  killed_at Missing is are honest sound did =
-      let none = never_there w events is in
-      (subst IsSound (sym is) tt, inl (subst (λ (h : Held). represented (held_after w events) ≡ represented h) (is ∙ sym none) refl))
-  killed_at (Bytes bytes) is are honest sound did =
-      killed_there are (there_is (held_after w events) bytes is) honest sound did
+  killed_at Missing is are honest sound did = grind (arith, common_steps, never_there)
+  killed_at (Bytes bytes) is are honest sound did = grind (arith, common_steps, killed_there, there_is)
 
 killed_run : (missed events : List Event) (run : runs.Run) → IsTrue (are_failed missed) → IsKilledRun (missed ++ events) run → IsKilledRun events run
 killed_run missed events run are did = λ w honest sound. killed_at w missed events run (held_after w events) refl are honest sound did

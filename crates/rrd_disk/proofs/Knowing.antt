@@ -1,5 +1,5 @@
 -- What is known in memory of a file, after its calls.
-use Rattle.rrd_disk.proofs.Names.{◌≡◌, ℕ, ◌+◌, ◌-◌, ◌<◌, ◌≤◌, ◌++◌, max, List, Option, Some, IsTrue, IfOk, Result, Ok, Err, length, take, slice_index, option_map, refl, sym, ◌∙◌, ap, inl, inr, arith, length-append, ReadsAtMost, take-append-add, cases_lt, get_or_append_left, get_or-append_right, length-take-le, take-take, Event, Falls, IsGot, Begins, Measures, Guards, KeepsGuard, LockedFile, World, bytes_after, is_honest_after, ArePut}
+use Rattle.rrd_disk.proofs.Names.{◌≡◌, ℕ, ◌+◌, ◌≤◌, ◌++◌, max, List, Option, Some, IsTrue, IfOk, Result, Ok, Err, length, take, slice_index, option_map, sym, ◌∙◌, ap, arith, length-append, ReadsAtMost, take-append-add, cases_lt, get_or_append_left, get_or-append_right, length-take-le, take-take, Event, Falls, IsGot, Begins, Measures, Guards, KeepsGuard, LockedFile, World, bytes_after, is_honest_after, ArePut, common_steps}
 
 pub measures_longer : (known result : Option ℕ) (at end : ℕ) (bytes : List ℕ) (old new : List Event)
     → result ≡ option_map (λ m. max m end) known → end ≡ at + length bytes → Falls old new → Measures known old
@@ -18,19 +18,7 @@ more_came bytes part x new n few joined cut =
     cut ∙ sym front ∙ ap (take (had + n)) joined ∙ take-append-add bytes part n
 
 more_shown : (file bytes part : List ℕ) (n : ℕ) → Begins file bytes → IsGot file (length bytes) n part → Begins file (bytes ++ take n part)
-more_shown file bytes part n begins got =
-    let had = length bytes in
-    let long : length (bytes ++ take n part) ≡ had + n = length-append bytes (take n part) ∙ ap (λ k. had + k) got.each.len in
-    record {
-      within = grind arith;
-      each = λ i low. elim (cases_lt i had) as (λ _. slice_index (bytes ++ take n part) i ≡ slice_index file i) [
-        | inl front ↦ get_or_append_left bytes (take n part) 0 i front ∙ begins.each i front
-        | inr behind ↦
-            let back : had + (i - had) ≡ i = omega (arith, behind) in
-            let inside : i - had < n = omega (arith, low, long, behind) in
-            get_or-append_right bytes (take n part) had i 0 refl behind ∙ got.each.each (i - had) inside ∙ ap (slice_index file) back
-      ];
-    }
+more_shown file bytes part n begins got = grind (arith, common_steps, length-append, cases_lt, slice_index, get_or_append_left, get_or-append_right)
 
 -- the same in a list that keeps its first bytes
 pub shown_behind : (file old part x : List ℕ) (had n : ℕ) → had ≤ length old → n ≤ length part → take (had + length part) x ≡ take had old ++ part

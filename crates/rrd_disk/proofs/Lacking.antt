@@ -1,5 +1,5 @@
 -- What a run keeps for a failure of the power: of a file that had a database, or of one that had none.
-use Rattle.rrd_disk.proofs.Names.{◌≡◌, ◌∙◌, ◌⊎◌, ℕ, zero, suc, Bool, IsOk, IsTrue, OnErr, List, [], ◌∷◌, ◌++◌, Option, Some, None, Result, Ok, Err, inl, inr, refl, sym, ap, subst, arith, false≢true, IsEmpty, Whole, All, Stays, Syncs, Ordered, FileSpan, IsFile, Bytes, Held, IsAnyFile, NoFile, Stored, TaskFault, held_of, world_in, contents_after, is_honest_by, IsSound, represented, Event, are_failed, interrupted, world_after, World, bytes_of, failures, held_after, is_honest_after, DoesSafely, PutsSafely, Reopens, StoresRun, SurvivesAs, SurvivesRun, IsSoundAs, Laws, LoadsAs, MayDiffer, StaysAs, is_sound_by, Survives, found_after, HadNone, IsBare, IsGone, IsLacking, IsMadeOf, IsSafeAs, IsUnmadeOr, IsUnwritable, Lacks, MakesSafely, MayLoad, StaysUnmarked, StoresMaking, SurvivesMade, SurvivesMaking, SurvivesMakingFailure, is_safe_by, plain_represents, Found, Unopened, Unwritable, Open, Kept}
+use Rattle.rrd_disk.proofs.Names.{◌≡◌, ◌∙◌, ◌⊎◌, ℕ, zero, suc, Bool, IsOk, IsTrue, OnErr, List, [], ◌∷◌, ◌++◌, Option, Some, None, Result, Ok, Err, inl, inr, refl, sym, ap, subst, arith, false≢true, IsEmpty, All, Stays, Syncs, Ordered, FileSpan, IsFile, Bytes, Held, IsAnyFile, NoFile, Stored, TaskFault, held_of, world_in, contents_after, is_honest_by, IsSound, represented, Event, are_failed, interrupted, world_after, World, bytes_of, failures, held_after, is_honest_after, DoesSafely, PutsSafely, Reopens, StoresRun, SurvivesAs, SurvivesRun, IsSoundAs, Laws, LoadsAs, MayDiffer, StaysAs, is_sound_by, Survives, found_after, HadNone, IsBare, IsGone, IsLacking, IsMadeOf, IsSafeAs, IsUnmadeOr, IsUnwritable, Lacks, MakesSafely, MayLoad, StaysUnmarked, StoresMaking, SurvivesMade, SurvivesMaking, SurvivesMakingFailure, is_safe_by, plain_represents, Found, Unopened, Unwritable, Open, Kept, common_steps}
 use Rattle.rrd_disk.proofs.Asked.{world_in_held}
 use Rattle.rrd_disk.proofs.Failures.{failure_survived, found_survives, cut_off, stays_surviving}
 use Rattle.rrd_disk.proofs.Kills.{cut, interrupted_as, never_there, there_is}
@@ -32,9 +32,7 @@ module _ (laws : Laws) where
 
   module _ (P : List ℕ → Type 0) (was : Found) (can : MayLoad was) (h : Held) (w : views.World) (here : w.held ≡ bytes_of h) (l : IsLacking P was h w) where
     lack : (f : Found) → f ≡ was → IsBare w.held × IsSoundAs f h × (h ≡ NoFile → IsEmpty w)
-    lack Unopened is =
-        let bare : IsBare w.held = subst (λ (f : Found). Lacks f w) (sym is) l.lacks in
-        (bare, bare_sound h (subst IsBare here bare), subst (λ (f : Found). IsGone f h w) (sym is) l.gone)
+    lack Unopened is = grind (arith, common_steps, bare_sound)
     lack found.Missing is =
         let empty : IsEmpty w = subst (λ (f : Found). Lacks f w) (sym is) l.lacks in
         (empty_bare laws w.held empty.held, subst (λ (f : Found). IsGone f h w) (sym is) l.gone, λ none. empty)
@@ -110,8 +108,7 @@ failed_lacking P _ h v is none all = absurd is
 module _ (laws : Laws) (syncs one : Syncs) (same : one ≡ syncs) (was left : Found) (changed : List FileSpan) (bytes : List ℕ) (any : IsAnyFile bytes) (old new : List Event) where
   module _ (w : World) (honest : IsTrue (is_honest_after w new)) (may : MayDiffer changed (represented (held_after w old)) bytes) (ordered : syncs ≡ Ordered) where
     made_done : {E : Type 0} (r : Result (Unit {0}) E) (P Q : List ℕ → Type 0) (d : List ℕ) → IsOk r → MakesSafely syncs was left bytes old new r → Q bytes → IsLacking P was (held_after w old) (world_after d w old) → SurvivesAs Q left (world_after d w new)
-    made_done (Ok x) P Q d ok makes holds l =
-        record { now = bytes; other = bytes; is = any; was = any; holds = holds; held = holds; end = Whole; left = (makes ordered d w honest l.lacks).1 }
+    made_done (Ok x) P Q d ok makes holds l = grind (arith, common_steps)
     made_done (Err e) P Q d ok makes holds l = absurd (false≢true ok)
 
     done_as : {E : Type 0} (r : Result (Unit {0}) E) (P Q : List ℕ → Type 0) (d : List ℕ) → IsOk r → PutsSafely syncs was left changed bytes old new r → MakesSafely syncs was left bytes old new r → Q bytes
@@ -133,16 +130,14 @@ module _ (laws : Laws) (syncs one : Syncs) (same : one ≡ syncs) (was left : Fo
   pub safe_put : {E : Type 0} (s : Option Held) (d : List ℕ) (r : Result (Unit {0}) E) (Q : List ℕ → Bool) → OnErr r (IsUnwritable left) → PutsSafely syncs was left changed bytes old new r
       → MakesSafely syncs was left bytes old new r → is_honest_by s new → MayDifferBy s changed old bytes → IsTrue (Q bytes) → is_safe_by s d Q syncs was old → is_safe_by s d Q one left new
   safe_put None d r Q closed puts makes honest may holds safe = tt
-  safe_put {E} (Some code) d (Ok x) Q closed puts makes honest may holds safe =
-      (same ∙ safe.0, done_as (world_in code) honest may safe.0 {E = E} (Ok x) (λ b. IsTrue (Q b)) (λ b. IsTrue (Q b)) d refl puts makes holds safe.1)
+  safe_put {E} (Some code) d (Ok x) Q closed puts makes honest may holds safe = grind (arith, common_steps, done_as)
   safe_put (Some code) d (Err e) Q closed puts makes honest may holds safe =
       (same ∙ safe.0, kept_as (world_in code) honest may safe.0 e (λ b. IsTrue (Q b)) d closed puts makes holds safe.1)
 
   pub safe_stored : {E : Type 0} (s : Option Held) (d : List ℕ) (r : Result (Unit {0}) E) (Q R : List ℕ → Bool) → IsOk r → PutsSafely syncs was left changed bytes old new r → MakesSafely syncs was left bytes old new r
       → is_honest_by s new → MayDifferBy s changed old bytes → IsTrue (R bytes) → is_safe_by s d Q syncs was old → is_safe_by s d R one left new
   safe_stored None d r Q R ok puts makes honest may holds safe = tt
-  safe_stored (Some code) d r Q R ok puts makes honest may holds safe =
-      (same ∙ safe.0, done_as (world_in code) honest may safe.0 r (λ b. IsTrue (Q b)) (λ b. IsTrue (R b)) d ok puts makes holds safe.1)
+  safe_stored (Some code) d r Q R ok puts makes honest may holds safe = grind (arith, common_steps, done_as)
 
 -- ---- a run
 

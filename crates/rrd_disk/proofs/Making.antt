@@ -1,5 +1,5 @@
 -- A file that is made, for a failure of the power: whatever is left of it stands for its database, or for none.
-use Rattle.rrd_disk.proofs.Names.{common_steps, ◌≡◌, ◌∙◌, ℕ, Bool, List, [], ◌∷◌, ◌++◌, Option, Some, None, Result, Ok, Err, IsErr, IsTrue, OnOk, slice_index, arith, inl, inr, refl, sym, ap, subst, and_parts, true≢false, rest_stands, IsSizedOrNot, IsEmpty, IsUnmade, AllStand, mark_of, settled, IsAtRest, All, Stays, Steps, seen, Syncs, Ordered, Base, file_end, Bytes, Held, IsAnyFile, IsFile, IsNoFile, NoFile, view_of, Falls, RestsFor, IsSound, Event, Made, NotFound, are_failed, interrupted, TellsMark, IsThere, world_after, World, bytes_after, bytes_of, failures, held_after, is_honest_after, is_honest_of, left, part_after, IsPrepared, Laws, Prepares, DoesOr, IsMade, IsMadeOrNone, IsMaking, Opening, Make, BeganAs, IsLeftAs, IsOpen, Found, Unopened, Unwritable, Open, Kept, Whole, Had, IsBare, IsMadeAs, IsUnmadeOr, Lacks, Makes, MakesOrNot, MakesSafely, StaysUnmarked}
+use Rattle.rrd_disk.proofs.Names.{common_steps, ◌≡◌, ◌∙◌, ℕ, Bool, List, [], ◌∷◌, ◌++◌, Option, Some, None, Result, Ok, Err, IsErr, IsTrue, OnOk, slice_index, arith, inl, inr, refl, sym, ap, subst, and_parts, true≢false, rest_stands, IsSizedOrNot, IsEmpty, IsUnmade, AllStand, mark_of, settled, IsAtRest, All, Stays, Steps, seen, Syncs, Ordered, Base, file_end, Bytes, Held, IsAnyFile, IsFile, IsNoFile, NoFile, view_of, Falls, RestsFor, IsSound, Event, Made, NotFound, are_failed, interrupted, TellsMark, IsThere, world_after, World, bytes_after, failures, held_after, is_honest_after, is_honest_of, left, part_after, IsPrepared, Laws, Prepares, DoesOr, IsMade, IsMadeOrNone, IsMaking, Opening, Make, BeganAs, IsLeftAs, IsOpen, Found, Unopened, Unwritable, Open, Kept, Whole, Had, IsBare, IsMadeAs, IsUnmadeOr, Lacks, Makes, MakesOrNot, MakesSafely, StaysUnmarked}
 use Rattle.rrd_disk.proofs.Doing.{steps_each}
 use Rattle.rrd_disk.proofs.Failures.{cut_off}
 use Rattle.rrd_disk.proofs.Kills.{cut, interrupted_as, left_missing, there_is}
@@ -20,11 +20,7 @@ module _ (laws : Laws) (bytes : List ℕ) (any : IsAnyFile bytes) where
   unmade_is c (inr is) = inl (ap (settled file_end) is ∙ unmarked_itself bytes (database_none laws bytes any))
 
   unmade_stand : (w : views.World) → All (IsUnmade bytes) w → AllStand file_end (IsMadeOrNone bytes) w
-  unmade_stand w all = record {
-    held = unmade_is w.held all.held;
-    left = λ c may. unmade_is c (all.leave c may);
-    later = λ c may. unmade_is c (all.keep c may);
-  }
+  unmade_stand w all = grind (arith, common_steps, unmade_is)
 
   made_stand : (w : views.World) → IsAtRest bytes w → AllStand file_end (λ b. b ≡ bytes) w
   made_stand w rest = rest_stands file_end bytes w (whole_end laws bytes any) rest
@@ -113,15 +109,13 @@ unmade_by found bytes (Err e) syncs old new failed stays = λ ordered d w honest
 
 ordered_each : (effect : views.Effect) (one : Syncs) (old new : List Event) → one ≡ Ordered → Steps effect (seen one (view_of old)) (seen one (view_of new)) → (d : List ℕ) (w : World) → IsTrue (is_honest_after w new)
     → effect (world_after d w old) (world_after d w new)
-ordered_each effect one old new ordered steps d w honest =
-    steps_each effect old new (subst (λ (y : Syncs). Steps effect (seen y (view_of old)) (seen y (view_of new))) ordered steps) d w honest
+ordered_each effect one old new ordered steps d w honest = grind (arith, common_steps, steps_each)
 
 module _ (bytes : List ℕ) (old mid new : List Event) (syncs one : Syncs) (is : one ≡ syncs) where
   -- in place of bytes that are no database
   pub untruncated_making : {E : Type 0} (r : Result (Unit {0}) E) → IsErr r → Steps FailsToTruncate (seen one (view_of old)) (seen one (view_of mid)) → DoesOr (λ x. Makes Unopened bytes) (MakesOrNot Unopened bytes) r syncs old mid
   untruncated_making (Ok x) failed steps = absurd (true≢false (sym failed))
-  untruncated_making (Err e) failed steps = λ ordered d w honest bare.
-      untruncated_had bytes (world_after d w old) (world_after d w mid) (ordered_each FailsToTruncate one old mid (is ∙ ordered) steps d w honest)
+  untruncated_making (Err e) failed steps = grind (arith, common_steps, untruncated_had, ordered_each)
 
   pub created_making : Steps Truncates (seen one (view_of old)) (seen one (view_of mid)) → Falls mid new → Steps (Creates bytes) (seen one (view_of mid)) (seen one (view_of new))
       → syncs ≡ Ordered → (d : List ℕ) (w : World) → IsTrue (is_honest_after w new) → Makes Unopened bytes (world_after d w old) (world_after d w new)
@@ -147,8 +141,7 @@ module _ (bytes : List ℕ) (old mid new : List Event) (syncs one : Syncs) (is :
   pub new_unmade : {E : Type 0} (r : Result (Unit {0}) E) → IsErr r → RestsFor Make old mid → Steps (FailsToCreate bytes) (seen one (view_of mid)) (seen one (view_of new))
       → DoesOr (λ x. Makes Missing bytes) (MakesOrNot Missing bytes) r syncs old new
   new_unmade (Ok x) failed rests steps = absurd (true≢false (sym failed))
-  new_unmade (Err e) failed rests steps = λ ordered d w honest empty.
-      unmade_had bytes (world_after d w old) (world_after d w new) (ordered_each (FailsToCreate bytes) one mid new (is ∙ ordered) steps d w honest (made_empty rests d w empty))
+  new_unmade (Err e) failed rests steps = grind (arith, common_steps, unmade_had, ordered_each, made_empty)
 
 -- ---- a file that is opened to be made, and prepared
 
@@ -180,16 +173,7 @@ module _ (laws : Laws) (bytes : List ℕ) (old made mid new : List Event) (rests
   pub first_making : {E : Type 0} (r : Result (Unit {0}) E) (syncs two : Syncs) → two ≡ syncs → DoesOr (λ x. Makes Unopened bytes) (MakesOrNot Unopened bytes) r two mid new
       → DoesOr (λ x. Makes Unopened bytes) (MakesOrNot Unopened bytes) r syncs old new
   first_making (Ok x) syncs two is does = λ ordered d w honest bare. does (is ∙ ordered) d w honest (still_bare d w (falls w honest) bare)
-  first_making (Err e) syncs two is does = λ ordered d w honest bare.
-      let all = does (is ∙ ordered) d w honest (still_bare d w (falls w honest) bare) in
-      let u = world_after d w old in
-      let v = world_after d w mid in
-      let same = prepared_stays d w (falls w honest) bare in
-      record {
-        held = unmade_before bytes u v (world_after d w new).held same all.held;
-        leave = λ c may. unmade_before bytes u v c same (all.leave c may);
-        keep = λ c may. unmade_before bytes u v c same (all.keep c may);
-      }
+  first_making (Err e) syncs two is does = grind (arith, common_steps, still_bare, prepared_stays, unmade_before)
 
 -- ---- the state in which the file is left
 
@@ -251,8 +235,7 @@ making_ordered left bytes syncs r old new ordered does = subst (λ (y : Syncs). 
 module _ (laws : Laws) (left : Found) (bytes : List ℕ) (any : IsAnyFile bytes) where
   begun_step : {E : Type 0} (r : Result (Unit {0}) E) (old new : List Event) → old ≡ [] → Making left bytes r old new → (w : World) → IsTrue (is_honest_after w new) → w.start ≡ NoFile
       → IsMadeAs r left bytes (world_after [] w []) (world_after [] w new)
-  begun_step r old new begun does w honest missing =
-      subst (λ (l : List Event). Making left bytes r l new) begun does refl [] w honest (empty_bare laws (bytes_of w.start) (ap bytes_of missing))
+  begun_step r old new begun does w honest missing = grind (arith, common_steps, empty_bare)
 
   pub making_begun : {E : Type 0} (r : Result (Unit {0}) E) (old new : List Event) → old ≡ [] → Making left bytes r old new → IsMaking bytes new
   making_begun {E} (Ok x) old new begun does w honest missing = made_or_none laws bytes any (world_after [] w new) (begun_step {E = E} (Ok x) old new begun does w honest missing).0

@@ -1,5 +1,5 @@
 -- The first sixteen bytes of a file say its mark.
-use Rattle.rrd_disk.proofs.Names.{◌≡◌, ℕ, ◌+◌, ◌<◌, ◌≤◌, min, Bool, true, List, Option, Some, None, length, take, drop, sym, ◌∙◌, ap, inl, inr, arith, length-drop, length-take, get_or-take, get_or-drop, if◌then◌else◌, w64, from_be_bytes, cases_Bool, cases_lt, true≢false, ext_get_or, front_from_reads, front_reads, begins_with, Cut, cut_mark, log_mark, spelled_tail, begins_from, front_of, Begins}
+use Rattle.rrd_disk.proofs.Names.{◌≡◌, ℕ, ◌+◌, ◌<◌, ◌≤◌, min, Bool, true, List, Option, Some, None, length, take, drop, sym, ◌∙◌, ap, inl, inr, arith, length-drop, length-take, get_or-take, get_or-drop, if◌then◌else◌, w64, from_be_bytes, cases_Bool, cases_lt, true≢false, ext_get_or, front_from_reads, front_reads, begins_with, Cut, cut_mark, log_mark, spelled_tail, begins_from, front_of, Begins, common_steps}
 use Rattle.rrd_change.specs.Settled.{Log, Mark, mark_of}
 use Rattle.rrd_disk.proofs.Fronts.{whole}
 
@@ -18,13 +18,7 @@ module _ (file front : List ℕ) (begins : Begins file front) where
         (λ i low. begins.each i (omega (arith, low, few)) ∙ front_reads 0 file mark (drop (length mark) file) (front_of file mark is) i low))
 
     begins_same : begins_with front mark ≡ begins_with file mark
-    begins_same = elim (cases_Bool (begins_with front mark)) as (λ _. begins_with front mark ≡ begins_with file mark) [
-      | inl is ↦ is ∙ sym (begins_more is)
-      | inr is_not ↦ elim (cases_Bool (begins_with file mark)) as (λ _. begins_with front mark ≡ begins_with file mark) [
-        | inl is ↦ absurd (true≢false (sym (begins_less is) ∙ is_not))
-        | inr also ↦ is_not ∙ sym also
-      ]
-    ]
+    begins_same = grind (arith, common_steps, cases_Bool, begins_more, true≢false, begins_less)
 
   -- ---- the first bytes
 

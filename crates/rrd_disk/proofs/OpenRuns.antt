@@ -1,5 +1,5 @@
 -- Runs on a file that stays open, by the record of their calls.
-use Rattle.rrd_disk.proofs.Names.{arith, ◌≡◌, ◌∙◌, ap, IsTrue, List, [], ◌∷◌, map, Option, Some, None, refl, subst, Encoded, Stored, IsInMemory, Held, held_of, world_in, Rests, IsSound, contents_after, is_honest_by, represented, Event, AreOpenRuns, IsKept, IsKeptOf, IsOpenRun, IsReload, OpenFilesFollowSpecification, RecordedOpen, record_of, World, held_after, is_honest_after, IsSoundAs, Laws, is_sound_by, Found, Unopened}
+use Rattle.rrd_disk.proofs.Names.{arith, ◌≡◌, ap, IsTrue, List, [], ◌∷◌, map, Option, Some, None, refl, subst, Encoded, Stored, IsInMemory, Held, held_of, world_in, Rests, IsSound, contents_after, is_honest_by, represented, Event, AreOpenRuns, IsKept, IsKeptOf, IsOpenRun, IsReload, OpenFilesFollowSpecification, RecordedOpen, record_of, World, held_after, is_honest_after, IsSoundAs, Laws, is_sound_by, Found, Unopened, common_steps}
 use Rattle.rrd_disk.proofs.Asked.{world_in_held}
 use Rattle.rrd_disk.proofs.FileRuns.{first_itself, first_sound}
 use Rattle.rrd_disk.proofs.Storing.{sound_as}
@@ -86,9 +86,4 @@ happened w before (r ∷ later) sound are honest = grind (arith, honest_before, 
 module _ (laws : Laws) where
   pub open_files_follow : ((old : Held) (first : Option Stored) (events : List runs.Event) (new : Held) → runs.RunsFollowSpecification old first events new)
       → (w : World) (first : Option Stored) (opened : List Event) (recorded : List RecordedOpen) → OpenFilesFollowSpecification w first opened recorded
-  open_files_follow follow w first opened recorded = λ is same are honest.
-      let sound = first_sound laws w.start first is in
-      let all = happened w opened recorded sound are honest in
-      let last : Held = represented (held_after w (record_of opened recorded)) in
-      let begun = same w (honest_before w opened recorded sound are honest) sound ∙ first_itself laws w.start first is in
-      follow w.start first (ended recorded) last is (subst (λ (h : Held). runs.HappenedAll h (ended recorded) last) begun all)
+  open_files_follow follow w first opened recorded = grind (arith, common_steps, first_sound, happened, honest_before, first_itself)

@@ -1,5 +1,5 @@
 -- What a file is after bytes were laid over it, in the words of rrd_change.
-use Rattle.rrd_disk.proofs.Names.{common_steps, ◌≡◌, ℕ, ◌+◌, ◌-◌, ◌<◌, ◌≤◌, ◌⊎◌, inl, inr, List, [], ◌∷◌, ◌++◌, length, drop, replicate, slice_index, refl, sym, ◌∙◌, ap, arith, length-append, length-drop, get_or-drop, get_or_append_left, get_or-append_right, get_or_past, cases_lt, ArePut, IsSized}
+use Rattle.rrd_disk.proofs.Names.{common_steps, ◌≡◌, ℕ, ◌+◌, ◌-◌, ◌<◌, ◌≤◌, ◌⊎◌, inl, inr, List, [], ◌∷◌, ◌++◌, length, drop, replicate, slice_index, refl, ◌∙◌, ap, arith, length-append, length-drop, get_or-drop, get_or_append_left, get_or-append_right, get_or_past, cases_lt, ArePut, IsSized}
 use Rattle.rrd_disk.specs.Replayed.{padded, overlaid}
 
 -- zeros have the value that a list has past its end
@@ -8,10 +8,7 @@ zeros n k = grind (arith, common_steps)
 
 -- so zeros behind a file change no byte
 zeros_behind : (file : List ℕ) (n k : ℕ) → slice_index (file ++ replicate n 0) k ≡ slice_index file k
-zeros_behind file n k = elim (cases_lt k (length file)) [
-  | inl inside ↦ get_or_append_left file (replicate n 0) 0 k inside
-  | inr past ↦ get_or-append_right file (replicate n 0) (length file) k 0 refl past ∙ zeros n (k - length file) ∙ sym (get_or_past file k 0 past)
-]
+zeros_behind file n k = grind (arith, common_steps, cases_lt, get_or_append_left, get_or-append_right, zeros, get_or_past)
 
 pub length-padded : (file : List ℕ) (count : ℕ) → length (padded file count) ≡ count
 unfolding padded

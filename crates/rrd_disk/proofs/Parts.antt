@@ -1,5 +1,5 @@
 -- A write that may have been done in part, and calls that are made again after it.
-use Rattle.rrd_disk.proofs.Names.{◌≡◌, ℕ, zero, suc, ◌+◌, ◌%◌, ◌<◌, ◌≤◌, ◌⊎◌, inl, inr, ◌==◌, ◌&&◌, ◌||◌, nat_le, min, not, Bool, List, length, take, slice_index, IsTrue, refl, sym, ◌∙◌, ap, subst, arith, length-take, get_or-take, or-true, cases_lt, eqb-true, le-leb, leb-true, not-true, or_cases, true≢false, take_all, take_min, AreAny, ArePut, AreWholeOrNot, IsCut, IsFrontPut, IsSized, IsSizedOrNot, IsTorn, IsPartPut, AreTorn, is_small, overlaid, padded_or_not}
+use Rattle.rrd_disk.proofs.Names.{◌≡◌, ℕ, zero, suc, ◌+◌, ◌%◌, ◌<◌, ◌≤◌, ◌⊎◌, inl, inr, ◌==◌, ◌&&◌, ◌||◌, nat_le, min, Bool, List, length, take, slice_index, IsTrue, refl, sym, ◌∙◌, ap, subst, arith, length-take, get_or-take, or-true, cases_lt, eqb-true, le-leb, leb-true, not-true, or_cases, true≢false, take_all, take_min, AreAny, ArePut, AreWholeOrNot, IsCut, IsFrontPut, IsSized, IsSizedOrNot, IsTorn, IsPartPut, AreTorn, is_small, overlaid, padded_or_not, common_steps}
 use Rattle.rrd_disk.proofs.Overlays.{overlaid-ArePut, overlaid_none, padded-IsSized}
 use Rattle.rrd_disk.specs.Replayed.{is_honest_part}
 
@@ -8,31 +8,11 @@ use Rattle.rrd_disk.specs.Replayed.{is_honest_part}
 module _ (at : ℕ) where
   -- bytes over fewer bytes
   pub put_over : (xs ys f g h : List ℕ) → length xs ≤ length ys → ArePut at xs f g → ArePut at ys g h → ArePut at ys f h
-  put_over xs ys f g h few first second = record {
-    len = omega (arith, first.len, second.len);
-    inside = second.inside;
-    outside = λ k away. elim away [
-      | inl low ↦ second.outside k (inl low) ∙ first.outside k (inl low)
-      | inr high ↦ second.outside k (inr high) ∙ first.outside k (inr (omega (arith, high)))
-    ];
-  }
+  put_over xs ys f g h few first second = grind (arith, common_steps)
 
   -- fewer of the same bytes over bytes
   put_under : (bytes f g h : List ℕ) (n m : ℕ) → m < n → n ≤ length bytes → ArePut at (take n bytes) f g → ArePut at (take m bytes) g h → ArePut at (take n bytes) f h
-  put_under bytes f g h n m fewer within first second =
-      let long : length (take n bytes) ≡ n = omega (arith, length-take n bytes) in
-      let short : length (take m bytes) ≡ m = omega (arith, length-take m bytes) in
-      record {
-        len = omega (arith, first.len, second.len, long, short);
-        inside = λ i low. elim (cases_lt i m) as (λ _. slice_index h (at + i) ≡ slice_index (take n bytes) i) [
-          | inl below ↦ second.inside i (omega (arith, short)) ∙ get_or-take m bytes i 0 below ∙ sym (get_or-take n bytes i 0 (omega arith))
-          | inr above ↦ second.outside (at + i) (inr (omega (arith, short))) ∙ first.inside i low
-        ];
-        outside = λ k away. elim away [
-          | inl low ↦ second.outside k (inl low) ∙ first.outside k (inl low)
-          | inr high ↦ second.outside k (inr (omega (arith, short, long))) ∙ first.outside k (inr high)
-        ];
-      }
+  put_under bytes f g h n m fewer within first second = grind (arith, common_steps, length-take, cases_lt, slice_index, get_or-take)
 
   module _ (bytes : List ℕ) where
     length_front : (n : ℕ) → n ≤ length bytes → length (take n bytes) ≡ n
@@ -64,37 +44,14 @@ module _ (at : ℕ) where
 
     -- the same write again
     pub part_twice : (k l : ℕ) (f g h : List ℕ) → IsPartPut k at bytes f g → IsPartPut l at bytes g h → IsPartPut l at bytes f h
-    part_twice k l f g h first second = elim (cases_lt second.count first.count) as (λ _. IsPartPut l at bytes f h) [
-      | inl fewer ↦ record {
-        count = first.count;
-        few = first.few;
-        enough = omega (arith, fewer, second.enough);
-        whole = first.whole;
-        put = fewer_after first.count second.count f g h fewer first.few first.put second.put;
-      }
-      | inr more ↦ record {
-        count = second.count;
-        few = second.few;
-        enough = second.enough;
-        whole = second.whole;
-        put = more_after first.count second.count f g h more second.few first.put second.put;
-      }
-    ]
+    part_twice k l f g h first second = grind (arith, common_steps, cases_lt, fewer_after, more_after)
 
     -- all bytes were written
     pub part_all : (k : ℕ) (f g : List ℕ) → 0 < length bytes → length bytes ≤ k → IsPartPut k at bytes f g → ArePut at bytes f g
-    part_all k f g some all part =
-        let whole : take part.count bytes ≡ bytes = all_front part.count (omega (arith, all, part.enough)) in
-        subst (λ (b : List ℕ). ArePut at b f g) whole (part.put.some (omega (arith, all, some, part.enough)))
+    part_all k f g some all part = grind (arith, common_steps, all_front)
 
     pub part_none : (f : List ℕ) → IsPartPut 0 at bytes f f
-    part_none f = record {
-      count = 0;
-      few = omega arith;
-      enough = omega arith;
-      whole = λ within. inl refl;
-      put = record { none = λ empty. refl; some = λ some. absurd (omega (arith, some)) };
-    }
+    part_none f = grind (arith, common_steps)
 
     pub part_less : (k l : ℕ) (f g : List ℕ) → l ≤ k → IsPartPut k at bytes f g → IsPartPut l at bytes f g
     part_less k l f g less part = record { count = part.count; few = part.few; enough = omega (arith, less, part.enough); whole = part.whole; put = part.put }
@@ -105,16 +62,7 @@ module _ (at : ℕ) where
     any_same f = record { longer = omega arith; bound = omega arith; outside = λ k away. refl }
 
     any_put : (n : ℕ) (f g : List ℕ) → n ≤ length bytes → ArePut at (take n bytes) f g → AreAny at (length bytes) f g
-    any_put n f g few put =
-        let long = length_front n few in
-        record {
-          longer = omega (arith, put.len);
-          bound = omega (arith, put.len, long, few);
-          outside = λ k away. elim away [
-            | inl low ↦ put.outside k (inl low)
-            | inr high ↦ put.outside k (inr (omega (arith, long, few, high)))
-          ];
-        }
+    any_put n f g few put = grind (arith, common_steps, length_front)
 
     pub part_cut : (k : ℕ) (f g : List ℕ) → IsPartPut k at bytes f g → IsCut at bytes f g
     part_cut k f g part = record {
@@ -126,22 +74,13 @@ module _ (at : ℕ) where
     }
 
     pub part_whole : (k : ℕ) (f g : List ℕ) → IsTrue (is_small at (length bytes)) → IsPartPut k at bytes f g → AreWholeOrNot at bytes f g
-    part_whole k f g within part = elim (cases_lt 0 part.count) as (λ _. AreWholeOrNot at bytes f g) [
-      | inl some ↦ elim (part.whole within) as (λ _. AreWholeOrNot at bytes f g) [
-        | inl empty ↦ absurd (omega (arith, empty, some))
-        | inr all ↦ inr (subst (λ (b : List ℕ). ArePut at b f g) (all_front part.count (omega (arith, all))) (part.put.some some))
-      ]
-      | inr empty ↦ inl (part.put.none (omega (arith, empty)))
-    ]
+    part_whole k f g within part = grind (arith, common_steps, cases_lt, all_front)
 
     pub torn_within : (f g : List ℕ) → at % 512 + length bytes ≤ 512 → AreTorn at bytes f g → IsTorn at bytes f g
     torn_within f g within torn = record { any = torn.any; whole = torn.whole within }
 
     pub put_front : (f g : List ℕ) → 0 < length bytes → ArePut at bytes f g → IsFrontPut at (length bytes) bytes f g
-    put_front f g some put = record {
-      none = λ empty. absurd (omega (arith, empty, some));
-      some = λ any. subst (λ (b : List ℕ). ArePut at b f g) (sym (all_front (length bytes) (omega arith))) put;
-    }
+    put_front f g some put = grind (arith, common_steps, all_front)
 
     -- ---- a torn write
 
@@ -149,11 +88,7 @@ module _ (at : ℕ) where
     torn_none f = record { any = any_same f; whole = λ within inside. inl refl }
 
     any_twice : (f g h : List ℕ) → AreAny at (length bytes) f g → AreAny at (length bytes) g h → AreAny at (length bytes) f h
-    any_twice f g h first second = record {
-      longer = omega (arith, first.longer, second.longer);
-      bound = omega (arith, first.bound, second.bound);
-      outside = λ k away. second.outside k away ∙ first.outside k away;
-    }
+    any_twice f g h first second = grind (arith, common_steps)
 
     whole_twice : (f g h : List ℕ) → AreWholeOrNot at bytes f g → AreWholeOrNot at bytes g h → AreWholeOrNot at bytes f h
     whole_twice f g h (inl first) second = subst (λ (b : List ℕ). AreWholeOrNot at bytes b h) first second
@@ -162,23 +97,14 @@ module _ (at : ℕ) where
 
     -- torn after torn of the same write is torn
     pub torn_twice : (f g h : List ℕ) → AreTorn at bytes f g → AreTorn at bytes g h → AreTorn at bytes f h
-    torn_twice f g h first second = record {
-      any = any_twice f g h first.any second.any;
-      whole = λ within inside. whole_twice f g h (first.whole within inside) (second.whole within (omega (arith, inside, first.any.longer)));
-    }
+    torn_twice f g h first second = grind (arith, common_steps, any_twice, whole_twice)
 
     -- ---- a call that wrote a part
 
     -- of a small write, all bytes were written, or none
     whole_within : (part : ℕ) → IsTrue (is_honest_part at bytes part) → IsTrue (is_small at (length bytes)) → (min part (length bytes) ≡ 0) ⊎ (min part (length bytes) ≡ length bytes)
     unfolding is_honest_part
-    whole_within part honest small = elim (or_cases (not (is_small at (length bytes))) ((part == 0) || nat_le (length bytes) part) honest) [
-      | inl large ↦ absurd (true≢false (sym small ∙ not-true (is_small at (length bytes)) large))
-      | inr either ↦ elim (or_cases (part == 0) (nat_le (length bytes) part) either) [
-        | inl none ↦ let empty : part ≡ 0 = eqb-true part 0 none in inl (omega (arith, empty))
-        | inr all ↦ let long : length bytes ≤ part = leb-true (length bytes) part all in inr (omega (arith, long))
-      ]
-    ]
+    whole_within part honest small = grind (arith, common_steps, or_cases, true≢false, not-true, eqb-true, leb-true)
 
     pub cut_short : (part : ℕ) → IsTrue (is_honest_part at bytes part) → IsTrue (is_small at (length bytes)) → 0 < part → part < length bytes → ⊥
     cut_short part honest small some few = elim (whole_within part honest small) as (λ _. ⊥) [
@@ -187,12 +113,7 @@ module _ (at : ℕ) where
     ]
 
     front_of : (file front : List ℕ) (n : ℕ) → take n bytes ≡ front → n ≤ length bytes → IsFrontPut at n bytes file (overlaid file at front)
-    front_of file front n is few =
-        let long : length front ≡ n = sym (ap (λ (b : List ℕ). length b) is) ∙ length_front n few in
-        record {
-          none = λ empty. overlaid_none file at front (omega (arith, long, empty));
-          some = λ some. subst (λ (b : List ℕ). ArePut at b file (overlaid file at front)) (sym is) (overlaid-ArePut file at front (inr (omega (arith, long, some))));
-        }
+    front_of file front n is few = grind (arith, common_steps, length_front, overlaid_none, overlaid-ArePut)
 
     pub put_part : (file : List ℕ) (part least : ℕ) → IsTrue (is_honest_part at bytes part) → least ≤ min part (length bytes) → IsPartPut least at bytes file (overlaid file at (take part bytes))
     put_part file part least honest enough = record {

@@ -1,5 +1,5 @@
 -- What the steps of replacing a database leave for a failure of the power.
-use Rattle.rrd_disk.proofs.Names.{left_represents, ◌≡◌, ℕ, List, [], ◌∷◌, Option, Some, None, Result, Ok, Err, IfNone, IfOk, IfSome, IsErr, IsTrue, length, take, slice_index, arith, lit<, sym, ◌∙◌, ap, subst, inl, inr, false≢true, database_of, IsMarkOf, IsFound, IsLeft, LogEnd, Whole, StandsAt, cut_mark, log_mark, mark_of, AgreesOutside, IsAtRest, IsDatabase, Represents, Does, Effect, Stays, Steps, seen, Syncs, Ordered, Base, IsFile, HasOneAnswer, IsAnyFile, TaskFault, view_of, Falls, KeepsHeldFor, Rests, RestsFor, StandFor, Event, IsFaultIn, IsStandingIn, is_of_bytes, world_after, World, bytes_after, bytes_of, is_honest_after, HasNoDatabase, IsBased, Laws, Becomes, BecomesOrNot, DoesOr, Readies, Replaces, ReplacesOrNot, StaysLeft, Opening, Read, Write, Make, Standing}
+use Rattle.rrd_disk.proofs.Names.{left_represents, ◌≡◌, ℕ, List, [], ◌∷◌, Option, Some, None, Result, Ok, Err, IfNone, IfOk, IfSome, IsErr, IsTrue, length, take, slice_index, arith, lit<, sym, ◌∙◌, ap, subst, inl, inr, false≢true, database_of, IsMarkOf, IsFound, IsLeft, LogEnd, Whole, StandsAt, cut_mark, log_mark, mark_of, AgreesOutside, IsAtRest, IsDatabase, Represents, Does, Effect, Stays, Steps, seen, Syncs, Ordered, Base, IsFile, HasOneAnswer, IsAnyFile, TaskFault, view_of, Falls, KeepsHeldFor, Rests, RestsFor, StandFor, Event, IsFaultIn, IsStandingIn, is_of_bytes, world_after, World, bytes_after, bytes_of, is_honest_after, HasNoDatabase, IsBased, Laws, Becomes, BecomesOrNot, DoesOr, Readies, Replaces, ReplacesOrNot, StaysLeft, Opening, Read, Write, Make, Standing, common_steps}
 use Rattle.rrd_disk.proofs.Doing.{steps_each}
 use Rattle.rrd_disk.proofs.Failures.{stays_left, stays_rest}
 use Rattle.rrd_disk.proofs.Loaded.{no_file}
@@ -13,10 +13,8 @@ use Rattle.rrd_change.specs.Views as views
 
 pub stored : {A E : Type 0} (well : A → Effect) (badly : Effect) (r : Result A E) (syncs : Syncs) (old new : List Event)
     → Does well badly r (seen syncs (view_of old)) (seen syncs (view_of new)) → DoesOr well badly r syncs old new
-stored well badly (Ok x) syncs old new does = λ ordered d w honest.
-    steps_each (well x) old new (subst (λ (y : Syncs). Steps (well x) (seen y (view_of old)) (seen y (view_of new))) ordered does) d w honest
-stored well badly (Err e) syncs old new does = λ ordered d w honest.
-    steps_each badly old new (subst (λ (y : Syncs). Steps badly (seen y (view_of old)) (seen y (view_of new))) ordered does) d w honest
+stored well badly (Ok x) syncs old new does = grind (arith, common_steps, steps_each)
+stored well badly (Err e) syncs old new does = grind (arith, common_steps, steps_each)
 
 pub or_failed : {A E : Type 0} (well : A → Effect) (badly : Effect) (r : Result A E) (syncs : Syncs) (old new : List Event) → IsErr r
     → (syncs ≡ Ordered → (d : List ℕ) (w : World) → IsTrue (is_honest_after w new) → badly (world_after d w old) (world_after d w new)) → DoesOr well badly r syncs old new
@@ -146,13 +144,11 @@ all_agree old new = record { each = λ k low. inl (inl (omega arith, low)) }
 
 pub replaced_power : (syncs : Syncs) (base : Base) (bytes : List ℕ) (old new : List Event) → Steps (Overwrites base bytes) (seen syncs (view_of old)) (seen syncs (view_of new))
     → syncs ≡ Ordered → (d : List ℕ) (w : World) → IsTrue (is_honest_after w new) → Replaces base bytes (world_after d w old) (world_after d w new)
-replaced_power syncs base bytes old new steps ordered d w honest now any began rest =
-    steps_each (Overwrites base bytes) old new (subst (λ (y : Syncs). Steps (Overwrites base bytes) (seen y (view_of old)) (seen y (view_of new))) ordered steps) d w honest now began (all_agree now bytes) rest
+replaced_power syncs base bytes old new steps ordered d w honest now any began rest = grind (arith, common_steps, steps_each, all_agree)
 
 pub unreplaced_power : (syncs : Syncs) (base : Base) (bytes : List ℕ) (old new : List Event) → Steps (FailsToOverwrite base bytes) (seen syncs (view_of old)) (seen syncs (view_of new))
     → syncs ≡ Ordered → (d : List ℕ) (w : World) → IsTrue (is_honest_after w new) → ReplacesOrNot base bytes (world_after d w old) (world_after d w new)
-unreplaced_power syncs base bytes old new steps ordered d w honest now any began rest =
-    steps_each (FailsToOverwrite base bytes) old new (subst (λ (y : Syncs). Steps (FailsToOverwrite base bytes) (seen y (view_of old)) (seen y (view_of new))) ordered steps) d w honest now began (all_agree now bytes) rest
+unreplaced_power syncs base bytes old new steps ordered d w honest now any began rest = grind (arith, common_steps, steps_each, all_agree)
 
 module _ (old mid ready new : List Event) (made : RestsFor Make old mid) (bytes : List ℕ) (syncs one two : Syncs) (is_one : one ≡ syncs) (is_two : two ≡ syncs) where
   pub over_power : {E : Type 0} (r : Result (Unit {0}) E) (base : Base) → Falls ready new

@@ -1,5 +1,5 @@
 -- Programs that keep a file open and are killed, by the records of their calls.
-use Rattle.rrd_disk.proofs.Names.{◌≡◌, ◌∙◌, ℕ, ◌≤◌, Bool, IsTrue, List, [], ◌∷◌, ◌++◌, length, take, Option, inl, inr, refl, sym, ap, subst, arith, length-take, and_parts, append_assoc, take_all, Encoded, Stored, Held, Bytes, IsSound, represented, Event, are_failed, interrupted, is_failed, IsKept, IsOpenRun, IsReload, LeavesSound, ArePrograms, AreSteps, End, IsEnd, IsKeeper, IsKilledOpenRun, IsLeaving, IsProgram, Keeper, KilledIn, Keeps, Left, Program, ProgramsFollowSpecification, Ran, Reread, Runs, Step, all_runs, end_run, last_of, record_after, record_at, runs_of, steps_run, World, bytes_of, failures, held_after, is_honest_after, Laws, Found}
+use Rattle.rrd_disk.proofs.Names.{◌≡◌, ◌∙◌, ℕ, ◌≤◌, Bool, IsTrue, List, [], ◌∷◌, ◌++◌, length, take, Option, inl, inr, refl, sym, ap, subst, arith, length-take, and_parts, append_assoc, take_all, Encoded, Stored, Held, Bytes, IsSound, represented, Event, are_failed, interrupted, is_failed, IsKept, IsOpenRun, IsReload, LeavesSound, ArePrograms, AreSteps, End, IsEnd, IsKeeper, IsKilledOpenRun, IsLeaving, IsProgram, Keeper, KilledIn, Keeps, Left, Program, ProgramsFollowSpecification, Ran, Reread, Runs, Step, all_runs, end_run, last_of, record_after, record_at, runs_of, steps_run, World, bytes_of, failures, held_after, is_honest_after, Laws, Found, common_steps}
 use Rattle.rrd_disk.proofs.FileRuns.{first_itself, first_sound}
 use Rattle.rrd_disk.proofs.Kills.{cut, cut_held, cut_honest, missed_held, missed_honest, split}
 use Rattle.rrd_disk.proofs.Storing.{sound_as}
@@ -13,16 +13,11 @@ module _ (w : World) (events : List Event) (few : length w.parts ≤ failures ev
   whole = ap (λ (parts : List ℕ). let v : World = record { start = w.start; parts = parts } in v) (take_all (failures events) w.parts few)
 
   missed_same : (missed : List Event) → IsTrue (are_failed missed) → held_after w (missed ++ events) ≡ held_after w events
-  missed_same missed are =
-      subst (λ (v : World). held_after v (missed ++ events) ≡ held_after v events) whole (missed_held w (failures events) events refl missed are)
+  missed_same missed are = grind (arith, common_steps, whole, missed_held)
 
   missed_true : (missed : List Event) → IsTrue (are_failed missed) → held_after w events ≡ Bytes (bytes_of (held_after w events))
       → IsTrue (is_honest_after w events) → IsTrue (is_honest_after w (missed ++ events))
-  missed_true missed are there honest =
-      subst (λ (v : World). IsTrue (is_honest_after v (missed ++ events))) whole
-      (missed_honest w (failures events) events refl missed are
-      (subst (λ (v : World). held_after v events ≡ Bytes (bytes_of (held_after v events))) (sym whole) there)
-      (subst (λ (v : World). IsTrue (is_honest_after v events)) (sym whole) honest))
+  missed_true missed are there honest = grind (arith, common_steps, whole, missed_honest)
 
 -- with the calls that the program did not make the record is honest too, and the file is the same
 pub record Goes (w : World) (missed events : List Event) : Type 0 where
@@ -125,15 +120,7 @@ pub record Acts (start : Held) (happened : List runs.Event) (last : Held) : Type
 
 kept_acts : (w : World) (k : Keeper) → IsKeeper k → length w.parts ≤ failures (record_at k.end) → IsTrue (is_honest_after w (record_at k.end)) → IsSound w.start
     → Acts w.start (steps_run k.steps ++ end_run k.end) (held_after w (record_at k.end))
-kept_acts w k is few honest sound =
-    let last = ended w (record_after k.opened k.steps) k.end is.2 few honest sound in
-    let before = went w k.opened k.steps sound is.1 last.honest in
-    let begun = is.0 w before.honest sound in
-    record {
-      sound = last.sound;
-      all = happened_more (represented w.start) (represented (held_after w (record_after k.opened k.steps))) (represented (held_after w (record_at k.end))) (steps_run k.steps) (end_run k.end)
-          (subst (λ (h : Held). runs.HappenedAll h (steps_run k.steps) (represented (held_after w (record_after k.opened k.steps)))) begun before.all) last.all;
-    }
+kept_acts w k is few honest sound = grind (arith, common_steps, ended, went, happened_more)
 
 -- of calls that were not made nothing need be assumed
 program_acts : (start : Held) (p : Program) → IsProgram p
@@ -158,7 +145,4 @@ all_act start (p ∷ later) sound are honest =
 module _ (laws : Laws) where
   pub programs_follow : ((old : Held) (first : Option Stored) (events : List runs.Event) (new : Held) → runs.RunsFollowSpecification old first events new)
       → (start : Held) (first : Option Stored) (programs : List Program) → ProgramsFollowSpecification start first programs
-  programs_follow follow start first programs = λ is are honest.
-      let all = all_act start programs (first_sound laws start first is) are honest in
-      let last : Held = represented (last_of start programs) in
-      follow start first (all_runs programs) last is (subst (λ (h : Held). runs.HappenedAll h (all_runs programs) last) (first_itself laws start first is) all)
+  programs_follow follow start first programs = grind (arith, common_steps, all_act, first_sound, first_itself)

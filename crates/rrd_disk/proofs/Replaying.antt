@@ -1,5 +1,5 @@
 -- What the calls of an honest record say of the file's bytes.
-use Rattle.rrd_disk.proofs.Names.{common_steps, ◌≡◌, ℕ, ◌+◌, ◌<◌, ◌≤◌, List, [], ◌∷◌, length, take, drop, IsTrue, refl, sym, ap, arith, length-drop, length-take, and_parts, eqb-true, true≢false, bytes_eq-Decides, Held, Missing, Bytes, AreGot, Event, Made, Measured, Got, NotFound, World, bytes_after, bytes_of, held_after, is_honest_after, is_honest_of, left, part_after}
+use Rattle.rrd_disk.proofs.Names.{common_steps, ◌≡◌, ℕ, ◌+◌, ◌<◌, ◌≤◌, List, [], ◌∷◌, length, take, drop, IsTrue, refl, sym, arith, length-drop, length-take, and_parts, eqb-true, true≢false, bytes_eq-Decides, Held, Missing, Bytes, AreGot, Event, Made, Measured, Got, NotFound, World, bytes_after, bytes_of, held_after, is_honest_after, is_honest_of, left, part_after}
 use Rattle.rrd_disk.specs.Events.{Found}
 use Rattle.rrd_disk.specs.Replayed.{is_honest_read}
 
@@ -15,8 +15,7 @@ pub read-AreGot : (file : List ℕ) (at wanted : ℕ) (bytes : List ℕ) → 0 <
 read-AreGot file at wanted bytes some honest = grind (arith, common_steps, read_same)
 
 pub read_within : (file : List ℕ) (at wanted : ℕ) (bytes : List ℕ) → 0 < length bytes → IsTrue (is_honest_read file at wanted bytes) → at + length bytes ≤ length file
-read_within file at wanted bytes some honest =
-    omega (arith, ap (λ (s : List ℕ). length s) (read_same file at wanted bytes some honest), length-take (length bytes) (drop at file), length-drop at file)
+read_within file at wanted bytes some honest = grind (arith, common_steps, read_same, length-take, length-drop)
 
 pub read_ends : (file : List ℕ) (at wanted : ℕ) → 0 < wanted → IsTrue (is_honest_read file at wanted []) → length file ≤ at
 unfolding is_honest_read

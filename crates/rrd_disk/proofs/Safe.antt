@@ -1,5 +1,5 @@
 -- What a run leaves for a failure of the power.
-use Rattle.rrd_disk.proofs.Names.{left_represents, kept_left, ◌≡◌, ◌∙◌, ℕ, ◌<◌, false, IsErr, IsOk, IsTrue, OnOk, List, [], ◌∷◌, ◌++◌, length, take, Option, Some, None, Result, Ok, Err, inl, inr, refl, sym, ap, subst, arith, false≢true, database_of, IsLeft, IsStopped, LogEnd, Whole, mark_of, AgreesOutside, IsAtRest, Represents, Does, Steps, seen, Syncs, Ordered, Base, Span, FileSpan, Bytes, DiffersWithin, Held, IsAnyFile, Missing, view_of, world_in, Falls, Rests, RestsFor, contents_after, represented, Event, TellsMark, IsStandingIn, IsNone, world_after, are_failed, interrupted, World, bytes_after, bytes_of, failures, held_after, is_honest_after, BeganAs, DoesSafely, DoesSafelyUnmarked, IsClosedAs, IsLeftAs, Opens, PutsSafely, Reopens, SurvivesAs, SurvivesRun, IsUnwritable, AreOf, Breaks, Changes, IsAsLoaded, IsFoundAs, IsOpen, Laws, MayDiffer, Becomes, BecomesOrNot, DoesOr, Survives, SurvivesPower, Read, Write, Standing, Found, Unopened, Unwritable, Open, Kept}
+use Rattle.rrd_disk.proofs.Names.{left_represents, kept_left, ◌≡◌, ◌∙◌, ℕ, ◌<◌, false, IsErr, IsOk, IsTrue, OnOk, List, [], ◌∷◌, ◌++◌, length, take, Option, Some, None, Result, Ok, Err, inl, inr, refl, sym, ap, subst, arith, false≢true, database_of, IsLeft, IsStopped, LogEnd, Whole, mark_of, AgreesOutside, IsAtRest, Represents, Does, Steps, seen, Syncs, Ordered, Base, Span, FileSpan, Bytes, DiffersWithin, Held, IsAnyFile, Missing, view_of, world_in, Falls, Rests, RestsFor, contents_after, represented, Event, TellsMark, IsStandingIn, IsNone, world_after, are_failed, interrupted, World, bytes_after, bytes_of, failures, held_after, is_honest_after, BeganAs, DoesSafely, DoesSafelyUnmarked, IsClosedAs, IsLeftAs, Opens, PutsSafely, Reopens, SurvivesAs, SurvivesRun, IsUnwritable, AreOf, Breaks, Changes, IsAsLoaded, IsFoundAs, IsOpen, Laws, MayDiffer, Becomes, BecomesOrNot, DoesOr, Survives, SurvivesPower, Read, Write, Standing, Found, Unopened, Unwritable, Open, Kept, common_steps}
 use Rattle.rrd_disk.proofs.Asked.{bytes_there}
 use Rattle.rrd_disk.proofs.Failures.{cut_power, left_survives, long_under, stays_left, there_start}
 use Rattle.rrd_disk.proofs.Kills.{cut, interrupted_as}
@@ -27,12 +27,10 @@ reopens was left w v opens end other now any is = opens end other now any (as_le
 
 module _ (P : List ℕ → Type 0) where
   pub survives : (found : Found) (w : views.World) → SurvivesAs P found w → Survives P w
-  survives found w s =
-      record { now = s.now; other = s.other; is = s.is; was = s.was; holds = s.holds; held = s.held; end = s.end; left = as_left found s.end s.other s.now w s.left }
+  survives found w s = grind (arith, common_steps, as_left)
 
   pub reopened : (was left : Found) (w v : views.World) → Reopens was left w v → SurvivesAs P was w → SurvivesAs P left v
-  reopened was left w v opens s =
-      record { now = s.now; other = s.other; is = s.is; was = s.was; holds = s.holds; held = s.held; end = s.end; left = opens s.end s.other s.now s.is s.left }
+  reopened was left w v opens s = grind (arith, common_steps)
 
 -- ---- calls that rest
 

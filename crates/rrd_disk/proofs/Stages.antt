@@ -1,5 +1,5 @@
 -- What the steps of loading say of one file, one after another.
-use Rattle.rrd_disk.proofs.Names.{arith, ◌≡◌, ℕ, true, false, List, Option, Some, None, Result, Ok, Err, IfNone, IfOk, IfSome, IsSome, IsTrue, OnErr, OnOk, inl, refl, sym, ◌∙◌, ap, subst, mark_of, Base, IsFile, FileSpan, Stored, Bytes, Finds, HasNone, Held, IsAfterFailure, TaskFault, CannotOpen, Falls, KeepsHeld, Rests, world_in, IsSound, contents_after, is_honest_by, represented, Event, TellsMark, IsThere, World, bytes_after, bytes_of, held_after, is_honest_after, HasNoDatabase, IsAsLoaded, IsBased, IsLoaded, IsSoundAs, Laws, Loads, LoadsAs, LoadsMarked, LoadsOpen, LoadsUnmarked, MayDiffer, Prepares, is_sound_by, Found, Unopened, Unwritable, Open, Kept}
+use Rattle.rrd_disk.proofs.Names.{arith, ◌≡◌, ℕ, true, false, List, Option, Some, None, Result, Ok, Err, IfNone, IfOk, IfSome, IsTrue, OnErr, OnOk, inl, refl, sym, ◌∙◌, ap, subst, mark_of, Base, IsFile, FileSpan, Stored, Bytes, Finds, HasNone, Held, IsAfterFailure, TaskFault, CannotOpen, Falls, KeepsHeld, Rests, world_in, IsSound, contents_after, is_honest_by, represented, Event, TellsMark, IsThere, World, bytes_after, bytes_of, held_after, is_honest_after, HasNoDatabase, IsAsLoaded, IsBased, IsLoaded, IsSoundAs, Laws, Loads, LoadsAs, LoadsMarked, LoadsOpen, LoadsUnmarked, MayDiffer, Prepares, is_sound_by, Found, Unopened, Unwritable, Open, Kept, common_steps}
 use Rattle.rrd_store.specs.Storages.{Becomes}
 use Rattle.rrd_disk.proofs.Storing.{finds_closed, found_open, itself, loaded_from, loaded_same, sound_as, sound_unmarked, told_unmarked}
 use Rattle.rrd_disk.specs.Storing.{Writes}
@@ -48,16 +48,13 @@ module _ (found : Found) (result : Result (Option Stored) TaskFault) (old mid ne
   onward s is = loaded_from found result (held_after s old) (held_after s mid) (held_after s new) (ap represented (same s)) is
 
   pub marked_from : LoadsMarked mid new found result → LoadsMarked old new found result
-  marked_from loads = λ s honest sound there marked.
-      onward s (loads s honest (sound_mid s sound) (there_mid s there) (subst (λ (h : Held). IsSome (mark_of (bytes_of h))) (sym (same s)) marked))
+  marked_from loads = grind (arith, common_steps, onward, sound_mid, there_mid)
 
   pub open_from_marked : TellsMark true mid → LoadsMarked mid new found result → LoadsOpen old new found result
-  open_from_marked tells loads = λ s honest sound there.
-      onward s (loads s honest (sound_mid s sound) (there_mid s there) ((tells s (falls s honest)).0 refl))
+  open_from_marked tells loads = grind (arith, common_steps, onward, sound_mid, there_mid)
 
   pub open_from_unmarked : TellsMark false mid → LoadsUnmarked mid new found result → LoadsOpen old new found result
-  open_from_unmarked tells loads = λ s honest sound there.
-      onward s (loads s honest (there_mid s there) (told_unmarked false (mark_of (bytes_after s mid)) (tells s (falls s honest)) refl))
+  open_from_unmarked tells loads = grind (arith, common_steps, onward, there_mid, told_unmarked)
 
   pub loads_from : IsThere mid → LoadsOpen mid new found result → Loads old new found result
   loads_from there loads = λ s honest sound. onward s (loads s honest (sound_mid s sound) (there s (falls s honest)))

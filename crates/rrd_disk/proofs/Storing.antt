@@ -1,5 +1,5 @@
 -- What the steps of loading and replacing the database of a file do to one file.
-use Rattle.rrd_disk.proofs.Names.{left_represents, alone_left, ◌≡◌, ◌↔◌, ◌∷◌, [], ℕ, ◌<◌, ◌≤◌, Bool, false, List, Option, Some, None, Result, Ok, Err, IfOk, IsSome, IsTrue, OnErr, length, drop, take, slice_index, refl, sym, ◌∙◌, ap, subst, inl, inr, arith, get_or-take, false≢true, begins_with, IsMarkOf, IsWhole, IsFound, IsLeft, IsStopped, LogEnd, Whole, cut_mark, database_mark, log_mark, mark_of, settled, settled_by, spelled_tail, AgreesOutside, Began, IsAtRest, IsDatabase, Represents, RepresentsEither, Does, Effect, Steps, seen, Syncs, Never, Ordered, Mark, Base, Log, Span, by_mark, is_plain, plain_read, cut_under, log_stands_all, file_end, IsFile, FileSpan, Stored, Bytes, Finds, Held, IsAfterFailure, IsAnyFile, Missing, TaskFault, CannotOpen, FallsAsked, code_of, is_honest_in, view_of, world_of, Falls, IsSound, StandFor, represented, SaysEntry, Event, world_after, World, bytes_after, bytes_of, held_after, is_honest_after, is_there, AreOf, Breaks, Changes, IsFoundAs, IsLoaded, IsOpen, IsSoundAs, IsWritten, Laws, MayDiffer, StaysAs, alone, Entry, Found, Unopened, Unwritable, Open, Kept}
+use Rattle.rrd_disk.proofs.Names.{left_represents, alone_left, ◌≡◌, ◌↔◌, ◌∷◌, [], ℕ, ◌<◌, ◌≤◌, Bool, false, List, Option, Some, None, Result, Ok, Err, IfOk, IsSome, IsTrue, OnErr, length, take, slice_index, refl, sym, ◌∙◌, ap, subst, inl, inr, arith, get_or-take, false≢true, begins_with, IsMarkOf, IsWhole, IsFound, IsLeft, IsStopped, LogEnd, Whole, database_mark, mark_of, settled, settled_by, AgreesOutside, Began, IsAtRest, IsDatabase, Represents, RepresentsEither, Does, Effect, Steps, seen, Syncs, Never, Ordered, Mark, Base, Log, Span, by_mark, is_plain, plain_read, cut_under, log_stands_all, file_end, IsFile, FileSpan, Stored, Bytes, Finds, Held, IsAfterFailure, IsAnyFile, Missing, TaskFault, CannotOpen, FallsAsked, code_of, is_honest_in, view_of, world_of, Falls, IsSound, StandFor, represented, SaysEntry, Event, world_after, World, bytes_after, bytes_of, held_after, is_honest_after, is_there, AreOf, Breaks, Changes, IsFoundAs, IsLoaded, IsOpen, IsSoundAs, IsWritten, Laws, MayDiffer, StaysAs, alone, Entry, Found, Unopened, Unwritable, Open, Kept, common_steps}
 use Rattle.rrd_change.specs.States.{IsKept}
 use Rattle.rrd_disk.proofs.Asked.{code_honest, falls_asked, still_there, world_of_code}
 use Rattle.rrd_disk.proofs.Resting.{held_is}
@@ -71,10 +71,7 @@ zero_begins [] rest zeroed = refl
 zero_begins (x ∷ file) rest zeroed = subst (λ (y : ℕ). begins_with (y ∷ file) (82 ∷ rest) ≡ false) (sym zeroed) refl
 
 pub zero_unmarked : (bytes : List ℕ) → slice_index bytes 0 ≡ 0 → mark_of bytes ≡ None
-zero_unmarked bytes zeroed =
-    let cut : begins_with bytes cut_mark ≡ false = zero_begins bytes (drop 1 cut_mark) zeroed in
-    let log : begins_with bytes (log_mark (spelled_tail bytes)) ≡ false = zero_begins bytes (drop 1 (log_mark (spelled_tail bytes))) zeroed in
-    is_plain bytes cut log
+zero_unmarked bytes zeroed = grind (arith, common_steps, zero_begins, is_plain)
 
 -- ---- databases
 

@@ -1,5 +1,5 @@
 -- The answers of a file that does what it is told are honest.
-use Rattle.rrd_disk.proofs.Names.{◌≡◌, ◌∙◌, ℕ, zero, suc, ◌==◌, ◌||◌, nat_le, Bool, IsTrue, List, [], ◌∷◌, length, take, drop, refl, sym, ap, subst, arith, length-take, length-drop, or-true, and_from, eq-eqb, le-leb, take_min, bytes_eq-Decides, Held, Missing, Bytes, Event, World, held_after, is_honest_after, is_honest_call, is_honest_of, part_after, Call, HonestRecordsExist, Locks, Sizes, answer, opened_none, told, told_to, world_from, Opening, Read, Write, Make}
+use Rattle.rrd_disk.proofs.Names.{◌≡◌, ◌∙◌, ℕ, zero, suc, ◌==◌, ◌||◌, nat_le, Bool, IsTrue, List, [], ◌∷◌, length, take, drop, refl, sym, ap, subst, arith, length-take, length-drop, or-true, and_from, eq-eqb, le-leb, take_min, bytes_eq-Decides, Held, Missing, Bytes, Event, World, held_after, is_honest_after, is_honest_call, is_honest_of, part_after, Call, HonestRecordsExist, Locks, Sizes, answer, opened_none, told, told_to, world_from, Opening, Read, Write, Make, common_steps}
 use Rattle.rrd_disk.specs.Replayed.{is_honest_part, is_honest_read}
 use Rattle.rrd_disk.specs.Told.{Measures, Opens, Reads, Syncs, Writes}
 
@@ -36,9 +36,7 @@ none_honest part Make = refl
 
 module _ (w : World) (events : List Event) (honest : IsTrue (is_honest_after w events)) where
   one_honest : (h : Held) → held_after w events ≡ h → (e : Event) → IsTrue (is_honest_of h (part_after w events) e) → IsTrue (is_honest_after w (e ∷ events))
-  one_honest h is e of =
-      and_from (is_honest_of (held_after w events) (part_after w events) e) (is_honest_after w events)
-      (subst (λ (g : Held). IsTrue (is_honest_of g (part_after w events) e)) (sym is) of) honest
+  one_honest h is e of = grind (arith, common_steps, and_from)
 
   told_honest : (h : Held) → held_after w events ≡ h → (call : Call) → IsTrue (is_honest_after w (told_to h call events))
   told_honest (Bytes file) is call = one_honest (Bytes file) is (answer file call) (answer_honest file (part_after w events) call)

@@ -1,5 +1,5 @@
 -- What the steps of replacing the database of a file that was not found open do to one file.
-use Rattle.rrd_disk.proofs.Names.{◌≡◌, ◌⊎◌, [], ◌∷◌, ℕ, List, Option, Some, None, Result, Ok, Err, IsErr, IsTrue, length, take, slice_index, refl, sym, ◌∙◌, ap, subst, inl, inr, arith, lit<, false≢true, IsSized, IsSizedOrNot, IsEmpty, IsUnmade, IsStopped, Whole, mark_of, AgreesOutside, Began, IsAtRest, IsDatabase, All, Effect, Fails, Steps, Stores, seen, Syncs, Base, Bytes, HasNone, Held, IsAfterFailure, IsAnyFile, IsNoFile, Missing, view_of, Falls, IsSound, represented, Event, IsThere, World, bytes_after, bytes_of, held_after, is_honest_after, IsPrepared, IsSoundAs, IsWritten, Laws, Prepares, StaysAs, WritesAll, WritesFirst, WritesOver, alone, Found, Unopened, Open}
+use Rattle.rrd_disk.proofs.Names.{◌≡◌, ◌⊎◌, [], ◌∷◌, ℕ, List, Option, Some, None, Result, Ok, Err, IsErr, IsTrue, length, take, slice_index, refl, sym, ◌∙◌, ap, subst, inl, inr, arith, lit<, false≢true, IsSized, IsSizedOrNot, IsEmpty, IsUnmade, IsStopped, Whole, mark_of, AgreesOutside, Began, IsAtRest, IsDatabase, All, Effect, Fails, Steps, Stores, seen, Syncs, Base, Bytes, HasNone, Held, IsAfterFailure, IsAnyFile, IsNoFile, Missing, view_of, Falls, IsSound, represented, Event, IsThere, World, bytes_after, bytes_of, held_after, is_honest_after, IsPrepared, IsSoundAs, IsWritten, Laws, Prepares, StaysAs, WritesAll, WritesFirst, WritesOver, alone, Found, Unopened, Open, common_steps}
 use Rattle.rrd_disk.proofs.Storing.{any_database, began_at, database_unmarked, each_alone, file_database, itself, left_broken, represented_standing, sound_found, sound_unmarked, stays_open, steps_falls, stopped_represents, zero_unmarked}
 
 -- ---- what a file represents, nearly
@@ -142,9 +142,7 @@ FailsToTruncate w v = Fails (IsSizedOrNot 0) (IsSizedOrNot 0) w v
 
 pub truncated : (syncs : Syncs) (mid new : List Event) → Steps Truncates (seen syncs (view_of mid)) (seen syncs (view_of new))
     → (s : World) → IsTrue (is_honest_after s new) → held_after s mid ≡ Bytes (bytes_after s mid) → held_after s new ≡ Bytes []
-truncated syncs mid new steps s honest there =
-    let sized = (each_alone syncs Truncates mid new steps s honest).held in
-    stays_open mid new (steps_falls syncs Truncates mid new steps) s honest there ∙ ap (λ (b : List ℕ). Bytes b) (emptied (bytes_after s new) sized.len)
+truncated syncs mid new steps s honest there = grind (arith, common_steps, each_alone, stays_open, steps_falls, emptied)
 
 untruncated_by : Laws → (mid new : Held) → HasNone (represented mid) → IsSound mid → mid ≡ Bytes (bytes_of mid) → new ≡ Bytes (bytes_of new) → IsSizedOrNot 0 (bytes_of mid) (bytes_of new) → IsSound new × IsNearly mid new
 untruncated_by laws mid new none sound there stays (inl same) = grind arith

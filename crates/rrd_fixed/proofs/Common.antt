@@ -5,5 +5,5 @@ pub use Rattle.rrd_fixed.proofs.Cut.{unsigned_plain, unsigned_pointed}
 pub use Rattle.rrd_fixed.proofs.Digits.{fraction_below, below_power, value_before, value_below, value_more, value_all}
 pub use Rattle.rrd_fixed.proofs.Few.{none_few, other_few, plain_few, pointed_few}
 pub use Rattle.rrd_fixed.proofs.Nearest.{near_limit_of}
-pub use Rattle.rrd_fixed.proofs.PutLemmas.{puts_before, puts_byte, six_wide, millionths_short, signed_minus, puts_part, puts_six, whole_minus, digit_put, few_digits, one_digit_more}
+pub use Rattle.rrd_fixed.proofs.PutLemmas.{puts_before, puts_byte, six_wide, millionths_short, signed_minus, puts_part, puts_six, digit_put, few_digits, one_digit_more}
 pub use Rattle.rrd_fixed.proofs.Writings.{front_kept}

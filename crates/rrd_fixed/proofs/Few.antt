@@ -1,5 +1,5 @@
 -- A text by the digits that it begins with.
-use Rattle.rrd_fixed.proofs.Names.{◌≡◌, ◌∙◌, sym, ap, refl, ℕ, suc, ◌+◌, ◌*◌, ◌^◌, ◌<◌, ◌≤◌, ◌&&◌, ◌++◌, ◌∷◌, [], pos, List, Bool, Option, if◌then◌else◌, true, false, Some, None, nat_lt, nat_le, length, take, drop, slice_index, option_map, arith, inl, inr, cases_Bool, eqb-true, common_steps, drop_more, length-take-le, take-append-drop, list_all-append, is_ascii_digit, list_all, list_any, position_or_len, before_first, after_first, are_digits, fraction_of, is_point, plain_of, pointed_of, unsigned_of, value_of, Number}
+use Rattle.rrd_fixed.proofs.Names.{◌≡◌, ◌∙◌, sym, ap, refl, ℕ, suc, ◌+◌, ◌*◌, ◌^◌, ◌<◌, ◌≤◌, ◌&&◌, ◌++◌, ◌∷◌, [], pos, List, Bool, Option, if◌then◌else◌, true, false, Some, None, nat_lt, nat_le, length, take, drop, slice_index, option_map, arith, inl, inr, cases_Bool, eqb-true, common_steps, drop_more, length-take-le, take-append-drop, list_all-append, is_ascii_digit, list_all, position_or_len, before_first, are_digits, fraction_of, is_point, plain_of, pointed_of, unsigned_of, value_of, Number}
 use Rattle.rrd_fixed.proofs.ReadBack.{cut_before, cut_behind, fit_digits, has_point, no_point}
 
 and_false : (x : Bool) → (x && false) ≡ false
@@ -19,20 +19,14 @@ before_cons x xs other = rw other (ap (λ k. take k (x ∷ xs)) {x = 1 + positio
 bad_front : (ds : List ℕ) (b : ℕ) (rest : List ℕ) → list_all is_ascii_digit ds ≡ true → is_point b ≡ false → is_ascii_digit b ≡ false
     → list_all is_ascii_digit (before_first is_point (ds ++ b ∷ rest)) ≡ false
 bad_front [] b rest h other bad = ap (list_all is_ascii_digit) (before_cons b rest other) ∙ ap (λ v. v && list_all is_ascii_digit (before_first is_point rest)) bad
-bad_front (d ∷ ds) b rest h other bad =
-    let point : is_point d ≡ false = grind (arith, common_steps) in
-    let others : list_all is_ascii_digit ds ≡ true = grind (arith, common_steps) in
-    ap (list_all is_ascii_digit) (before_cons d (ds ++ b ∷ rest) point)
-    ∙ (ap (λ v. is_ascii_digit d && v) (bad_front ds b rest others other bad) ∙ and_false (is_ascii_digit d))
+bad_front (d ∷ ds) b rest h other bad = grind (arith, common_steps, before_cons d (ds ++ b ∷ rest), bad_front ds b rest, and_false (is_ascii_digit d))
 
 bad_all : (ds : List ℕ) (b : ℕ) (rest : List ℕ) → is_ascii_digit b ≡ false → list_all is_ascii_digit (ds ++ b ∷ rest) ≡ false
 bad_all ds b rest bad = list_all-append is_ascii_digit ds (b ∷ rest) ∙ (ap (λ v. list_all is_ascii_digit ds && (v && list_all is_ascii_digit rest)) bad ∙ and_false (list_all is_ascii_digit ds))
 
 other_none : (ds : List ℕ) (b : ℕ) (rest : List ℕ) → list_all is_ascii_digit ds ≡ true → is_point b ≡ false → is_ascii_digit b ≡ false → unsigned_of (ds ++ b ∷ rest) ≡ None
 unfolding unsigned_of
-other_none ds b rest h other bad = elim (list_any is_point (ds ++ b ∷ rest)) as
-    (λ v. (if v then pointed_of (before_first is_point (ds ++ b ∷ rest)) (after_first is_point (ds ++ b ∷ rest)) else plain_of (ds ++ b ∷ rest)) ≡ None)
-    [ true ↦ pointed_none (before_first is_point (ds ++ b ∷ rest)) (after_first is_point (ds ++ b ∷ rest)) (bad_front ds b rest h other bad) | false ↦ plain_none (ds ++ b ∷ rest) (bad_all ds b rest bad) ]
+other_none ds b rest h other bad = grind (arith, common_steps, pointed_none, bad_front, plain_none, bad_all)
 
 point_none : (rest : List ℕ) → unsigned_of (46 ∷ rest) ≡ None
 unfolding unsigned_of
@@ -78,8 +72,4 @@ pointed_value ds rest f fits e = rw (fits, e) (either (value_of ds * 10 ^ 6) (ar
 pub pointed_few : (xs : List ℕ) (at : ℕ) (f : Option ℕ) → 0 < at → at < length xs → length xs ≤ 19 → list_all is_ascii_digit (take at xs) ≡ true → slice_index xs at ≡ 46
     → f ≡ (if are_digits 6 (drop (at + 1) xs) then Some (fraction_of (drop (at + 1) xs)) else None)
     → unsigned_of xs ≡ option_map (λ m. number (value_of (take at xs) * 10 ^ 6 + m) true) f
-pointed_few xs at f some inside few digits point e =
-    let long : length (take at xs) ≡ at = length-take-le at xs (omega arith) in
-    let fits : are_digits 20 (take at xs) ≡ true = fit_digits 20 (take at xs) (omega (arith, long)) (omega (arith, long)) digits in
-    ap unsigned_of (parts xs at inside) ∙ (ap (λ b. unsigned_of (take at xs ++ b ∷ drop (at + 1) xs)) point
-    ∙ (pointed_cut (take at xs) (drop (at + 1) xs) digits ∙ pointed_value (take at xs) (drop (at + 1) xs) f fits e))
+pointed_few xs at f some inside few digits point e = grind (arith, common_steps, length-take-le, fit_digits 20 (take at xs), parts xs, pointed_cut (take at xs) (drop (at + 1) xs) digits, pointed_value (take at xs) (drop (at + 1) xs) f)

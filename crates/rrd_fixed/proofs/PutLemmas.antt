@@ -1,34 +1,17 @@
 -- Texts that are put before an index.
-use Rattle.rrd_fixed.proofs.Names.{◌≡◌, ◌∙◌, sym, ap, refl, ℕ, zero, suc, ◌+◌, ◌-◌, ◌<◌, ◌≤◌, ◌^◌, ◌/◌, ◌%◌, List, [], ◌∷◌, ◌++◌, length, take, drop, set, replicate, codes, arith, append_assoc, append-nil, length-append, lit<, ℤ, pos, negsuc, unsigned_abs, FitsSigned, int_le, false, true≢false, add-one, w128, leb-zero, IsAscii-decimal_wide, decimal_step_wide, length-decimal-le, length-decimal-le_wide, drop-drop, drop-set, drop-take, drop_all, take-append-drop, take-append-le, take-replicate, take_all, IsAscii-append, IsUtf8-from_ascii, IsAscii-cons, IsAscii, IsUtf8, between-put_mid, drop-put_mid, decimal, repeat, Puts, millionths_text, signed_text, six_digits, whole_text, put_mid}
+use Rattle.rrd_fixed.proofs.Names.{◌≡◌, ◌∙◌, sym, ap, refl, ℕ, zero, suc, ◌+◌, ◌-◌, ◌<◌, ◌≤◌, ◌^◌, ◌/◌, ◌%◌, List, [], ◌∷◌, ◌++◌, length, take, drop, set, replicate, codes, arith, append_assoc, append-nil, length-append, lit<, ℤ, pos, negsuc, unsigned_abs, FitsSigned, int_le, false, true≢false, add-one, w128, leb-zero, IsAscii-decimal_wide, decimal_step_wide, length-decimal-le, length-decimal-le_wide, drop-drop, drop-set, drop-take, drop_all, take-append-drop, take-append-le, take-replicate, take_all, IsAscii-append, IsUtf8-from_ascii, IsAscii-cons, IsAscii, IsUtf8, between-put_mid, drop-put_mid, decimal, repeat, Puts, millionths_text, signed_text, six_digits, put_mid, rules, common_steps}
 
 -- one text before another
 pub puts_before : (a b c : List ℕ) (end mid start : ℕ) (text before : List ℕ) → Puts a b end text mid → Puts b c mid before start → Puts a c end (before ++ text) start
-puts_before a b c end mid start text before p q = record {
-  begins = omega (arith, length-append before text, p.begins, q.begins);
-  bytes = q.bytes ∙ (ap (λ l. before ++ l) p.bytes ∙ sym (append_assoc before text (drop end a)));
-}
+puts_before a b c end mid start text before p q = grind (arith, common_steps, length-append, append_assoc)
 
 -- one byte before a text
 pub puts_byte : (a b : List ℕ) (end start byte : ℕ) (text : List ℕ) → Puts a b end text start → 0 < start → start ≤ length b → Puts a (set b (start - 1) byte) end (byte ∷ text) (start - 1)
-puts_byte a b end start byte text p some inside =
-    let next : start - 1 + 1 ≡ start = omega (arith, some) in
-    record {
-      begins = omega (arith, p.begins, some);
-      bytes = drop-set b (start - 1) byte (omega (arith, some, inside)) ∙ ap (λ l. byte ∷ l) (ap (λ n. drop n b) next ∙ p.bytes);
-    }
+puts_byte a b end start byte text p some inside = grind (arith, common_steps, drop-set)
 
 -- bytes that are copied into a part
 pub puts_part : (a ys : List ℕ) (end at : ℕ) → at ≤ end → end ≤ length a → length ys ≡ end - at → Puts a (put_mid at (end - at) a ys) end ys at
-puts_part a ys end at le inside long =
-    let all = put_mid at (end - at) a ys in
-    let front : take (end - at) (drop at all) ≡ ys = between-put_mid at (end - at) a ys end (omega (arith, le, inside)) long in
-    let ends : at + (end - at) ≡ end = omega (arith, le) in
-    let rest : drop end all ≡ drop end a = drop-put_mid at (end - at) a ys end (omega (arith, le)) (omega (arith, le, inside)) long in
-    let back : drop (end - at) (drop at all) ≡ drop end a = drop-drop (end - at) at all ∙ (ap (λ n. drop n all) ends ∙ rest) in
-    record {
-      begins = omega (arith, le, long);
-      bytes = sym (take-append-drop (end - at) (drop at all)) ∙ (ap (λ l. l ++ drop (end - at) (drop at all)) front ∙ ap (λ l. ys ++ l) back);
-    }
+puts_part a ys end at le inside long = grind (arith, common_steps, put_mid, between-put_mid, drop-put_mid, drop-drop, take-append-drop)
 
 zeros_again : (n : ℕ) → replicate n 48 ≡ repeat n (codes "0")
 zeros_again zero = refl
@@ -53,15 +36,9 @@ puts_six a b c end at start n p q few same =
     let part : take m (drop at c) ≡ take m (drop at b) =
     sym (drop-take at m c) ∙ (ap (λ k. drop at (take k c)) up ∙ (ap (drop at) same ∙ (ap (λ k. drop at (take k b)) (sym up) ∙ drop-take at m b))) in
     let zeros : take m (drop at b) ≡ repeat m (codes "0") = ap (take m) p.bytes ∙ six_zeros m (drop end a) (omega (arith, p.begins, q.begins)) in
-    let many : m ≡ 6 - length (decimal n) = omega (arith, p.begins, q.begins, few) in
-    let front : take m (drop at c) ≡ repeat (6 - length (decimal n)) (codes "0") = part ∙ (zeros ∙ ap (λ k. repeat k (codes "0")) many) in
     let rest : drop end b ≡ drop end a = ap (λ k. drop k b) (sym p.begins) ∙ (sym (drop-drop 6 at b) ∙ ap (drop 6) p.bytes) in
     let back : drop m (drop at c) ≡ decimal n ++ drop end a = drop-drop m at c ∙ (ap (λ k. drop k c) up ∙ (q.bytes ∙ ap (λ l. decimal n ++ l) rest)) in
-    record {
-      begins = six_length n at end p.begins few;
-      bytes = sym (take-append-drop m (drop at c)) ∙ (ap (λ l. l ++ drop m (drop at c)) front ∙ (ap (λ l. repeat (6 - length (decimal n)) (codes "0") ++ l) back
-          ∙ sym (append_assoc (repeat (6 - length (decimal n)) (codes "0")) (decimal n) (drop end a))));
-    }
+    grind (arith, common_steps, six_length, take-append-drop, append_assoc)
 
 -- ---- how long texts are
 
@@ -74,34 +51,19 @@ one_digit_more n low small = ap length (decimal_step_wide n low (omega arith)) �
 -- the last digit of a number, before what is put
 pub digit_put : (n at : ℕ) (buffer : List ℕ) → 10 ≤ n → n < 2 ^ 128 → 0 < at → at ≤ length buffer
     → decimal (n / 10) ++ drop (at - 1) (set buffer (at - 1) (48 + n % 10)) ≡ decimal n ++ drop at buffer
-digit_put n at buffer low small some inside =
-    let next : at - 1 + 1 ≡ at = omega (arith, some) in
-    let here : drop (at - 1) (set buffer (at - 1) (48 + n % 10)) ≡ (48 + n % 10) ∷ drop at buffer =
-    drop-set buffer (at - 1) (48 + n % 10) (omega (arith, some, inside)) ∙ ap (λ k. (48 + n % 10) ∷ drop k buffer) next in
-    ap (λ l. decimal (n / 10) ++ l) here
-    ∙ (sym (append_assoc (decimal (n / 10)) ((48 + n % 10) ∷ []) (drop at buffer)) ∙ ap (λ l. l ++ drop at buffer) (sym (decimal_step_wide n low (omega arith))))
+digit_put n at buffer low small some inside = grind (arith, common_steps, drop-set, append_assoc, decimal_step_wide)
 
 pub six_wide : (n : ℕ) → n < 1000000 → length (six_digits n) ≡ 6
-six_wide n small =
-    let few : length (decimal n) ≤ 6 = length-decimal-le 6 n (lit< tt) small (omega arith) in
-    let all = zeros_length (6 - length (decimal n)) (decimal n) in
-    omega (arith, few, all)
+six_wide n small = grind (arith, common_steps, length-decimal-le, zeros_length)
 
 pub millionths_short : (n : ℕ) → n < 2 ^ 128 → length (millionths_text n) ≤ 46
-millionths_short n small =
-    let units = few_digits (n / 1000000) (omega arith) in
-    let rest = six_wide (n % 1000000) (omega arith) in
-    omega (arith, units, rest, length-append (decimal (n / 1000000) ++ codes ".") (six_digits (n % 1000000)), length-append (decimal (n / 1000000)) (codes "."))
+millionths_short n small = grind (arith, common_steps, few_digits, six_wide, length-append)
 
 -- ---- the sign
 
 pub signed_minus : (z : ℤ) → int_le (pos 0) z ≡ false → 45 ∷ millionths_text (unsigned_abs z) ≡ signed_text z
 signed_minus (pos n) e = absurd (true≢false (sym (leb-zero n) ∙ e))
 signed_minus (negsuc n) e = ap (λ k. 45 ∷ millionths_text k) (sym (add-one n))
-
-pub whole_minus : (z : ℤ) → int_le (pos 0) z ≡ false → 45 ∷ decimal (unsigned_abs z) ≡ whole_text z
-whole_minus (pos n) e = absurd (true≢false (sym (leb-zero n) ∙ e))
-whole_minus (negsuc n) e = ap (λ k. 45 ∷ decimal k) (sym (add-one n))
 
 -- ---- a text that is put is one
 
@@ -110,19 +72,11 @@ zeros_ascii zero = λ i. omega arith
 zeros_ascii (suc k) = IsAscii-cons 48 (repeat k (codes "0")) (lit< tt) (zeros_ascii k)
 
 millionths_ascii : (n : ℕ) → n < 2 ^ 128 → IsAscii (millionths_text n)
-millionths_ascii n small =
-    let units = IsAscii-decimal_wide (n / 1000000) (omega arith) in
-    let rest = IsAscii-append (repeat (6 - length (decimal (n % 1000000))) (codes "0")) (decimal (n % 1000000)) (zeros_ascii (6 - length (decimal (n % 1000000)))) (IsAscii-decimal_wide (n % 1000000) (omega arith)) in
-    let point = IsAscii-append (decimal (n / 1000000)) (codes ".") units (IsAscii-cons 46 [] (lit< tt) (zeros_ascii 0)) in
-    IsAscii-append (decimal (n / 1000000) ++ codes ".") (six_digits (n % 1000000)) point rest
+millionths_ascii n small = search (rules, IsAscii-decimal_wide, IsAscii-append, zeros_ascii, IsAscii-cons)
 
 signed_ascii : (z : ℤ) → FitsSigned w128 z → IsAscii (signed_text z)
 signed_ascii (pos n) h = let fits = h.sfits in millionths_ascii n (omega arith)
 signed_ascii (negsuc n) h = let fits = h.sfits in IsAscii-cons 45 (millionths_text (n + 1)) (lit< tt) (millionths_ascii (n + 1) (omega arith))
 
 pub signed_utf8 : (z : ℤ) (old new : List ℕ) (start : ℕ) → FitsSigned w128 z → length old ≡ 48 → Puts old new 48 (signed_text z) start → IsUtf8 (take (48 - start) (drop start new))
-signed_utf8 z old new start fits long put =
-    let none : drop 48 old ≡ [] = drop_all 48 old (omega (arith, long)) in
-    let text : drop start new ≡ signed_text z = put.bytes ∙ (ap (λ l. signed_text z ++ l) none ∙ append-nil (signed_text z)) in
-    let all : take (48 - start) (signed_text z) ≡ signed_text z = take_all (48 - start) (signed_text z) (omega (arith, put.begins)) in
-    rw (text, all) (IsUtf8-from_ascii (signed_text z) (signed_ascii z fits))
+signed_utf8 z old new start fits long put = grind (arith, common_steps, drop_all, append-nil, take_all, IsUtf8-from_ascii, signed_ascii)

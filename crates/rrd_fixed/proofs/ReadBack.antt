@@ -1,5 +1,5 @@
 -- What is written is read back.
-use Rattle.rrd_fixed.proofs.Names.{◌≡◌, ◌∙◌, refl, ap, ℕ, zero, suc, ◌+◌, ◌-◌, ◌*◌, ◌/◌, ◌%◌, ◌^◌, ◌<◌, ◌≤◌, ℤ, pos, negsuc, ◌*ℤ◌, unsigned_abs, List, [], ◌∷◌, ◌++◌, Bool, true, false, Some, nat_lt, nat_le, length, decimal, codes, arith, lit<, length-append, append_assoc, append-nil, add-one, neg_ℤ, option_map, ◌==◌, or-true, take-append_seam, drop-append-add, lt-ltb, decimal_by_steps_wide, length-decimal-le_wide, common_steps, list_all-append, list_any-append, is_ascii_digit, list_all, list_any, position_or_len, before_first, after_first, repeat, are_digits, fraction_of, is_point, negated, number_of, unsigned_of, value_of, whole_of, millionths_text, signed_text, six_digits, whole_text, Number}
+use Rattle.rrd_fixed.proofs.Names.{◌≡◌, ◌∙◌, refl, ℕ, zero, suc, ◌+◌, ◌-◌, ◌*◌, ◌/◌, ◌%◌, ◌^◌, ◌<◌, ◌≤◌, ℤ, pos, negsuc, ◌*ℤ◌, unsigned_abs, List, [], ◌∷◌, ◌++◌, Bool, true, false, Some, length, decimal, codes, arith, length-append, append_assoc, append-nil, add-one, neg_ℤ, option_map, or-true, take-append_seam, drop-append-add, lt-ltb, decimal_by_steps_wide, length-decimal-le_wide, common_steps, list_all-append, list_any-append, is_ascii_digit, list_all, list_any, position_or_len, before_first, after_first, repeat, are_digits, fraction_of, is_point, negated, number_of, unsigned_of, value_of, whole_of, millionths_text, signed_text, six_digits, whole_text, Number}
 use Rattle.rrd_fixed.proofs.Digits.{value-push}
 
 -- some digits of the value n
@@ -9,52 +9,29 @@ pub record Digits (n : ℕ) (ds : List ℕ) : Type 0 where
   pub some : 0 < length ds
 
 one_digit : (n : ℕ) → n < 10 → Digits n ((48 + n) ∷ [])
-one_digit n small = record {
-  digits = grind (arith, common_steps);
-  value = omega arith;
-  some = lit< tt;
-}
+one_digit n small = grind (arith, common_steps)
 
 more_digits : (n : ℕ) (ds : List ℕ) → 10 ≤ n → Digits (n / 10) ds → Digits n (ds ++ ((48 + n % 10) ∷ []))
-more_digits n ds many front =
-    let last : is_ascii_digit (48 + n % 10) ≡ true = grind (arith, common_steps) in
-    let value : value_of ds ≡ n / 10 = front.value in
-    record {
-      digits = rw (list_all-append is_ascii_digit ds ((48 + n % 10) ∷ []), front.digits, last) refl;
-      value = rw (value-push ds (48 + n % 10)) (omega arith);
-      some = omega (arith, length-append ds ((48 + n % 10) ∷ []));
-    }
+more_digits n ds many front = grind (arith, common_steps, list_all-append, value-push, length-append)
 
 pub decimal_digits : (n : ℕ) → n < 10 ^ 64 → Digits n (decimal n)
 decimal_digits n small = decimal_by_steps_wide Digits one_digit more_digits n small
 
 -- so many digits at most
 pub fit_digits : (most : ℕ) (ds : List ℕ) → 0 < length ds → length ds ≤ most → list_all is_ascii_digit ds ≡ true → are_digits most ds ≡ true
-fit_digits most ds some short digits =
-    let low : nat_lt 0 (length ds) ≡ true = lt-ltb 0 (length ds) some in
-    let high : nat_le (length ds) most ≡ true = grind (arith, common_steps) in
-    rw (low, high, digits) refl
+fit_digits most ds some short digits = grind (arith, common_steps, lt-ltb)
 
 decimal_fits : (n : ℕ) → n < 10 ^ 20 → are_digits 20 (decimal n) ≡ true
-decimal_fits n small =
-    let wide : n < 10 ^ 64 = omega arith in
-    let is = decimal_digits n wide in
-    fit_digits 20 (decimal n) is.some (length-decimal-le_wide 20 n (lit< tt) small wide) is.digits
+decimal_fits n small = grind (arith, common_steps, decimal_digits n, fit_digits 20 (decimal n), length-decimal-le_wide 20 n)
 
 pub whole_back : (n : ℕ) → n < 2 ^ 64 → whole_of (decimal n) ≡ Some n
 unfolding whole_of
-whole_back n small =
-    let is = decimal_digits n (omega arith) in
-    let low : nat_lt n (2 ^ 64) ≡ true = lt-ltb n (2 ^ 64) small in
-    rw (decimal_fits n (omega arith), is.value, low) refl
+whole_back n small = grind (arith, common_steps, decimal_digits, lt-ltb, decimal_fits)
 
 -- where digits end and a point stands, a text is cut
 cut_place : (ds rest : List ℕ) → list_all is_ascii_digit ds ≡ true → position_or_len is_point (ds ++ 46 ∷ rest) ≡ length ds
 cut_place [] rest h = refl
-cut_place (d ∷ ds) rest h =
-    let other : is_point d ≡ false = grind (arith, common_steps) in
-    let others : list_all is_ascii_digit ds ≡ true = grind (arith, common_steps) in
-    rw (other, cut_place ds rest others) (omega arith)
+cut_place (d ∷ ds) rest h = grind (arith, common_steps, cut_place ds rest)
 
 pub cut_before : (ds rest : List ℕ) → list_all is_ascii_digit ds ≡ true → before_first is_point (ds ++ 46 ∷ rest) ≡ ds
 cut_before ds rest h = rw (cut_place ds rest h) (take-append_seam ds (46 ∷ rest))
@@ -67,18 +44,12 @@ has_point ds rest = rw (list_any-append is_point ds (46 ∷ rest)) (or-true (lis
 
 pub no_point : (ds : List ℕ) → list_all is_ascii_digit ds ≡ true → list_any is_point ds ≡ false
 no_point [] h = refl
-no_point (d ∷ ds) h =
-    let other : is_point d ≡ false = grind (arith, common_steps) in
-    let others : list_all is_ascii_digit ds ≡ true = grind (arith, common_steps) in
-    rw (other, no_point ds others) refl
+no_point (d ∷ ds) h = grind (arith, common_steps, no_point ds)
 
 -- zeros before digits
 zeros_digits : (k n : ℕ) (ds : List ℕ) → Digits n ds → Digits n (repeat k (codes "0") ++ ds)
 zeros_digits zero n ds h = h
-zeros_digits (suc k) n ds h =
-    let rest = zeros_digits k n ds h in
-    let value : value_of (repeat k (codes "0") ++ ds) ≡ n = rest.value in
-    record { digits = rest.digits; value = omega arith; some = omega arith }
+zeros_digits (suc k) n ds h = grind (arith, common_steps, zeros_digits k n ds h)
 
 zeros_length : (k : ℕ) (ds : List ℕ) → length (repeat k (codes "0") ++ ds) ≡ k + length ds
 zeros_length zero ds = omega arith
@@ -86,36 +57,25 @@ zeros_length (suc k) ds = let rest = zeros_length k ds in omega arith
 
 -- the six digits of a fraction
 six_length : (f : ℕ) → f < 10 ^ 6 → length (six_digits f) ≡ 6
-six_length f small =
-    let short : length (decimal f) ≤ 6 = length-decimal-le_wide 6 f (lit< tt) small (omega arith) in
-    zeros_length (6 - length (decimal f)) (decimal f) ∙ omega arith
+six_length f small = grind (arith, common_steps, length-decimal-le_wide, zeros_length)
 
 six_fraction : (f : ℕ) → f < 10 ^ 6 → (are_digits 6 (six_digits f) ≡ true) × (fraction_of (six_digits f) ≡ f)
-six_fraction f small =
-    let is = zeros_digits (6 - length (decimal f)) f (decimal f) (decimal_digits f (omega arith)) in
-    let six = six_length f small in
-    (fit_digits 6 (six_digits f) is.some (omega arith) is.digits, rw (is.value, six) (omega arith))
+six_fraction f small = grind (arith, common_steps, zeros_digits (6 - length (decimal f)) f (decimal f), decimal_digits f, six_length f small, fit_digits 6 (six_digits f))
 
 unsigned_whole : (n : ℕ) → n < 10 ^ 20 → unsigned_of (decimal n) ≡ Some (record { millionths = pos (n * 10 ^ 6); point = false })
 unfolding unsigned_of
-unsigned_whole n small =
-    let is = decimal_digits n (omega arith) in
-    rw (no_point (decimal n) is.digits, decimal_fits n small, is.value) refl
+unsigned_whole n small = grind (arith, common_steps, decimal_digits, no_point, decimal_fits)
 
 unsigned_pointed : (w f : ℕ) (ds fs : List ℕ) → Digits w ds → are_digits 20 ds ≡ true → are_digits 6 fs ≡ true → fraction_of fs ≡ f
     → unsigned_of (ds ++ 46 ∷ fs) ≡ Some (record { millionths = pos (w * 10 ^ 6 + f); point = true })
 unfolding unsigned_of
-unsigned_pointed w f ds fs is fits fraction value =
-    rw (has_point ds fs, cut_before ds fs is.digits, cut_behind ds fs is.digits, fits, fraction, value, is.value) refl
+unsigned_pointed w f ds fs is fits fraction value = grind (arith, common_steps, has_point, cut_before, cut_behind)
 
 -- a text that begins with a digit has no sign
 unsigned_first : (n : ℕ) (ds rest : List ℕ) → Digits n ds → number_of (ds ++ rest) ≡ unsigned_of (ds ++ rest)
 unfolding number_of
 unsigned_first n [] rest is = absurd (omega (arith, is.some))
-unsigned_first n (d ∷ ds) rest is =
-    let digits : list_all is_ascii_digit (d ∷ ds) ≡ true = is.digits in
-    let other : (d == 45) ≡ false = grind (arith, common_steps) in
-    rw other refl
+unsigned_first n (d ∷ ds) rest is = grind (arith, common_steps)
 
 minus_first : (text : List ℕ) → number_of (codes "-" ++ text) ≡ option_map negated (unsigned_of text)
 unfolding number_of
@@ -128,30 +88,17 @@ abbrev number : ℕ → Bool → Number
 number m point = record { millionths = pos m; point = point }
 
 unsigned_back : (n : ℕ) → n < 10 ^ 26 → unsigned_of (millionths_text n) ≡ Some (record { millionths = pos n; point = true })
-unsigned_back n small =
-    let is = decimal_digits (n / 1000000) (omega arith) in
-    let fraction = six_fraction (n % 1000000) (omega arith) in
-    let sum : n / 1000000 * 10 ^ 6 + n % 1000000 ≡ n = omega arith in
-    let read = unsigned_pointed (n / 1000000) (n % 1000000) (decimal (n / 1000000)) (six_digits (n % 1000000)) is (decimal_fits (n / 1000000) (omega arith)) fraction.0 fraction.1 in
-    rw (as_cut n) (read ∙ ap (λ m. Some (number m true)) sum)
+unsigned_back n small = grind (arith, common_steps, decimal_digits, six_fraction, unsigned_pointed, decimal_fits, as_cut)
 
 abbrev signed : ℤ → Bool → Number
 signed m point = record { millionths = m; point = point }
 
 pub number_back : (z : ℤ) → unsigned_abs z < 10 ^ 26 → number_of (signed_text z) ≡ Some (record { millionths = z; point = true })
-number_back (pos n) small =
-    let is = decimal_digits (n / 1000000) (omega arith) in
-    rw (as_cut n) (unsigned_first (n / 1000000) (decimal (n / 1000000)) (46 ∷ six_digits (n % 1000000)) is) ∙ unsigned_back n small
-number_back (negsuc n) small =
-    let low : neg_ℤ (pos (n + 1)) ≡ negsuc n = rw add-one refl in
-    let back = unsigned_back (n + 1) (omega arith) in
-    minus_first (millionths_text (n + 1)) ∙ rw back (ap (λ z. Some (signed z true)) low)
+number_back (pos n) small = grind (arith, common_steps, decimal_digits (n / 1000000), as_cut n, unsigned_first (n / 1000000) (decimal (n / 1000000)) (46 ∷ six_digits (n % 1000000)), unsigned_back n small)
+number_back (negsuc n) small = grind (arith, common_steps, neg_ℤ, add-one, unsigned_back, minus_first)
 
 pub units_back : (z : ℤ) → unsigned_abs z < 10 ^ 20 → number_of (whole_text z) ≡ Some (record { millionths = z *ℤ pos (10 ^ 6); point = false })
 units_back (pos n) small =
     let is = decimal_digits n (omega arith) in
     (rw append-nil at (unsigned_first n (decimal n) [] is)) ∙ unsigned_whole n small
-units_back (negsuc n) small =
-    let low : neg_ℤ (pos ((n + 1) * 10 ^ 6)) ≡ negsuc n *ℤ pos (10 ^ 6) = rw add-one refl in
-    let back = unsigned_whole (n + 1) (omega arith) in
-    minus_first (decimal (n + 1)) ∙ rw back (ap (λ z. Some (signed z false)) low)
+units_back (negsuc n) small = grind (arith, common_steps, neg_ℤ, add-one, unsigned_whole, minus_first)

@@ -1,5 +1,6 @@
 -- Cells added one by one, and the whole list.
-use Rattle.rrd_fold.proofs.Names.{◌≡◌, refl, sym, ◌∙◌, ap, ℕ, zero, suc, ◌+◌, ◌-◌, ◌*◌, ◌<◌, ◌≤◌, ℤ, pos, ◌+ℤ◌, List, [], ◌∷◌, ◌++◌, length, true, false, cond, eqb, nat_lt, if◌then◌else◌, arith, ints, ne_eqb, nat_tests, mul-le, fold-append, fold, int_min, int_max, Cell, Unknown, Known, Function, Average, Min, Max, Last, nothing, with_value, with_cell, values, summary, part_of, consolidated, row_cell, finished_cell}
+use Rattle.std.proofs.lemmas.Grind.{common_steps}
+use Rattle.rrd_fold.proofs.Names.{◌≡◌, refl, ap, ℕ, zero, suc, ◌+◌, ◌-◌, ◌*◌, ◌<◌, ◌≤◌, ℤ, pos, ◌+ℤ◌, List, [], ◌∷◌, ◌++◌, length, cond, nat_lt, if◌then◌else◌, arith, ints, ne_eqb, mul-le, fold-append, fold, int_min, int_max, Cell, Unknown, Known, Function, Average, Min, Max, Last, nothing, with_value, with_cell, values, summary, part_of, row_cell, finished_cell}
 use Rattle.rrd_fold.proofs.Sums.{part}
 
 -- how one more value goes into those that there are
@@ -19,10 +20,7 @@ more : (function : Function) (k : ℕ) (value : ℤ) (cells : List Cell) → fol
 unfolding part
 more function k value [] = ap (λ n. part n value) {x = k + 1} {y = k + 1 + 0} (omega arith)
 more function k value (Unknown ∷ cells) = more function k value cells
-more function k value (Known new ∷ cells) =
-    ap (λ v. fold (with_cell function) (part (k + 1 + 1) v) cells) (goes_in function k value new)
-    ∙ more function (k + 1) (into function value new) cells
-    ∙ ap (λ n. part n (fold (into function) (into function value new) (values cells))) {x = k + 1 + 1 + length (values cells)} {y = k + 1 + suc (length (values cells))} (omega arith)
+more function k value (Known new ∷ cells) = grind (arith, common_steps, goes_in function k value new, more function (k + 1) (into function value new) cells)
 
 pub first : (function : Function) (new : ℤ) → with_value function 0 (pos 0) new ≡ new
 first Average new = omega (arith, ints)
@@ -40,25 +38,14 @@ pub fold-with_cell : (function : Function) (cells : List Cell) → fold (with_ce
 unfolding part
 fold-with_cell function [] = refl
 fold-with_cell function (Unknown ∷ cells) = fold-with_cell function cells
-fold-with_cell function (Known new ∷ cells) =
-    ap (λ v. fold (with_cell function) (part 1 v) cells) (first function new)
-    ∙ more function 0 new cells
-    ∙ ap (λ n. part n (fold (into function) new (values cells))) {x = 0 + 1 + length (values cells)} {y = suc (length (values cells))} (omega arith)
-    ∙ ap (part (suc (length (values cells)))) (whole function new (values cells))
+fold-with_cell function (Known new ∷ cells) = grind (arith, common_steps, first function new, more function 0 new cells, whole function new (values cells))
 
 -- cells that are added to a part that stands for a list
 pub stands_more : (function : Function) (cells more : List Cell) → fold (with_cell function) (part_of function cells) more ≡ part_of function (cells ++ more)
-stands_more function cells more =
-    ap (λ p. fold (with_cell function) p more) (sym (fold-with_cell function cells))
-    ∙ sym (fold-append (with_cell function) nothing cells more)
-    ∙ fold-with_cell function (cells ++ more)
+stands_more function cells more = grind (arith, common_steps, more, fold-with_cell function cells, fold-append (with_cell function) nothing cells more, fold-with_cell function (cells ++ more))
 
 -- the rule of xff, where the count is known to be 0 or not
 pub row_finishes : (function : Function) (xff steps known : ℕ) (value : ℤ) → 1 ≤ steps → xff < 1000000 → row_cell function (pos xff) steps (part known value) ≡ (if nat_lt (xff * steps) ((steps - known) * 1000000) then Unknown else finished_cell function (part known value))
 unfolding part
-row_finishes function xff steps zero value some small =
-    let all : nat_lt (xff * steps) ((steps - 0) * 1000000) ≡ true = let few : xff * steps < (steps - 0) * 1000000 = omega (arith, mul-le xff steps 999999 steps (omega arith) (omega arith)) in grind (arith, nat_tests) in
-    ap (λ b. cond b Unknown (Known (consolidated function (part 0 value)))) all ∙ sym (ap (λ b. cond b Unknown (finished_cell function (part 0 value))) all)
-row_finishes function xff steps (suc k) value some small =
-    let known : eqb (suc k) 0 ≡ false = ne_eqb (suc k) 0 (λ e. absurd (omega arith)) in
-    rw known refl
+row_finishes function xff steps zero value some small = grind (arith, common_steps, mul-le xff steps 999999 steps)
+row_finishes function xff steps (suc k) value some small = grind (arith, common_steps, ne_eqb)

@@ -1,5 +1,7 @@
 -- What the value of a list of known cells is.
-use Rattle.rrd_fold.proofs.Names.{◌≡◌, refl, sym, ◌∙◌, ap, suc, ℤ, ◌+ℤ◌, ◌≤ℤ◌, List, [], ◌∷◌, ◌++◌, arith, ⊎_elim, ints, fold-int_max_bounds, fold-int_max_reached, fold-int_min_bounds, fold-int_min_reached, All-cons, fold-append, fold, Contains, int_min, int_max, Average, Min, Max, Last, summary, IsLeast, IsGreatest}
+use Rattle.std.proofs.lemmas.Grind.{common_steps}
+use Rattle.std.proofs.Common.{rules}
+use Rattle.rrd_fold.proofs.Names.{◌≡◌, refl, sym, ◌∙◌, ap, suc, ℤ, ◌+ℤ◌, List, [], ◌∷◌, ◌++◌, arith, ints, fold-int_max_bounds, fold-int_max_reached, fold-int_min_bounds, fold-int_min_reached, All-cons, fold-append, fold, Contains, int_max, Average, Min, Max, Last, summary, IsLeast, IsGreatest}
 
 from_sum : (v w : ℤ) (xs : List ℤ) → fold ◌+ℤ◌ (v +ℤ w) xs ≡ v +ℤ fold ◌+ℤ◌ w xs
 from_sum v w [] = refl
@@ -16,22 +18,13 @@ there : (x r : ℤ) (xs : List ℤ) → Contains xs r → Contains (x ∷ xs) r
 there x r xs (k, within, is) = (suc k, omega arith, is)
 
 pub least : (value : ℤ) (more : List ℤ) → IsLeast (summary Min (value ∷ more)) (value ∷ more)
-least value more =
-    let r = fold int_min value more in
-    let bounds = fold-int_min_bounds value more r refl in
-    record {
-      among = ⊎_elim (here value r more) (there value r more) (fold-int_min_reached value more r refl);
-      below = All-cons (λ other. r ≤ℤ other) value more bounds.0 bounds.1;
-    }
+least value more = search (rules, fold-int_min_bounds value more, here value, there value, fold-int_min_reached value more, All-cons)
 
 pub greatest : (value : ℤ) (more : List ℤ) → IsGreatest (summary Max (value ∷ more)) (value ∷ more)
 greatest value more =
     let r = fold int_max value more in
     let bounds = fold-int_max_bounds value more r refl in
-    record {
-      among = ⊎_elim (here value r more) (there value r more) (fold-int_max_reached value more r refl);
-      above = All-cons (λ other. other ≤ℤ r) value more bounds.0 bounds.1;
-    }
+    grind (arith, common_steps, here value r more, there value r more, fold-int_max_reached value more r, All-cons)
 
 pub last : (before : List ℤ) (value : ℤ) → summary Last (before ++ value ∷ []) ≡ value
 last [] value = refl

@@ -46,10 +46,7 @@ indexes_on rows index i n h = grind (arith, mod_right index (i + n) rows, mod_le
 -- rows from one on, as far as the vector goes on
 pub block_written : (rows w index i n : ℕ) (xs cells : List Cell) → IsRing rows w index xs → (index + i) % rows + n ≤ rows → n * w ≤ length cells
     → ring_rows rows w index (with_block w ((index + i) % rows) n xs cells) ≡ with_rows n w (ring_rows rows w index xs) i cells
-block_written rows w index i zero xs cells is fits has =
-    let k = (index + i) % rows in
-    let none : 0 * w ≡ 0 = omega arith in
-    ap (ring_rows rows w index) (ap (λ (m : ℕ). take (k * w) xs ++ (take m cells ++ drop m (drop (k * w) xs))) none ∙ take-append-drop (k * w) xs)
+block_written rows w index i zero xs cells is fits has = grind (arith, common_steps, take-append-drop)
 block_written rows w index i (suc n) xs cells is fits has =
     let k = (index + i) % rows in
     let all = ring_rows rows w index xs in
@@ -165,10 +162,7 @@ pub record Forgets (start count : ℕ) (v new : Vec Cell Global) : Type 0 where
 
 block_forgotten : (rows w index k n start count : ℕ) (v new : Vec Cell Global) (cells : List Cell) → IsPartlyWritten rows w index v → k + n ≤ rows → n * w ≤ length cells → take (n * w) cells ≡ replicate (n * w) Unknown → start ≡ k * w → count ≡ n * w
     → Forgets start count v new → IsPutInto rows w index k n v new cells
-block_forgotten rows w index k n start count v new cells is fits has unknown start_is count_is gone =
-    let all = rows * w in
-    let top : (k + n) * w ≤ all = cells_le (k + n) rows w fits in
-    grind (arith, length-with_block)
+block_forgotten rows w index k n start count v new cells is fits has unknown start_is count_is gone = grind (arith, common_steps, cells_le (k + n) rows w fits, length-with_block)
 
 pub are_forgotten : {rows w index i count start first rest : ℕ} {v one two : Vec Cell Global} {all : List (List Cell)} → IsPartlyWritten rows w index v → ring_rows rows w index (with_unwritten (rows * w) v.items) ≡ all → AreParts rows w index i count start first rest
     → count ≤ length all → Forgets start first v one → Forgets 0 rest one two → ArePut rows w index i count all two (replicate (count * width all) Unknown)

@@ -1,6 +1,6 @@
 -- Rows of cells in one vector, and rings of them.
 use Rattle.std.proofs.lemmas.Grind.{common_steps}
-use Rattle.rrd_ring.proofs.Names.{Vec, Global, ◌≡◌, ◌⊎◌, set, sym, ◌∙◌, ap, subst, ℕ, zero, suc, ◌+◌, ◌-◌, ◌*◌, ◌%◌, ◌<◌, ◌≤◌, List, [], ◌∷◌, ◌++◌, length, min, get_or, take, drop, replicate, ⊎_elim, arith, length-append, length-drop, take-append-add, add-mul, mod-eq_of_lt, mod-eq-sub-mod, cases_lt, row_fits, mul-le, mod_below, append_assoc, append-nil, length-take-le, length-replicate, take-append-drop, take-append-le, drop-append-le, drop-drop, take_at, drop_at, take_all, drop_all, get_or_append_left, get_or-append_right, get_or-replicate, length-set, with_items_is, replicate-append-replicate, take-replicate, drop-replicate, length-map-range_with_len, get_or-map-range_with_len, fill_by_all, with_items_from, Cell, Unknown, nth_row, row_cells, width, HasWidth, unknown_rows, AreDropped, row_of, rows_of, ring_rows, cells_in, from_index, AreParts, IsRing, AreRows}
+use Rattle.rrd_ring.proofs.Names.{Vec, Global, ◌≡◌, ◌⊎◌, set, sym, ◌∙◌, ap, ℕ, zero, suc, ◌+◌, ◌-◌, ◌*◌, ◌%◌, ◌<◌, ◌≤◌, List, [], ◌∷◌, ◌++◌, length, min, get_or, take, drop, replicate, ⊎_elim, arith, length-append, length-drop, take-append-add, add-mul, mod-eq_of_lt, mod-eq-sub-mod, cases_lt, row_fits, mul-le, mod_below, append_assoc, append-nil, length-take-le, length-replicate, take-append-drop, take-append-le, drop-append-le, drop-drop, take_at, drop_at, take_all, drop_all, get_or_append_left, get_or-append_right, get_or-replicate, length-set, with_items_is, replicate-append-replicate, take-replicate, drop-replicate, length-map-range_with_len, get_or-map-range_with_len, fill_by_all, with_items_from, Cell, Unknown, nth_row, row_cells, width, HasWidth, unknown_rows, AreDropped, row_of, rows_of, ring_rows, cells_in, from_index, AreParts, IsRing, AreRows}
 use Rattle.rrd_ring.proofs.RowLemmas.{AreDropped-from_width}
 
 -- ---- places
@@ -28,23 +28,10 @@ around : (a b c : List Cell) (q s r : ℕ) → length a ≡ r → length (a ++ b
 around a b c q s r la lab e = grind (arith, length-append, append_assoc, from_index_at)
 
 from_index-further : (xs : List Cell) (q s r : ℕ) → q + s ≡ r → r ≤ length xs → from_index s (from_index q xs) ≡ from_index r xs
-from_index-further xs q s r e h =
-    let a = take q xs in
-    let b = take s (drop q xs) in
-    let la : length a ≡ q = length-take-le q xs (omega arith) in
-    let lb : length b ≡ s = length-take-le s (drop q xs) (omega (arith, length-drop q xs)) in
-    subst (λ (ys : List Cell). from_index s (from_index q ys) ≡ from_index r ys) (sym (three_parts xs q s)) (further a b (drop s (drop q xs)) q s r la lb e)
+from_index-further xs q s r e h = grind (arith, common_steps, length-take-le q xs, length-take-le s (drop q xs), length-drop q xs, three_parts xs q s, further)
 
 from_index-around : (xs : List Cell) (q s r : ℕ) → q + s ≡ r + length xs → r ≤ q → q ≤ length xs → from_index s (from_index q xs) ≡ from_index r xs
-from_index-around xs q s r e h k =
-    let a = take r xs in
-    let b = take (q - r) (drop r xs) in
-    let c = drop (q - r) (drop r xs) in
-    let la : length a ≡ r = length-take-le r xs (omega arith) in
-    let lb : length b ≡ q - r = length-take-le (q - r) (drop r xs) (omega (arith, length-drop r xs)) in
-    let lab : length (a ++ b) ≡ q = omega (arith, length-append a b, la, lb) in
-    let lca : length c + r ≡ s = omega (arith, length-drop (q - r) (drop r xs), length-drop r xs) in
-    subst (λ (ys : List Cell). from_index s (from_index q ys) ≡ from_index r ys) (sym (three_parts xs r (q - r))) (around a b c q s r la lab lca)
+from_index-around xs q s r e h k = grind (arith, common_steps, length-take-le r xs, length-take-le (q - r) (drop r xs), length-drop r xs, length-append, length-drop (q - r) (drop r xs), three_parts xs r (q - r), around)
 
 -- so many rows after the oldest one
 pub from_index-rows : (rows w index more : ℕ) (xs : List Cell) → length xs ≡ rows * w → index < rows → more ≤ rows → from_index (more * w) (from_index (index * w) xs) ≡ from_index (((index + more) % rows) * w) xs
@@ -69,8 +56,7 @@ pub length-ring_rows : (rows w index : ℕ) (xs : List Cell) → length (ring_ro
 length-ring_rows rows w index xs = length-map-range_with_len (λ i. row_of w xs ((index + i) % rows)) 0 rows
 
 pub nth_row-ring_rows : (rows w index : ℕ) (xs : List Cell) (i : ℕ) → i < rows → nth_row (ring_rows rows w index xs) i ≡ row_of w xs ((index + i) % rows)
-nth_row-ring_rows rows w index xs i h =
-    get_or-map-range_with_len (λ i. row_of w xs ((index + i) % rows)) 0 rows i i [] h (omega arith)
+nth_row-ring_rows rows w index xs i h = grind (arith, common_steps, get_or-map-range_with_len)
 
 pub length-row_of : (w : ℕ) (xs : List Cell) (i : ℕ) → i * w + w ≤ length xs → length (row_of w xs i) ≡ w
 length-row_of w xs i h = length-take-le w (drop (i * w) xs) (omega (arith, length-drop (i * w) xs))
@@ -108,21 +94,13 @@ rows_of-append m n w xs ys e =
     (cases_lt k m)))
 
 split_rows : (k n w : ℕ) (xs : List Cell) → k ≤ n → length xs ≡ n * w → rows_of n w xs ≡ rows_of k w (take (k * w) xs) ++ rows_of (n - k) w (drop (k * w) xs)
-split_rows k n w xs h e =
-    let sum : n ≡ k + (n - k) = omega arith in
-    ap (λ (m : ℕ). rows_of m w xs) sum
-    ∙ ap (rows_of (k + (n - k)) w) (sym (take-append-drop (k * w) xs))
-    ∙ rows_of-append k (n - k) w (take (k * w) xs) (drop (k * w) xs) (length-take-le (k * w) xs (omega (arith, cells_le k n w h)))
+split_rows k n w xs h e = grind (arith, common_steps, take-append-drop (k * w) xs, rows_of-append k (n - k) w (take (k * w) xs) (drop (k * w) xs), length-take-le (k * w) xs, cells_le k n w h)
 
 pub rows_of-take : (k n w : ℕ) (xs : List Cell) → k ≤ n → length xs ≡ n * w → rows_of k w (take (k * w) xs) ≡ take k (rows_of n w xs)
-rows_of-take k n w xs h e =
-    let front = rows_of k w (take (k * w) xs) in
-    sym (ap (take k) (split_rows k n w xs h e) ∙ take_at front (rows_of (n - k) w (drop (k * w) xs)) k (length-rows_of k w (take (k * w) xs)))
+rows_of-take k n w xs h e = grind (arith, common_steps, split_rows k n w xs h e, take_at, length-rows_of k w (take (k * w) xs))
 
 pub rows_of-drop : (k n w : ℕ) (xs : List Cell) → k ≤ n → length xs ≡ n * w → rows_of (n - k) w (drop (k * w) xs) ≡ drop k (rows_of n w xs)
-rows_of-drop k n w xs h e =
-    let front = rows_of k w (take (k * w) xs) in
-    sym (ap (drop k) (split_rows k n w xs h e) ∙ drop_at front (rows_of (n - k) w (drop (k * w) xs)) k (length-rows_of k w (take (k * w) xs)))
+rows_of-drop k n w xs h e = grind (arith, common_steps, split_rows k n w xs h e, drop_at, length-rows_of k w (take (k * w) xs))
 
 pub rows_of_one : (w : ℕ) (row : List Cell) → length row ≡ w → rows_of 1 w row ≡ row ∷ []
 rows_of_one w row e = grind (arith, take_all)
@@ -177,19 +155,7 @@ AreDropped-rows_of rows w xs are = grind (arith, length-rows_of, AreDropped-from
 -- the cells of rows are those of the vector
 pub row_cells-rows_of : (n w : ℕ) (xs : List Cell) → length xs ≡ n * w → row_cells (rows_of n w xs) ≡ xs
 row_cells-rows_of zero w xs e = let none : length xs ≤ 0 = omega (arith, e) in sym (drop_all 0 xs none)
-row_cells-rows_of (suc n) w xs e =
-    let one : 1 * w ≡ w = omega arith in
-    let named : suc n ≡ n + 1 = omega arith in
-    let count : suc n * w ≡ n * w + 1 * w = ap (λ (m : ℕ). m * w) named ∙ add-mul n 1 w in
-    let less : suc n - 1 ≡ n = omega arith in
-    let front = take (1 * w) xs in
-    let back = drop (1 * w) xs in
-    let wide : length front ≡ w = length-take-le (1 * w) xs (omega (arith, e, count)) ∙ one in
-    ap row_cells (split_rows 1 (suc n) w xs (omega arith) e)
-    ∙ ap (λ (rs : List (List Cell)). row_cells (rs ++ rows_of (suc n - 1) w back)) (rows_of_one w front wide)
-    ∙ ap (λ (m : ℕ). front ++ row_cells (rows_of m w back)) less
-    ∙ ap (λ (ys : List Cell). front ++ ys) (row_cells-rows_of n w back (omega (arith, e, count, length-drop (1 * w) xs)))
-    ∙ take-append-drop (1 * w) xs
+row_cells-rows_of (suc n) w xs e = grind (arith, common_steps, add-mul n 1 w, length-take-le (1 * w) xs, split_rows 1 (suc n) w xs, rows_of_one w, row_cells-rows_of n w, length-drop (1 * w) xs, take-append-drop (1 * w) xs)
 
 pub rows_run : (rows w i n : ℕ) (xs : List Cell) → length xs ≡ rows * w → i + n ≤ rows → row_cells (take n (drop i (rows_of rows w xs))) ≡ take (n * w) (drop (i * w) xs)
 rows_run rows w i n xs e h =
@@ -324,17 +290,7 @@ pub ring_at_front : (rows w : ℕ) (xs : List Cell) → 0 < rows → length xs �
 ring_at_front rows w xs some e = grind (arith, ring_rows-from_index, append-nil)
 
 pub ring_unknown : (rows w index : ℕ) → index < rows → ring_rows rows w index (replicate (rows * w) Unknown) ≡ unknown_rows rows w
-ring_unknown rows w index within =
-    let all = rows * w in
-    let start = index * w in
-    let le : start ≤ all = cells_le index rows w (omega arith) in
-    let sum : all - start + start ≡ all = omega (arith, le) in
-    let same : from_index start (replicate all Unknown) ≡ replicate all Unknown =
-    ap (λ (zs : List Cell). zs ++ take start (replicate all Unknown)) (drop-replicate start all Unknown)
-    ∙ ap (λ (zs : List Cell). replicate (all - start) Unknown ++ zs) (take-replicate start all Unknown le)
-    ∙ replicate-append-replicate (all - start) start Unknown
-    ∙ ap (λ (n : ℕ). replicate n Unknown) sum in
-    ring_rows-from_index rows w index (replicate all Unknown) within (length-replicate all Unknown) ∙ ap (rows_of rows w) same ∙ rows_of_unknown rows w
+ring_unknown rows w index within = grind (arith, common_steps, cells_le index rows w, drop-replicate, take-replicate, replicate-append-replicate, ring_rows-from_index rows w index, length-replicate, rows_of_unknown rows w)
 
 -- ---- some rows of a ring, in two parts of its vector
 
@@ -375,8 +331,7 @@ rows_of-parts {rows} {w} {index} {i} {count} xs parts is fits =
 -- ---- a row is written over
 
 row_before : (w j : ℕ) (a zs : List Cell) → j * w + w ≤ length a → row_of w (a ++ zs) j ≡ row_of w a j
-row_before w j a zs h =
-    ap (take w) (drop-append-le (j * w) a zs (omega arith)) ∙ take-append-le w (drop (j * w) a) zs (omega (arith, length-drop (j * w) a))
+row_before w j a zs h = grind (arith, common_steps, drop-append-le (j * w) a zs, take-append-le w (drop (j * w) a) zs, length-drop (j * w) a)
 
 row_after : (w m j : ℕ) (a zs : List Cell) → length a ≡ m * w → m ≤ j → row_of w (a ++ zs) j ≡ row_of w zs (j - m)
 row_after w m j a zs e h = ap (take w) (from_later m j w a zs e h)

@@ -21,16 +21,7 @@ filled_enough n xs h = grind (arith, append-nil)
 
 -- and further
 pub filled_further : (all n : ℕ) (xs : List Cell) → n ≤ all → with_unwritten all (with_unwritten n xs) ≡ with_unwritten all xs
-filled_further all n xs h = ⊎_elim
-    (λ (less : length xs < n).
-    let more = n - length xs in
-    let count : length (with_unwritten n xs) ≡ n = length-with_unwritten n xs (omega arith) in
-    let sum : more + (all - n) ≡ all - length xs = omega arith in
-    ap (λ (k : ℕ). (xs ++ replicate more Unknown) ++ replicate (all - k) Unknown) count
-    ∙ append_assoc xs (replicate more Unknown) (replicate (all - n) Unknown)
-    ∙ ap (λ (zs : List Cell). xs ++ zs) (replicate-append-replicate more (all - n) Unknown ∙ ap (λ (k : ℕ). replicate k Unknown) sum))
-    (λ (enough : n ≤ length xs). ap (with_unwritten all) (filled_enough n xs enough))
-    (cases_lt (length xs) n)
+filled_further all n xs h = grind (arith, common_steps, length-with_unwritten n xs, append_assoc xs, replicate-append-replicate, filled_enough n xs, cases_lt)
 
 pub filled_long : (n : ℕ) (xs : List Cell) → n ≤ length (with_unwritten n xs)
 filled_long n xs = omega (arith, length-append xs (replicate (n - length xs) Unknown), length-replicate (n - length xs) Unknown)
@@ -58,13 +49,7 @@ row_unwritten all start w xs h fits few = take-replicate w 64 Unknown few ∙ sy
 -- over a written one
 pub written_over : (all w start : ℕ) (ys row : List Cell) → start + w ≤ length ys → length row ≡ w
     → with_unwritten all (take start ys ++ (row ++ drop (length row) (drop start ys))) ≡ take start (with_unwritten all ys) ++ (row ++ drop w (drop start (with_unwritten all ys)))
-written_over all w start ys row fits e =
-    let front = take start ys in
-    let back = drop w (drop start ys) in
-    let rest = replicate (all - length ys) Unknown in
-    let long : length (front ++ (row ++ back)) ≡ length ys =
-    omega (arith, length-append front (row ++ back), length-append row back, length-take-le start ys (omega arith), length-drop w (drop start ys), length-drop start ys) in
-    grind (arith, common_steps, append_assoc)
+written_over all w start ys row fits e = grind (arith, common_steps, length-append, length-append row, length-take-le start ys, length-drop w (drop start ys), length-drop start ys, append_assoc)
 
 -- or behind the last one
 pub written_behind : (all w k : ℕ) (ys row : List Cell) → k * w ≡ length ys → k * w + w ≤ all → length row ≡ w
@@ -142,16 +127,10 @@ pub run_fits : (rows w index n written : ℕ) (xs : List Cell) → 0 < w → wri
 run_fits rows w index n written xs some is few within before behind = grind (arith, add-mul, cells_le)
 
 pub run_whole : (w index n written : ℕ) (xs : List Cell) → written * w ≡ length xs → (index < written → index + n ≤ written) → index * w < length xs → index * w + n * w ≤ length xs
-run_whole w index n written xs is before below = ⊎_elim
-    (λ (there : index < written). omega (arith, is, add-mul index n w, cells_le (index + n) written w (before there)))
-    (λ (past : written ≤ index). absurd (omega (arith, is, below, cells_le written index w past)))
-    (cases_lt index written)
+run_whole w index n written xs is before below = grind (arith, common_steps, add-mul index n w, cells_le (index + n) written w, cells_le written index w, cases_lt index written)
 
 pub run_one : (w index n written : ℕ) (xs : List Cell) → 0 < w → written * w ≡ length xs → (written ≤ index → n ≡ 1) → length xs ≤ index * w → n * w ≡ w
-run_one w index n written xs some is behind past = ⊎_elim
-    (λ (there : index < written). absurd (omega (arith, is, past, some, add-mul index 1 w, cells_le (index + 1) written w (omega arith))))
-    (λ (after : written ≤ index). let one : 1 * w ≡ w = omega arith in ap (λ (k : ℕ). k * w) (behind after) ∙ one)
-    (cases_lt index written)
+run_one w index n written xs some is behind past = grind (arith, common_steps, add-mul index 1 w, cells_le (index + 1) written w, cases_lt index written)
 
 -- other cells, if they are as many and in whole rows
 pub same_ring : (rows w index : ℕ) (xs ys : List Cell) → IsRing rows w index xs → length ys ≡ length xs → IsRing rows w index ys
@@ -197,11 +176,7 @@ pub record IsPushed (rows w index : ℕ) (all : List (List Cell)) (new : Vec Cel
 
 pub row_pushed : {rows w index start : ℕ} {v new : Vec Cell Global} {all : List (List Cell)} {row : List Cell} → IsFilled rows w index index all v → start ≡ index * w → length row ≡ width all
     → new.items ≡ take start v.items ++ (row ++ drop (length row) (drop start v.items)) → vec_capacity new ≡ vec_capacity v → IsPushed rows w index all new row
-row_pushed {rows} {w} {index} {start} {v} {new} {all} {row} filled start_is one_each put room =
-    let is = filled.is in
-    let xs = with_unwritten (rows * w) v.items in
-    let e : length row ≡ w = one_each ∙ row_width is filled.view in
-    grind (arith, pushed_cells rows w index v row is filled.long e, length-with_cells w index xs row (ring_fits rows w index index xs is.ring is.ring.index_within) e, ring_fits rows w index index xs is.ring is.ring.index_within, mod_below (index + 1) rows is.ring.some_rows, pushed_ends w index v.items row is.ends filled.long e, ring_push rows w index xs row is.ring e)
+row_pushed {rows} {w} {index} {start} {v} {new} {all} {row} filled start_is one_each put room = grind (arith, common_steps, row_width, pushed_cells rows w index v row, length-with_cells w index, ring_fits rows w index index, mod_below (index + 1) rows, pushed_ends w index v.items row, ring_push rows w index)
 
 -- all of it is written
 pub wholly : (rows w index : ℕ) (v : Vec Cell Global) → IsRing rows w index v.items → IsPartlyWritten rows w index v
@@ -215,24 +190,7 @@ which rows w index written v are = grind arith
 -- the others are the oldest, and unknown
 unwritten_rows : (rows w index written : ℕ) (v : Vec Cell Global) → IsPartlyWritten rows w index v → AreWritten rows w index (vec_len v) written
     → take (rows - written) (ring_rows rows w index (with_unwritten (rows * w) v.items)) ≡ unknown_rows (rows - written) w
-unwritten_rows rows w index written v is are =
-    let xs = v.items in
-    let all = rows * w in
-    let ys = with_unwritten all xs in
-    let ring = ring_rows rows w index ys in
-    let n = rows - written in
-    let long : length ys ≡ all = is.ring.whole in
-    ⊎_elim (λ (full : written ≡ rows). grind arith)
-    (λ (fewer : ((written ≡ index) × (length xs ≤ index * w)) ⊎ ((written ≡ 0) × (length xs ≡ 0))). ⊎_elim (λ (part : (written ≡ index) × (length xs ≤ index * w)).
-    let sum : rows ≡ index + n = omega (arith, part.0) in
-    let count : all ≡ index * w + n * w = ap (λ (k : ℕ). k * w) sum ∙ add-mul index n w in
-    let back = drop (index * w) ys in
-    let unknown : take (n * w) (from_index (index * w) ys) ≡ replicate (n * w) Unknown =
-    take-append-le (n * w) back (take (index * w) ys) (omega (arith, length-drop (index * w) ys, long, count)) ∙ unknown_there all (index * w) (n * w) xs part.1 (omega (arith, count)) in
-    grind (arith, ring_take, rows_of_unknown))
-    (λ (none : (written ≡ 0) × (length xs ≡ 0)). grind (arith, common_steps, take_all, unknown_there, ring_unknown, take-replicate))
-    fewer)
-    (which rows w index written v are)
+unwritten_rows rows w index written v is are = grind (arith, common_steps, add-mul index, take-append-le, length-drop, unknown_there, ring_take, rows_of_unknown, take_all, ring_unknown, take-replicate, which rows w index written v are)
 
 pub never_written_rows : {rows w index len written : ℕ} {v : Vec Cell Global} {all : List (List Cell)} → IsPartlyWritten rows w index v → ring_rows rows w index (with_unwritten (rows * w) v.items) ≡ all → len ≡ vec_len v → AreWritten rows w index len written
     → take (rows - written) all ≡ unknown_rows (rows - written) w

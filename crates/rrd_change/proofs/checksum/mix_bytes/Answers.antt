@@ -1,22 +1,12 @@
-use Rattle.rrd_change.proofs.Common.{◌≡◌, ◌<◌, length, ◌/◌, ◌%◌, sym, ◌∙◌, ap, [], arith, eqb-true, eqb-false, mix, mix_words, word_more, words_whole, words_more}
+use Rattle.std.proofs.lemmas.Grind.{common_steps}
+use Rattle.rrd_change.proofs.Common.{◌≡◌, ◌<◌, length, ◌/◌, ◌%◌, sym, ◌∙◌, ap, arith, eqb-true, eqb-false, mix, mix_words, word_more, words_whole, words_more}
 use Rattle.rrd_change.proofs.checksum.mix_bytes.Goals as goal
 
 pub loop-word-preserved : goal.loop-word-preserved
-loop-word-preserved c =
-    let i = c.loop-word.word-index in
-    let bytes = c.args.bytes.now in
-    let within : i < length bytes / 8 = omega (arith, c.loop-word-test.true, c.as_chunks.ensures.front_len) in
-    c.mix-sum.ensures ∙ ap (λ s. mix s c.from_be_bytes.result) c.loop-word.invariant
-    ∙ ap (λ w. mix (mix_words c.args.start bytes i) w) c.from_be_bytes.ensures
-    ∙ sym (word_more c.args.start bytes [] c.as_chunks.result.0.now i c.as_chunks.ensures.front within)
+loop-word-preserved c = grind (arith, common_steps, word_more)
 
 pub returns-then-is_empty : goal.returns-then-is_empty
-returns-then-is_empty c =
-    let bytes = c.args.bytes.now in
-    let all : c.loop-word.word-index ≡ length bytes / 8 = grind arith in
-    let none = eqb-true (length c.as_chunks.result.1.now) 0 (sym c.is_empty.ensures ∙ c.if-is_empty.true) in
-    c.loop-word.invariant ∙ ap (λ n. mix_words c.args.start bytes n) all
-    ∙ words_whole c.args.start bytes (sym c.as_chunks.ensures.back_len ∙ none)
+returns-then-is_empty c = grind (arith, common_steps, eqb-true (length c.as_chunks.result.1.now) 0, words_whole c.args.start)
 
 pub returns-else-is_empty : goal.returns-else-is_empty
 returns-else-is_empty c =

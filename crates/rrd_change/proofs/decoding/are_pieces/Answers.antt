@@ -1,17 +1,13 @@
+use Rattle.std.proofs.lemmas.Grind.{common_steps}
 use Rattle.rrd_change.proofs.Common.{◌≡◌, ◌-◌, ◌+◌, ◌≤◌, ◌<◌, ℕ, length, drop, arith, subst, eqb-false, length-drop, HasPieces, left_head, next_piece, none_from, piece_before}
 use Rattle.rrd_change.proofs.decoding.are_pieces.Goals.{then-bytes-at-via-then-bytes-at, then-bytes-at-via-else-bytes-at+then-end-size, then-bytes-at-via-else-bytes-at+else-end-size+then-end-size-2}
 use Rattle.rrd_change.proofs.decoding.are_pieces.Goals as goal
 
 pub returns-then-bytes-at-lt-PIECE_HEAD-clause-no : goal.returns-then-bytes-at-lt-PIECE_HEAD-clause-no
-returns-then-bytes-at-lt-PIECE_HEAD-clause-no c e h =
-    let head = left_head c.args.bytes.now c.loop.at c.args.count c.loop.counter c.args.end c.loop-test.true (c.loop.invariant.no h) in
-    omega (arith, head)
+returns-then-bytes-at-lt-PIECE_HEAD-clause-no c e h = grind (arith, common_steps, left_head)
 
 pub returns-then-bytes-at-clause-no : goal.returns-then-bytes-at-clause-no
-returns-then-bytes-at-clause-no c e h =
-    let next = next_piece c.args.bytes.now c.loop.at c.args.count c.loop.counter c.args.end c.number_at-start.result c.number_at-size.result c.loop-test.true c.number_at-start.ensures c.number_at-size.ensures
-    c.number_at-size.type_inv (c.loop.invariant.no h) in
-    grind arith
+returns-then-bytes-at-clause-no c e h = grind (arith, common_steps, next_piece c.args.bytes.now c.loop.at c.args.count c.loop.counter c.args.end c.number_at-start.result c.number_at-size.result c.loop-test.true c.number_at-start.ensures c.number_at-size.ensures c.number_at-size.type_inv (c.loop.invariant.no h))
 
 pub loop-preserved : goal.loop-preserved
 loop-preserved c =

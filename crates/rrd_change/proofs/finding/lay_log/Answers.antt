@@ -1,10 +1,9 @@
+use Rattle.std.proofs.lemmas.Grind.{common_steps}
 use Rattle.rrd_change.proofs.Common.{◌+◌, length, refl, arith, Log, all_laid_over, head_at, head_laid, none_at}
 use Rattle.rrd_change.proofs.finding.lay_log.Goals as goal
 
 pub lay_change-requires-clause-few : goal.lay_change-requires-clause-few
-lay_change-requires-clause-few c =
-    let at = head_at c.args.database.now c.args.bytes.now c.loop-head.done c.in-Some.head c.loop-head.invariant.few c.in-Some.ensures in
-    omega (arith, at.below, c.loop-head.invariant.len)
+lay_change-requires-clause-few c = grind (arith, common_steps, head_at c.args.database.now c.args.bytes.now c.loop-head.done c.in-Some.head c.loop-head.invariant.few c.in-Some.ensures)
 
 pub lay_change-requires-clause-has : goal.lay_change-requires-clause-has
 lay_change-requires-clause-has c = (head_at c.args.database.now c.args.bytes.now c.loop-head.done c.in-Some.head c.loop-head.invariant.few c.in-Some.ensures).has

@@ -1,13 +1,9 @@
+use Rattle.std.proofs.lemmas.Grind.{common_steps}
 use Rattle.rrd_change.proofs.Common.{◌≡◌, ◌++◌, sym, subst, ◌∙◌, arith, IsLogMark, Mark, log_in, no_log, overlaid, past_log, past_unlaid, unlaid}
 use Rattle.rrd_change.proofs.finding.with_log.Goals as goal
 
 pub returns-then-len-tail : goal.returns-then-len-tail
-returns-then-len-tail c =
-    let past = c.if-len-tail.true in
-    record {
-      database = c.unmarked.ensures.same ∙ past_unlaid c.args.tail c.args.bytes.items (omega (arith, past, c.len.ensures, c.args.bytes.ok.0));
-      mark = subst (λ (m : Mark). IsLogMark m c.args.tail c.args.bytes.items) (sym c.unmarked.ensures.missing) (past_log c.args.tail c.args.bytes.items (omega (arith, past, c.len.ensures, c.args.bytes.ok.0)));
-    }
+returns-then-len-tail c = grind (arith, common_steps, past_unlaid, past_log)
 
 pub returns-then-log-tail : goal.returns-then-log-tail
 returns-then-log-tail c =

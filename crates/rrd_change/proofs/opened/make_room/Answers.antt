@@ -1,18 +1,12 @@
-use Rattle.rrd_change.proofs.Common.{◌≡◌, ℕ, List, inr, subst, sym, ◌∙◌, changes_in, laid_over, IsLeft, IsLogOf, IsMarked, Reads, Stays, World, read_now, seen_reads, seen_stays, stays_log, does_then, failed, steps_as, log_left}
+use Rattle.std.proofs.lemmas.Grind.{common_steps}
+use Rattle.rrd_change.proofs.Common.{◌≡◌, ℕ, List, subst, sym, ◌∙◌, changes_in, laid_over, IsLeft, IsLogOf, IsMarked, Reads, Stays, World, read_now, seen_reads, seen_stays, stays_log, does_then, failed, steps_as, log_left, arith}
 use Rattle.rrd_change.proofs.opened.make_room.Goals as goal
 
 pub returns-in_err-read : goal.returns-in_err-read
-returns-in_err-read g c =
-    let log = c.args.log.now in
-    failed _ _ c.from_residual.result _ _ c.from_residual.ensures.0
-    (steps_as Stays _ _ _ (λ u v s end other now is. inr (inr (log_left end other now log v (stays_log now log u v s is)))) (seen_stays c.args.syncs _ _ c.in_err-read.ensures))
+returns-in_err-read g c = grind (arith, common_steps, failed, steps_as Stays, log_left, stays_log, seen_stays c.args.syncs)
 
 pub returns-in_err-found : goal.returns-in_err-found
-returns-in_err-found g c =
-    let log = c.args.log.now in
-    let bytes = c.read.new.into.items in
-    failed _ _ c.from_residual-in_err-found.result _ _ c.from_residual-in_err-found.ensures.0
-    (steps_as (Reads 0 log.end bytes) _ _ _ (λ u v r end other now is. inr (inr (log_left end other now log v (stays_log now log u v r.0 is)))) (seen_reads c.args.syncs 0 log.end bytes _ _ c.in_ok-read.ensures))
+returns-in_err-found g c = grind (arith, common_steps, failed, steps_as, log_left, stays_log, seen_reads c.args.syncs 0)
 
 pub returns : goal.returns
 returns g c =

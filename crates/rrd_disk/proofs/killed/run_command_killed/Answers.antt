@@ -1,11 +1,10 @@
-use Rattle.rrd_disk.proofs.Common.{◌∙◌, ◌++◌, List, ap, Event, interrupted_makes, interrupted_run, interrupted_survives}
+use Rattle.std.proofs.lemmas.Grind.{common_steps}
+use Rattle.rrd_disk.proofs.Common.{interrupted_makes, interrupted_run, interrupted_survives, arith}
 use Rattle.rrd_store.specs.Runs as runs
 use Rattle.rrd_disk.proofs.killed.run_command_killed.Goals as goal
 
 pub run_command_at-requires : goal.run_command_at-requires
-run_command_at-requires g c =
-    ap (λ (l : List Event). l ++ g.D.Disk.events c.new-killed.result.system) c.new-killed.ensures.missed
-    ∙ ap g.D.Disk.events c.new-killed.ensures.system ∙ c.requires
+run_command_at-requires g c = grind (arith, common_steps)
 
 pub returns : goal.returns
 returns g c =

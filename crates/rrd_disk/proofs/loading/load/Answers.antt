@@ -1,9 +1,9 @@
-use Rattle.rrd_disk.proofs.Common.{◌∙◌, refl, bytes_after, begins_itself, decodes_front}
+use Rattle.std.proofs.lemmas.Grind.{common_steps}
+use Rattle.rrd_disk.proofs.Common.{refl, begins_itself, decodes_front, arith}
 use Rattle.rrd_disk.proofs.loading.load.Goals as goal
 
 pub returns-in-Some-clause-reads : goal.returns-in-Some-clause-reads
-returns-in-Some-clause-reads g c = λ s honest.
-    c.in-Some.ensures.reads (bytes_after s (g.D.Disk.events c.loop.file.disk)) (c.front.ensures.shown s honest) (λ whole. c.front.ensures.items ∙ c.is_whole.ensures whole s honest)
+returns-in-Some-clause-reads g c = grind (arith, common_steps)
 
 pub returns-in-Some-clause-front : goal.returns-in-Some-clause-front
 returns-in-Some-clause-front g c = decodes_front c.in-Some.read c.front.result.now c.loop.file.front.bytes.items c.front.ensures.items (c.in-Some.ensures.reads c.front.result.now (begins_itself c.front.result.now) (λ whole. refl))

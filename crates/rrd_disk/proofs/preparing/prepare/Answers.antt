@@ -1,4 +1,5 @@
-use Rattle.rrd_disk.proofs.Common.{◌≡◌, Bool, false, rules, subst, TellsMark, prepared_unmarked, mark_of, bytes_after, Readies, StaysLeft, Read, or_failed, rested_power, rests_left, unmarked_power, told_unmarked, marked_never, rests_unmarked, unmarked_twice}
+use Rattle.std.proofs.lemmas.Grind.{common_steps}
+use Rattle.rrd_disk.proofs.Common.{◌≡◌, Bool, false, rules, subst, TellsMark, prepared_unmarked, mark_of, bytes_after, Readies, StaysLeft, Read, or_failed, rested_power, rests_left, unmarked_power, told_unmarked, marked_never, rests_unmarked, unmarked_twice, arith}
 use Rattle.rrd_disk.proofs.preparing.prepare.Goals as goal
 
 pub returns-else-branch-clause-prepares : goal.returns-else-branch-clause-prepares
@@ -15,8 +16,7 @@ returns-in_err-is_marked-clause-power g c =
     or_failed Readies StaysLeft c.from_residual.result c.args.syncs old new c.from_residual.ensures.0 (λ ordered d w honest. rests_left Read old new c.is_marked.ensures.rests d w)
 
 pub returns-then-branch-clause-power : goal.returns-then-branch-clause-power
-returns-then-branch-clause-power g c =
-    rested_power c.prepare_marked.result c.args.syncs (g.D.Disk.events c.args.file.now.disk) (g.D.Disk.events c.is_marked.new.self.disk) (g.D.Disk.events c.prepare_marked.new.file.disk) c.is_marked.ensures.rests c.prepare_marked.ensures.power
+returns-then-branch-clause-power g c = grind (arith, common_steps, rested_power)
 
 pub returns-else-branch-clause-power : goal.returns-else-branch-clause-power
 returns-else-branch-clause-power g c =
@@ -30,10 +30,7 @@ pub returns-in_err-is_marked-clause-unmarked : goal.returns-in_err-is_marked-cla
 returns-in_err-is_marked-clause-unmarked g c = rests_unmarked Read (g.D.Disk.events c.args.file.now.disk) (g.D.Disk.events c.is_marked.new.self.disk) c.is_marked.ensures.rests
 
 pub returns-then-branch-clause-unmarked : goal.returns-then-branch-clause-unmarked
-returns-then-branch-clause-unmarked g c =
-    let old = g.D.Disk.events c.args.file.now.disk in
-    let mid = g.D.Disk.events c.is_marked.new.self.disk in
-    marked_never c.in_ok-is_marked.field-0 old mid (g.D.Disk.events c.prepare_marked.new.file.disk) c.prepare_marked.ensures.falls (rests_unmarked Read old mid c.is_marked.ensures.rests) c.in_ok-is_marked.ensures.tells (search rules)
+returns-then-branch-clause-unmarked g c = grind (arith, common_steps, marked_never, rests_unmarked)
 
 pub returns-else-branch-clause-unmarked : goal.returns-else-branch-clause-unmarked
 returns-else-branch-clause-unmarked g c =

@@ -1,4 +1,5 @@
-use Rattle.rrd_disk.proofs.Common.{◌≤◌, ◌∙◌, ℕ, List, length, take, ap, subst, sym, database_of, Base, Laws, no_fault, prepared_broken, prepared_repaired, does_falls, Readies, StaysLeft, Read, fault_power, or_failed, repaired_power, rests_left, unrepaired_power}
+use Rattle.std.proofs.lemmas.Grind.{common_steps}
+use Rattle.rrd_disk.proofs.Common.{◌≤◌, ◌∙◌, ℕ, List, length, take, ap, subst, sym, database_of, Base, Laws, no_fault, prepared_broken, prepared_repaired, does_falls, Readies, StaysLeft, Read, fault_power, or_failed, repaired_power, rests_left, unrepaired_power, arith}
 use Rattle.rrd_disk.proofs.preparing.prepare_marked.Goals as goal
 
 pub base_of-requires : goal.base_of-requires
@@ -7,12 +8,10 @@ base_of-requires g c =
     subst (λ (b : List ℕ). 16 ≤ length b) (sym c.database.ensures) (laws.begins (database_of c.in-Ok.standing.found) c.in-Ok.standing.database c.in-Ok.ensures.stands.file).0
 
 pub returns-in_err-repair-in-Ok-clause-falls : goal.returns-in_err-repair-in-Ok-clause-falls
-returns-in_err-repair-in-Ok-clause-falls g c = λ s honest.
-    c.find_standing.ensures.rests.falls s (does_falls c.args.syncs _ _ c.repair.result (g.D.Disk.events c.find_standing.new.file.disk) (g.D.Disk.events c.repair.new.file.disk) c.repair.ensures s honest)
+returns-in_err-repair-in-Ok-clause-falls g c = grind (arith, common_steps, does_falls)
 
 pub returns-in_ok-repair-in-Ok-clause-falls : goal.returns-in_ok-repair-in-Ok-clause-falls
-returns-in_ok-repair-in-Ok-clause-falls g c = λ s honest.
-    c.find_standing.ensures.rests.falls s (does_falls c.args.syncs _ _ c.repair.result (g.D.Disk.events c.find_standing.new.file.disk) (g.D.Disk.events c.repair.new.file.disk) c.repair.ensures s honest)
+returns-in_ok-repair-in-Ok-clause-falls g c = grind (arith, common_steps, does_falls)
 
 pub returns-in_err-repair-in-Ok-clause-prepares : goal.returns-in_err-repair-in-Ok-clause-prepares
 returns-in_err-repair-in-Ok-clause-prepares g c = λ s honest sound there marked.
@@ -26,9 +25,7 @@ returns-in_ok-repair-in-Ok-clause-prepares g c = λ s honest sound there marked.
     (ap (λ (b : Base). b.first) c.base_of.ensures ∙ ap (take 16) c.database.ensures) c.in_ok-repair-in-Ok.ensures s honest sound there marked
 
 pub returns-in-Err-clause-prepares : goal.returns-in-Err-clause-prepares
-returns-in-Err-clause-prepares g c = λ s honest sound there marked.
-    absurd (no_fault c.one_answer.ensures c.in-Err.fault (g.D.Disk.events c.args.file.now.disk) (g.D.Disk.events c.find_standing.new.file.disk) c.find_standing.ensures.rests.held c.in-Err.ensures.fault
-    (sym c.is_of_bytes.ensures ∙ c.if-is_of_bytes.true) s honest sound there marked)
+returns-in-Err-clause-prepares g c = grind (arith, common_steps, no_fault)
 
 pub returns-in_err-repair-in-Ok-clause-power : goal.returns-in_err-repair-in-Ok-clause-power
 returns-in_err-repair-in-Ok-clause-power g c =

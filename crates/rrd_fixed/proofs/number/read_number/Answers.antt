@@ -1,4 +1,4 @@
-use Rattle.rrd_fixed.proofs.Common.{◌≡◌, ◌≢◌, ◌∙◌, sym, refl, ℕ, ◌<◌, List, [], ◌∷◌, length, get_or, arith, common_steps, number_of, unsigned_of}
+use Rattle.rrd_fixed.proofs.Common.{◌≡◌, ◌≢◌, refl, ℕ, ◌<◌, List, [], ◌∷◌, length, get_or, arith, common_steps, number_of, unsigned_of}
 use Rattle.rrd_fixed.proofs.number.read_number.Goals as goal
 use Rattle.rrd_fixed.proofs.number.read_number.Goals.{in_default-via-then-bytes-lt1, in_default-via-else-bytes-lt1+in_default-1}
 
@@ -13,8 +13,4 @@ number_of_plain [] other = refl
 number_of_plain (b ∷ bs) other = grind (arith, common_steps)
 
 pub returns-in_default : goal.returns-in_default
-returns-in_default c =
-    elim c.in_default.branch [
-      | in_default-via-then-bytes-lt1 w ↦ c.read_unsigned.ensures.value ∙ sym (number_of_none c.args.bytes.now (grind (arith, common_steps)))
-      | in_default-via-else-bytes-lt1+in_default-1 w ↦ c.read_unsigned.ensures.value ∙ sym (number_of_plain c.args.bytes.now (grind (arith, common_steps)))
-    ]
+returns-in_default c = grind (arith, common_steps, in_default-via-then-bytes-lt1, number_of_none, in_default-via-else-bytes-lt1+in_default-1, number_of_plain)

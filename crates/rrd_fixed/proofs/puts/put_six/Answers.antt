@@ -1,11 +1,8 @@
-use Rattle.rrd_fixed.proofs.Common.{◌≤◌, ◌-◌, length, decimal, codes, arith, lit<, length-decimal-le, put_mid, same_len_mid, Puts, puts_part, puts_six}
+use Rattle.rrd_fixed.proofs.Common.{◌≤◌, ◌-◌, length, decimal, codes, arith, lit<, length-decimal-le, put_mid, same_len_mid, Puts, puts_part, puts_six, common_steps}
 use Rattle.rrd_fixed.proofs.puts.put_six.Goals as goal
 
 pub write_digits-requires : goal.write_digits-requires
-write_digits-requires c =
-    let few : length (decimal c.args.number) ≤ 6 = length-decimal-le 6 c.args.number (lit< tt) c.requires.small (omega arith) in
-    let same = same_len_mid (c.args.end - 6) (c.args.end - (c.args.end - 6)) c.args.buffer.now c.copy_from_slice.new.self c.copy_from_slice.ensures.len in
-    (omega (arith, few, c.requires.room), omega (arith, same, c.requires.inside))
+write_digits-requires c = grind (arith, common_steps, length-decimal-le 6 c.args.number, same_len_mid (c.args.end - 6) (c.args.end - (c.args.end - 6)) c.args.buffer.now c.copy_from_slice.new.self c.copy_from_slice.ensures.len)
 
 pub returns : goal.returns
 returns c =

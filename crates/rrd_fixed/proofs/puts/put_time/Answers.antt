@@ -1,4 +1,4 @@
-use Rattle.rrd_fixed.proofs.Common.{◌≡◌, ℕ, ◌≤◌, ◌^◌, ◌∷◌, decimal, arith, length, lit<, length-decimal-le, Puts, time_text, puts_byte, whole_minus}
+use Rattle.rrd_fixed.proofs.Common.{ℕ, ◌≤◌, ◌^◌, decimal, arith, length, lit<, length-decimal-le, puts_byte, common_steps}
 use Rattle.std.proofs.Common.{to_z-of_z}
 use Rattle.rrd_fixed.proofs.puts.put_time.Goals as goal
 
@@ -18,19 +18,7 @@ pub overflow_sub-result : goal.overflow_sub-result
 overflow_sub-result c = let few = short c.unsigned_abs.result c.unsigned_abs.ensures.bound in omega (arith, few, c.write_digits-at.ensures.start, c.requires.room)
 
 pub returns-clause-text : goal.returns-clause-text
-returns-clause-text c =
-    let few = short c.unsigned_abs.result c.unsigned_abs.ensures.bound in
-    let at = c.write_digits-at.result in
-    let back = to_z-of_z c.ranges.seconds in
-    let digits : Puts c.args.buffer.now c.write_digits-at.new.buf c.args.end (decimal c.unsigned_abs.result) at = record {
-      begins = c.write_digits-at.ensures.start;
-      bytes = c.write_digits-at.ensures.written;
-    } in
-    let text : 45 ∷ decimal c.unsigned_abs.result ≡ time_text c.args.seconds =
-    rw (c.unsigned_abs.ensures.value, back) (whole_minus c.args.seconds (rw back at c.if-seconds-ge0.false)) in
-    let put = puts_byte c.args.buffer.now c.write_digits-at.new.buf c.args.end at 45 (decimal c.unsigned_abs.result) digits
-    (omega (arith, few, c.write_digits-at.ensures.start, c.requires.room)) (omega (arith, c.write_digits-at.auto.buf, c.write_digits-at.ensures.start, c.requires.inside)) in
-    rw text at put
+returns-clause-text c = grind (arith, common_steps, short, to_z-of_z, puts_byte)
 
 pub returns-clause-short : goal.returns-clause-short
 returns-clause-short c = let few = short c.unsigned_abs.result c.unsigned_abs.ensures.bound in omega (arith, few, c.write_digits-at.ensures.start)

@@ -1,4 +1,4 @@
-use Rattle.rrd_fixed.proofs.Common.{arith, length-drop, err_from_is_err_and, front_kept, Appends-trans, take-add}
+use Rattle.rrd_fixed.proofs.Common.{arith, length-drop, err_from_is_err_and, front_kept, Appends-trans, take-add, common_steps}
 use Rattle.rrd_fixed.proofs.Writings.{take_rest}
 use Rattle.rrd_fixed.proofs.streams.write_bytes.Goals as goal
 
@@ -9,8 +9,4 @@ returns-in_err-at g c =
     rw p.1 (front_kept _ _ _ c.args.bytes.now c.loop-at.at c.loop-at-test.true c.loop-at.invariant.1 h)
 
 pub loop-at-preserved : goal.loop-at-preserved
-loop-at-preserved g c =
-    let h = rw (take_rest c.loop-at.at c.args.bytes.now) at c.in_ok-at.ensures.ok in (
-      omega (arith, h.1, length-drop c.loop-at.at c.args.bytes.now),
-      rw (take-add c.loop-at.at c.in_ok-at.field-0 c.args.bytes.now) (Appends-trans _ _ _ _ _ c.loop-at.invariant.1 h.2),
-    )
+loop-at-preserved g c = grind (arith, common_steps, take_rest, length-drop, take-add, Appends-trans)

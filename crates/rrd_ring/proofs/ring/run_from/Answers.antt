@@ -1,21 +1,12 @@
+use Rattle.std.proofs.lemmas.Grind.{common_steps}
 use Rattle.rrd_ring.proofs.Common.{◌+◌, ◌*◌, ◌/◌, ◌∙◌, ap, length, take, drop, arith, add-mul, with_unwritten, cells_le, rows_in, run_fits, run_one, run_whole}
 use Rattle.rrd_ring.proofs.ring.run_from.Goals as goal
 
 pub row_from-requires-clause-few : goal.row_from-requires-clause-few
-row_from-requires-clause-few c = λ past.
-    let xs = c.args.cells.now in
-    let written = rows_in c.args.sources xs c.requires.some_sources c.requires.whole in
-    let start = c.cells_of-start.ensures.count in
-    let one = run_one c.args.sources c.args.index c.contiguous_count-count.result (length xs / c.args.sources) xs c.requires.some_sources written c.contiguous_count-count.ensures.behind (omega (arith, past, start)) in
-    omega (arith, c.cells_of.ensures.count, one, c.requires.few_sources)
+row_from-requires-clause-few c = grind (arith, common_steps, rows_in c.args.sources, run_one c.args.sources c.args.index c.contiguous_count-count.result)
 
 pub row_from-requires-clause-whole : goal.row_from-requires-clause-whole
-row_from-requires-clause-whole c = λ below.
-    let xs = c.args.cells.now in
-    let written = rows_in c.args.sources xs c.requires.some_sources c.requires.whole in
-    let start = c.cells_of-start.ensures.count in
-    let whole = run_whole c.args.sources c.args.index c.contiguous_count-count.result (length xs / c.args.sources) xs written c.contiguous_count-count.ensures.within (omega (arith, below, start)) in
-    omega (arith, start, c.cells_of.ensures.count, whole)
+row_from-requires-clause-whole c = grind (arith, common_steps, rows_in c.args.sources, run_whole c.args.sources c.args.index c.contiguous_count-count.result)
 
 pub returns-clause-within : goal.returns-clause-within
 returns-clause-within c = λ rows few there.

@@ -1,26 +1,12 @@
-use Rattle.rrd_change.proofs.Common.{◌≡◌, List, ℕ, true, false, sym, ◌∙◌, ap, subst, inl, IfOk-weaker, begins_with, IsMarkOf, Mark, cut_mark, log_mark, spelled_tail, by_log_mark, settled_cut, settled_log, settled_plain}
+use Rattle.std.proofs.lemmas.Grind.{common_steps}
+use Rattle.rrd_change.proofs.Common.{◌≡◌, List, ℕ, false, sym, ◌∙◌, ap, subst, inl, IfOk-weaker, begins_with, IsMarkOf, Mark, cut_mark, log_mark, spelled_tail, by_log_mark, settled_cut, settled_log, settled_plain, arith}
 use Rattle.rrd_change.proofs.finding.FoundDatabase.read.Goals as goal
 
 pub returns-then-starts_with : goal.returns-then-starts_with
-returns-then-starts_with g c =
-    let file = c.args.bytes.items in
-    let begins : begins_with file cut_mark ≡ true = ap (λ xs. begins_with xs cut_mark) (sym c.deref.ensures.value) ∙ sym c.starts_with.ensures.value ∙ c.if-starts_with.true in
-    record {
-      database = IfOk-weaker c.cut.result _ _ (λ found e. e ∙ sym (settled_cut g.L.Layout.end_of file begins)) c.cut.ensures.database;
-      mark = IfOk-weaker c.cut.result _ _ (λ found e. subst (λ (m : Mark). IsMarkOf m file) (sym e) begins) c.cut.ensures.mark;
-    }
+returns-then-starts_with g c = grind (arith, common_steps, IfOk-weaker, settled_cut)
 
 pub returns-in-Some : goal.returns-in-Some
-returns-in-Some g c =
-    let file = c.args.bytes.items in
-    let begins : begins_with file cut_mark ≡ false = ap (λ xs. begins_with xs cut_mark) (sym c.deref.ensures.value) ∙ sym c.starts_with.ensures.value ∙ c.if-starts_with.false in
-    let P : List ℕ → Type 0 = λ xs. (c.in-Some.tail ≡ spelled_tail xs) × (begins_with xs (log_mark (spelled_tail xs)) ≡ true) in
-    let is : (c.in-Some.tail ≡ spelled_tail c.deref-2.result.now) × (begins_with c.deref-2.result.now (log_mark (spelled_tail c.deref-2.result.now)) ≡ true) = c.in-Some.ensures in
-    let stands = settled_log g.L.Layout.end_of file c.in-Some.tail begins (subst P c.deref-2.ensures.value is) in
-    record {
-      database = IfOk-weaker c.with_log.result _ _ (λ found e. e ∙ sym stands) c.with_log.ensures.database;
-      mark = IfOk-weaker c.with_log.result _ _ (λ found h. by_log_mark found.mark c.in-Some.tail file begins (subst P c.deref-2.ensures.value is) h) c.with_log.ensures.mark;
-    }
+returns-in-Some g c = grind (arith, common_steps, settled_log, IfOk-weaker, by_log_mark)
 
 pub returns-in-None : goal.returns-in-None
 returns-in-None g c =

@@ -1,3 +1,4 @@
+use Rattle.std.proofs.lemmas.Grind.{common_steps}
 use Rattle.rrd_change.proofs.Common.{rules, ◌≡◌, ◌<◌, ◌≤◌, ◌+◌, ◌^◌, ◌++◌, ◌∙◌, ap, ℕ, List, [], ◌∷◌, length, arith, refl, inl, inr, AreAny, ArePut, IsCut, change_bytes, change_size, Torn, AreSpans, change_of, IsDatabase, Fails, Stores, Log, append_stopped, count_fits, fill_next, follows_more, next_made, whole_appended, stores_all, length-change, spans_make, failed, nothing, steps_as, log_left}
 use Rattle.rrd_change.proofs.log.Log.append.Goals as goal
 
@@ -57,8 +58,4 @@ returns g c =
     }) c.in_ok-write_and_sync.ensures
 
 pub write_and_sync-requires-clause-some : goal.write_and_sync-requires-clause-some
-write_and_sync-requires-clause-some g c =
-    let log = c.args.self.now in
-    let change = change_of (length c.args.new.now) c.args.new.now c.args.changed.now in
-    let spelled = c.in_ok-push_change.ensures.ok ∙ ap (λ xs. xs ++ change_bytes log.tail log.end change) c.new-bytes.ensures.items in
-    omega (arith, ap length c.deref.ensures.value, ap length spelled, length-change log.tail log.end change)
+write_and_sync-requires-clause-some g c = grind (arith, common_steps, length-change)

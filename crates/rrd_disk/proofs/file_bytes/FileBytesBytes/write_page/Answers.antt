@@ -1,22 +1,13 @@
-use Rattle.rrd_disk.proofs.Common.{◌<◌, ◌≤◌, List, length, sym, ap, subst, rules, ArePut, FailsToWritePage, Moves, Steps, WritesPage, failed, view_of, Did, IsPartPut, Rests, Event, AreTorn, lost_did, page_fails, page_unmade, page_writes, part_any, put_whole, rests_moves, within_page, rests_trans}
+use Rattle.std.proofs.lemmas.Grind.{common_steps}
+use Rattle.rrd_disk.proofs.Common.{◌<◌, ◌≤◌, List, length, sym, ap, subst, rules, ArePut, FailsToWritePage, Moves, Steps, WritesPage, failed, view_of, Did, IsPartPut, Rests, Event, AreTorn, lost_did, page_fails, page_unmade, page_writes, part_any, put_whole, rests_moves, within_page, rests_trans, arith}
 use Rattle.rrd_disk.proofs.file_bytes.FileBytesBytes.write_page.Goals.{then-count-gt0, else-count-gt0}
 use Rattle.rrd_disk.proofs.file_bytes.FileBytesBytes.write_page.Goals as goal
 
 pub returns-in_err-length : goal.returns-in_err-length
-returns-in_err-length g c =
-    let bytes = c.args.bytes.now in
-    let old = g.D.Disk.events c.args.self.now.disk in
-    let new = g.D.Disk.events c.file_length.new.self.disk in
-    failed (λ x. WritesPage bytes) (FailsToWritePage bytes) c.from_residual.result (view_of old) (view_of new) c.from_residual.ensures.0 (page_unmade bytes old new c.requires c.file_length.ensures.rests)
+returns-in_err-length g c = grind (arith, common_steps, failed, page_unmade)
 
 pub returns-in_err-read_to : goal.returns-in_err-read_to
-returns-in_err-read_to g c =
-    let bytes = c.args.bytes.now in
-    let old = g.D.Disk.events c.args.self.now.disk in
-    let mid = g.D.Disk.events c.file_length.new.self.disk in
-    let new = g.D.Disk.events c.read_to.new.self.disk in
-    failed (λ x. WritesPage bytes) (FailsToWritePage bytes) c.from_residual-in_err-read_to.result (view_of old) (view_of new) c.from_residual-in_err-read_to.ensures.0
-    (page_unmade bytes old new c.requires (rests_trans old mid new c.file_length.ensures.rests c.read_to.ensures.rests))
+returns-in_err-read_to g c = grind (arith, common_steps, failed, page_unmade, rests_trans)
 
 pub returns-in_err-count : goal.returns-in_err-count
 returns-in_err-count g c =

@@ -1,4 +1,5 @@
-use Rattle.rrd_disk.proofs.Common.{finished_sound, reloaded, Unopened, reopened_safe}
+use Rattle.std.proofs.lemmas.Grind.{common_steps}
+use Rattle.rrd_disk.proofs.Common.{finished_sound, reloaded, reopened_safe, arith}
 use Rattle.rrd_disk.proofs.open_file.OpenFile.close.Goals as goal
 
 pub returns-clause-stays : goal.returns-clause-stays
@@ -12,6 +13,4 @@ returns-clause-sound g c = rw (← c.into_storage-storage.ensures, c.into_disk.e
     finished_sound storage.found (g.D.Disk.events storage.bytes.disk) (g.D.Disk.events c.finish.new.self.bytes.disk) c.args.self.session.database c.args.self.session.encoded c.finish.ensures.falls c.finish.ensures.same kept)
 
 pub returns-clause-power : goal.returns-clause-power
-returns-clause-power g c = rw (← c.into_storage-storage.ensures, c.into_disk.ensures) (
-    let storage = c.into_storage-storage.result in
-    reopened_safe storage.place.settings.syncs storage.found Unopened (g.D.Disk.events storage.bytes.disk) (g.D.Disk.events c.finish.new.self.bytes.disk) c.finish.ensures.power)
+returns-clause-power g c = grind (arith, common_steps, reopened_safe)

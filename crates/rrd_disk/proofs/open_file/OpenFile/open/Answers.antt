@@ -1,11 +1,9 @@
-use Rattle.rrd_disk.proofs.Common.{◌∙◌, List, ap, subst, Event, IsReload, IsTrue, unopened_as}
+use Rattle.std.proofs.lemmas.Grind.{common_steps}
+use Rattle.rrd_disk.proofs.Common.{◌∙◌, ap, IsTrue, unopened_as, arith}
 use Rattle.rrd_disk.proofs.open_file.OpenFile.open.Goals as goal
 
 pub returns-in-Ok-clause-opened : goal.returns-in-Ok-clause-opened
-returns-in-Ok-clause-opened g c = λ w honest sound.
-    let begun = ap g.D.Disk.events c.unopened-file.ensures.disk ∙ c.requires in
-    let after = g.D.Disk.events c.load.new.self.session.storage.bytes.disk in
-    (subst (λ (l : List Event). IsReload l after) begun (c.load.ensures.stays c.unopened-file.ensures.kept) w honest sound).1
+returns-in-Ok-clause-opened g c = grind (arith, common_steps)
 
 pub returns-in-Ok-clause-power : goal.returns-in-Ok-clause-power
 returns-in-Ok-clause-power g c = λ ordered d w honest P s.

@@ -1,4 +1,5 @@
-use Rattle.rrd_disk.proofs.Common.{◌≡◌, Bool, true, false, Ok, None, TellsMark, held_after, closed_loaded, open_from_marked, open_from_unmarked, finds_closed, if_ok_at, refl, ap, rests_closed, rests_then, rests_then_unmarked, tells_unmarked, Unopened, Read, marked_never, rests_unmarked, unmarked_twice}
+use Rattle.std.proofs.lemmas.Grind.{common_steps}
+use Rattle.rrd_disk.proofs.Common.{◌≡◌, Bool, true, false, Ok, None, TellsMark, closed_loaded, open_from_marked, open_from_unmarked, finds_closed, if_ok_at, ap, rests_closed, rests_then, rests_then_unmarked, tells_unmarked, Unopened, Read, marked_never, rests_unmarked, unmarked_twice, arith}
 use Rattle.rrd_disk.proofs.storage.FileStorage.load_open.Goals as goal
 
 pub returns-in-Ok-true-clause-loads : goal.returns-in-Ok-true-clause-loads
@@ -16,8 +17,7 @@ returns-in-Ok-false-clause-loads g c =
     c.is_marked.ensures.rests.held c.load_unmarked.ensures.rests.falls (if_ok_at (λ (b : Bool). TellsMark b mid) c.is_marked.result false was c.is_marked.ensures.ok) c.load_unmarked.ensures.loads
 
 pub returns-in-Err-clause-loads : goal.returns-in-Err-clause-loads
-returns-in-Err-clause-loads g c = rw c.is_marked.ensures.found (λ s honest sound there.
-    closed_loaded c.in-Err.fault (held_after s (g.D.Disk.events c.args.self.now.bytes.disk)) (held_after s (g.D.Disk.events c.is_marked.new.self.bytes.disk)) c.in-Err.ensures.err (c.is_marked.ensures.rests.held s) sound)
+returns-in-Err-clause-loads g c = grind (arith, common_steps, closed_loaded)
 
 pub returns-in-Err-clause-valid : goal.returns-in-Err-clause-valid
 returns-in-Err-clause-valid g c = finds_closed c.in-Err.fault None c.in-Err.ensures.err
@@ -38,11 +38,7 @@ pub returns-in-Err-clause-power : goal.returns-in-Err-clause-power
 returns-in-Err-clause-power g c = rw c.is_marked.ensures.found (rests_closed (g.L.Location.syncs c.args.self.now.place) (g.D.Disk.events c.args.self.now.bytes.disk) (g.D.Disk.events c.is_marked.new.self.bytes.disk) c.is_marked.ensures.rests Unopened tt)
 
 pub returns-in-Ok-true-clause-unmarked : goal.returns-in-Ok-true-clause-unmarked
-returns-in-Ok-true-clause-unmarked g c =
-    let old = g.D.Disk.events c.args.self.now.bytes.disk in
-    let mid = g.D.Disk.events c.is_marked.new.self.bytes.disk in
-    let was : c.is_marked.result ≡ Ok true = cc in
-    marked_never true old mid (g.D.Disk.events c.load_marked.new.self.bytes.disk) c.load_marked.ensures.falls (rests_unmarked Read old mid c.is_marked.ensures.rests) (if_ok_at (λ (b : Bool). TellsMark b mid) c.is_marked.result true was c.is_marked.ensures.ok) refl
+returns-in-Ok-true-clause-unmarked g c = grind (arith, common_steps, marked_never, rests_unmarked, if_ok_at)
 
 pub returns-in-Ok-false-clause-unmarked : goal.returns-in-Ok-false-clause-unmarked
 returns-in-Ok-false-clause-unmarked g c =

@@ -1,4 +1,5 @@
-use Rattle.rrd_disk.proofs.Common.{◌≡◌, Bool, true, false, Ok, None, TellsMark, held_after, closed_loaded, open_from_marked, open_from_unmarked, finds_closed, if_ok_at}
+use Rattle.std.proofs.lemmas.Grind.{common_steps}
+use Rattle.rrd_disk.proofs.Common.{◌≡◌, Bool, true, Ok, None, TellsMark, closed_loaded, open_from_marked, open_from_unmarked, finds_closed, if_ok_at, arith}
 use Rattle.rrd_disk.proofs.storage.FileStorage.load_shared.Goals as goal
 
 pub returns-in-Ok-true-clause-loads : goal.returns-in-Ok-true-clause-loads
@@ -9,15 +10,10 @@ returns-in-Ok-true-clause-loads g c =
     c.is_marked.ensures.rests.held c.read_marked.ensures.rests.falls (if_ok_at (λ (b : Bool). TellsMark b mid) c.is_marked.result true was c.is_marked.ensures.ok) c.read_marked.ensures.loads
 
 pub returns-in-Ok-false-clause-loads : goal.returns-in-Ok-false-clause-loads
-returns-in-Ok-false-clause-loads g c =
-    let mid = g.D.Disk.events c.is_marked.new.self.bytes.disk in
-    let was : c.is_marked.result ≡ Ok false = cc in
-    open_from_unmarked c.load_unmarked.new.self.found c.load_unmarked.result (g.D.Disk.events c.args.self.now.bytes.disk) mid (g.D.Disk.events c.load_unmarked.new.self.bytes.disk)
-    c.is_marked.ensures.rests.held c.load_unmarked.ensures.rests.falls (if_ok_at (λ (b : Bool). TellsMark b mid) c.is_marked.result false was c.is_marked.ensures.ok) c.load_unmarked.ensures.loads
+returns-in-Ok-false-clause-loads g c = grind (arith, common_steps, open_from_unmarked, if_ok_at)
 
 pub returns-in-Err-clause-loads : goal.returns-in-Err-clause-loads
-returns-in-Err-clause-loads g c = rw c.is_marked.ensures.found (λ s honest sound there.
-    closed_loaded c.in-Err.fault (held_after s (g.D.Disk.events c.args.self.now.bytes.disk)) (held_after s (g.D.Disk.events c.is_marked.new.self.bytes.disk)) c.in-Err.ensures.err (c.is_marked.ensures.rests.held s) sound)
+returns-in-Err-clause-loads g c = grind (arith, common_steps, closed_loaded)
 
 pub returns-in-Err-clause-valid : goal.returns-in-Err-clause-valid
 returns-in-Err-clause-valid g c = finds_closed c.in-Err.fault None c.in-Err.ensures.err

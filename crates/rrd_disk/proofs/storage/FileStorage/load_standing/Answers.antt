@@ -1,9 +1,9 @@
-use Rattle.rrd_disk.proofs.Common.{Unwritable, closed_unrepaired, loaded_repaired, loaded_unrepaired, does_falls, ◌≡◌, refl, Syncs, repaired_opens, unrepaired_opens, Unopened}
+use Rattle.std.proofs.lemmas.Grind.{common_steps}
+use Rattle.rrd_disk.proofs.Common.{Unwritable, closed_unrepaired, loaded_repaired, loaded_unrepaired, does_falls, ◌≡◌, refl, Syncs, repaired_opens, unrepaired_opens, Unopened, arith}
 use Rattle.rrd_disk.proofs.storage.FileStorage.load_standing.Goals as goal
 
 pub returns-in-Ok-clause-falls : goal.returns-in-Ok-clause-falls
-returns-in-Ok-clause-falls g c = λ s honest.
-    does_falls c.syncs-syncs.result _ _ c.repair.result (g.D.Disk.events c.args.self.now.bytes.disk) (g.D.Disk.events c.repair.new.file.disk) c.repair.ensures s (c.load_unmarked.ensures.rests.falls s honest)
+returns-in-Ok-clause-falls g c = grind (arith, common_steps, does_falls)
 
 pub returns-in-Ok-clause-loads : goal.returns-in-Ok-clause-loads
 returns-in-Ok-clause-loads g c =

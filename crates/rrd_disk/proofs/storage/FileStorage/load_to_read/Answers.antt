@@ -1,15 +1,9 @@
-use Rattle.rrd_disk.proofs.Common.{◌≡◌, ◌∙◌, Ok, subst, sym, IsSound, held_after, Pipe, Unwritable, loaded_as, loads_from, open_kept, finds_there, loaded_same, says_at, Unopened, rests_trans, rests_closed, rests_missing}
-use Rattle.rrd_disk.specs.declared.file_bytes.Entry.TheVariants.{Open, Missing}
+use Rattle.std.proofs.lemmas.Grind.{common_steps}
+use Rattle.rrd_disk.proofs.Common.{◌≡◌, ◌∙◌, Ok, subst, sym, IsSound, held_after, Pipe, Unwritable, loaded_as, loads_from, open_kept, finds_there, loaded_same, says_at, Unopened, rests_trans, rests_closed, rests_missing, arith}
 use Rattle.rrd_disk.proofs.storage.FileStorage.load_to_read.Goals as goal
 
 pub returns-in-Ok-Open-clause-loads : goal.returns-in-Ok-Open-clause-loads
-returns-in-Ok-Open-clause-loads g c = rw (c.leave.ensures.disk, c.leave.ensures.found) (λ s honest sound.
-    let old = g.D.Disk.events c.args.self.now.bytes.disk in
-    let mid = g.D.Disk.events c.open.new.self.bytes.disk in
-    let new = g.D.Disk.events c.load_shared-loaded.new.self.bytes.disk in
-    let was : c.open.result ≡ Ok Open = cc in
-    loaded_as c.load_shared-loaded.new.self.found (Unwritable c.args.unwritable) c.load_shared-loaded.result (held_after s old) (held_after s new) (λ is. is)
-    (loads_from c.load_shared-loaded.new.self.found c.load_shared-loaded.result old mid new c.open.ensures.rests.held c.load_shared-loaded.ensures.rests.falls (says_at c.open.result Open mid was c.open.ensures.says) c.load_shared-loaded.ensures.loads s honest sound))
+returns-in-Ok-Open-clause-loads g c = grind (arith, common_steps, loaded_as, loads_from, says_at)
 
 pub returns-in-Ok-Pipe-clause-loads : goal.returns-in-Ok-Pipe-clause-loads
 returns-in-Ok-Pipe-clause-loads g c = rw (c.leave-in-Ok-Pipe.ensures.disk, c.leave-in-Ok-Pipe.ensures.found) (λ s honest sound.
@@ -29,10 +23,7 @@ returns-in-Ok-Open-clause-power g c = rw (c.leave.ensures.disk, c.leave.ensures.
     rests_closed (g.L.Location.syncs c.args.self.now.place) (g.D.Disk.events c.args.self.now.bytes.disk) new (rests_trans (g.D.Disk.events c.args.self.now.bytes.disk) (g.D.Disk.events c.open.new.self.bytes.disk) new c.open.ensures.rests c.load_shared-loaded.ensures.rests) (Unwritable c.args.unwritable) tt)
 
 pub returns-in-Ok-Missing-clause-power : goal.returns-in-Ok-Missing-clause-power
-returns-in-Ok-Missing-clause-power g c = rw c.miss.ensures.disk (
-    let mid = g.D.Disk.events c.open.new.self.bytes.disk in
-    let was : c.open.result ≡ Ok Missing = cc in
-    rests_missing c.file_laws.ensures (g.L.Location.syncs c.args.self.now.place) (g.D.Disk.events c.args.self.now.bytes.disk) mid c.open.ensures.rests c.miss.new.self.found (says_at c.open.result Missing mid was c.open.ensures.says))
+returns-in-Ok-Missing-clause-power g c = grind (arith, common_steps, rests_missing, says_at)
 
 pub returns-in-Ok-Pipe-clause-power : goal.returns-in-Ok-Pipe-clause-power
 returns-in-Ok-Pipe-clause-power g c = rw (c.leave-in-Ok-Pipe.ensures.disk, c.leave-in-Ok-Pipe.ensures.found) (

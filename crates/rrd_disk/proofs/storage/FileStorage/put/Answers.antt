@@ -1,18 +1,15 @@
-use Rattle.rrd_disk.proofs.Common.{◌≡◌, ◌∙◌, List, OnErr, length, sym, refl, subst, inl, Span, held_after, AreOf, Found, Unopened, Open, Kept, does_falls, sound_at, written_from, unwritten, Becomes, BecomesOrNot, or_failed, world_after, as_left, became_safely, changed_safely, found_safely, missing_safely, unchanged_safely, Err, IsOpen, found_making, made_safely, open_making, unmade_safely}
-use Rattle.rrd_disk.specs.declared.storage.Found.TheVariants.{Missing}
+use Rattle.std.proofs.lemmas.Grind.{common_steps}
+use Rattle.rrd_disk.proofs.Common.{◌≡◌, ◌∙◌, List, OnErr, length, sym, refl, subst, inl, Span, held_after, AreOf, Found, Unopened, Open, Kept, does_falls, sound_at, written_from, unwritten, Becomes, BecomesOrNot, or_failed, as_left, became_safely, changed_safely, found_safely, missing_safely, unchanged_safely, Err, found_making, made_safely, open_making, unmade_safely, arith}
 use Rattle.rrd_disk.proofs.storage.FileStorage.put.Goals as goal
 
 pub returns-in_err-spans-clause-writes : goal.returns-in_err-spans-clause-writes
-returns-in_err-spans-clause-writes g c = λ s honest sound differs.
-    (sound, unwritten c.from_residual.result c.args.bytes.now (held_after s (g.D.Disk.events c.args.self.now.bytes.disk)) (held_after s (g.D.Disk.events c.args.self.now.bytes.disk)) c.from_residual.ensures.0 (inl refl))
+returns-in_err-spans-clause-writes g c = grind (arith, common_steps, unwritten)
 
 pub returns-in-Unopened-clause-writes : goal.returns-in-Unopened-clause-writes
-returns-in-Unopened-clause-writes g c = λ s honest sound differs.
-    c.put_anew.ensures.writes s honest (sound_at c.args.self.now.found Unopened (held_after s (g.D.Disk.events c.args.self.now.bytes.disk)) (sym c.replace.ensures.value ∙ c.in-Unopened.is) sound)
+returns-in-Unopened-clause-writes g c = grind (arith, common_steps, sound_at)
 
 pub returns-in-Missing-clause-writes : goal.returns-in-Missing-clause-writes
-returns-in-Missing-clause-writes g c = λ s honest sound differs.
-    c.put_new.ensures.writes s honest (sound_at c.args.self.now.found Missing (held_after s (g.D.Disk.events c.args.self.now.bytes.disk)) (sym c.replace.ensures.value ∙ c.in-Missing.is) sound)
+returns-in-Missing-clause-writes g c = grind (arith, common_steps, sound_at)
 
 pub returns-in-Open-clause-falls : goal.returns-in-Open-clause-falls
 returns-in-Open-clause-falls g c = does_falls (g.L.Location.syncs c.args.self.now.place) _ _ c.put_open.result (g.D.Disk.events c.args.self.now.bytes.disk) (g.D.Disk.events c.put_open.new.self.bytes.disk) c.put_open.ensures.does
@@ -68,14 +65,10 @@ returns-in-Unopened-clause-safe g c =
     (became_safely c.put_anew.result c.put_anew.new.self.found c.args.changed.now c.args.bytes.now (g.L.Location.syncs c.args.self.now.place) (g.D.Disk.events c.args.self.now.bytes.disk) new c.put_anew.ensures.began c.put_anew.ensures.power)
 
 pub returns-in-Missing-clause-safe : goal.returns-in-Missing-clause-safe
-returns-in-Missing-clause-safe g c =
-    let new = g.D.Disk.events c.put_new.new.self.bytes.disk in
-    found_safely c.put_new.result c.args.self.now.found Missing c.put_new.new.self.found c.args.changed.now c.args.bytes.now (g.L.Location.syncs c.args.self.now.place) (g.D.Disk.events c.args.self.now.bytes.disk) new (sym c.replace.ensures.value ∙ c.in-Missing.is)
-    (missing_safely c.put_new.result c.put_new.new.self.found c.args.changed.now c.args.bytes.now (g.L.Location.syncs c.args.self.now.place) (g.D.Disk.events c.args.self.now.bytes.disk) new)
+returns-in-Missing-clause-safe g c = grind (arith, common_steps, found_safely, missing_safely)
 
 pub returns-in-Unwritable-clause-safe : goal.returns-in-Unwritable-clause-safe
-returns-in-Unwritable-clause-safe g c = λ ordered d w honest differs end other now any is.
-    inl (as_left c.args.self.now.found end other now (world_after d w (g.D.Disk.events c.args.self.now.bytes.disk)) is)
+returns-in-Unwritable-clause-safe g c = grind (arith, common_steps, as_left)
 
 pub returns-in-Open-clause-safe : goal.returns-in-Open-clause-safe
 returns-in-Open-clause-safe g c =
@@ -97,26 +90,16 @@ pub returns-in_err-spans-clause-makes : goal.returns-in_err-spans-clause-makes
 returns-in_err-spans-clause-makes g c = unmade_safely c.from_residual.result c.args.self.now.found c.args.self.now.found c.args.bytes.now (g.L.Location.syncs c.args.self.now.place) (g.D.Disk.events c.args.self.now.bytes.disk) c.from_residual.ensures.0
 
 pub returns-in-Unopened-clause-makes : goal.returns-in-Unopened-clause-makes
-returns-in-Unopened-clause-makes g c =
-    let new = g.D.Disk.events c.put_anew.new.self.bytes.disk in
-    found_making c.put_anew.result c.args.self.now.found Unopened c.put_anew.new.self.found c.args.bytes.now (g.L.Location.syncs c.args.self.now.place) (g.D.Disk.events c.args.self.now.bytes.disk) new (sym c.replace.ensures.value ∙ c.in-Unopened.is)
-    (made_safely c.put_anew.result Unopened c.put_anew.new.self.found c.args.bytes.now (g.L.Location.syncs c.args.self.now.place) (g.D.Disk.events c.args.self.now.bytes.disk) new c.put_anew.ensures.began c.put_anew.ensures.makes)
+returns-in-Unopened-clause-makes g c = grind (arith, common_steps, found_making, made_safely)
 
 pub returns-in-Missing-clause-makes : goal.returns-in-Missing-clause-makes
-returns-in-Missing-clause-makes g c =
-    let new = g.D.Disk.events c.put_new.new.self.bytes.disk in
-    found_making c.put_new.result c.args.self.now.found Missing c.put_new.new.self.found c.args.bytes.now (g.L.Location.syncs c.args.self.now.place) (g.D.Disk.events c.args.self.now.bytes.disk) new (sym c.replace.ensures.value ∙ c.in-Missing.is)
-    (made_safely c.put_new.result Missing c.put_new.new.self.found c.args.bytes.now (g.L.Location.syncs c.args.self.now.place) (g.D.Disk.events c.args.self.now.bytes.disk) new c.put_new.ensures.began c.put_new.ensures.makes)
+returns-in-Missing-clause-makes g c = grind (arith, common_steps, found_making, made_safely)
 
 pub returns-in-Unwritable-clause-makes : goal.returns-in-Unwritable-clause-makes
 returns-in-Unwritable-clause-makes g c = unmade_safely (Err c.in-Unwritable.error) c.args.self.now.found Unopened c.args.bytes.now (g.L.Location.syncs c.args.self.now.place) (g.D.Disk.events c.args.self.now.bytes.disk) refl
 
 pub returns-in-Open-clause-makes : goal.returns-in-Open-clause-makes
-returns-in-Open-clause-makes g c =
-    open_making c.put_open.result c.args.self.now.found c.put_open.new.self.found c.args.bytes.now (g.L.Location.syncs c.args.self.now.place) (g.D.Disk.events c.args.self.now.bytes.disk) (g.D.Disk.events c.put_open.new.self.bytes.disk)
-    (subst IsOpen (sym c.in-Open.is ∙ c.replace.ensures.value) tt)
+returns-in-Open-clause-makes g c = grind (arith, common_steps, open_making)
 
 pub returns-clause-makes : goal.returns-clause-makes
-returns-clause-makes g c =
-    open_making c.put_kept.result c.args.self.now.found c.put_kept.new.self.found c.args.bytes.now (g.L.Location.syncs c.args.self.now.place) (g.D.Disk.events c.args.self.now.bytes.disk) (g.D.Disk.events c.put_kept.new.self.bytes.disk)
-    (subst IsOpen (sym c.in-Kept.is ∙ c.replace.ensures.value) tt)
+returns-clause-makes g c = grind (arith, common_steps, open_making)

@@ -1,4 +1,5 @@
-use Rattle.rrd_disk.proofs.Common.{ap, Base, held_after, any_enough, does_falls, after_near, closed_sound, created, failed_written, truncated, uncreated, untruncated, began_at, created_making, uncreated_making, untruncated_making}
+use Rattle.std.proofs.lemmas.Grind.{common_steps}
+use Rattle.rrd_disk.proofs.Common.{ap, Base, held_after, any_enough, does_falls, after_near, closed_sound, created, failed_written, truncated, uncreated, untruncated, began_at, created_making, uncreated_making, untruncated_making, arith}
 use Rattle.rrd_disk.proofs.storage.FileStorage.put_first.Goals as goal
 
 pub base_of-requires : goal.base_of-requires
@@ -17,14 +18,10 @@ returns-in_err-truncate-clause-writes g c = λ s honest sound none there.
     )
 
 pub returns-in-Ok-clause-falls : goal.returns-in-Ok-clause-falls
-returns-in-Ok-clause-falls g c = λ s honest.
-    does_falls c.syncs-syncs.result _ _ c.truncate.result (g.D.Disk.events c.args.self.now.bytes.disk) (g.D.Disk.events c.truncate.new.self.disk) c.truncate.ensures s
-    (does_falls c.syncs-syncs.result _ _ c.create.result (g.D.Disk.events c.truncate.new.self.disk) (g.D.Disk.events c.create.new.file.disk) c.create.ensures s honest)
+returns-in-Ok-clause-falls g c = grind (arith, common_steps, does_falls)
 
 pub returns-in-Err-clause-falls : goal.returns-in-Err-clause-falls
-returns-in-Err-clause-falls g c = λ s honest.
-    does_falls c.syncs-syncs.result _ _ c.truncate.result (g.D.Disk.events c.args.self.now.bytes.disk) (g.D.Disk.events c.truncate.new.self.disk) c.truncate.ensures s
-    (does_falls c.syncs-syncs.result _ _ c.create.result (g.D.Disk.events c.truncate.new.self.disk) (g.D.Disk.events c.create.new.file.disk) c.create.ensures s honest)
+returns-in-Err-clause-falls g c = grind (arith, common_steps, does_falls)
 
 pub returns-in-Ok-clause-writes : goal.returns-in-Ok-clause-writes
 returns-in-Ok-clause-writes g c = λ s honest sound none there.

@@ -1,13 +1,12 @@
-use Rattle.rrd_disk.proofs.Common.{prepared_settles, rests_settles, ◌∙◌, ap, rules, DoesOr, Readies, StaysLeft, Read, rests_left, settled_power}
+use Rattle.std.proofs.lemmas.Grind.{common_steps}
+use Rattle.rrd_disk.proofs.Common.{prepared_settles, rests_settles, ◌∙◌, ap, rules, DoesOr, Readies, StaysLeft, Read, rests_left, settled_power, arith}
 use Rattle.rrd_disk.proofs.storage.FileStorage.settle.Goals as goal
 
 pub returns-then-not-turn_lock-clause-prepares : goal.returns-then-not-turn_lock-clause-prepares
 returns-then-not-turn_lock-clause-prepares g c = rests_settles (g.D.Disk.events c.args.self.now.bytes.disk) (g.D.Disk.events c.turn_lock.new.self.bytes.disk) c.turn_lock.ensures.rests
 
 pub returns-clause-prepares : goal.returns-clause-prepares
-returns-clause-prepares g c =
-    prepared_settles c.prepare-ended.result (g.D.Disk.events c.args.self.now.bytes.disk) (g.D.Disk.events c.turn_lock.new.self.bytes.disk) (g.D.Disk.events c.prepare-ended.new.file.disk)
-    c.turn_lock.ensures.rests c.prepare-ended.ensures.prepares
+returns-clause-prepares g c = grind (arith, common_steps, prepared_settles)
 
 pub returns-then-not-turn_lock-clause-power : goal.returns-then-not-turn_lock-clause-power
 returns-then-not-turn_lock-clause-power g c = λ ordered d w honest. rests_left Read (g.D.Disk.events c.args.self.now.bytes.disk) (g.D.Disk.events c.turn_lock.new.self.bytes.disk) c.turn_lock.ensures.rests d w

@@ -1,9 +1,9 @@
-use Rattle.rrd_disk.proofs.Common.{written_err, written_ok, written_sound, whole_may_differ, ap, whole_differs_by, safe_put, safe_stored}
+use Rattle.std.proofs.lemmas.Grind.{common_steps}
+use Rattle.rrd_disk.proofs.Common.{written_err, written_ok, written_sound, whole_may_differ, ap, whole_differs_by, safe_put, safe_stored, arith}
 use Rattle.rrd_disk.proofs.storage.FileStorageStorage.replace.Goals as goal
 
 pub returns-clause-sound : goal.returns-clause-sound
-returns-clause-sound g c =
-    written_sound _ c.args.self.now.found c.write-ended.new.self.found _ c.args.bytes.now (g.D.Disk.events c.args.self.now.bytes.disk) (g.D.Disk.events c.write-ended.new.self.bytes.disk) c.write-ended.result (whole_may_differ c.args.bytes.now) c.write-ended.ensures.writes
+returns-clause-sound g c = grind (arith, common_steps, written_sound, whole_may_differ)
 
 pub returns-clause-ok : goal.returns-clause-ok
 returns-clause-ok g c =

@@ -1,12 +1,10 @@
-use Rattle.rrd_ring.proofs.Common.{◌≤◌, sym, subst, arith, row_fits, IsPartlyWritten, cells_le, IsFilled, IsPushed, ring_filled, row_pushed, row_width, whole_row}
+use Rattle.std.proofs.lemmas.Grind.{common_steps}
+use Rattle.rrd_ring.proofs.Common.{sym, subst, arith, row_fits, IsPartlyWritten, cells_le, IsFilled, IsPushed, ring_filled, row_pushed, row_width, whole_row}
 use Rattle.rrd_ring.proofs.archive.Archive.push_row.Goals as goal
 use Rattle.rrd_ring.proofs.archive.Archive.push_row.Goals.{After-fill_up, After-write_row_at}
 
 pub fill_up-requires : goal.fill_up-requires
-fill_up-requires c =
-    let a = c.self.inside in
-    let before : a.oldest ≤ a.rows = omega (arith, c.self.invariant.ring.index_within) in
-    omega (arith, c.cells_of-start.ensures.count, cells_le a.oldest a.rows a.sources before, c.self.invariant.room)
+fill_up-requires c = grind (arith, common_steps, cells_le)
 
 filled : (c : After-fill_up) → IsFilled c.self.inside.rows c.self.inside.sources c.self.inside.oldest c.self.inside.oldest c.args.self.now c.fill_up.new.cells
 filled c = ring_filled c.self.invariant c.self.view_is (omega (arith, c.self.invariant.ring.index_within)) c.cells_of-start.ensures.count c.fill_up.ensures.items c.fill_up.ensures.capacity
@@ -24,9 +22,7 @@ write_row_at-requires-clause-whole c =
     omega (arith, c.requires.one_each, row_width c.self.invariant c.self.view_is, v.ok.0, start, whole_row a.sources a.oldest v.items is.ends (omega (arith, below, v.ok.0, start)))
 
 pub write_row_at-requires-clause-room : goal.write_row_at-requires-clause-room
-write_row_at-requires-clause-room c =
-    let a = c.self.inside in
-    omega (arith, c.requires.one_each, row_width c.self.invariant c.self.view_is, c.cells_of-start.ensures.count, c.self.invariant.room, c.fill_up.ensures.capacity, row_fits a.oldest a.sources a.rows a.sources c.self.invariant.ring.index_within (omega arith))
+write_row_at-requires-clause-room c = grind (arith, common_steps, row_width c.self.invariant c.self.view_is, row_fits)
 
 pushed : (c : After-write_row_at) → IsFilled c.self.inside.rows c.self.inside.sources c.self.inside.oldest c.self.inside.oldest c.args.self.now c.fill_up.new.cells → IsPushed c.self.inside.rows c.self.inside.sources c.self.inside.oldest c.args.self.now c.write_row_at.new.cells c.args.cells.now
 pushed c full = row_pushed full c.cells_of-start.ensures.count c.requires.one_each c.write_row_at.ensures.written c.write_row_at.ensures.capacity
@@ -37,6 +33,4 @@ invariant_of-self c =
     subst (λ index. IsPartlyWritten c.self.inside.rows c.self.inside.sources index c.write_row_at.new.cells) (sym c.wrap-self-inside.ensures.index) (pushed steps.After-write_row_at (filled steps.After-fill_up)).is
 
 pub returns-clause-rows : goal.returns-clause-rows
-returns-clause-rows c =
-    let steps = goal.at.returns-clause-rows c in
-    rw c.wrap-self-inside.ensures.index (pushed steps.After-write_row_at (filled steps.After-fill_up)).rows_are
+returns-clause-rows c = grind (arith, common_steps, pushed, filled)

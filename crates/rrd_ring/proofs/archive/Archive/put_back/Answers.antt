@@ -1,4 +1,5 @@
-use Rattle.rrd_ring.proofs.Common.{◌≤◌, ◌∙◌, ap, length, arith, with_items, cells_le, rows_len, IsPutBack, MayPutBack, are_put_back, ring_filled_up, row_count}
+use Rattle.std.proofs.lemmas.Grind.{common_steps}
+use Rattle.rrd_ring.proofs.Common.{◌≤◌, arith, with_items, cells_le, rows_len, IsPutBack, MayPutBack, are_put_back, ring_filled_up, row_count}
 use Rattle.rrd_ring.proofs.archive.Archive.put_back.Goals as goal
 use Rattle.rrd_ring.proofs.archive.Archive.put_back.Goals.{After-fill_up, After-write_from}
 
@@ -21,15 +22,10 @@ write_from-requires-clause-few c =
 
 written : (c : After-write_from) → MayPutBack c.self.inside.rows c.self.inside.sources c.self.inside.oldest c.dropped.inside.rows c.args.self.now c.args.dropped c.fill_up.new.cells.items c.dropped.inside.cells.items
     → IsPutBack c.self.inside.rows c.self.inside.sources c.wrap-self-inside.result c.args.self.now c.args.dropped (with_items c.fill_up.new.cells c.write_from.new.ring)
-written c full =
-    are_put_back c.fill_up.new.cells c.write_from.new.ring full c.wrap-self-inside.ensures.index c.cells_of-start.ensures.count (c.write_from.auto.ring ∙ ap length c.deref_mut.ensures.value) (rw (c.as_slice.ensures, c.deref_mut.ensures.value) at c.write_from.ensures)
+written c full = grind (arith, common_steps, are_put_back c.fill_up.new.cells c.write_from.new.ring full c.wrap-self-inside.ensures.index c.cells_of-start.ensures.count)
 
 pub invariant_of-self : goal.invariant_of-self
-invariant_of-self c =
-    let steps = goal.at.invariant_of-self c in
-    (written steps.After-write_from (filled steps.After-fill_up)).is
+invariant_of-self c = grind (arith, common_steps, written, filled)
 
 pub returns : goal.returns
-returns c =
-    let steps = goal.at.returns c in
-    (written steps.After-write_from (filled steps.After-fill_up)).rows_are
+returns c = grind (arith, common_steps, written, filled)

@@ -1,3 +1,4 @@
+use Rattle.std.proofs.lemmas.Grind.{common_steps}
 use Rattle.rrd_ring.proofs.Common.{◌*◌, ap, arith, ArePut, are_put, row_count, row_width}
 use Rattle.rrd_ring.proofs.archive.Archive.put_rows.Goals as goal
 use Rattle.rrd_ring.proofs.archive.Archive.put_rows.Goals.{After-write_cells-2}
@@ -12,8 +13,7 @@ pub split_at-requires : goal.split_at-requires
 split_at-requires c = omega (arith, c.parts_of-parts.ensures.all, c.requires.one_each, ap (λ n. c.args.count * n) (row_width c.self.invariant c.self.view_is))
 
 pub write_cells-requires-2 : goal.write_cells-requires-2
-write_cells-requires-2 c =
-    omega (arith, c.parts_of-parts.ensures, c.requires.one_each, c.split_at.ensures.back_len, c.write_cells.ensures.capacity, c.self.invariant.room, ap (λ n. c.args.count * n) (row_width c.self.invariant c.self.view_is))
+write_cells-requires-2 c = grind (arith, common_steps, row_width c.self.invariant c.self.view_is)
 
 written : (c : After-write_cells-2) → ArePut c.self.inside.rows c.self.inside.sources c.self.inside.oldest c.args.i c.args.count c.args.self.now c.write_cells-2.new.cells c.args.cells.now
 written c =
