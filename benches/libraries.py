@@ -4,14 +4,13 @@ from __future__ import annotations
 
 import resource
 import shutil
-import statistics
 import subprocess
+import time
 from functools import partial
 from importlib import import_module
 from importlib.util import find_spec
 from itertools import product
 from pathlib import Path
-from timeit import timeit
 from typing import Callable, Dict, List, Sequence
 
 from harness import PEERS, TOP, Bench, Sides, Values, Work, instructions
@@ -89,9 +88,18 @@ def c_instructions(kind: Kind, bench: Bench) -> Sides:
 # ---- From Python
 
 
+def in_a_loop(calls: Sequence[Callable[..., object]], turns: Sequence[Sequence[str]]) -> Values:
+    """Measures the calls one after the other, as a recorder makes them."""
+    begin = time.perf_counter()
+    for given in turns:
+        for call in calls:
+            call(*given)
+    return 1e6 * (time.perf_counter() - begin) / len(calls) / len(turns),
+
+
 def python_calls(kind: Kind, count: int, bench: Bench) -> Sides:
     rrdi.load_library(bench.needs_library())
-    files, has_peer = bench.few(200), bench.has("python3-rrdtool", find_spec("rrdtool") and "rrdtool" in programs(bench))
+    files, has_peer = bench.few(40), bench.has("python3-rrdtool", find_spec("rrdtool") and "rrdtool" in programs(bench))
     folders = copies(bench, kind, files, ["rrdi", "open", *["rrdtool"] * has_peer])
     hard = resource.getrlimit(resource.RLIMIT_NOFILE)[1]
     resource.setrlimit(resource.RLIMIT_NOFILE, (hard, hard))
@@ -106,15 +114,15 @@ def python_calls(kind: Kind, count: int, bench: Bench) -> Sides:
         ways["rrdtool"] = [partial(update, f"{folders['rrdtool']}/{file}") for file in range(files)]
 
     def timed(way: str, number: int) -> Values:
-        given = [kind.sample(BEFORE + 2 + number * count + at) for at in range(count)]
-        return 1e6 * statistics.median(timeit(partial(update, *given), number=1) for update in ways[way]),
+        first = BEFORE + 2 + number * TURNS * count
+        return in_a_loop(ways[way], [[kind.sample(first + turn * count + at) for at in range(count)] for turn in range(TURNS)])
     return {way: partial(timed, way) for way in ways}
 
 
 def python_fetches(kind: Kind, bench: Bench) -> Sides:
     """Fetches 61 rows of each file, which the samples before have filled."""
     rrdi.load_library(bench.needs_library())
-    files, has_peer = bench.few(200), bench.has("python3-rrdtool", find_spec("rrdtool") and "rrdtool" in programs(bench))
+    files, has_peer = bench.few(40), bench.has("python3-rrdtool", find_spec("rrdtool") and "rrdtool" in programs(bench))
     folders = copies(bench, kind, files, ["rrdi", "open", *["rrdtool"] * has_peer])
     start = int(kind.sample(20).partition(":")[0])
     opened = [bench.closing.enter_context(rrdi.Database(folders["open"] / str(file))) for file in range(files)]
@@ -129,7 +137,7 @@ def python_fetches(kind: Kind, bench: Bench) -> Sides:
         ways["rrdtool"] = [partial(fetch, f"{folders['rrdtool']}/{file}", "AVERAGE", *words) for file in range(files)]
 
     def timed(way: str, number: int) -> Values:
-        return 1e6 * statistics.median(timeit(fetch, number=1) for fetch in ways[way]),
+        return in_a_loop(ways[way], [[]] * TURNS)
     return {way: partial(timed, way) for way in ways}
 
 
