@@ -9,8 +9,10 @@ import unittest
 import xml.etree.ElementTree as ElementTree
 from array import array
 from typing import Any, Callable, Dict, List, Optional, Tuple
+from unittest import mock
 
 import doubles  # noqa: F401
+from rrdi.importing import batch
 from rrdi.importing.rounding import Converter, as_text, millionths, raw_value
 from rrdi.importing.batch import RrdBatch, batch_of, merge, share_of
 from rrdi.amounts import Millionths
@@ -354,6 +356,17 @@ class Batches(unittest.TestCase):
         # A third of 3 is 1 there, and 0.333333 of 3 would be 0.
         self.assertEqual(share_of(archive(0, "AVERAGE", 3, [], 1 / 3)), "0.333334")
 
+    def test_no_step_is_an_extreme_that_nobody_measured(self) -> None:
+        """Without averages the steps of a row are between what it shows, and with them within the bounds of the source."""
+        for archives, found in (([archive(0, "LAST", 12, [90.0]), archive(1, "MIN", 12, [10.0])], {"10", "90"}),
+                                ([archive(0, "LAST", 12, [10.0]), archive(1, "MAX", 12, [90.0])], {"10", "90"}),
+                                ([archive(0, "AVERAGE", 12, [95.0]), archive(1, "LAST", 12, [0.0])], {"95"}),
+                                ([archive(0, "AVERAGE", 12, [5.0]), archive(1, "LAST", 12, [100.0])], {"5"}),
+                                ([archive(0, "AVERAGE", 12, [110.0]), archive(1, "LAST", 12, [0.0])], {"0", "120"})):
+            with self.subTest(archives=archives):
+                lines, _ = self.lines(RrdFile(10, 1200, [source(minimum=0.0, maximum=100.0)], archives))
+                self.assertEqual({word.partition(":")[2] for word in update_words(lines)}, found)
+
     def test_equal_rates_are_one_sample(self) -> None:
         self.assertEqual(list(merge([[(10, 1), (30, 2)], [(10, 5), (20, 6), (30, 6)]])), [(10, (1, 5)), (30, (2, 6))])
 
@@ -433,6 +446,14 @@ class Overlaps(unittest.TestCase):
 
 def new_rows(cells: Dict[int, Optional[float]]) -> Dict[int, List[Optional[Millionths]]]:
     return {time: [None if cell is None else Millionths(round(cell * 1_000_000))] for time, cell in cells.items()}
+
+
+class Lines(unittest.TestCase):
+    def test_as_many_samples_as_a_line_may_have(self) -> None:
+        """And one at least, however long it is."""
+        with mock.patch.object(batch, "BYTES_OF_A_LINE", 10):
+            for text in ("aaaa bbbb\ncccc dddd\neeeee", "aaaa bbbbb\nc", "aaaa\nbbbbbb c", "aaaaaaaaaaaaaaaaaaaa\nb", ""):
+                self.assertEqual(list(batch.updates(text.split())), [f"update {line}" for line in text.splitlines()])
 
 
 class DifferingRows(unittest.TestCase):

@@ -183,11 +183,14 @@ class RrdBatch:
                       "unknown")
         return raw
 
+    def bounds(self, source: RrdSource) -> tuple[int | None, int | None]:
+        return (self.converter.amount(source.minimum, BOUND_LIMIT), self.converter.amount(source.maximum, BOUND_LIMIT))
+
     def rates(self) -> Iterator[tuple[int, Rates]]:
         old, whole = self.old, self.old.last - self.old.last % self.old.step
         self.spans = spans = plan(self.archives, whole)
         note_made_up_rows(self.archives, spans, self.note)
-        columns = [SourceRates(source.column, old.step, whole, self.converter).all_rates(spans)
+        columns = [SourceRates(source.column, old.step, whole, self.converter, self.bounds(source)).all_rates(spans)
                    + unfinished_step(source, whole, old.last, self.converter) for source in self.sources]
         self.start = spans[0].begin if spans else whole
         return merge(columns)

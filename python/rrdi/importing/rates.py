@@ -60,8 +60,10 @@ def is_mean(wanted: float, mean: float, size: float) -> bool:
 class SourceRates:
     """Computes the rates of one source from its rows."""
 
-    def __init__(self, column: int, step: int, whole: int, converter: Converter):
+    def __init__(self, column: int, step: int, whole: int, converter: Converter,
+                 bounds: tuple[int | None, int | None] = (None, None)):
         self.column, self.step, self.whole, self.converter = column, step, whole, converter
+        self.least, self.greatest = bounds
         self.coarser: Coarser | None = None
         self.overlapping: Overlapping | None = None
 
@@ -143,8 +145,23 @@ class SourceRates:
 
     def wanted(self, row: Row, steps: int) -> Wanted:
         """Returns the numbers that `steps` steps must have for a row; without averages any sum is right."""
+        lower, upper = self.range_of(row)
         return Wanted(row.average * MILLION * steps, row.slack(steps) if row.has_average else math.inf,
-                      row.minimum, row.maximum, row.latest, row.minimum, row.maximum)
+                      row.minimum, row.maximum, row.latest, lower, upper)
+
+    def range_of(self, row: Row) -> tuple[int | None, int | None]:
+        """Returns the range of a row's steps: by its minimum and maximum; or else by the bounds of the source if the average is
+        within them, and without averages by what the row shows, so that no step is an extreme that nobody measured."""
+        lower, upper = row.minimum, row.maximum
+        if not row.has_average:
+            shown = [cell for cell in (row.minimum, row.maximum, row.latest) if cell is not None]
+            return min(shown, default=None), max(shown, default=None)
+        average = row.average * MILLION
+        if lower is None and self.least is not None and average >= self.least:
+            lower = self.least
+        if upper is None and self.greatest is not None and average <= self.greatest:
+            upper = self.greatest
+        return lower, upper
 
     def lay_part(self, rates: Stretches, span: Span, row: Row, begin: int, time: int, later: Stretches) -> None:
         """Lays the first part of a row that continues after the span, because a finer archive begins inside the row or the
@@ -163,10 +180,10 @@ class SourceRates:
         if row.has_average and end < self.whole:
             wanted.total = row.average * MILLION * (steps + rest.known) - rest.total
             wanted.slack = row.slack(steps + rest.known)
-            if row.minimum is not None:
-                wanted.total = max(wanted.total, steps * row.minimum)
-            if row.maximum is not None:
-                wanted.total = min(wanted.total, steps * row.maximum)
+            if wanted.lower is not None:
+                wanted.total = max(wanted.total, steps * wanted.lower)
+            if wanted.upper is not None:
+                wanted.total = min(wanted.total, steps * wanted.upper)
         if rest.minimum is not None and row.minimum is not None and rest.minimum <= row.minimum:
             wanted.minimum = None
         if rest.maximum is not None and row.maximum is not None and rest.maximum >= row.maximum:
