@@ -44,6 +44,16 @@ class Legends(unittest.TestCase):
         long = legend_of(200, curves(["temperature_of_cpu1"], 1234.5), "MB/s")
         self.assertEqual((long.heads, long.numbers), ([], [[]]))
 
+    def test_the_longest_text_has_room(self) -> None:
+        """The columns are as wide as for the source with the longest name, and for that with the longest numbers."""
+        short, long = curves(["in"]), curves(["temperature_of_the_room"], -123_456.75)
+        for unit in ("", "of_a_long_unit"):
+            alone, low = legend_of(2_000, long, unit), legend_of(2_000, short, unit)
+            self.assertTrue(alone.name_width > low.name_width and alone.column >= low.column)
+            for both in ([*short, *long], [*long, *short]):
+                found = legend_of(2_000, both, unit)
+                self.assertEqual((found.name_width, found.column), (alone.name_width, alone.column))
+
     def test_many_sources(self) -> None:
         """More than eight sources are beside each other if they fit."""
         names = [f"disk_sda_read_byte_{number:x}"[:19] for number in range(16)]
@@ -239,16 +249,18 @@ class Ranges(unittest.TestCase):
         self.assertEqual(range_of([curve_of(usual + [1.0, 1.0]), few], False, True, cuts), (0, 80))
 
     def test_sources_that_have_one_axis(self) -> None:
-        """None has less than a hundredth of another one's usual value; what is 0 or unknown goes with the one before it."""
-        for greatest, groups in (([1.0, 100.0], [[0, 1]]), ([1.0, 101.0], [[0], [1]]), ([-101.0, 1.0, 50.0], [[0, 2], [1]]),
-                                 ([2.0, 5e6, 3.0, 0.0, 4e6, math.nan], [[0, 2, 3], [1, 4, 5]]), ([0.0, 5.0], [[0], [1]]),
-                                 ([math.nan, 0.0], [[0, 1]]), ([1.0, 60.0, 3600.0], [[0], [1, 2]])):
+        """None has less than a twentieth of another one's usual value; what is 0 or unknown goes with the one before it, or
+        with the first that is not."""
+        for greatest, groups in (([1.0, 20.0], [[0, 1]]), ([1.0, 21.0], [[0], [1]]), ([-21.0, 1.0, 10.0], [[0, 2], [1]]),
+                                 ([2.0, 5e6, 3.0, 0.0, 4e6, math.nan], [[0, 2, 3], [1, 4, 5]]), ([0.0, 5.0], [[0, 1]]),
+                                 ([math.nan, 5e6, 1.0], [[0, 1], [2]]),
+                                 ([math.nan, 0.0], [[0, 1]]), ([1.0, 15.0, 240.0], [[0], [1, 2]])):
             with self.subTest(greatest=greatest):
                 series = [curve_of([one] * 3) for one in greatest]
                 self.assertEqual([[next(at for at, one in enumerate(series) if one is found) for found in group]
                                   for group in alike(series)], groups)
         usual = [1.0] * 99
-        self.assertEqual(len(alike([curve_of([*usual, 900.0]), curve_of([99.0] * 100)])), 1)  # a spike is not usual
+        self.assertEqual(len(alike([curve_of([*usual, 900.0]), curve_of([19.0] * 100)])), 1)  # a spike is not usual
 
     def test_spikes_of_a_band(self) -> None:
         """Of the rows of a band, one of four may be a spike."""
@@ -320,6 +332,14 @@ class SvgPictures(unittest.TestCase):
 
     def test_paths(self) -> None:
         self.assertEqual(path_of([(0, 1), (2.04, 1), (2.04, 3), (2.04, 3), (5, 6.26)]), "M0 1H2V3L5 6.3")
+
+    def test_times_below_it(self) -> None:
+        """Those that any picture of this width has, from the left to the right."""
+        root = ElementTree.fromstring(svg_of(self.picture([1.0, 2.0]), DAY, 3 * DAY, ""))
+        shown = [(one.text, float(one.attrib["x"])) for one in root.iter() if one.attrib.get("class") == "time"]
+        wanted = [text for label, _ in labels(DAY, 3 * DAY, 800) for text in label.split("\\n")]
+        self.assertEqual(([text for text, _ in shown], len(shown) > 4), (wanted, True))
+        self.assertEqual([at for _, at in shown], sorted(at for _, at in shown))
 
     def test_a_line_has_gaps(self) -> None:
         """The plot is from 29 to 872 across, and from 260 to 10 down."""

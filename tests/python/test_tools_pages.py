@@ -190,6 +190,18 @@ class Pages(ToolCase):
         self.assertEqual(re.findall('aria-label="(.*?)"', self.page("load.rrdi.html"))[0], "load.rrdi, day")
         self.assertEqual(self.page("index.html").count("all.rrdi, day: "), 2)
 
+    def test_values_that_are_unknown(self) -> None:
+        """A source without a value in all the time, and a band without one, keep nothing from being drawn."""
+        self.create("tree/none.rrdi", "DS:none:GAUGE:700:U:U", "DS:some:GAUGE:700:U:U", "RRA:AVERAGE:0.5:1:300", start=START,
+                    step=600)
+        self.rrdi("update", "tree/none.rrdi", *(f"{START + 600 * at}:U:5" for at in range(1, 289)))
+        self.create("tree/band.rrdi", "DS:half:GAUGE:600:U:U", "RRA:AVERAGE:0.9:2:300", "RRA:MIN:0.1:2:300", start=START,
+                    step=600)
+        self.rrdi("update", "tree/band.rrdi", *(f"{START + 600 * at}:{'U' if at % 2 else 5}" for at in range(1, 289)))
+        self.assertEqual(self.draw("-e", str(END)).status, 0)
+        for name in ("none", "band"):
+            self.assertIn(">5.00<", self.page(f"{name}.rrdi.html"))
+
     def test_options(self) -> None:
         self.assertEqual(self.draw("MAX", "--source", "out", "--unit", "<B>", "--max", "80", "--area", "--width", "700",
                                    "--title", "All").status, 0)

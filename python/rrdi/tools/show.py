@@ -13,7 +13,7 @@ examples:
   rrdi-show --journal load.rrdi
 
 The first form shows the data sources and the archives; the second the rows of
-the archive that `rrdtool fetch` would read, with times of your zone. The third
+the archive that `rrdi fetch` would read, with times of your zone. The third
 form is for programs, and without FUNCTION it prints all archives. --journal
 shows what the next reverts would take back.
 

@@ -117,12 +117,18 @@ def known(column: Column) -> Column:
     return [cell for cell in column if not math.isnan(cell)]
 
 
+def filled(band: Column, values: Column) -> Column:
+    """Returns an end of a band, with the values where it is unknown."""
+    return [value if math.isnan(end) else end for end, value in zip(band, values)]
+
+
 def series_of(rows: Columns, low: Optional[Columns], high: Optional[Columns], is_stack: bool) -> List[Curve]:
     """Returns what is drawn. `low` and `high` are rows of the same times with minimums and maximums. In a stack, a source
     whose value is unknown adds nothing."""
     found, below = [], [0.0] * len(rows.times)
     for at, (name, column) in enumerate(zip(rows.names, rows.columns)):
-        lows, highs = (low.columns[at] if low else column), (high.columns[at] if high else column)
+        lows = filled(low.columns[at], column) if low else column
+        highs = filled(high.columns[at], column) if high else column
         cells = known(column) or [math.nan]
         values = [cell + under for cell, under in zip(column, below)] if is_stack else column
         found.append(Curve(name, values, list(below), lows, highs, cells[-1], min(known(lows) or cells),
@@ -142,7 +148,7 @@ def segments(rows: Columns, series: Curve) -> Iterator[List[Tuple[int, float, fl
                 yield stretch
             stretch = []
             continue
-        rest = (bottom, value, value if math.isnan(low) else low, value if math.isnan(high) else high)
+        rest = (bottom, value, low, high)
         stretch += [(time - rows.seconds, *rest), (time, *rest)]
     if stretch:
         yield stretch

@@ -11,7 +11,7 @@ RARE, RARE_IN_BAND = 50, 4  # one row of so many may be a spike, by its line or 
 ROUNDING = 2e-9  # of an axis: its ends are at round values in floating point
 FAR = 2  # a spike is beyond the other values by more than so many times their range
 
-FLAT = 100  # a source whose values are below one of so many parts of another one's is flat beside it
+FLAT = 20  # a source whose values are below one of so many parts of another one's is flat beside it
 
 Range = Tuple[float, float]
 
@@ -30,10 +30,11 @@ def usual_size(curve: Curve) -> float:
 
 def alike(series: List[Curve]) -> List[List[Curve]]:
     """Returns the sources that can have one axis together, because none is flat beside another one. A source that is 0 or
-    unknown goes with the one before it."""
-    sizes: List[float] = []
-    for one in series:
-        sizes.append(usual_size(one) or (sizes[-1] if sizes else 0.0))
+    unknown goes with the one before it, or else with the first one that is neither."""
+    sizes = [usual_size(one) for one in series]
+    last = next(filter(None, sizes), 0.0)
+    for number, size in enumerate(sizes):
+        last = sizes[number] = size or last
     groups: List[List[int]] = []
     for number in sorted(range(len(series)), key=lambda number: -sizes[number]):
         if not groups or sizes[number] * FLAT < sizes[groups[-1][0]]:
