@@ -474,7 +474,9 @@ def test_the_answer_without_streams(closed: list[int], words: list[str], told: A
 
 
 def test_the_memory_of_a_long_file() -> None:
-    cheap = [test_streams.is_cheap(*words) for words in ((2_001, 0), (2_000, 0), (-500, 0), (3_000, 1_000))]
+    more = test_streams.MISCOUNTED
+    cheap = [test_streams.is_cheap(cost, share) for cost, share in (
+        (2_001 + more, 0), (2_000 + more, 0), (-200 - more, 0), (3_000 + more, 1_000))]
     assert cheap == [False, True, False, True]
 
 
