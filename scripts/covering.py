@@ -24,8 +24,9 @@ from mutants import Mutant, names_set
 TOP = Path(__file__).resolve().parent.parent
 KEPT = TOP / "out/covered.json"
 # What is copied of the repository.
-PARTS = ("LICENSE-MIT", "Makefile", "VERSION", "conftest.py", "crates/rrd_store/src/usage.rt", "docs", "examples", "include",
-         "library/c", "librrd", "perl", "pyproject.toml", "python", "tests", "tools")
+PARTS = ("LICENSE-MIT", "Makefile", "VERSION", "conftest.py", "crates/rrd_store/src/usage.rt",
+         "crates/tests_of_program/src/explain/table.rt", "docs", "examples", "include", "library/c",
+         "library/rrdi_c/specs/Numbers.antt.in", "librrd", "perl", "pyproject.toml", "python", "tests", "tools")
 
 
 class Test(NamedTuple):

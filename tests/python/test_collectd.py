@@ -69,6 +69,9 @@ class Definitions(WriterCase):
                           "RRA:AVERAGE:0.100000:223:1202", "RRA:AVERAGE:0.100000:2635:1201"])
         self.assertEqual(collectd.archives(options, 1)[:3],
                          ["RRA:AVERAGE:0.100000:1:3600", "RRA:MIN:0.100000:1:3600", "RRA:MAX:0.100000:1:3600"])
+        for xff, text in ((0.0, "0.000000"), (0.75, "0.750000"), (0.9, "0.900000"), (0.9999999, "0.999999")):
+            options.set("XFF", xff)
+            self.assertEqual(collectd.archives(options, 10)[0], f"RRA:AVERAGE:{text}:1:1200")
         for name, value in (("RRARows", 300.0), ("RRATimespan", 3600.0), ("RRATimespan", 86400.0), ("XFF", 0.5)):
             options.set(name, value)
         self.assertEqual(collectd.archives(options, 10)[::3], ["RRA:AVERAGE:0.500000:1:360", "RRA:AVERAGE:0.500000:28:309"])

@@ -18,7 +18,7 @@ from doubles import TOP
 
 import rrdi
 from rrdi.compat import rrdtool
-from rrdi.compat.syntax import Untranslatable, read_length, read_number
+from rrdi.compat.syntax import Untranslatable, read_length, read_number, read_options
 from rrdi.compat.at_style import Moment, span
 from rrdi.compat.translate import translate
 from rrdi.printed import Archive, Settings
@@ -71,11 +71,29 @@ class Translations(unittest.TestCase):
         # later.
         for text in ("", "32:00", "x", "12:00 13:00", "now-", "1970-01-01", "24:00", "23:60", "01/02/0139", "12:5", "12:x",
                      "jan foo", "jan", "now-x", "now+1h-", "1/x/2000", "1/2.2000", "1/2/x",
-                     "315360000"):
+                     "315360000", "epoch", "epoch 5", "now-3x", "now-3hs", "now-3ss", "epoch-1s", "now+9999999999y"):
             with self.assertRaisesRegex(Untranslatable, "cannot parse time: "):
                 Moment(text, NOW).seconds()
         with self.assertRaisesRegex(Untranslatable, "relative to itself"):
             Moment("end-1h", NOW).seconds()
+        for text in ("end", "start", "s", "e", "end 5", "start noon"):
+            with self.assertRaisesRegex(Untranslatable, "cannot parse time: "):
+                Moment(text, NOW).seconds(NOW, NOW)
+        self.assertEqual(Moment("epoch+0s", NOW).seconds(), 0)
+
+    def test_letters_in_one_word(self) -> None:
+        """Those after an option without a value begin the next option."""
+        for words in (["-Ob5", "f"], ["-O", "-b", "5", "f"], ["-O", "-b5", "f"], ["--no-overwrite", "f", "--start=5"]):
+            self.assertEqual(read_options("create", words), ([("--no-overwrite", ""), ("--start", "5")], ["f"]))
+        with self.assertRaisesRegex(Untranslatable, "create has no option -5"):
+            read_options("create", ["-O5", "f"])
+        with self.assertRaisesRegex(Untranslatable, "--start needs a value"):
+            read_options("create", ["f", "-Ob"])
+
+    def test_archives_in_other_parts(self) -> None:
+        """rrdi says what is wrong with them."""
+        for wrong in ("RRA:AVERAGE:0.5:1", "RRA:MAX:0.5:1:5m:9"):
+            self.assertEqual(translate("create", ["f", wrong], NOW, Questions())[0][-1], wrong)
 
     def test_days_and_hours(self) -> None:
         """What `rrdtool fetch` 1.7.2 takes these times for in UTC."""
@@ -83,7 +101,7 @@ class Translations(unittest.TestCase):
             time.tzset()
             for text, wanted in (("20240203", 1_706_918_400), ("12am 20240203", 1_706_918_400), ("12pm 20240203", 1_706_961_600),
                                  ("1pm 20240203", 1_706_965_200), ("8:30am 02/03/2024", 1_706_949_000),
-                                 ("noon 03.02.2024", 1_706_961_600), ("03.02.24", 1_706_918_400), ("02/03/95", 791_769_600),
+                                 ("noon 03.02.2024", 1_706_961_600), ("03.02.24", 1_706_918_400), ("02/03/95", 791_769_600), ("01/02/0138", 2_146_003_200),
                                  ("teatime 20240203", 1_706_976_000), ("20240203 6pm", 1_706_983_200),
                                  ("315360001", 315_360_001), ("noon today", 1_699_963_200), ("noon yesterday", 1_699_876_800),
                                  ("noon tomorrow", 1_700_049_600), ("noon jan 5 2024", 1_704_456_000),
@@ -96,6 +114,9 @@ class Translations(unittest.TestCase):
             time.tzset()
             # Half an hour before a Tuesday of summer ends.
             self.assertEqual(Moment("noon tuesday", 1_721_165_400).seconds(), 1_721_124_000)
+            # A day from or to another time has 24 hours, as in `rrdtool fetch`, also when clocks are set back.
+            for words in (("end-1d", "1698577200"), ("1698490800", "start+1d")):
+                self.assertEqual(span(*words, NOW), (1_698_490_800, 1_698_577_200))
         time.tzset()
         with self.assertRaisesRegex(Untranslatable, "cannot parse time: "):
             Moment("13pm 20240203", NOW).seconds()
@@ -257,6 +278,17 @@ class Module:
             with self.assertRaises(TypeError) as wrong:
                 rrdtool.update(*words)
             self.assertEqual(str(wrong.exception), reason)
+
+    def test_rows_that_are_set(self: Any) -> None:
+        """The file tells how many there are."""
+        self.fill()
+        rows = rrdi.info("f.rrd").archives[0].rows
+        for words, wanted in (("RRA#0:=20", 20), ("RRA#0:20", 20), ("RRA#0:-7", 13), (f"RRA#0:={rows}", rows)):
+            rrdtool.tune("f.rrd", words)
+            self.assertEqual(rrdi.info("f.rrd").archives[0].rows, wanted, words)
+        for file in ("none.rrd", "."):
+            with self.assertRaises(rrdtool.OperationalError):
+                rrdtool.tune(file, "RRA#0:=20")
 
     def test_what_is_lacking(self: Any) -> None:
         for name in LACKING:

@@ -220,6 +220,20 @@ class InBlocks(Creating):
         self.assertEqual((rrdi.last(self.file), rrdi.info(self.file).sources["g"].heartbeat), (6, 7))
         self.assertEqual(self.files(), ["f.rrdi"])
 
+    def test_the_numbers_of_lines_after_a_creation_that_another_program_made(self: Any) -> None:
+        """They count the line of the creation, which has done nothing."""
+        chosen = self.library() or library.load_library()
+        self.make_meanwhile(lambda: chosen.run_file(os.fsencode(self.file), "\0".join(
+            ["create", "--start=5", *BOTH]).encode(), 0, 0, False))
+        database = rrdi.Database(self.file, collect=True)
+        database.create(*ONE, exist_ok=True)
+        for line in ("6:1:2", "6:3:4", "7:5:6"):
+            database.update(line)
+        with self.assertRaises(rrdi.RefusedLines) as raised:
+            database.flush()
+        self.assertEqual([(line.number, line.line) for line in raised.exception.lines], [(3, "update 6:3:4")])
+        self.assertEqual(rrdi.last(self.file), 7)
+
     def test_times(self: Any) -> None:
         begin = datetime.datetime(2020, 9, 13, 12, 26, 40, tzinfo=datetime.timezone.utc)
         with rrdi.Database(self.file, collect=True, now=begin + datetime.timedelta(seconds=3)) as database:

@@ -12,7 +12,7 @@ import sys
 import time
 import unittest
 from pathlib import Path
-from typing import List, Set, Tuple
+from typing import Callable, List, Set, Tuple
 from unittest import mock
 
 from cases import HANG, needs_program
@@ -20,7 +20,8 @@ from doubles import PROGRAM, TOP
 from tool_case import NO_RRDTOOL, RRDTOOL, Ran, ToolCase
 
 from rrdi.tools.children import ChildAnswer, answers
-from rrdi.tools.export_many import swap_in_place
+from rrdi.tools.command_line import Failure
+from rrdi.tools.export_many import make_new, swap_in_place
 
 USAGE = ("FILE.rrdi [NEW.rrd]\n       rrdi-export --whisper FILE.rrdi NEW.wsp\n"
          "       rrdi-export [--whisper] [--jobs N] --into DIRECTORY|--in-place FILE|TREE..")
@@ -44,6 +45,27 @@ class Words(ToolCase):
                          "rrdi-export: tree: no file below it has a name that ends in .rrd\n")
         self.assertEqual(self.tool("rrdi-export", "--into", "new", "tree/a.rrdi", env={"PATH": "/nowhere"}).err,
                          "rrdi-export: rrdtool is not installed (Debian: apt install rrdtool)\n")
+
+
+class NewFiles(ToolCase):
+    def test_a_name_that_is_taken(self) -> None:
+        """Nothing is converted for it."""
+        path, fill = self.write("new.rrd", "another's"), mock.Mock()
+        with self.assertRaisesRegex(Failure, f"^{path} already exists$"):
+            make_new(path, fill)
+        self.assertEqual((self.read("new.rrd"), fill.call_count), (b"another's", 0))
+
+    def test_a_name_that_is_taken_meanwhile(self) -> None:
+        """The file of the other program stays, and nothing else."""
+        path = self.folder / "new.rrd"
+
+        def fill(unfinished: str) -> None:
+            Path(unfinished).write_text("mine")
+            path.write_text("another's")
+        before = os.listdir(self.folder)
+        with self.assertRaisesRegex(Failure, f"^{path} already exists$"):
+            make_new(str(path), fill)
+        self.assertEqual((path.read_text(), sorted(os.listdir(self.folder))), ("another's", sorted([*before, "new.rrd"])))
 
 
 class Children(unittest.TestCase):
@@ -117,10 +139,18 @@ class Children(unittest.TestCase):
         open_before = os.listdir("/proc/self/fd")
         found = [answer.text for _, answer in answers(range(100), work, 3)]
         self.assertEqual((len(set(found)), found.count(found[0])), (3, 1))
-        given_up = answers(range(100), work, 3)
-        next(given_up)
-        given_up.close()  # type: ignore[attr-defined]
-        self.assertRaises(ChildProcessError, os.waitpid, -1, os.WNOHANG)
+        real, children = os.fork, []  # type: Callable[[], int], List[int]
+
+        def fork() -> int:
+            children.append(real())
+            return children[-1]
+        with mock.patch.object(os, "fork", fork):
+            given_up = answers(range(100), work, 3)
+            next(given_up)
+            given_up.close()  # type: ignore[attr-defined]
+        self.assertEqual(len(children), 3)
+        for child in children:
+            self.assertRaises(ChildProcessError, os.waitpid, child, os.WNOHANG)
         self.assertEqual(os.listdir("/proc/self/fd"), open_before)
         self.assertEqual(list(answers([], work, 3)), [])
 
@@ -317,6 +347,9 @@ class Trees(OfTree):
                 ("restore) sed 's/<step>300/<step>301/' | $real restore - $3", f"{unequal}the step or the last time"),
                 ("restore) sed 's/<v>21.[0-9]*/<v>21.1/' | $real restore - $3", f"{unequal}archive 0"),
                 ("restore) sed 's/<xff>0.25/<xff>0.5/' | $real restore - $3", f"{unequal}archive 1"),
+                ("restore) sed 's/<unknown_datapoints>0/<unknown_datapoints>1/' | $real restore - $3", f"{unequal}archive "),
+                ("restore) sed '0,/<row>/{/<row>/d}' | $real restore - $3", f"{unequal}archive 0"),
+                ("restore) sed '/MAX/,/<.rra>/d' | $real restore - $3", f"{unequal}the number of data sources or archives"),
                 ("restore) sed 's/<type>GAUGE/<type>COUNTER/' | $real restore - $3", f"{unequal}the data source g"),
                 ("restore) sed 's/<last_ds>29000/<last_ds>2900/' | $real restore - $3", f"{unequal}the data source c"),
                 ("restore) touch -d 2001-01-01 tree/a.rrd; $real restore - $3",

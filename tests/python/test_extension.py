@@ -421,6 +421,28 @@ class Updates(FastCase):
         self.assertEqual(self.said(), ["numbers 10:1", "close"])
         self.assertFalse(kept.add(((10, 1),)))
 
+    def test_faults_among_many(self) -> None:
+        """How many samples of the caller's are stored is told, also those before the first one of the call."""
+        kept = KeptFile(self.path)
+        kept.run(["last"])
+        self.said()
+        self.fast.answer = Answer(CANNOT_WRITE, 28, 0, b"cannot write")
+        with self.assertRaisesRegex(rrdi.CannotWrite, "No space left") as raised:
+            kept.add_many(((10, 1), (20, 1), (30, 1)), 1)
+        self.assertEqual((raised.exception.stored, self.said()), (3, ["many 20:1 30:1", "close"]))
+        self.assertEqual(kept.add_many(((40, 1),), 0), 0)
+
+    def test_the_memory_of_files(self) -> None:
+        """A file that nobody uses leaves nothing behind."""
+        path, sizes = os.fsencode(self.path), []  # type: bytes, List[int]
+        for _ in range(3):
+            for _ in range(40_000):
+                self.fast.library.open(path, 0, False)
+                self.said()
+            with open("/proc/self/statm", encoding="ascii") as file:
+                sizes.append(int(file.read().split()[5]) * os.sysconf("SC_PAGE_SIZE"))
+        self.assertLess(sizes[2] - sizes[0], 2_000_000)
+
     def test_another_file_of_the_name(self) -> None:
         kept = KeptFile(self.path)
         kept.run(["last"])
@@ -454,6 +476,12 @@ class ManySamples(FastCase):
         for given, first in wrong:
             self.assertIsNone(opened.update_many(given, first, 5))
         self.assertEqual(self.said(), [])
+
+    def test_a_file_that_is_no_longer_open(self) -> None:
+        opened = self.opened()
+        opened.close()
+        self.assertIsNone(opened.update_many(((10, 1.5), (20, 2.5)), 0, 5))
+        self.assertEqual(self.said(), ["close"])
 
     def test_memory(self) -> None:
         """What is no sample leaves nothing behind of those before it."""

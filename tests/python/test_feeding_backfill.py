@@ -10,7 +10,7 @@ import subprocess
 import sys
 import time
 import unittest
-from typing import Callable, Dict, List, NamedTuple, Optional, Tuple
+from typing import Any, Callable, Dict, List, NamedTuple, Optional, Tuple
 from unittest import mock
 
 from cases import HANG, DataCase, needs_library, needs_program, use_any_library, use_library
@@ -35,9 +35,11 @@ from rrdi.protocol import DONE, Answer, OpenedFile
 from rrdi.tools.command_line import Failure
 from rrdi.tools.fixing import backfill
 from rrdi.tools.fixing import held as held_files
-from rrdi.tools.fixing.backfill import BackfillWriter
+from rrdi.tools.fixing.backfill import BackfillWriter, LateSample, Sent
 from rrdi.tools.fixing.held import HeldFile, NotStored, PartlyStored, Session
-from rrdi.tools.fixing.trials import NoCopy
+from rrdi.tools.fixing.history import OneSample
+from rrdi.tools.fixing.trials import NoCopy, by_program
+from rrdi.tools.program import CommandFailed
 
 GAUGE = ("DS:g:GAUGE:100:U:U", "RRA:AVERAGE:0.5:1:200", "RRA:MAX:0.5:4:50")
 SEVERAL = ("DS:g:GAUGE:900:U:U", "DS:c:COUNTER:900:0:U", "DS:d:DERIVE:900:U:U", "RRA:AVERAGE:0.5:1:600", "RRA:MIN:0.5:12:400",
@@ -78,6 +80,67 @@ class LeftSamples(unittest.TestCase):
         self.assertEqual(taken(feeder, b"a 30:3\na 10:1\na 20:2"), "")
         self.assertEqual(finished(feeder), "")
         self.assertEqual(writer.write.mock_calls, [mock.call(b"a", [b"10:1", b"20:2", b"30:3"]), mock.call(b"a", [b"20:2"])])
+
+
+class Overtaken(unittest.TestCase):
+    """Samples that are late by the time when they are written."""
+
+    def outcome(self, put: Outcome, **found: Any) -> Outcome:
+        writer = BackfillWriter(mock.Mock())
+        refused = ((b"20:1", "not later than 25"), (b"x", "unreadable sample 1"), (b"10:1", "not later than 25"))
+        with mock.patch.object(writer, "_put_in", return_value=put) as put_in:
+            outcome = writer._put_overtaken(b"f", Outcome(refused=refused, **found))
+        put_in.assert_called_once_with(b"f", [b"20:1", b"10:1"])
+        return outcome
+
+    def test_what_stays_of_them(self) -> None:
+        """What cannot be put in yet is tried again with the newer ones, by time; of what is lost, all that may be is named."""
+        wrong = (b"x", "unreadable sample 1")
+        self.assertEqual(self.outcome(Outcome()), Outcome(refused=(wrong,)))
+        too_old = (b"10:1", "too old")
+        self.assertEqual(self.outcome(Outcome(refused=(too_old,))), Outcome(refused=(wrong, too_old)))
+        self.assertEqual(self.outcome(Outcome(again="cannot open"), left=(b"15:1", b"30:1")),
+                         Outcome(again="cannot open", refused=(wrong,), left=(b"10:1", b"15:1", b"20:1", b"30:1")))
+        self.assertEqual(self.outcome(Outcome(lost="cannot write", left=(b"20:1",)), left=(b"15:1",)),
+                         Outcome(lost="cannot write", refused=(wrong,), left=(b"15:1", b"20:1")))
+        self.assertEqual(self.outcome(Outcome(again="cannot open"), lost="no space", left=(b"30:1",)),
+                         Outcome(lost="no space", refused=(wrong,), left=(b"10:1", b"20:1", b"30:1")))
+
+    def test_what_a_try_refused(self) -> None:
+        """After two reverts a refused sample of the file is the fault of the late one before it."""
+        late, later = (LateSample(OneSample(at, ("1",)), b"%d:1" % at) for at in (10, 30))
+        sent = Sent(2, [late, LateSample(OneSample(20, ("1",))), later, LateSample(OneSample(40, ("1",)))])
+        self.assertEqual(sent.lines, ["revert", "revert", "update 10:1", "update 20:1", "update 30:1", "update 40:1"])
+        self.assertEqual(sent.wrong_ones((3, 5), ("a", "b")), {b"10:1": "a", b"30:1": "b"})
+        self.assertEqual(sent.wrong_ones((4, 6), ("a", "b")),
+                         {b"10:1": "20:1 would then be refused: a", b"30:1": "40:1 would then be refused: b"})
+        self.assertEqual(sent.wrong_ones((5, 6), ("a", "b")), {b"30:1": "a"})
+
+    def test_a_file_that_stays_open(self) -> None:
+        """It is closed before late samples are put in, which would else wait for its lock."""
+        files, calls = mock.Mock(), []  # type: mock.Mock, List[str]
+        files.close.side_effect = lambda file: calls.append(f"close {file.decode()}")
+        with mock.patch.object(backfill, "put_in", side_effect=lambda file, late: calls.append(f"put {len(late)}")):
+            for count in (0, 2):
+                BackfillWriter(mock.Mock(), files)._put_in(b"f", [b"10:1", b"20:1"][:count])
+        self.assertEqual(calls, ["put 0", "close f", "put 2"])
+
+    def test_a_file_that_is_created(self) -> None:
+        writer = mock.Mock(create=mock.Mock(return_value="why"))
+        self.assertEqual(BackfillWriter(writer).create(b"f", ["DS:.."]), "why")
+        writer.create.assert_called_once_with(b"f", ["DS:.."])
+
+    def test_the_last_time_of_no_file(self) -> None:
+        self.assertEqual(backfill.last_of(b"/nowhere/f.rrdi"), -1)
+
+
+class Trials(ToolCase):
+    def test_programs_that_do_not_try(self) -> None:
+        """What a change would do is not known if the program is not there, or has ended."""
+        for program, kind, why in (("/nowhere/rrdi", Failure, "^cannot run /nowhere/rrdi: No such file or directory$"),
+                                   (self.stub("ends", "exit 3"), CommandFailed, "/ends ended with status 3$")):
+            with self.assertRaisesRegex(kind, why):
+                by_program(program)(b"", ["last"])
 
 
 class Arrival(NamedTuple):

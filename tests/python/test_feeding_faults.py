@@ -219,6 +219,22 @@ class NoMemory(FaultCase):
         with self.failing(threading.Thread, "is_alive", 0):
             self.fed_to_its_end()
 
+    def test_no_memory_for_the_list_of_files(self) -> None:
+        """Until there is, the files have a batch one by one."""
+        real, left, held = self.feeder.start_due, [9], []  # type: Any, List[int], List[int]
+
+        def start_due() -> None:
+            if self.feeder.is_ending:
+                left[0] -= 1
+                if left[0] >= 0:
+                    raise MemoryError
+                held.append(len(self.feeder.held))
+            real()
+        self.feeder.options.patience = HANG
+        with mock.patch.object(self.feeder, "start_due", start_due):
+            self.fed_to_its_end()
+        self.assertEqual(held[0], 0)
+
     def test_again_after_it_ran_out(self) -> None:
         self.feeder.start_one = mock.Mock(side_effect=MemoryError)  # type: ignore[assignment]
         with self.failing(self.feeder, "start_due", 2):

@@ -3,7 +3,9 @@
 of the library or the program, if one is there."""
 from __future__ import annotations
 
+import contextlib
 import errno
+import io
 import math
 import os
 import sys
@@ -19,6 +21,7 @@ from rrdi.graphite import carbon, store
 from rrdi.library import Answer, Library
 from rrdi.reader import read_file
 from rrdi.reader.selected import OpenFile
+from rrdi.tools import carbon_cache
 from test_graphite_layout import WRONG_NAMES
 
 NOW = 1_700_000_000  # a multiple of 10
@@ -440,6 +443,34 @@ class Program(unittest.TestCase):
                              text=True)
         self.assertEqual((ran.returncode, ran.stderr), (0, ""))
         self.assertIn("Exit status:", ran.stdout)
+
+    def test_carbon_itself(self) -> None:
+        """It runs as its own script, with rrdi's database; what is wrong in its configuration is told."""
+        class Wrong(Exception):
+            pass
+        util, imported = mock.Mock(), []
+        modules = {"rrdi.graphite.carbon": None, "carbon.util": util, "carbon.exceptions": mock.Mock(CarbonConfigException=Wrong)}
+
+        def module(name: str) -> Any:
+            imported.append(name)
+            return modules[name]
+        for found, script in (("/opt/bin/carbon-cache", "/opt/bin/carbon-cache"), (None, "/usr/bin/carbon-cache")):
+            with mock.patch("shutil.which", return_value=found), mock.patch("sys.argv", ["rrdi-carbon-cache", "start"]), \
+                    mock.patch("importlib.import_module", module):
+                self.assertEqual(carbon_cache.main(), 0)
+                util.run_twistd_plugin.assert_called_with(script)
+        self.assertEqual(imported[:1], ["rrdi.graphite.carbon"])
+        util.run_twistd_plugin.side_effect = Wrong("no such folder")
+        with mock.patch("importlib.import_module", module), self.assertRaises(SystemExit) as ended:
+            carbon_cache.start()
+        self.assertEqual(ended.exception.code, "no such folder")
+
+    def test_what_is_lacking(self) -> None:
+        with contextlib.redirect_stderr(io.StringIO()) as said, mock.patch("sys.argv", ["rrdi-carbon-cache", "start"]), \
+                mock.patch.object(carbon_cache, "start", side_effect=ImportError("No module named 'carbon'")):
+            self.assertEqual(carbon_cache.main(), 1)
+        self.assertEqual(said.getvalue(), f"rrdi-carbon-cache: No module named 'carbon'; {sys.executable} needs carbon "
+                                          "(Debian: graphite-carbon)\n")
 
     @unittest.skipIf(graphite.HAS_CARBON, "carbon is installed for this Python")
     def test_without_carbon(self) -> None:

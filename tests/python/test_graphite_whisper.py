@@ -4,22 +4,28 @@ whisper are written by Debian's python3-whisper, or else here."""
 from __future__ import annotations
 
 import math
+import os
 import random
 import struct
 import unittest
 from pathlib import Path
 from typing import Dict, List, Mapping, Optional, Sequence, Tuple
+from unittest import mock
 
 import graphite_doubles as graphite
 from cases import new_folder, use_any_library
+from rrdi.amounts import Millionths
 from rrdi.commands import batch
 from rrdi.graphite.layout import METHODS, template
 from rrdi.graphite.losses import Losses
 from rrdi.graphite.series import read_series
 from rrdi.graphite.store import StoreOptions, Store
 from rrdi.importing.dump import Refusal
-from rrdi.importing.whisper import NUMBERS, read_whisper, whisper_batch
+from rrdi.importing.whisper import NUMBERS, WhisperArchive, WhisperFile, read_whisper, samples, whisper_batch
 from rrdi.reader.selected import OpenFile
+from rrdi.tools import whisper_file
+from rrdi.tools.command_line import Failure
+from rrdi.tools.whisper_file import write_equal
 
 NOW = 1_700_000_400  # a multiple of 600
 RETENTIONS = [(10, 60), (60, 120)]
@@ -109,6 +115,47 @@ class AsInWhisper(FolderCase):
             self.assertGreater(counted, 1_000)
 
 
+class Written(FolderCase):
+    """What is moved."""
+
+    def test_before_the_first_point(self) -> None:
+        """The file begins before its first slot, whose time up to there is unknown, and counts as zeros in a sum."""
+        for method, line in (("average", "100:U"), ("sum", "100:U:0")):
+            old = WhisperFile(method, 0.5, [WhisperArchive(10, 60, {100: 1.5})])
+            for start, lines in ((90, [line]), (100, [])):
+                found = list(samples(old, 100, start, lambda text: None))
+                self.assertEqual(found[:-1], lines)
+                self.assertEqual(found[-1].split(":")[0], "110")
+
+    def test_many_retentions(self) -> None:
+        """Each archive is read where the header says that it is."""
+        archives = [WhisperArchive(1 << at, 4, {4_096: at + 0.5}) for at in range(12)]
+        written = whisper_file.bytes_of(WhisperFile("last", 0.5, archives))
+        (self.folder / "m.wsp").write_bytes(written)
+        self.assertEqual(read_whisper(str(self.folder / "m.wsp")), WhisperFile("last", 0.5, archives))
+
+    def test_times_that_a_point_can_have(self) -> None:
+        """Those from 1 to the greatest number of four bytes. The slot of a row begins where the row before it ends."""
+        file, archive = mock.Mock(front=mock.Mock(last=2**32 + 1)), mock.Mock(seconds=1, steps=1, rows=9)
+        file.rows.return_value = {end: [Millionths(1_500_000)] for end in (1, 2, 2**32, 2**32 + 1)}
+        self.assertEqual(whisper_file.points_of(file, archive, "average"), {1: 1.5, 2**32 - 1: 1.5})
+
+    def test_what_is_read_back(self) -> None:
+        """A file that cannot be read back, or has other points or another method, is an error."""
+        path, file = str(self.folder / "new.wsp"), WhisperFile("max", 0.5, [WhisperArchive(10, 60, {100: 1.5})])
+        copy = mock.Mock(file=file)
+        for found, why in ((file, ""), (file._replace(method="min"), "is not equal to the database"),
+                           (file._replace(archives=[WhisperArchive(10, 60, {100: 1.75})]), "is not equal to the database"),
+                           (Refusal("this is no file"), "cannot be read back: this is no file")):
+            with mock.patch.object(whisper_file, "read_whisper", side_effect=[found]):
+                if why:
+                    with self.assertRaisesRegex(Failure, f"^the new file {why}$"):
+                        write_equal(copy, path)
+                else:
+                    write_equal(copy, path)
+            os.unlink(path)
+
+
 class Moving(FolderCase):
     """rrdi-import with files of whisper."""
 
@@ -120,6 +167,7 @@ class Moving(FolderCase):
     def test_lines(self) -> None:
         fine = {NOW + 10 * n: float(n) for n in range(6) if n != 3}
         lines = self.lines(whisper_bytes([(10, 60, fine), (60, 60, {NOW: 2.4})]), "5")
+        self.assertIn(" --step 10 --journal 16 DS:", self.lines(Path(self.old).read_bytes())[0])
         self.assertEqual(lines[0], f"create --start {NOW} --step 10 --journal 5 DS:average:GAUGE:9999999999:U:U "
                                    "RRA:AVERAGE:0.500000:1:60 RRA:AVERAGE:0.500000:6:60")
         self.assertEqual(lines[1], "update " + " ".join(

@@ -9,8 +9,10 @@ import subprocess
 import sys
 import tempfile
 import unittest
+from contextlib import redirect_stderr, redirect_stdout, suppress
+from io import StringIO
 from pathlib import Path
-from typing import List, Tuple
+from typing import Iterator, List, Tuple
 from unittest.mock import patch
 
 from cases import needs_program
@@ -20,8 +22,10 @@ from tool_case import NO_RRDTOOL, RRDTOOL, Ran, ToolCase
 
 from rrdi.importing.dump import Refusal
 from rrdi.tools import importer
-from rrdi.tools.command_line import Failure
-from rrdi.tools.many_files import Bar, OldFile
+from rrdi.tools.children import ChildAnswer
+from rrdi.tools.command_line import Failure, Progress
+from rrdi.tools.conversion import Reading
+from rrdi.tools.many_files import Bar, Conversions, OldFile
 
 WHOLE = DUMP.replace("COMPUTE", "GAUGE")
 SKIPPED = "skipped data source double: type COMPUTE is not supported; its formula is g,2,*"
@@ -43,6 +47,39 @@ class Bars(unittest.TestCase):
             bar.reading(150, 300)
             bar.reading(900, 300)
         self.assertEqual(shown, [(50, 400), (250, 400), (400, 400)])
+
+    def test_why_a_file_is_not_converted(self) -> None:
+        for fault, text in ((OSError(5, "Input/output error"), "Input/output error"), (MemoryError(), "out of memory"),
+                            (Failure("it changed"), "it changed"), (Refusal("no file of whisper"), "no file of whisper")):
+            class One(Conversions):
+                def new_of(self, file: OldFile) -> str:
+                    return ""
+
+                def converted(self, file: OldFile, reading: Reading) -> str:
+                    raise fault
+            files = [OldFile("a", "a")]
+            found = One(files, None, "RRDtool", "rrdi-import").work_on(files[0], lambda done, size: None)
+            self.assertEqual((found.is_done, found.text.lower()), (False, text.lower()))
+
+    def test_nothing_of_it_stays(self) -> None:
+        """At the end the line is empty, also after a key that stops the run."""
+        class Two(Conversions):
+            def new_of(self, file: OldFile) -> str:
+                return file.path + ".new"
+
+            def answers(self, jobs: int) -> Iterator[Tuple[OldFile, ChildAnswer]]:
+                for file in self.files[:jobs]:
+                    yield file, ChildAnswer(True, "converted\ndone")
+                if jobs == 1:
+                    raise KeyboardInterrupt
+        for jobs, stopped in ((2, ""), (1, "rrdi-import: stopped after 1 of 2 files; to go on, repeat the command\n")):
+            with redirect_stderr(StringIO()) as said, redirect_stdout(StringIO()), patch.object(said, "isatty", lambda: True), \
+                    patch.object(Progress, "FIRST", 0.0), patch.object(Progress, "NEXT", 0.0), \
+                    suppress(KeyboardInterrupt):
+                Two([OldFile(name, name) for name in "ab"], None, "RRDtool", "rrdi-import").convert(jobs)
+            shown = said.getvalue()
+            self.assertTrue(shown.endswith("\r\x1b[K" + stopped), shown)
+            self.assertIn("converting", shown)
 
 
 @needs_program

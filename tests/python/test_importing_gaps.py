@@ -11,13 +11,16 @@ import random
 import unittest
 from array import array
 from typing import Callable, Dict, Iterable, List, NamedTuple, Tuple
+from unittest import mock
 
 import doubles  # noqa: F401
 from rrdi.importing.dump import RrdArchive, RrdSource
+from rrdi.importing.overlapping import Overlapping
 from rrdi.importing.plan import Span, plan
-from rrdi.importing.rates import SourceRates, is_mean, unfinished_step
+from rrdi.importing.rates import Coarser, SourceRates, is_mean, unfinished_step
+from rrdi.importing.rates import Parts as PartsOfARow
 from rrdi.importing.rounding import Converter
-from rrdi.importing.steps import Stretches
+from rrdi.importing.steps import Row, Stretches
 
 NAN = math.nan
 Try = Tuple[int, int, int]
@@ -311,6 +314,143 @@ class Parts(unittest.TestCase):
         self.assertEqual(rates.known_steps(Span(0, 216, fine, [fine, coarse]), 180, 1.0, []), 0)
         top = archive_of(2, Kind("AVERAGE", 144, 1), [1.5], 216)
         self.assertEqual(rates.known_steps(Span(0, 216, fine, [fine, coarse, top]), 180, 1.0, []), 0)
+
+    def span(self, means: List[float], low: float, high: float, highs: Iterable[float] = ()) -> Span:
+        """Returns a span of rows of 6 steps, of which 3 may be unknown, with one minimum and one maximum for all, or maximums."""
+        kinds = [(Kind(function, 6, len(means)), cells) for function, cells in (
+            ("AVERAGE", means), ("MIN", [low] * len(means)), ("MAX", list(highs) or [high] * len(means)))]
+        archives = [archive_of(number, kind, cells, 6 * len(means)) for number, (kind, cells) in enumerate(kinds)]
+        return Span(0, 6 * len(means), archives[0], archives)
+
+    def test_unknown_steps_that_a_row_can_have(self) -> None:
+        """Neither of two consecutive rows gets more than its minimum and its maximum leave room for: three steps of 12 are 0, 16
+        and 20, but three of 3 are not."""
+        rates = SourceRates(0, 1, 36, Converter())
+        for means, found in (([12.0, 12.0, 10.0, 9.0], {12: 2, 18: 3}), ([12.0, 3.0, 12.0, 9.0], {}), ([12.0, 12.0, 3.0, 9.0], {})):
+            parts, coarser = PartsOfARow(), Coarser(24)
+            for at, mean in enumerate(means, 1):
+                parts.add(6 * at, mean, 6)
+            # As the two rows in the middle would make it with four and three steps.
+            wanted = (6 * means[0] + 4 * means[1] + 3 * means[2] + 6 * means[3]) / 19
+            with self.subTest(means=means):
+                self.assertEqual(rates.find_dropped(self.span(means, 0.0, 20.0), coarser, parts, wanted), found != {})
+                self.assertEqual(coarser.dropped, found)
+
+    def test_the_second_row_that_explains_a_mean(self) -> None:
+        """Of two rows of the mean 3, one has a peak of 20 and so needs all its steps; two are unknown of the other one."""
+        for highs, found in (([20.0, 5.0, 20.0], {12: 2}), ([5.0, 20.0, 20.0], {6: 2}), ([20.0, 20.0, 20.0], {})):
+            parts, coarser = PartsOfARow(), Coarser(18)
+            for at, mean in enumerate((3.0, 3.0, 9.0), 1):
+                parts.add(6 * at, mean, 6)
+            SourceRates(0, 1, 18, Converter()).find_dropped(self.span([3.0, 3.0, 9.0], 0.0, 0.0, highs), coarser, parts,
+                                                            (6 * 3 + 4 * 3 + 6 * 9) / 16)
+            self.assertEqual(coarser.dropped, found)
+
+    def test_unknown_steps_of_the_only_known_row(self) -> None:
+        """Of its six steps one to three may be unknown, if the row above tells so many."""
+        for known, dropped in ((0, {}), (1, {}), (2, {}), (3, {6: 3}), (5, {6: 1}), (6, {}), (7, {})):
+            rates, coarser, parts = SourceRates(0, 1, 12, Converter()), Coarser(12), PartsOfARow()
+            parts.add(6, 12.0, 6)
+            with self.subTest(known=known), mock.patch.object(rates, "known_steps", return_value=known):
+                rates.find_dropped_alone(self.span([12.0, NAN], 0.0, 20.0), coarser, parts, 12.0, [])
+                self.assertEqual(coarser.dropped, dropped)
+
+    def test_an_unknown_row_that_hides_as_many_steps_as_it_can(self) -> None:
+        """Two of six, where three may be unknown. Of thirteen known steps the other rows then have eleven: one lacks a step, most
+        likely the row at the gap, because the two steps are then nearer to the mean."""
+        span, rates, coarser, parts = self.span([12.0, 10.0, NAN], 0.0, 20.0), SourceRates(0, 1, 18, Converter()), Coarser(18), \
+            PartsOfARow(unknown=1)
+        parts.add(6, 12.0, 6)
+        parts.add(12, 10.0, 6)
+        found, hidden = rates.with_dropped(span, coarser, parts, 11.5, 13, Row(True, 11.5))
+        self.assertEqual((found.count, found.total, hidden, coarser.dropped), (11, 122.0, 2, {12: 1}))
+
+    def test_no_step_and_one_step(self) -> None:
+        """A row always lacks none. With a minimum of 0 and a maximum of 20, the mean of five steps is 4 at least."""
+        rates, span = SourceRates(0, 1, 18, Converter()), self.span([3.0, 3.9, 4.1], 0.0, 20.0)
+        self.assertEqual([[rates.can_drop(span, time, steps) for steps in (0, 1)] for time in (6, 12, 18)],
+                         [[True, False], [True, False], [True, True]])
+
+    def test_where_an_extreme_goes(self) -> None:
+        """Into the row with the least average of a longer row, or the greatest, the first and the last row included."""
+        for place in range(6):
+            for function, own, cell in (("MIN", 5.0, 2.0), ("MAX", 15.0, 18.0)):
+                means = [own if at == place else 10.0 for at in range(6)]
+                archives = [archive_of(0, Kind("AVERAGE", 6, 6), means, 36), archive_of(1, Kind(function, 36, 1), [cell], 36)]
+                rates, rows = SourceRates(0, 1, 36, Converter()), [Row(True, mean) for mean in means]
+                for at, row in enumerate(rows, 1):
+                    rates.add_extremes(Span(0, 36, archives[0], archives), row, 6 * at)
+                found = [row.minimum if function == "MIN" else row.maximum for row in rows]
+                self.assertEqual(found, [round(cell * 1_000_000) if at == place else None for at in range(6)])
+
+    def test_the_fewest_steps_that_make_a_row_unknown(self) -> None:
+        """Of 36 steps 18 may be unknown; of 30 in known rows, 13 are then unknown too."""
+        archives = [archive_of(0, Kind("AVERAGE", 6, 6), [10.0] * 5 + [NAN], 36), archive_of(1, Kind("AVERAGE", 36, 1), [NAN], 36)]
+        rates, coarser = SourceRates(0, 1, 36, Converter()), Coarser(36)
+        rates.compare_coarser(Span(0, 36, archives[0], archives), archives[1], coarser, [])
+        self.assertEqual(coarser.dropped, {6: 3, 12: 3, 18: 3, 24: 3, 30: 1})
+
+    def test_one_known_step_of_an_unknown_row(self) -> None:
+        """If the row above tells that there is one more, it is in the unknown row."""
+        rates, coarser, parts = SourceRates(0, 1, 18, Converter()), Coarser(18), PartsOfARow(unknown=1)
+        parts.add(6, 12.0, 6)
+        parts.add(12, 10.0, 6)
+        above = archive_of(1, Kind("AVERAGE", 18, 1), [11.5], 18)
+        with mock.patch.object(rates, "known_steps", return_value=13):
+            rates.find_hidden(self.span([12.0, 10.0, NAN], 0.0, 20.0), above, coarser, parts, 11.5, [])
+        self.assertEqual((coarser.hidden, coarser.hidden_mean, coarser.dropped), (1, 11.5 * 13 - 132, {}))
+
+    def test_known_steps_below_an_unknown_row(self) -> None:
+        """Two of its last six steps have the mean 465, or one is 900, if the minimum and the maximum of the longest row allow it."""
+        fine = [1.0] * 23 + [NAN] + [40.0] * 6 + [20.0] * 6
+        two, one, none = (2, 465.0), (1, 900.0), (0, 0.0)
+        for low, high, found in ((0.0, 500.0, two), (200.0, 500.0, two), (500.0, 1_000.0, one), (0.0, 400.0, none), (500.0, 600.0, none)):
+            archives = [archive_of(0, self.FINE, fine, 216), archive_of(1, self.COARSE, [5.0, 6.0, 7.0, NAN, 40.0, 20.0], 216),
+                        archive_of(2, Kind("AVERAGE", 108, 2), [77.0, 30.0], 216),
+                        archive_of(3, Kind("MIN", 108, 2), [low, low], 216), archive_of(4, Kind("MAX", 108, 2), [high, high], 216)]
+            rates, coarser, span = SourceRates(0, 1, 216, Converter()), Coarser(144), Span(0, 216, archives[0], archives)
+            with mock.patch.object(rates, "find_dropped", return_value=False):
+                self.assertEqual(rates.find_below_unknown(span, archives[1], coarser, -2, []), found != none, (low, high))
+            self.assertEqual((coarser.hidden, coarser.hidden_mean), found)
+
+    def below_unknown(self, dropped: int, excess: int, top: float = 30.0) -> Tuple[bool, Dict[int, int]]:
+        """Returns what is found in an unknown row of 36 steps if so many unknown steps explain the mean of the row above."""
+        fine = [1.0] * 24 + [40.0] * 6 + [20.0] * 6
+        archives = [archive_of(0, self.FINE, fine, 216), archive_of(1, self.COARSE, [5.0, 6.0, 7.0, NAN, 40.0, 20.0], 216),
+                    archive_of(2, Kind("AVERAGE", 108, 2), [77.0, top], 216)]
+        rates, coarser, span = SourceRates(0, 1, 216, Converter()), Coarser(144), Span(0, 216, archives[0], archives)
+
+        def find(_span: Span, found: Coarser, _parts: PartsOfARow, mean: float) -> bool:
+            self.assertEqual(mean, 30.0)
+            found.dropped[114] = dropped
+            return True
+        with mock.patch.object(rates, "find_dropped", find):
+            return rates.find_below_unknown(span, archives[1], coarser, excess, []), coarser.dropped
+
+    def test_as_many_unknown_steps_as_an_unknown_row_has_at_least(self) -> None:
+        for dropped, found in ((2, (False, {})), (3, (True, {114: 3})), (4, (True, {114: 4}))):
+            self.assertEqual(self.below_unknown(dropped, 3), found)
+        # The row above is unknown too, or has the mean of its steps.
+        self.assertEqual([self.below_unknown(3, 3, top) for top in (NAN, (36 + 36 * 40 + 36 * 20) / 108)], [(False, {})] * 2)
+
+    def test_a_coarser_row_that_begins_where_the_span_ends(self) -> None:
+        """All its steps count, whatever the rates after the span are."""
+        archives = [archive_of(0, self.FINE, [1.0] * 30 + [20.0] * 6, 216),
+                    archive_of(1, self.COARSE, [1.0] * 5 + [20.0], 216)]
+        rates, span = SourceRates(0, 1, 216, Converter()), Span(0, 180, archives[0], archives)
+        laters: List[Stretches] = [[(216, 20_000_000)], [(200, None), (216, 20_000_000)]]
+        for later in laters:
+            found = rates.parts_below(span, archives[1], range(144, 217, 36), 144, later)
+            assert found
+            self.assertEqual((found.count, found.total), (108, 36 + 36 + 36 * 20))
+
+    def test_a_coarser_row_that_cuts_unknown_rows(self) -> None:
+        """Of its eight steps six are in an unknown row: some were known if it allows five unknown ones, and perhaps none if six."""
+        for share, found in ((0.74, 5_000_000), (0.75, None)):
+            fine = archive_of(0, Kind("AVERAGE", 6, 4), [NAN, 1.0, 1.0, 1.0], 24)
+            over = archive_of(1, Kind("AVERAGE", 8, 3, share), [5.0, 1.0, NAN], 24)
+            overlapping = Overlapping(SourceRates(0, 1, 24, Converter()), Span(0, 24, fine, [fine, over]), over)
+            self.assertEqual([overlapping.hidden(time) for time in (8, 16, 24)], [found, None, None])
 
     def test_the_unfinished_step(self) -> None:
         """First its unknown seconds, then the mean of the others."""

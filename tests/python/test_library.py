@@ -149,6 +149,11 @@ class Rooms(unittest.TestCase):
         called.library.run_file(b"f", b"last", 0, 0, False)
         self.assertIs(called.library.take_rooms(), one)
         self.assertIsNot(called.library.take_rooms(), one)
+        called = Called()  # a call with no output
+        rooms = called.library.take_rooms()
+        called.library.give_back(rooms)
+        called.library.run_file(b"f", b"tune", 0, 0, False)
+        self.assertIs(called.library.take_rooms(), rooms)
 
 
 class Opened(unittest.TestCase):

@@ -187,6 +187,63 @@ class Forks(LockCase):
             self.assertEqual(os.waitpid(child, 0)[1], 0)
 
 
+class Numbers(unittest.TestCase):
+    def test_the_numbers_of_open_files(self) -> None:
+        """Without /proc, all that can be are looked at."""
+        with open(os.devnull, "rb") as file:
+            self.assertIn(file.fileno(), locks._open_numbers())
+        with mock.patch("os.listdir", side_effect=FileNotFoundError):
+            self.assertEqual(locks._open_numbers(), list(range(1_024)))
+
+
+class Replaced(LockCase):
+    """Another program puts another file in the place of the one whose lock is waited for."""
+
+    def replacing(self, times: int) -> ContextManager[object]:
+        real = locks.lock
+
+        def lock_replaced(file: io.FileIO, kind: int, seconds: float) -> None:
+            real(file, kind, seconds)
+            self.count += 1
+            if self.count <= times:
+                os.unlink(self.path)
+                if self.count % 2:
+                    Path(self.path).write_bytes(DATA)
+        return mock.patch.object(locks, "lock", lock_replaced)
+
+    def setUp(self) -> None:
+        super().setUp()
+        self.count = 0
+
+    def test_the_new_file_is_opened(self) -> None:
+        with self.replacing(1):
+            file = open_locked(self.path, SHARED, 0)
+        self.assertEqual((os.fstat(file.fileno()).st_ino, self.count), (os.stat(self.path).st_ino, 2))
+        locks.close(file)
+
+    def test_a_file_that_is_gone(self) -> None:
+        numbers = open_numbers()
+        with self.replacing(2), self.assertRaises(FileNotFoundError):
+            open_locked(self.path, SHARED, 0)
+        self.assertEqual((self.count, open_numbers()), (2, numbers))
+
+    def test_a_fault_before_the_file_is_looked_at(self) -> None:
+        """The lock is given up, which a child may have too."""
+        numbers = open_numbers()
+        with mock.patch("os.path.samestat", side_effect=RuntimeError), self.assertRaises(RuntimeError), \
+                mock.patch.object(locks, "unlock", wraps=locks.unlock) as unlocked:
+            open_locked(self.path, EXCLUSIVE, 0)
+        self.assertEqual((unlocked.call_count, open_numbers()), (1, numbers))
+
+    def test_again_and_again(self) -> None:
+        numbers = open_numbers()
+        with mock.patch("os.path.samestat", return_value=False), self.replacing(0), self.assertRaises(OSError) as raised, \
+                mock.patch.object(locks, "unlock", wraps=locks.unlock) as unlocked:
+            open_locked(self.path, SHARED, 0)
+        self.assertEqual((raised.exception.errno, self.count, open_numbers()), (errno.EBUSY, 100, numbers))
+        self.assertEqual(unlocked.call_count, 100)  # a child may have each of them open
+
+
 class Pipes(LockCase):
     """No reader waits for the other end of a pipe that takes the name of a file."""
 

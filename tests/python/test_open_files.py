@@ -266,6 +266,17 @@ class Closes(OpenCase):
             os._exit(0 if is_right and self.open._timer is not None else 1)
         self.assertEqual(os.waitpid(child, 0)[1], 0)
 
+    def test_a_fork_forgets_the_files_of_each(self) -> None:
+        others = [self.new(OpenBounds(3, ALWAYS)) for _ in range(3)]
+        for number, files in enumerate(others):
+            path = self.made(f"{number}.rrdi")
+            self.run_on(path, path, files=files)
+        self.assertEqual([len(files.open_paths()) for files in others], [1, 1, 1])
+        child = os.fork()
+        if child == 0:
+            os._exit(sum(len(files.open_paths()) for files in others))
+        self.assertEqual(os.waitpid(child, 0)[1], 0)
+
     def test_a_fork_during_a_batch(self) -> None:
         """The batch finds the file closed, and goes by the path."""
         with mock.patch.object(self.open, "_take", forking(self, self.open)):

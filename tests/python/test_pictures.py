@@ -388,6 +388,17 @@ class Commands(FileCase):
         filled = [line for line in self.lines(picture) if "with filledcurves" in line]
         return [float(line.split("solid ")[1].split()[0]) for line in filled]
 
+    def test_contrasts(self) -> None:
+        """The title stands out most; times and numbers are legible, as WCAG 2 has it, and the grid recedes."""
+        def light(color: str) -> float:
+            parts = [int(color[at:at + 2], 16) / 255 for at in (1, 3, 5)]
+            red, green, blue = (part / 12.92 if part <= 0.04045 else ((part + 0.055) / 1.055) ** 2.4 for part in parts)
+            return float(0.2126 * red + 0.7152 * green + 0.0722 * blue + 0.05)
+        for look in (self.picture().look, self.picture("--dark").look):
+            text, faint, grid = (max(light(color), light(look.background)) / min(light(color), light(look.background))
+                                 for color in (look.text, look.faint, look.grid))
+            self.assertTrue(text > 1.5 * faint > faint >= 4.5 > 2 > grid, (text, faint, grid))
+
     def test_densities(self) -> None:
         """Areas of a stack, of which none is below another one, are the densest."""
         for flags, look in (((), LIGHT), (("--dark",), DARK)):

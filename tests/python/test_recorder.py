@@ -133,6 +133,12 @@ class Record(ToolCase):
         self.assertEqual(update(str(self.folder / "cut.rrd"), None, "N:1"), f"{self.folder}/cut.rrd: file: truncated at 60")
         self.assertEqual(update(self.file, None, "N:1"), "")
 
+    def test_errors_of_long_paths(self) -> None:
+        """An error has up to 1,023 bytes: the beginning of a longer one."""
+        for length in (900, 985, 986, 987, 988, 3_000, 100_000):
+            path = "/" + "x" * length
+            self.assertEqual(self.recorder.update(path, None, "N:1"), f"opening '{path}': File name too long"[:1_023])
+
     def test_many_samples_in_one_call(self) -> None:
         self.make()
         samples = [f"{1_000_000_000 + at}:{at}" for at in range(1, 3_000)]

@@ -48,6 +48,14 @@ class Times(unittest.TestCase):
         twice = "2023-10-29 02:30"
         self.assertEqual(span_of(twice, twice, 5), (1_698_539_400, 1_698_543_000))
 
+    def test_a_day_without_a_midnight(self) -> None:
+        """Where clocks were set forward at midnight, the day begins at one; a time in between there is not."""
+        with mock.patch.dict(os.environ, {"TZ": "America/Sao_Paulo"}):
+            time.tzset()
+            self.assertEqual(as_of_rrdtool("2017-10-15"), "epoch+1508036400")
+            with self.assertRaisesRegex(WrongArguments, "there is no time '2017-10-15 00:30'"):
+                as_of_rrdtool("2017-10-15 00:30")
+
     def test_lengths(self) -> None:
         """In the longest unit of which there are whole ones."""
         for seconds, text in ((0, "0 s"), (59, "59 s"), (60, "1 min"), (61, "61 s"), (5_400, "90 min"), (7_200, "2 h"),
@@ -55,7 +63,7 @@ class Times(unittest.TestCase):
             self.assertEqual(length_text(seconds), text)
 
     def test_no_times(self) -> None:
-        for text in ("2024-02-30", "2024-13-01", "2024-01-00", "2023-02-29 12:00", "2024-01-01 24:00", "2024-01-01T10:60Z",
+        for text in ("2024-02-30", "2024-13-01", "2024-01-00", "2023-02-29 12:00", "2024-01-01 24:00", "2024-01-01 24:00Z", "2024-01-01T10:60Z",
                      "2024-01-01T10:00:60Z", "0000-01-01T00:00Z", "0000-02-29T00:00+01:00", "0000-01-01"):
             with self.assertRaisesRegex(WrongArguments, re.escape(f"there is no time '{text}'")):
                 as_of_rrdtool(text)

@@ -3,6 +3,7 @@
 from __future__ import annotations
 
 import errno
+import importlib
 import io
 import re
 import signal
@@ -35,6 +36,15 @@ class Installed(unittest.TestCase):
         modules = {name: re.findall(r"^from (rrdi\.tools[\w.]*) import main", (TOP / "tools" / name).read_text(), re.M)[0]
                    for name in sorted(path.name for path in (TOP / "tools").glob("rrdi-*"))}
         self.assertEqual(scripts.splitlines(), [f'{name} = "{module}:main"' for name, module in modules.items()])
+
+    def test_each_tool_has_its_name_and_help(self) -> None:
+        """rrdi-carbon-cache takes its arguments from carbon."""
+        for path in sorted((TOP / "tools").glob("rrdi-*")):
+            module = importlib.import_module(re.findall(r"^from (rrdi\.tools[\w.]*) import main", path.read_text(), re.M)[0])
+            if path.name != "rrdi-carbon-cache":
+                tool = module.TOOL
+                self.assertEqual((tool.name, tool.help, module.main), (path.name, module.__doc__, tool.main))
+                self.assertIn(f"\nusage: {path.name} ", tool.help)
 
     def test_each_launcher_has_the_same_text(self) -> None:
         """Only the name and the module differ, and carbon is a package of the system's own Python."""

@@ -2,6 +2,7 @@
 """Tests of rrdi-fix: its words, what it refuses, random histories against a replay, other programs, and kills."""
 from __future__ import annotations
 
+import errno
 import os
 import random
 import signal
@@ -19,10 +20,12 @@ from doubles import PROGRAM, TOP
 from process_case import ProcessCase, locked
 from tool_case import Ran, ToolCase
 
+from rrdi.errors import CANNOT_OPEN
 from rrdi.protocol import DONE, Answer
 from rrdi.tools.command_line import Failure, WrongArguments
 from rrdi.tools.fix import read_options, times_of
 from rrdi.tools.fixing import held as holding
+from rrdi.tools.fixing.held import NotOpened, NotStored, PartlyStored
 from rrdi.tools.fixing.history import SentUpdate, OneSample, given_samples, with_given
 from rrdi.tools.program import CommandFailed
 
@@ -80,6 +83,7 @@ class GivenSamples(unittest.TestCase):
     def test_samples(self) -> None:
         self.assertEqual(given_samples(["10:1.5:U", "", " 20:-3:4 "], "s", 2),
                          [OneSample(10, ("1.5", "U")), OneSample(20, ("-3", "4"))])
+        self.assertEqual(given_samples(["9999999999:1"], "s", 1), [OneSample(9_999_999_999, ("1",))])  # the latest time
 
     def test_wrong_lines(self) -> None:
         for lines, why in ((["10:1:2", "10:1"], "s: line 1 has 2 values, but the file has 1 source"),
@@ -508,6 +512,107 @@ class ReplacedFile(unittest.TestCase):
         session = holding.LibrarySession(library, self.path)
         with self.assertRaisesRegex(CommandFailed, "^out of memory; the file has a part of the change only$"):
             session.store(["revert", "update 1:2"])
+
+
+    def test_faults_of_a_change(self) -> None:
+        """They name the file, and whether a part of the change may be in it."""
+        session = mock.Mock()
+        file = holding.HeldFile("f.rrdi", session, (0, 0), b"", mock.Mock())
+        for fault, kind in ((CommandFailed("cannot write"), NotStored), (PartlyStored("cannot write"), PartlyStored)):
+            session.store.side_effect = fault
+            with self.assertRaisesRegex(Exception, "^f.rrdi: cannot write") as raised:
+                file.store(["last"])
+            self.assertIs(type(raised.exception), kind)
+
+    def test_another_content_than_was_read(self) -> None:
+        for name, is_same in (("", True), ("info", False), ("lastupdate", False)):
+            session = mock.Mock(ask=lambda asked: "other" if asked == name else "same")
+            file = holding.HeldFile("f.rrdi", session, (0, 0), b"", lambda data, lines: mock.Mock(output="same"))
+            if is_same:
+                file.check_same()
+            else:
+                with self.assertRaisesRegex(NotOpened, "^f.rrdi: another file took the name while it was opened; nothing was"):
+                    file.check_same()
+
+    def test_nothing_stays_open_after_a_fault(self) -> None:
+        sessions: List[FakeSession] = []
+
+        def session_at(path: str) -> FakeSession:
+            sessions.append(FakeSession(path))
+            return sessions[-1]
+        for name, fault in (("is_locked", RuntimeError), ("open_regular", PermissionError(errno.EACCES, "Permission denied"))):
+            numbers = os.listdir("/proc/self/fd")
+            found = os.stat(self.path)
+            with mock.patch.object(holding, "session_at", session_at), mock.patch.object(holding, name, side_effect=fault), \
+                    mock.patch.object(holding, "identity_of_file", return_value=(found.st_dev, found.st_ino)), \
+                    self.assertRaises((RuntimeError, Failure)) as raised:
+                holding.opened(self.path)
+            self.assertEqual((sessions.pop().is_open, len(os.listdir("/proc/self/fd"))), (False, len(numbers)))
+        self.assertEqual(str(raised.exception), f"{self.path}: Permission denied")
+
+    def test_files_that_cannot_be_read(self) -> None:
+        with self.assertRaisesRegex(Failure, "^none.rrdi: No such file or directory$"):
+            holding.identity_of_file("none.rrdi")
+        self.assertIsNone(holding.read_by(mock.Mock(), "none.rrdi", (0, 0)))
+        with self.assertRaisesRegex(Failure, "^f.rrdi: Input/output error$"):
+            holding.read_all(mock.Mock(readall=mock.Mock(side_effect=OSError(errno.EIO, "Input/output error"))), "f.rrdi")
+
+    def test_file_systems_without_locks(self) -> None:
+        """No old sample is changed there, neither by the library nor by the program."""
+        with mock.patch.object(holding, "flock", return_value=errno.ENOSYS), self.assertRaisesRegex(Failure, f"^f: {holding.NO_LOCK}$"):
+            holding.is_locked(mock.Mock(), "f")
+        library, none = mock.Mock(), mock.patch("shutil.which", return_value=None)
+        library.open.return_value = Answer(CANNOT_OPEN, errno.EINVAL, 0, b"cannot open"), None
+        with none, mock.patch.object(holding, "chosen_library", return_value=library), \
+                self.assertRaisesRegex(Failure, f"^f: {holding.NO_LOCK}$"):
+            holding.session_at("f")
+        library.open.return_value = DONE, None
+        with self.assertRaisesRegex(CommandFailed, "^cannot open$"):
+            holding.LibrarySession(library, "f")
+
+
+class Programs(ToolCase):
+    """What the program does that has the lock."""
+
+    def session(self, text: str) -> holding.ProgramSession:
+        with mock.patch.dict(os.environ, {"RRDI": self.stub("program", text)}):
+            session = holding.ProgramSession("f.rrdi")
+        self.addCleanup(session.end)
+        return session
+
+    def test_answers(self) -> None:
+        echo = 'while read line; do case $line in last) echo 10 ;; *) echo "{}" ;; esac; done'
+        self.assertEqual(self.session(echo.format("some text")).ask("info"), "some text\n")
+        with self.assertRaisesRegex(CommandFailed, "^no such command$"):
+            self.session(echo.format("ERROR: no such command")).ask("info")
+        self.session(echo.format("")).store(["update 10:1"])
+        refused = self.session(echo.format("ERROR: not later than 10"))
+        with self.assertRaisesRegex(CommandFailed, "^not later than 10$"):
+            refused.store(["update 10:1", "update 10:2"])
+        self.assertIsNotNone(refused.process.returncode)
+
+    def test_a_program_that_ends(self) -> None:
+        """Its reason is told, or else its status."""
+        for text, why in (("exit 3", "ended with status 3$"), ("echo ERROR: cannot open >&2; exit 1", "^cannot open$"),
+                          ("echo ERROR: cannot open >&2; echo rrdi: f.rrdi: in use >&2; exit 1", "^cannot open: in use$"),
+                          ("exit 0", "program has ended$")):
+            session = self.session(text)
+            session.process.wait()
+            with mock.patch.dict(os.environ, {"RRDI": "program"}), self.assertRaisesRegex(CommandFailed, why):
+                session.ask("info")
+
+    def test_a_program_that_is_not_there(self) -> None:
+        with mock.patch.dict(os.environ, {"RRDI": "/nowhere/rrdi"}):
+            with self.assertRaisesRegex(NotOpened, "^cannot run /nowhere/rrdi: No such file or directory$"):
+                holding.ProgramSession("f.rrdi")
+
+    def test_more_lines_than_a_pipe_takes(self) -> None:
+        """None is sent, since a part of them must not be stored."""
+        session = self.session("cat >sent")
+        with mock.patch("fcntl.fcntl", side_effect=PermissionError), self.assertRaisesRegex(Failure, "cannot take so many lines at once"):
+            session.store(["update 10:1"] * 1_000)
+        session.end()
+        self.assertFalse((self.folder / "sent").exists() and self.read("sent"))
 
 
 class FakeSession:

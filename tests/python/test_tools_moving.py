@@ -2,6 +2,7 @@
 """Tests of rrdi-import, rrdi-export and rrdi-compare. Scripts replace RRDtool, except in tests that say otherwise."""
 from __future__ import annotations
 
+import contextlib
 import fcntl
 import io
 import os
@@ -16,6 +17,7 @@ from cases import needs_program
 from doubles import PROGRAM, TOP
 from tool_case import NO_RRDTOOL, RRDTOOL, Ran, ToolCase
 
+from rrdi.tools import importer
 from rrdi.tools.command_line import Progress
 
 DUMP = """<rrd><version>0003</version><step>10</step><lastupdate>1600000030</lastupdate>
@@ -49,6 +51,18 @@ class Import(ToolCase):
                          [[], ["--journal", "x", "a.rrd"], ["--journal"], ["a", "b", "c"], ["-x"], [""], ["a", "-b"],
                           ["--journal", "-1", "a"], ["a", ""], ["--in-place"], ["--into", "d"], ["--into", "", "a"],
                           ["--into", "d", "--in-place", "a"], ["--in-place", "--in-place", "a"], ["--in-place", "a", ""]])
+
+    @needs_program
+    def test_rows_that_differ(self) -> None:
+        """The new file is compared with the old one: a maximum of 99 is in none of the rows of which the row consists."""
+        begin, end = DUMP.replace("COMPUTE", "GAUGE").replace("1600000030", "1600000050").split("</rra>")
+        parts = begin[begin.index("<params>"):begin.index("<database>")]
+        for cell, note in ((99, "rrdi-import: old.rrd: archive 1, MAX of 30 s: 1 of 2 cells differ, the newest at 1600000050: "
+                                "the row is computed again, by the rules of rrdi\n"), (3.5, "")):
+            self.write("last", "1600000050\n")
+            self.write("dump", f"{begin}</rra><rra><cf>MAX</cf><pdp_per_row>3</pdp_per_row>{parts}<database>"
+                               f"<row><v>{cell}</v><v>7</v></row></database></rra>{end}")
+            self.assertEqual(self.tool("rrdi-import", "old.rrd", f"{cell}.rrdi"), Ran(0, "", note))
 
     def test_the_batch(self) -> None:
         """A source is left out, so the status is 1, and no loop takes the new file for the old one."""
@@ -152,6 +166,11 @@ class LongMoves(ToolCase):
         self.stub("rrdtool", f"case $1 in last) echo 1600000030 ;; "
                              f"dump) cat {self.folder}/begin; sleep 1.3; cat {self.folder}/end ;; esac")
         self.is_shown("rrdi-import", "old.rrd", shown="reading old.rrd: (20|40|60|80|100) %")
+        shares: List[int] = []
+        with mock.patch.object(Progress, "show", lambda progress, done, size=None: shares.append(100 * done // size)), \
+                mock.patch.dict(os.environ, {"PATH": self.env["PATH"]}), contextlib.redirect_stdout(io.StringIO()):
+            importer.import_one(str(self.folder / "old.rrd"), None, None)
+        self.assertEqual((shares, shares[-1] > shares[0] > 0), (sorted(shares), True))
 
     @needs_program
     def test_export(self) -> None:

@@ -5,6 +5,7 @@ from __future__ import annotations
 import os
 import re
 import shutil
+import signal
 import subprocess
 import unittest
 from typing import Dict, Optional
@@ -180,6 +181,13 @@ show last => map { RRDs::last("c$_.rrdi") } 1 .. 3;
         self.assertEqual(lines, ["status: 0; error undef"] * 3 + ["last: 1000001020; 1000002020; 1000003020; error undef"])
         # Whether the children disturb each other is a matter of chance.
         self.assertEqual(self.read("starts"), b"x\n" * 4)
+
+    def test_signals_that_the_program_ignores(self) -> None:
+        """The process ignores none: it waits for children of its own."""
+        stub = self.stub("mask", "grep SigIgn /proc/self/status >mask")
+        self.perl("use RRDs; $SIG{$_} = 'IGNORE' for qw(PIPE CHLD ALRM); RRDs::last('f');", {"RRDI_RRDTOOL": stub})
+        ignored = int(self.read("mask").split()[1], 16)
+        self.assertEqual([number for number in (signal.SIGPIPE, signal.SIGCHLD, signal.SIGALRM) if ignored >> number - 1 & 1], [])
 
     def test_directories(self) -> None:
         (self.folder / "a b'c").mkdir()

@@ -30,6 +30,14 @@ def library() -> Library:
     return load_library(LIBRARY)
 
 
+class Reasons(ToolCase):
+    def test_why_a_file_is_not_opened(self) -> None:
+        """The system opens a directory to read it, and a file; it opens nothing that is not there."""
+        for path, why in ((self.folder, "Is a directory"), (self.folder / "none", "No such file or directory"),
+                          (self.write("f", "x"), "")):
+            self.assertEqual(program.why_not_opened(str(path)), why)
+
+
 class Words(ToolCase):
     def test_millionths(self) -> None:
         for text, wanted in (("1.500000", 1_500_000), ("-0.5", -500_000), ("7", 7_000_000), ("-0.000001", -1), ("0", 0)):

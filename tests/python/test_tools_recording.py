@@ -544,6 +544,16 @@ class Record(ToolCase):
             self.assertIsNone(child_status(child))
 
 
+class Meanwhile(unittest.TestCase):
+    def test_a_file_that_has_changed(self) -> None:
+        """It was damaged, and is not when it is locked: nothing is copied."""
+        held = mock.Mock(return_value=contextlib.nullcontext(False))
+        with mock.patch.object(record, "held", held), mock.patch.object(record, "copy") as copied, \
+                self.assertRaisesRegex(Failure, "^f has changed meanwhile$"):
+            record.restore("f", "file: truncated", mock.Mock())
+        self.assertEqual(copied.call_count, 0)
+
+
 class CannotLook(unittest.TestCase):
     """Copies at which rrdi-record cannot look for now: none is lost, and the sample is recorded."""
 

@@ -169,6 +169,14 @@ class RRDtoolOutput(ToolCase):
                          "[1000000050]RRA[MAX][3]DS[g] = 3.7500000000e+00\n"
                          "[1000000050]RRA[MAX][3]DS[count_of_packets] = 5.0000000000e+00\n")
 
+    def test_rows_that_an_update_finishes_and_overwrites(self) -> None:
+        """Those that are no longer in the file are left out. The archive of 10 seconds has five rows."""
+        self.make()
+        samples = [f"{1_000_000_000 + at}:1:U" for at in range(35, 96, 10)]
+        lines = self.tool(TOOL, "updatev", "x.rrdi", *samples).out.splitlines()
+        found = [line for line in lines if "[AVERAGE]" in line and "DS[g]" in line]
+        self.assertEqual(found, [f"[{1_000_000_000 + at}]RRA[AVERAGE][1]DS[g] = 1.0000000000e+00" for at in range(50, 91, 10)])
+
     def test_modes(self) -> None:
         self.make()
         self.assertEqual(self.tool(TOOL, "--rrdi", "fetch", "x.rrdi", "MAX", "-s", "1000000000", "-e", "1000000010").out,
@@ -182,6 +190,8 @@ class RRDtoolOutput(ToolCase):
                 1, "", "ERROR: resize writes resize.rrd; use it without --rrdi and --show, or rrdi resize\n"))
         self.assertEqual(self.read("x.rrdi"), before)
         self.assertEqual(self.tool(TOOL, "--rrdi", "info", "none.rrdi").err, "ERROR: cannot open\n")
+        self.assertEqual(self.tool(TOOL, "--show", "fetch", "x.rrdi", "MAX", "-s", "32:00"),
+                         Ran(1, "", "ERROR: cannot parse time: 32:00\n"))
 
     def test_changes(self) -> None:
         self.make()
@@ -303,6 +313,12 @@ class PipeMode(ToolCase):
 
         Pipe(run, "", output).answer_all(io.BytesIO(b"bad\ngood\n"))
         self.assertRegex(output.getvalue(), rb"^ERROR: internal error: KeyError\('bad'\)\nfine\nOK u:.*\n$")
+
+        def fail(name: str, _words: "list[str]") -> Printed:
+            raise OSError(28, "No space left on device")
+        output = io.BytesIO()
+        Pipe(fail, "", output).answer_all(io.BytesIO(b"graph o.png\n"))
+        self.assertEqual(output.getvalue(), b"ERROR: No space left on device\n")
 
     def test_a_directory(self) -> None:
         (self.folder / "sub").mkdir()

@@ -233,6 +233,21 @@ static void test_links(void) {
     link_error = 0;
 }
 
+/* Without a standard input the first file that a call opens has the number 0, which is free again afterwards. */
+static void test_closed_input(void) {
+    int input = dup(0);
+    for (int has_links = 0; has_links < 2; has_links++) {
+        close(0);
+        link_error = has_links ? 0 : EPERM;
+        create(NAME(PATH));
+        want(gave(RRDI_OK, true, "") && files() == 1 && dup(1) == 0, "a create without a standard input");
+        unlink(PATH);
+    }
+    link_error = 0;
+    dup2(input, 0);
+    close(input);
+}
+
 static void *create_alone(void *of) {
     struct rrdi_answer own = {0};
     uint8_t text[64];
@@ -273,6 +288,7 @@ int main(void) {
     test_left();
     test_limit();
     test_links();
+    test_closed_input();
     test_threads();
     return end();
 }
