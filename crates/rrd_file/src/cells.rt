@@ -1,5 +1,5 @@
 //! Cells: writing and reading those of all archives, slot by slot; and the functions that entries share.
-ghost use Rattle.std.specs.Prelude.{◌*◌, ◌≡◌, ◌<◌, ◌≤◌, ℕ, ◌++◌, ◌+◌, IfErr, List, OnOk, Some, length, map, replicate, slice_get, slice_range, take, true};
+ghost use Rattle.std.specs.Prelude.{◌*◌, ◌≡◌, ◌<◌, ◌≤◌, ℕ, ◌++◌, ◌+◌, IfErr, IfSome, List, OnOk, Some, length, map, replicate, slice_get, slice_range, take, true};
 ghost use Rattle.rrd_file.specs.Names.{AllByRecursion, flat_map, IsBounded, Unknown, due, CellDue, all_cells, cells_by_slot, Rra, Keeps};
 ghost use Rattle.rrd_file.specs.Words.{Gathers, row_pieces, spelled, OfCell, Advances, left, Body, Reaches, Stands, FitsCell};
 ghost use Rattle.rrd_file.specs.declared.fault.FileFault.TheVariants.{Read as ReadFault};
@@ -9,7 +9,7 @@ use crate::FileFault;
 use crate::fault::block_fault;
 use crate::layout::{ABSENT, ABSENT_HIGH, ABSENT_LOW, CELL_SIZE, MAX_ROW_CELLS, unknown_bytes};
 use crate::reader::PieceReader;
-use crate::values::{Halves, halves_of, signed_of};
+use crate::values::{Halves, eight_of, halves_of, signed_of};
 use crate::writer::{BLOCK_SIZE, Block, PieceWriter};
 use rrd_base::{Database, Due, Rebuild, database_is_valid, is_bounded};
 use rrd_fixed::{Cell, WriteFault};
@@ -221,7 +221,22 @@ fn cells_of(bytes: &[u8], cells: &mut [Cell]) -> usize
     cells.len()
 }
 
-// Returns how many of the first cells are unknown. Counts at most a row of them at a time.
+// Returns the bytes behind the first cell, if it is unknown.
+fn behind_unknown(bytes: &[u8]) -> Option<&[u8]>
+    requires { CELL_SIZE ≤ length bytes.now }
+    ensures spelled { IfSome result (λ rest. bytes.now ≡ spelling.cell_bytes Unknown ++ rest.now) }
+    ensures room { IfSome result (λ rest. length rest.now + CELL_SIZE ≡ length bytes.now) }
+{
+    let (high, rest) = eight_of(bytes);
+    let (low, rest) = eight_of(rest);
+    let unknown = cell_halves(Cell::Unknown);
+    if high != unknown.high || low != unknown.low {
+        return None;
+    }
+    Some(rest)
+}
+
+// Returns how many of the first cells are unknown.
 fn unknown_front(bytes: &[u8]) -> usize
     ensures few { CELL_SIZE * result ≤ length bytes.now }
     ensures spelled { take (CELL_SIZE * result) bytes.now ≡ flat_map spelling.cell_bytes (replicate result Unknown) }
@@ -229,12 +244,10 @@ fn unknown_front(bytes: &[u8]) -> usize
     let mut count = 0;
     let mut rest = bytes;
     while rest.len() >= CELL_SIZE {
-        let some = (rest.len() / CELL_SIZE).min(MAX_ROW_CELLS);
-        let (front, more) = rest.split_at(some * CELL_SIZE);
-        if front != unknown_bytes(some) {
+        let Some(more) = behind_unknown(rest) else {
             return count;
-        }
-        count += some;
+        };
+        count += 1;
         rest = more;
     }
     count
