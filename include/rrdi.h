@@ -231,7 +231,7 @@ void rrdi_run_file(const char *path, size_t path_length, const uint8_t *words, s
                    uint64_t wait, bool syncs, uint8_t *output, size_t output_room, struct rrdi_answer *answer) RRDI_NONNULL(10);
 
 /* Runs lines on the file at a path, as `rrdi batch FILE` does: reads the file once and writes the file once. With a fault, such as
- * RRDI_NO_ROOM, the file has the same database as before. */
+ * RRDI_NO_ROOM, the file is as after one of rrdi_run_file. */
 void rrdi_batch_file(const char *path, size_t path_length, const uint8_t *lines, size_t lines_length, uint64_t now,
                      uint64_t wait, bool syncs, uint8_t *output, size_t output_room, uint64_t *refused_lines,
                      size_t refused_room, struct rrdi_answer *answer) RRDI_NONNULL(12);

@@ -14,8 +14,8 @@ RRDI_SYNC is 1.
 A time is in seconds since 1970 or a datetime with a zone, and a span is in seconds or a timedelta.
 
 # Errors
-A failed function raises a subclass of `Error` in `rrdi.errors`; the file is then unchanged. Without the C library it is
-`NoLibrary`.
+A failed function raises a subclass of `Error` in `rrdi.errors`, and leaves the database as it was, except perhaps after
+`CannotWrite`. Without the C library it is `NoLibrary`.
 """
 from __future__ import annotations
 

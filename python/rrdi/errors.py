@@ -122,7 +122,7 @@ class CannotRead(SystemFault):
 
 
 class CannotWrite(SystemFault):
-    """The file cannot be written. It holds the old database or the new one."""
+    """The file cannot be written. Usually it holds the old database; docs/errors.md says what else it may have."""
 
 
 class MayNotWrite(CannotWrite, PermissionError):

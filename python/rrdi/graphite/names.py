@@ -35,7 +35,7 @@ def path_of(folder: str, metric: str, is_hashed: bool = True) -> Optional[str]:
     """The path of a metric's file; None if the metric has no file.
 
     A metric has no file if a part of its name is empty, too long, or has a slash or a zero byte: such a file could be
-    outside the folder, or be another metric's.
+    outside the folder, or be another metric's. (A name with tags is hashed, so it may have any parts.)
     """
     try:
         relative = encoded(metric, is_hashed)
