@@ -39,7 +39,7 @@ written; after SIGUSR1 too, for which it closes all files, and then it goes on.
 
 environment:
   RRDI                 a program to run instead of the C library: a process for
-                       each file, which is two to five times as slow
+                       each file, which is three to five times as slow
 
 docs/feeding.md has more, and the form of RULES.
 
