@@ -12,7 +12,7 @@ carbon.conf needs the line `DATABASE = rrdi`.
 options:
   -h, --help           show this help and exit
 
-environment:
+settings of carbon.conf, beside carbon's own:
   RRDI_LIBRARY         the C library, if the package would not find it
   RRDI_JOURNAL         how many slots of a metric can come late (default: 16)
   RRDI_MAX_FUTURE      how many seconds a point may be ahead of the clock
