@@ -56,7 +56,7 @@ help: ## prints this list
 	@sed -n 's/^\([a-z]*\):.*## \(.*\)/make \1\t\2/p' $(MAKEFILE_LIST) | expand -t 18
 
 build: ## proves and builds the program
-	cd crates/rrdi && rt run -- help > /dev/null
+	cd crates/rrdi && rt run -- batch < /dev/null
 
 library: ## proves and builds the C library too: out/librrdi.a, out/librrdi.so.0 (needs cc and binutils)
 	library/build
