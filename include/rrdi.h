@@ -218,8 +218,8 @@ void rrdi_db_close(struct rrdi_db *db);
 /* Runs one command on the file at a path, as `rrdi COMMAND FILE WORD..` does: locks the file, and writes it so that a kill
  * in the middle of a change leaves the old database or the new one (where there was no database, perhaps a damaged file).
  * With a fault the file has the same database as before; docs/files.md says what RRDI_CANNOT_WRITE may leave if the disk
- * fails. Its bytes may be others: if an earlier change was interrupted, a call repairs the file first, even if it then ends
- * with a fault.
+ * fails. Its bytes may be others: if an earlier change was interrupted, a call that opens the file for a change repairs it first,
+ * even if it then ends with a fault.
  *
  * `create` replaces the file that is at the path. To keep a file that is there, call rrdi_create_new.
  *
