@@ -67,13 +67,14 @@ class Moment:
             elif not had_day and self.next_is("[./]", 1) and number is not None:
                 is_numeric = had_day = True
                 self.read_numeric_day()
-            elif not had_day and number is not None and 19_710_101 <= number < 24_000_101 and self.next_is(r"\d{8}"):
+            elif not had_day and self.next_is(r"(19[7-9]|2[0-3]\d)\d{5}"):
                 digits = self.take(r"\d{8}")
                 self.set_day(int(digits[:4]), int(digits[4:6]), int(digits[6:]))
                 is_numeric = had_day = True
             elif not had_day and self.read_named_day():
                 had_day = True
-            elif not had_hour and self.read_hour():
+            elif not had_hour:
+                self.read_hour()
                 had_hour = True
             else:
                 self.refuse()
@@ -83,7 +84,7 @@ class Moment:
     def set_day(self, year: int, month: int, day: int) -> None:
         if year < 139:
             year += 2000 if year < 38 else 1900
-        if not (1970 < year < 10_000 and 1 <= month <= 12 and 1 <= day <= 31):
+        if not (1970 < year and 1 <= month <= 12 and 1 <= day <= 31):
             self.refuse()
         self.parts[:3] = [year, month, day]
 
@@ -109,7 +110,7 @@ class Moment:
             return True
         return False
 
-    def read_hour(self) -> bool:
+    def read_hour(self) -> None:
         named = {"midnight": 0, "noon": 12, "teatime": 16}
         if self.tokens[0] in named:
             hour, minute = named[self.take("[a-z]+")], 0
@@ -119,15 +120,14 @@ class Moment:
                 self.take(":")
                 minute = int(self.take(r"\d{2}"))
             if self.next_is("am|pm"):
-                if not 1 <= hour <= 12:
+                if hour > 12:
                     self.refuse()
                 hour = hour % 12 + (12 if self.take("am|pm") == "pm" else 0)
         else:
-            return False
+            self.refuse()
         if hour > 23 or minute > 59:
             self.refuse()
         self.parts[3:] = [hour, minute, 0]
-        return True
 
     def read_offset(self) -> None:
         sign, before = 1, ""
@@ -156,7 +156,7 @@ class Moment:
             base = start if self.base == "start" else end
             if base is None:
                 raise Untranslatable(f"this time is relative to itself: {self.text}")
-            parts = [part + moved for part, moved in zip(time.localtime(base)[:6], parts)]
+            parts = [part + moved for part, moved in zip(time.localtime(base), parts)]
             is_summer = time.localtime(base).tm_isdst
         try:
             told = seconds_of(parts, is_summer) + self.offset
