@@ -18,7 +18,7 @@ from doubles import TOP
 
 import rrdi
 from rrdi.compat import rrdtool
-from rrdi.compat.syntax import Untranslatable, read_length, read_number, read_options
+from rrdi.compat.syntax import OPTIONS, Untranslatable, read_length, read_number, read_options
 from rrdi.compat.at_style import Moment, span
 from rrdi.compat.translate import translate
 from rrdi.printed import Archive, Settings
@@ -34,6 +34,8 @@ class Questions:
         return 1_600_000_020
 
     def settings(self, file: str) -> Optional[Settings]:
+        if file == "none.rrd":
+            return None
         return Settings(10, 1_600_000_020, 16, 0, [], [Archive("MAX", "0.500000", 1, 4)])
 
 
@@ -85,6 +87,7 @@ class Translations(unittest.TestCase):
         """Those after an option without a value begin the next option."""
         for words in (["-Ob5", "f"], ["-O", "-b", "5", "f"], ["-O", "-b5", "f"], ["--no-overwrite", "f", "--start=5"]):
             self.assertEqual(read_options("create", words), ([("--no-overwrite", ""), ("--start", "5")], ["f"]))
+        self.assertEqual(read_options("create", ["-Ob", "5", "f"]), ([("--no-overwrite", ""), ("--start", "5")], ["f"]))
         with self.assertRaisesRegex(Untranslatable, "create has no option -5"):
             read_options("create", ["-O5", "f"])
         with self.assertRaisesRegex(Untranslatable, "--start needs a value"):
@@ -164,6 +167,29 @@ class Translations(unittest.TestCase):
                 ("tune f.rrd RRA#0:+3 RRA#0:4 RRA#0:=6 RRA#0:-1 DELRRA:2 RRA:MAX:.5:1m:1h",
                  ["resize f.rrd 0 GROW 3", "resize f.rrd 0 GROW 2", "resize f.rrd 0 SHRINK 1", "tune f.rrd DELRRA:2",
                   "tune f.rrd RRA:MAX:0.5:6:60"]),
+                # The step is 300 seconds by default; a length in a file that there is not is in seconds.
+                ("create f.rrd DS:g:GAUGE:10m:U:U RRA:MAX:0.5:5m:1d", ["create f.rrd DS:g:GAUGE:600:U:U RRA:MAX:0.5:1:288"]),
+                ("tune none.rrd RRA:MAX:.5:1m:1h", ["tune none.rrd RRA:MAX:0.5:60:60"]),
+                # A time of 0 or more is one since 1970, and one below 0 is before now, and never before 1970.
+                ("update f.rrd 0:1 1:1", ["update f.rrd 0:1 1:1"]), ("update f.rrd -- -1:5", [f"update f.rrd {NOW - 1}:5"]),
+                (f"update f.rrd -- -{NOW}:5 -{NOW + 1}:5", ["update f.rrd 0:5 0:5"]),
+                # Samples up to the last one are left out, whatever option comes first; the others are as they would be without it.
+                ("update f.rrd -s -t g 1600000020:1 1600000021:2", ["update f.rrd --template g 1600000021:2"]),
+                ("update f.rrd -s x:1 N:2", [f"update f.rrd x:1 {NOW}:2"]), ("update f.rrd x:1 N:2", ["update f.rrd x:1 N:2"]),
+                # Without a resolution, or with 0, there is nothing to align with.
+                ("fetch f.rrd MAX -a -s 1000000299 -e 1000000700", ["fetch f.rrd MAX --start 1000000299 --end 1000000700"]),
+                ("fetch f.rrd MAX -a -r 0 -s 1000000299 -e 1000000700", ["fetch f.rrd MAX --resolution 0 --start 1000000299 --end 1000000700"]),
+                ("fetch f.rrd MAX -a -r 1 -s 1000000299 -e 1000000700", ["fetch f.rrd MAX --resolution 1 --start 1000000299 --end 1000000700"]),
+                # A command has an option once, and none after a rename, whatever the commands before it have.
+                ("tune f.rrd -h a:1 -h b:2 -i a:3 -i b:4", ["tune f.rrd --heartbeat a:1", "tune f.rrd --heartbeat b:2 --minimum a:3",
+                                                            "tune f.rrd --minimum b:4"]),
+                ("tune f.rrd -h a:1 -h b:2 -r a:c -i c:1", ["tune f.rrd --heartbeat a:1", "tune f.rrd --heartbeat b:2 --data-source-rename a:c",
+                                                            "tune f.rrd --minimum c:1"]),
+                ("tune f.rrd -d g:DERIVE -i g:nan -a g:1e2", ["tune f.rrd --data-source-type g:DERIVE --minimum g:U --maximum g:100"]),
+                ("tune f.rrd -r COMPUTE:DDERIVE", ["tune f.rrd --data-source-rename COMPUTE:DDERIVE"]),
+                # rrdi reports that there is no such archive.
+                ("tune f.rrd RRA#5:4", ["resize f.rrd 5 GROW 4"]), ("tune f.rrd RRA#5:=4", ["resize f.rrd 5 GROW 4"]),
+                ("tune f.rrd RRA#0:=3", ["resize f.rrd 0 SHRINK 1"]), ("tune f.rrd RRA#0:=5", ["resize f.rrd 0 GROW 1"]),
                 ("first f.rrd --rraindex 1", ["first f.rrd --rraindex 1"]), ("last -- -f.rrd", ["last ./-f.rrd"]),
                 ("info f.rrd -F", ["info f.rrd"]), ("resize f.rrd 0 GROW 3", ["resize f.rrd 0 GROW 3"])):
             command, *others = words.split()
@@ -186,7 +212,11 @@ class Translations(unittest.TestCase):
                               ("create f RRA:HWPREDICT:9:0.1:0.1:3", "rrdi has no function HWPREDICT"),
                               ("create f DS:g=a:GAUGE:9:U:U", "a source cannot be filled from another file"),
                               ("fetch f MAX -s end-1 -e start+1", "cannot both be relative to each other"),
-                              ("fetch f MAX --wrong", "fetch has no option --wrong"),
+                              ("fetch f MAX --wrong", "fetch has no option --wrong$"), ("fetch f MAX -Zab", "fetch has no option -Z$"),
+                              ("create f DS:g:COMPUTE", "rrdi has no type COMPUTE: DS:g:COMPUTE"),
+                              ("create f RRA:HWPREDICT", "rrdi has no function HWPREDICT: RRA:HWPREDICT"),
+                              ("tune f RRA:HWPREDICT", "rrdi has no function HWPREDICT: RRA:HWPREDICT"),
+                              ("tune f RRA", "tune cannot add or remove data sources: RRA$"),
                               # 366 days are not a whole number of weeks.
                               ("create f --step 1d RRA:MAX:.5:1w:1y", "rows must be a multiple of 604800 seconds, not 1y"),
                               ("fetch f MAX -s", "--start needs a value"), ("tune f", "tune needs an option"),
@@ -200,6 +230,19 @@ class Translations(unittest.TestCase):
             command, *others = words.split()
             with self.assertRaisesRegex(Untranslatable, reason):
                 translate(command, others, NOW, Questions())
+
+
+    def test_options_of_tune(self) -> None:
+        """Five are those of rrdi; others are RRDtool's."""
+        own = ("--heartbeat", "--minimum", "--maximum", "--data-source-type", "--data-source-rename")
+        for option in OPTIONS["tune"]:
+            name, letter = option.split("= ")
+            if name in own:
+                self.assertEqual(read_options("tune", ["f", letter, "g:5"]), ([(name, "g:5")], ["f"]))
+            else:
+                with self.assertRaisesRegex(Untranslatable, f"^tune {name} is not supported$"):
+                    read_options("tune", ["f", letter, "g:5"])
+        self.assertTrue(set(own) < {option.split("=")[0] for option in OPTIONS["tune"]})
 
 
 class Module:

@@ -9,6 +9,7 @@ import math
 import os
 import types
 import unittest
+from array import array
 from typing import Any, Dict, List, Sequence, Tuple
 from unittest import mock
 
@@ -279,8 +280,7 @@ class Importing(unittest.TestCase):
     def old(self, **more: Any) -> RrdFile:
         usual: Dict[str, Any] = {"column": 0, "name": "g", "kind": "COUNTER", "heartbeat": 20, "minimum": math.nan, "maximum": math.nan,
                  "last_raw": "5", "partial_sum": 0.0, "unknown_seconds": 0}
-        archive = RrdArchive(0, more.pop("function", "AVERAGE"), 1, 0.5, [math.nan], [0], columns=1)
-        archive.cells.extend([1.0, 2.0])
+        archive = RrdArchive(0, more.pop("function", "AVERAGE"), 1, 0.5, [math.nan], [0], array("d", [1.0, 2.0]), 1)
         return RrdFile(10, NOW, [RrdSource(**{**usual, **more})], [archive])
 
     def test_texts_of_the_file(self) -> None:

@@ -148,6 +148,20 @@ class Plans(unittest.TestCase):
                 each.place(10, 1200)
             self.assertEqual([(span.begin, span.end) for span in plan(archives, 1200)], [(930, 1200)], counts)
 
+    def test_what_an_archive_has(self) -> None:
+        """Rows that end after it begins, and the unfinished one; none before 1970."""
+        each = archive(0, "AVERAGE", 3, [1.0, 2.0, 3.0])
+        each.place(10, 1200)
+        self.assertEqual((each.seconds, each.begin, each.end), (30, 1110, 1200))
+        self.assertEqual([time for time in range(1090, 1241, 10) if each.has(time)], list(range(1140, 1241, 10)))
+        each.place(10, 65)
+        self.assertEqual((each.begin, each.end), (0, 60))
+        each.place(10, 1229)
+        self.assertEqual((each.begin, each.end), (1110, 1200))
+        self.assertEqual(archive(0, "MAX", 1, [1.0] * 7).row_count, 7)
+        self.assertEqual(RrdArchive(0, "MAX", 1, 0.5, [], [], array("d", [1.0] * 7), 3).row_count, 2)
+        self.assertEqual(RrdArchive(0, "MAX", 1, 0.5, [], [], array("d"), 0).row_count, 0)
+
     def test_how_many_steps_may_be_unknown_or_hidden(self) -> None:
         """A row is known with so many unknown steps, and unknown with one more: as all archives with such rows have it."""
         for steps, shares, dropped, hidden in ((10, [0.3], 3, 6), (10, [0.3, 0.5], 3, 4), (10, [0.0], 0, 9), (3, [0.5], 1, 1),
@@ -232,6 +246,16 @@ class Batches(unittest.TestCase):
             "update 1003:77"])
         self.assertEqual(notes, [])
 
+    def test_the_last_rates_are_given_with_the_last_raw_values(self) -> None:
+        """The sample of the last second has the newest rate of a gauge; before it is no second sample of the same time."""
+        sources = [source("COUNTER", last_raw="77"), source(column=1)]
+        rows = [RrdArchive(0, "AVERAGE", 1, 0.5, [NAN] * 2, [0] * 2, array("d", [1.0, 4.0, 1.0, 5.0, 2.0, 6.0]), 2)]
+        self.assertEqual(update_words(self.lines(RrdFile(10, 1000, sources, rows))[0]), ["980:1:4", "990:1:5", "999:2:6", "1000:77:6"])
+        sources = [source("COUNTER", last_raw="77", partial_sum=3.0), source(column=1, partial_sum=8.0)]
+        self.assertEqual(update_words(self.lines(RrdFile(10, 1001, sources, rows))[0]), ["980:1:4", "990:1:5", "1000:2:6", "1001:77:8"])
+        self.assertEqual(update_words(self.lines(RrdFile(10, 1002, [source("COUNTER", last_raw="77"), source(column=1)], rows))[0]),
+                         ["980:1:4", "990:1:5", "1000:2:6", "1001:0:0", "1002:77:0"])
+
     def test_nothing_known(self) -> None:
         lines, _ = self.lines(RrdFile(10, 1000, [source()], [archive(0, "MAX", 1, [NAN, NAN])]))
         self.assertEqual(lines, ["create --step 10 --start 1000 DS:s0:GAUGE:9999999999:U:U RRA:MAX:0.5:1:2",
@@ -279,7 +303,12 @@ class Batches(unittest.TestCase):
             ("DDERIVE", [-1.0, 2.5], {}, "", ""), ("DCOUNTER", [0.0, 2.5], {}, " --minimum s0:0", " with the minimum 0"),
             ("DCOUNTER", [0.0, -2.5], {}, " --maximum s0:0", " with the maximum 0"), ("DCOUNTER", [-1.0, 2.5], {}, "", ""),
             ("DCOUNTER", [NAN, NAN], {}, "", ""), ("DCOUNTER", [1.0, 2.5], {"minimum": -4.0}, " --minimum s0:-4", ""),
-            ("DCOUNTER", [-1.0, -2.5], {"maximum": 9.0}, " --maximum s0:9", "")]
+            ("DCOUNTER", [-1.0, -2.5], {"maximum": 9.0}, " --maximum s0:9", ""),
+            ("DCOUNTER", [NAN, 1.0, 2.0], {}, " --minimum s0:0", " with the minimum 0"),
+            ("DCOUNTER", [NAN, -1.0, -2.0], {}, " --maximum s0:0", " with the maximum 0"),
+            ("DCOUNTER", [0.0, 0.0], {}, " --minimum s0:0", " with the minimum 0"),
+            ("DCOUNTER", [1.0, 2.5], {"maximum": 9.0}, " --minimum s0:0 --maximum s0:9", " with the minimum 0"),
+            ("DCOUNTER", [-1.0, -2.5], {"minimum": -9.0}, " --minimum s0:-9 --maximum s0:0", " with the maximum 0")]
         for kind, cells, bounds, words, said in counters:
             notes: List[str] = []
             with self.subTest(kind=kind, cells=cells):
@@ -289,6 +318,11 @@ class Batches(unittest.TestCase):
                                  (1, [f"source s0: its type {kind} becomes DERIVE{said}, which takes whole numbers only"]))
                 self.assertEqual(list(batch.lines())[-2:], [f"tune --heartbeat s0:99{words} --data-source-type s0:DERIVE",
                                                             "update 1000:77"])
+        # What other functions show is no rate.
+        notes = []
+        RrdBatch(RrdFile(10, 1000, [source("DCOUNTER", last_raw="1")], [archive(0, "HWPREDICT", 1, [-5.0]), archive(1, "MAX", 1, [3.0])]),
+                 None, notes.append)
+        self.assertEqual(notes[0], "source s0: its type DCOUNTER becomes DERIVE with the minimum 0, which takes whole numbers only")
         old = RrdFile(10, 1000, [source(last_raw="1"), source("DDERIVE", 1, last_raw="7.5")],
                       [RrdArchive(0, "AVERAGE", 1, 0.5, [NAN] * 2, [0] * 2, array("d", [1.0, -2.0]), 2)])
         lines, notes = self.lines(old)
@@ -328,6 +362,8 @@ class Batches(unittest.TestCase):
         rows = [RrdArchive(at, "MAX", 1, 0.5, [NAN] * 64, [0] * 64, array("d", [1.0] * 64), 64) for at in range(128)]
         batch = RrdBatch(RrdFile(1_000_000, 9_999_999_999, many, rows), None, print)
         self.assertEqual((len(batch.sources), len(batch.archives)), (64, 128))
+        longest = archive(0, "MAX", 1_000_000, [1.0])
+        self.assertEqual(RrdBatch(RrdFile(10, 10_000_000, many[:1], [longest]), None, print).archives, [longest])
         eight = RrdArchive(0, "MAX", 1, 0.5, [NAN] * 8, [0] * 8, array("d", bytes(8 * 8 * 1_000_000)), 8)
         self.assertEqual(RrdBatch(RrdFile(10, 10_000_000, many[:8], [eight]), None, print).archives, [eight])
         bounded = source(minimum=-1.5e19, maximum=float(2**64 - 2**11))
@@ -353,6 +389,13 @@ class Batches(unittest.TestCase):
         # 0.29 of 100 is less than 29 in floating point.
         self.assertEqual(share_of(archive(0, "AVERAGE", 100, [], 0.29)), "0.289999")
         self.assertEqual(share_of(archive(0, "AVERAGE", 100, [], 0.5)), "0.5")
+        # 0.57 of a million is less than 570000 in floating point.
+        for share, text in ((0.57, "0.57"), (0.0, "0"), (0.1999997, "0.2"), (0.999999, "0.999999"), (0.9999999, "0.999999")):
+            self.assertEqual(share_of(archive(0, "AVERAGE", 1, [], share)), text)
+        for steps in (1, 2, 3, 7, 100, 288):
+            for share in (0.0, 0.1, 0.25, 1 / 3, 0.5, 0.57, 2 / 3, 0.99, 0.999999, 0.9999999):
+                found = share_of(archive(0, "AVERAGE", steps, [], share))
+                self.assertEqual(round(float(found) * 1_000_000) * steps // 1_000_000, int(share * steps), (steps, share))
         # A third of 3 is 1 there, and 0.333333 of 3 would be 0.
         self.assertEqual(share_of(archive(0, "AVERAGE", 3, [], 1 / 3)), "0.333334")
 
@@ -452,7 +495,7 @@ class Lines(unittest.TestCase):
     def test_as_many_samples_as_a_line_may_have(self) -> None:
         """And one at least, however long it is."""
         with mock.patch.object(batch, "BYTES_OF_A_LINE", 10):
-            for text in ("aaaa bbbb\ncccc dddd\neeeee", "aaaa bbbbb\nc", "aaaa\nbbbbbb c", "aaaaaaaaaaaaaaaaaaaa\nb", ""):
+            for text in ("aaaaaa\nbbbb ccccc\nd", "aaaa bbbb\ncccc dddd\neeeee", "aaaa bbbbb\nc", "aaaa\nbbbbbb c", "aaaaaaaaaaaaaaaaaaaa\nb", ""):
                 self.assertEqual(list(batch.updates(text.split())), [f"update {line}" for line in text.splitlines()])
 
 
@@ -479,6 +522,15 @@ class DifferingRows(unittest.TestCase):
         for apart, count in ((90.0, 0), (110.0, 1)):
             self.assertEqual(len(differing_cells(large, [0], new_rows({1200: 1e12 + apart}))), count)
 
+    def test_what_was_before_and_after(self) -> None:
+        """In each column, in rows of a second too, and of what is unknown in one file only."""
+        two = RrdArchive(0, "AVERAGE", 1, 0.5, [NAN] * 2, [0] * 2, array("d", [1.0, 2.0, 3.0, NAN]), 2)
+        two.place(1, 1200)
+        rows: Dict[int, List[Optional[Millionths]]] = {1199: [Millionths(4_000_000), None], 1200: [Millionths(3_000_000), Millionths(5_000_000)]}
+        found = differing_cells(two, [0, 1], rows)
+        self.assertEqual([(one.time, one.before, "nan" if math.isnan(one.after) else one.after) for one in found[:2]], [(1199, 1.0, 4.0), (1199, 2.0, "nan")])
+        self.assertEqual([(one.time, math.isnan(one.before), one.after) for one in found[2:]], [(1200, True, 5.0)])
+
     def test_the_column_of_each_source(self) -> None:
         """A source that was left out has a column in the old file only."""
         two = RrdArchive(0, "AVERAGE", 1, 0.5, [NAN] * 2, [0] * 2, array("d", [1.0, 2.0, 3.0, 4.0]), 2)
@@ -500,6 +552,18 @@ class DifferingRows(unittest.TestCase):
         fine = archive(0, "LAST", 1, [1.0, 2.0])
         fine.place(10, 1200)
         self.assertEqual(reason(fine, plan([fine], 1200), DifferingCell(1200, 1.0, 2.0)), "the row is computed again, by the rules of rrdi")
+
+    def test_the_span_of_a_row(self) -> None:
+        """It is the one in which the row begins: here rows of 60 s up to 1140, and then rows of 30 s."""
+        wide, narrow, late = archive(0, "AVERAGE", 6, [1.0] * 4), archive(1, "AVERAGE", 3, [1.0] * 2), archive(2, "MAX", 6, [1.0] * 4)
+        for one in (wide, narrow, late):
+            one.place(10, 1200)
+        spans = plan([wide, narrow], 1200)
+        self.assertEqual([(span.begin, span.end) for span in spans], [(960, 1140), (1140, 1200)])
+        for time, seconds in ((1020, 60), (1140, 60), (1200, 30)):
+            self.assertEqual(reason(late, spans, DifferingCell(time, 1.0, 2.0)), f"the row comes from rows of AVERAGE of {seconds} s")
+        self.assertEqual(reason(late, spans[1:], DifferingCell(1140, 1.0, 2.0)), "the row is computed again, by the rules of rrdi")
+        self.assertEqual(reason(late, spans[:1], DifferingCell(1200, 1.0, 2.0)), "the row is computed again, by the rules of rrdi")
 
     def test_the_reason_of_an_extreme(self) -> None:
         """An archive of maxima can be made of its own rows, of those of another function, or of shorter ones."""
@@ -525,3 +589,6 @@ class DifferingRows(unittest.TestCase):
         rows = [new_rows({1110: 2.0, 1140: 3.0, 1170: 5.0}), new_rows({1140: 5.0, 1200: 6.0})]
         self.assertEqual(list(differing_archives([self.fine, self.coarse], self.spans, [0], rows.__getitem__)), [
             "archive 0, AVERAGE of 30 s: 2 of 4 cells differ, the newest at 1170: how many steps of the rows beside a gap were unknown is a guess"])
+        rows[1] = new_rows({1140: 5.0, 1200: 7.0})
+        self.assertEqual(list(differing_archives([self.fine, self.coarse], self.spans, [0], rows.__getitem__))[1:], [
+            "archive 1, MAX of 60 s: 1 of 2 cells differ, the newest at 1200: the row comes from rows of AVERAGE of 30 s"])

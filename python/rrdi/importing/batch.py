@@ -29,11 +29,11 @@ def of_whole_numbers(old: RrdFile, source: RrdSource, note: Callable[[str], None
     """
     minimum, maximum = source.minimum, source.maximum
     if source.kind == "DCOUNTER":
-        rates = [rate for archive in old.archives for rate in archive.cells[source.column::max(archive.columns, 1)]
+        rates = [rate for archive in old.archives for rate in archive.cells[source.column::archive.columns]
                  if archive.function in FUNCTIONS and not math.isnan(rate)]
-        if math.isnan(minimum) and min(rates, default=-1.0) >= 0:
+        if math.isnan(minimum) and rates and min(rates) >= 0:
             minimum = 0.0
-        elif math.isnan(maximum) and max(rates, default=1.0) <= 0:
+        elif math.isnan(maximum) and rates and max(rates) <= 0:
             maximum = 0.0
     bound = next((f" with the {name} 0" for name, before, after in (
         ("minimum", source.minimum, minimum), ("maximum", source.maximum, maximum)) if math.isnan(before) and after == 0), "")
@@ -121,7 +121,7 @@ def as_words(rates: Iterable[int | None]) -> str:
 def share_of(archive: RrdArchive) -> str:
     """Returns the xff with which rrdi allows as many unknown steps in a row as RRDtool does."""
     wanted = archive.allowed_unknown()
-    parts = min(int(archive.share * MILLION + 0.5), MILLION - 1)
+    parts = int(archive.share * MILLION + 0.5)
     while parts * archive.steps // MILLION > wanted:
         parts -= 1
     while parts * archive.steps // MILLION < wanted:

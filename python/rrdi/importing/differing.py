@@ -31,8 +31,8 @@ class DifferingCell(NamedTuple):
 
 def agree(before: float, after: float) -> bool:
     """Checks whether two cells are the same, as far as RRDtool prints and rrdi stores them."""
-    if math.isnan(before) or math.isnan(after):
-        return math.isnan(before) and math.isnan(after)
+    if math.isnan(before) and math.isnan(after):
+        return True
     return abs(after - before) <= MOST_APART + abs(after) * SHARE_APART
 
 
@@ -54,7 +54,7 @@ def reason(archive: RrdArchive, spans: Sequence[Span], cell: DifferingCell) -> s
     source, own = (span.archive, span.beside.get(archive.function)) if span else (None, None)
     if cell.time == archive.begin + archive.seconds and math.isnan(cell.after):
         return "the old row may be from before a gap that was longer than the archive"
-    if cell.apart <= FEW_DIGITS * max(abs(cell.before), abs(cell.after), 1.0):
+    if cell.apart <= FEW_DIGITS * max(abs(cell.before), abs(cell.after)):
         return "large numbers that nearly cancel out lose digits"
     if source is None or source.steps == 1:
         return "the row is computed again, by the rules of rrdi"

@@ -5,7 +5,7 @@ from __future__ import annotations
 import subprocess
 import xml.etree.ElementTree as ElementTree
 from array import array
-from dataclasses import dataclass, field
+from dataclasses import dataclass
 from typing import IO, Callable
 
 
@@ -39,8 +39,8 @@ class RrdArchive:
     share: float
     partial: list[float]
     unknown_steps: list[int]
-    cells: array[float] = field(default_factory=lambda: array("d"))
-    columns: int = 0
+    cells: array[float]
+    columns: int
     seconds: int = 0
     begin: int = 0
     end: int = 0
