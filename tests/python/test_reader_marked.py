@@ -6,7 +6,9 @@ from __future__ import annotations
 import fcntl
 import io
 import os
+import random
 import re
+import tempfile
 import unittest
 from pathlib import Path
 from typing import List
@@ -20,6 +22,7 @@ from rrdi import errors, locks, reader
 from rrdi.locks import SHARED, locked
 from rrdi.reader.files import opened, patience, read_bytes
 from rrdi.reader.selected import OpenFile
+from rrdi.reader.stored import read_at
 
 OLD = graphite.file_bytes(130, archives=[(1, 400, {130: [2.5], 20: [1.5]})])  # over a page
 NEW = graphite.file_bytes(140, archives=[(1, 400, {140: [9.5], 130: [2.5]})])
@@ -203,6 +206,55 @@ class Marked(DataCase):
         with counted_reads() as read, OpenFile(str(self.path)) as file:
             file.rows(file.outline().archives[0], 130, 130)
         self.assertTrue(0 < read.count < 10 * PAGE, read.count)
+
+
+class Slices(unittest.TestCase):
+    """What a file stands for is taken like `bytes`, whatever was taken before."""
+
+    def check(self, chance: random.Random, data: bytes, wanted: bytes) -> None:
+        self.assertEqual(len(reader.Stored.of_bytes(data)), len(wanted))
+        places = [0, 1, 15, 16, PAGE - 1, PAGE, PAGE + 1, 2 * PAGE, 3 * PAGE, len(wanted) - 1, len(wanted), len(wanted) + 9]
+        for _ in range(20):
+            stored = reader.Stored.of_bytes(data)
+            for _ in range(6):
+                begin, end = (chance.choice([*places, chance.randrange(len(wanted) + 1)]) for _ in range(2))
+                self.assertEqual(stored[begin:end], wanted[begin:end], (begin, end))
+                self.assertEqual(stored[begin:begin + 1], wanted[begin:begin + 1], begin)
+
+    def test_bytes_without_a_mark(self) -> None:
+        chance = random.Random(1)
+        for size in (0, 1, 5, PAGE - 1, PAGE, PAGE + 1, 3 * PAGE + 7):
+            data = bytes(chance.choices(range(256), k=size))
+            self.check(chance, data, data)
+
+    def test_random_logs(self) -> None:
+        """Each change sets the length, where what was behind it is zeros, and then lays its pieces, one after the other."""
+        for seed in range(40):
+            chance = random.Random(seed)
+            tail = chance.choice([20, PAGE - 1, PAGE, PAGE + 1, 3 * PAGE + 50])
+            wanted = bytearray(b"RRDI" + bytes(chance.choices(range(1, 256), k=chance.choice([16, tail - 4, tail - 4]))))
+            held = marks.with_base(bytes(wanted), tail)
+            for _ in range(chance.randrange(4)):
+                size = chance.choice([16, 17, tail, tail, min(PAGE, tail), min(PAGE + 1, tail), chance.randrange(16, tail + 1)])
+                wanted[:] = wanted[:size].ljust(size, b"\0")
+                pieces = []
+                for _ in range(chance.randrange(4)):
+                    at = chance.choice([4, size, min(PAGE - 3, size), min(PAGE, size), chance.randrange(size + 1)])
+                    data = bytes(chance.choices(range(1, 256), k=chance.randrange(min(size - at, 2 * PAGE) + 1)))
+                    pieces.append((at, data))
+                    wanted[at:at + len(data)] = data
+                held = marks.with_change(held, size, *pieces)
+            self.check(chance, held + b"x" * chance.randrange(3), bytes(wanted))
+
+    def test_reads_that_move_little(self) -> None:
+        """The system may give fewer bytes than asked for; at the end of a file it gives none."""
+        pread, data = os.pread, bytes(range(200))
+        with tempfile.TemporaryFile() as file:
+            file.write(data)
+            file.flush()
+            with mock.patch("os.pread", lambda file, count, at: pread(file, min(count, 3), at)):
+                for at, count in ((0, 200), (0, 10), (5, 7), (190, 10), (190, 11), (190, 99), (200, 5), (300, 5), (0, 0), (7, 1)):
+                    self.assertEqual(read_at(file.fileno(), at, count), data[at:at + count], (at, count))
 
 
 class Locks(DataCase):

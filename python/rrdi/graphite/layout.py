@@ -10,7 +10,7 @@ import struct
 from typing import Dict, List, NamedTuple, Optional, Sequence, Tuple
 
 from ..amounts import MILLION
-from ..limits import LATEST, LONGEST_STEP, MOST_ARCHIVES, MOST_CELLS, MOST_ROWS, MOST_STEPS
+from ..limits import LATEST, LONGEST_STEP, MOST_CELLS, MOST_ROWS, MOST_STEPS
 from ..reader.selected import Outline, StoredArchive
 
 # The functions of Graphite, and rrdi's archive for each.
@@ -90,8 +90,9 @@ def check_retentions(retentions: Retentions) -> None:
         raise ValueError(f"the shortest retention must have 1 to {LONGEST_STEP} seconds, not {step}")
     if any(not 1 <= rows <= MOST_ROWS or seconds // step > MOST_STEPS for seconds, rows in ordered):
         raise ValueError(f"a retention must have 1 to {MOST_ROWS} points, each of at most {MOST_STEPS} of the shortest")
-    if len(ordered) > MOST_ARCHIVES or 2 * sum(rows for _, rows in ordered) > MOST_CELLS:
-        raise ValueError(f"there may be {MOST_ARCHIVES} retentions with {MOST_CELLS // 2} points at most")
+    # No list is too long: each of its retentions has twice the seconds of the one before at least.
+    if 2 * sum(rows for _, rows in ordered) > MOST_CELLS:
+        raise ValueError(f"there may be {MOST_CELLS // 2} points at most")
 
 
 def method_of(outline: Outline) -> str:

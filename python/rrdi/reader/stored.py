@@ -142,7 +142,7 @@ class Stored:
     def _taken(self, begin: int, end: int) -> bytes:
         """Returns bytes, with those of the changes in their places."""
         if not self.is_marked:
-            return self._read(begin, max(end - begin, 0))
+            return self._read(begin, end - begin)
         found = bytearray(self._own_bytes(begin, end))
         for number, first, last in in_pages(begin, end):
             if number in self._pages:
