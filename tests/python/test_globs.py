@@ -42,8 +42,27 @@ class Words(unittest.TestCase):
         for word, name, is_wanted in (
                 ("[!]a]b", "]b", False), ("[!]a]b", "xb", True), ("[]a]b", "]b", True), ("[]a]b", "b", False),
                 ("x[!a]", "x", False), ("x[ab]y*", "xby", True), ("x[ab]y*", "xcy", False), ("?[a]?", "xay", True),
-                ("*[ab]*[cd]", "xaxbxd", True), ("*[ab]*[cd]", "xdxa", False)):
+                ("*[ab]*[cd]", "xaxbxd", True), ("*[ab]*[cd]", "xdxa", False), ("*[ab]*[cd]", "xdxd", False),
+                ("a*b*c*d", "axbxcxd", True), ("a*b*c*d", "axbxd", False), ("a*b*c*d", "axcxd", False), ("a*b*c*d", "acbd", False),
+                ("a**d", "ad", True), ("***", "", True), ("*a*", "a", True), ("*a*", "b", False)):
             self.check(word, name, is_wanted)
+
+    def test_long_words(self) -> None:
+        """A name has 255 bytes at most: a word with more signs has none, whatever stars it has."""
+        for word, name, is_wanted in (
+                ("x" * 255, "x" * 255, True), ("x" * 255, "x" * 254, False), ("x" * 200 + "*y", "x" * 200 + "zzy", True), ("*" * 9 + "x" * 255, "x" * 255, True),
+                ("[xy]" * 100, "xy" * 50, True), ("[xy]" * 100, "xy" * 49 + "xz", False), ("x" * 100 + "?" * 100, "x" * 200, True)):
+            self.check(word, name, is_wanted)
+        self.assertFalse(Globs(["x" * 256]).match("x" * 256))
+        self.assertTrue(Globs(["x" * 256, "y"]).match("y"))
+
+    def test_words_side_by_side(self) -> None:
+        """No word goes on where another one ends."""
+        for words in (["ab", "cd"], ["a", "", "b"], ["a*", "b"], ["[ab]", "[cd]"]):
+            for name in ("abcd", "ab", "cd", "a", "b", "", "ac", "bb", "cda", "d"):
+                wanted = any(fnmatchcase(name, word) for word in words)
+                for match in (Globs(words).match, matcher(words)):
+                    self.assertEqual(bool(match(name)), wanted, (words, name))
 
     def test_several_words(self) -> None:
         """A name matches if one of them does, whichever it is."""
