@@ -99,6 +99,27 @@ class Dumps(unittest.TestCase):
         found = [rows.cell(time, column) for time, column in ((1599999960, 0), (1600000020, 0), (1600000020, 1))]
         self.assertEqual(found, [1.5, -2000.0, 4.0])
 
+    def test_progress(self) -> None:
+        """After each thousand rows of all archives together, the number of their cells so far is told."""
+        source = "<ds><name>g</name><type>GAUGE</type></ds>"
+
+        def rows(count: int) -> str:
+            return f"<rra><cf>MAX</cf><database>{'<row><v>1</v><v>2</v></row>' * count}</database></rra>"
+        told: List[int] = []
+        text = f"<rrd><step>1</step><lastupdate>9</lastupdate>{source * 2}{rows(999)}{rows(1)}{rows(1_500)}{rows(499)}{rows(2)}</rrd>"
+        old = read_dump(io.BytesIO(text.encode()), told.append)
+        self.assertEqual((told, [one.row_count for one in old.archives]), ([2_000, 4_000, 6_000], [999, 1, 1_500, 499, 2]))
+
+    def test_what_is_not_told(self) -> None:
+        """What a dump leaves out is unknown: no bounds, no last value, a heartbeat and steps of 1."""
+        text = b"<rrd><step>5</step><lastupdate>9</lastupdate><ds><name> a </name></ds><rra><cdp_prep><ds/></cdp_prep><database/></rra></rrd>"
+        old = read_dump(io.BytesIO(text))
+        one, rows = old.sources[0], old.archives[0]
+        self.assertEqual((old.step, old.last, one.column, one.name, one.kind, one.heartbeat, one.last_raw, one.unknown_seconds, one.formula),
+                         (5, 9, 0, "a", "", 1, "U", 0, ""))
+        self.assertTrue(all(map(math.isnan, (one.minimum, one.maximum, one.partial_sum, rows.partial[0]))))
+        self.assertEqual((rows.number, rows.function, rows.steps, rows.share, rows.unknown_steps, rows.row_count, rows.columns), (0, "", 1, 0.0, [0], 0, 1))
+
     def test_a_cut_dump_is_an_error(self) -> None:
         for size in (0, 100, len(self.TEXT) - 8):
             with self.assertRaises(ElementTree.ParseError):
