@@ -222,9 +222,32 @@ class Patterns(unittest.TestCase):
         for pattern, files, folders in (
                 ("{a,b*}", ["a", "b"], ["b"]), ("{b,a*}", ["a", "b"], ["ab", "b"]), ("b.*", ["b/c"], ["b/d", "b/up"]), ("*.c", ["ab/c", "b/c", "link/c"], []),
                 ("b.**.e", ["b/d/e"], []), ("**.e", ["b/d/e", "link/d/e"], []), ("b.up.a", [], []), ("link.d.e", ["link/d/e"], []), ("bc", [], [])):
-            found = list(finding.find(str(top), pattern))
-            self.assertEqual((sorted(one.relative for one in found if one.is_file), sorted(one.relative for one in found if not one.is_file)),
-                             ([f"{name}.rrdi" for name in files], folders), pattern)
+            for many in (0, 1, 100):  # names from which on the folder is asked for all that it has
+                with mock.patch.object(finding, "MANY_NAMES", many):
+                    found = list(finding.find(str(top), pattern))
+                self.assertEqual(([one.relative for one in found if one.is_file], [one.relative for one in found if not one.is_file]),
+                                 ([f"{name}.rrdi" for name in files], folders), pattern)
+
+    def test_each_once(self) -> None:
+        """Whatever ways lead there; and no link leads to a folder above itself."""
+        top = new_folder(self)
+        for name in ("d/d/d/e.rrdi", "d/e.rrdi", "f/e.rrdi"):
+            Path(top, name).parent.mkdir(exist_ok=True, parents=True)
+            Path(top, name).touch()
+        os.symlink("..", top / "d/d/up")
+        os.symlink("d", top / "d/d/down")
+        os.symlink("../../..", top / "d/d/d/top")
+        for pattern, wanted in (("**.d.**.e", ["d/d/d/e", "d/d/down/e", "d/e"]), ("**.e", ["d/d/d/e", "d/d/down/e", "d/e", "f/e"]), ("d.d.up.e", []),
+                                ("d.**.d.e", ["d/d/d/e"]), ("*.e", ["d/e", "f/e"]), ("{f,d}.e", ["d/e", "f/e"])):
+            found = [one.relative for one in finding.find(str(top), pattern)]
+            self.assertEqual((sorted(found), len(set(found))), ([f"{name}.rrdi" for name in wanted], len(found)), pattern)
+        self.assertTrue(finding.Walk(str(top), []).leads_up("none"))  # it is gone by now
+        for most, pattern, is_right in ((1, "d.d.{down,up}.e", False), (2, "d.d.{down,up}.e", True), (0, "d.d.d.e", True), (0, "d.d.up.e", False)):
+            with mock.patch.object(finding, "MOST_LINKS", most):
+                try:
+                    self.assertEqual((len(list(finding.find(str(top), pattern))), is_right), (1, True), (most, pattern))
+                except finding.TooMuch as error:
+                    self.assertEqual((str(error), is_right), ("too many links", False))
 
 
 if __name__ == "__main__":
