@@ -10,13 +10,14 @@ from unittest import mock
 
 import graphite_doubles as graphite
 from cases import new_folder
+from rrdi.amounts import Millionths
 from rrdi.graphite import finding, slots
 from rrdi.graphite.late import plan, reverts_for
 from rrdi.graphite.layout import archives_of, check_retentions, method_of, template, unknown_share
 from rrdi.graphite.names import is_usable, metric_of, path_of
 from rrdi.graphite.series import read_series, value_of
 from rrdi.graphite.slots import bundles, lines_of, sample, sort_points
-from rrdi.reader.selected import OpenFile
+from rrdi.reader.selected import OpenFile, Outline, StoredArchive
 
 NOW = 1_700_000_400  # a multiple of 600
 
@@ -68,6 +69,11 @@ class Names(unittest.TestCase):
             self.assertEqual(path is not None, is_right, more)
             if path:
                 self.assertEqual(len(path), 4_095)
+
+    def test_tagged_names_are_hashed(self) -> None:
+        """As carbon does, unless its setting says otherwise."""
+        self.assertEqual(path_of("/d", "a;b=c"), path_of("/d", "a;b=c", True))
+        self.assertNotEqual(path_of("/d", "a;b=c"), path_of("/d", "a;b=c", False))
 
     def test_metrics(self) -> None:
         for relative, metric in (("a/b.rrdi", "a.b"), ("a/b", "a.b"), ("a.rrdi/b", "a.rrdi.b"), ("rrdi", "rrdi")):
@@ -126,6 +132,13 @@ class Files(unittest.TestCase):
             outline = self.open(graphite.file_bytes(130, archives=archives)).outline()
             self.assertEqual([(one.steps, one.rows) for one in archives_of(outline, "average")], wanted)
             self.assertEqual([(one.steps, one.rows) for one in archives_of(outline, "max")], wanted)
+
+    def test_archives_of_other_functions(self) -> None:
+        """Those of the method's function are read, and if there are none, all."""
+        kept = [StoredArchive(function, steps, 500_000, 9, 10 * steps, 0, ()) for function, steps in (("MAX", 6), ("AVERAGE", 1), ("MAX", 1), ("AVERAGE", 60))]
+        outline = Outline(10, 0, ("g",), ((0, Millionths(0)),), tuple(kept), 0)
+        for method, wanted in (("max", [2, 0]), ("average", [1, 3]), ("sum", [1, 3]), ("last", [1, 2, 0, 3])):
+            self.assertEqual(archives_of(outline, method), [kept[at] for at in wanted], method)
 
     def test_which_archive(self) -> None:
         """The finest one that reaches back to the start."""
