@@ -7,9 +7,13 @@ from __future__ import annotations
 
 import ctypes
 import errno
+import math
+import os
+import random
 import shutil
 import subprocess
 import unittest
+from fractions import Fraction
 from typing import List, Optional, Tuple
 
 from cases import new_folder, use_library
@@ -18,7 +22,7 @@ from test_recorder import Recorder
 from tool_case import ToolCase
 
 from rrdi.compat import rrdtool
-from rrdi.errors import CANNOT_OPEN, OperationalError
+from rrdi.errors import BAD_BLOCK, CANNOT_OPEN, CANNOT_WRITE, NO_MEMORY, OperationalError
 from rrdi.library import DONE, Answer
 from rrdi.tools import program
 from rrdi.tools.command_line import Failure
@@ -93,6 +97,107 @@ class Record(unittest.TestCase):
         self.assertIn(b"\0--start=0\0", self.given())
         self.recorder.create(self.file, 10, -1, "DS:g:GAUGE:9:U:U", "RRA:MAX:0.5:1:4")
         self.assertNotIn(b"--start", self.given())
+
+    def fields(self, texts: List[str]) -> List[str]:
+        """Returns what becomes of the fields of a sample."""
+        self.assertEqual(self.recorder.update(self.file, None, "10:" + ":".join(texts)), "")
+        begin, *found = self.given().decode()[:-1].split(":")
+        self.assertEqual((begin, len(found)), ("update 10", len(texts)))
+        return found
+
+    def test_each_number(self) -> None:
+        """All short numbers of some digits, with a point at each place and an exponent: each is the nearest number of millionths,
+        and of two the upper one, without zeros that say nothing."""
+        texts: List[str] = []
+        chance = random.Random(5)
+        for digits in ("0", "5", "9", "10", "05", "49", "50", "95", "99", "499", "500", "501", "995", "999", "4999999", "5000001", "9999999", "9999995",
+                       "99999995", "123456789", "1000000000", *("".join(chance.choices("0459", k=chance.randrange(1, 15))) for _ in range(60))):
+            for at in {0, 1, len(digits) // 2, len(digits) - 1, len(digits)}:
+                for sign in ("", "-", "+"):
+                    texts += [f"{sign}{digits[:at]}.{digits[at:]}", *(f"{sign}{digits[:at]}.{digits[at:]}{letter}{power}" for letter, power in (
+                        ("e", chance.randrange(-14, 14)), ("E", -len(digits) - chance.randrange(9)), ("e", f"+{chance.randrange(12)}"), ("e", "-07"), ("E", "6")))]
+            texts += [f"{digits}e{power}" for power in range(-16, 3)]
+        for at in range(0, len(texts), 500):
+            part = texts[at:at + 500]
+            for text, found in zip(part, self.fields(part)):
+                mantissa, _, power = text.lower().partition("e")
+                exact = Fraction(mantissa.replace(".", ".0") if mantissa[-1:] == "." else mantissa) * Fraction(10)**int(power or 0)
+                self.assertEqual(Fraction(found), Fraction(math.floor(exact * 10**6 + Fraction(1, 2)), 10**6), text)
+                self.assertRegex(found, r"^-?[0-9]+(\.[0-9]{0,5}[1-9])?$", text)
+
+    def test_whole_numbers_stay_as_they_are(self) -> None:
+        """Also those that no float has; and so does what is no number, with each sign and each byte beside a digit's."""
+        for text in ("0", "-0", "00", "-9", "9", "18446744073709551615", "-9223372036854775808", "1" * 60, "007", "", "-", "+", "--1", "1-", "1-1", "-+1", "/",
+                     "1/", ";1", "1;", "1,5", "e", ".", "-.", "+.", ".e1", "1e", "1e-", "1e+", "1e1.", "1e1-", "1e--1", "1ee1", "1e1e1", "1..", "1.1.", "0x1", "nan1", "-nan1", "xnan", "na",
+                     "inf", "U", "NANx", "1f", "1d5"):
+            self.assertEqual(self.fields([text, "1.50"]), [text, "1.5"])
+        for text in ("nan", "NAN", "NaN", "-nan", "+nan", "-NaN"):
+            self.assertEqual(self.fields([text]), ["U"])
+
+    def test_long_texts(self) -> None:
+        """Of each length, so that a text grows at each place; and long exponents, of which four digits count."""
+        for length in (*range(240, 270), *range(500, 530), 5_000):
+            self.assertEqual(self.fields(["7" * length]), ["7" * length])
+            self.assertEqual(self.fields(["0." + "1" * length, "." + "9" * length, "9" * length + ".9999995"]), ["0.111111", "1", "1" + "0" * length])
+        for exponent in ("99", "100", "999", "0999", "1000", "9999", "00001"):
+            self.assertEqual(self.fields([f"1e{exponent}"]), ["1" + "0" * int(exponent)])
+        self.assertEqual(self.fields(["1e-9999", "9e-6", "9e-7", "4e-7", "-9e-7", "1e-99999999999999999999"]), ["0", "0.000009", "0.000001", "0", "-0.000001", "0"])
+
+    def test_times(self) -> None:
+        """The fraction of a second goes, and no other point; the names of sources stay."""
+        for sample, line in (("10.5:1", "10:1"), ("10.:1", "10:1"), (".5:1", ":1"), ("10:1.50", "10:1.5"), ("N:1.50", "N:1.5"), ("10.5", "10.5"), ("10", "10"), (":1", ":1"),
+                             ("10:", "10:"), ("10::1", "10::1"), ("10.7:1.50:2.50", "10:1.5:2.5"), ("", "")):
+            self.assertEqual(self.recorder.update(self.file, None, sample), "")
+            self.assertEqual(self.given().decode(), f"update {line}\n")
+            self.assertEqual(self.recorder.update(self.file, "1.50:2e1", sample, sample), "")
+            self.assertEqual(self.given().decode(), f"update --template=1.50:2e1 {line}\n" * 2)
+
+    def test_which_parts_of_a_definition_are_numbers(self) -> None:
+        """A minimum and a maximum, and all of an archive but its function."""
+        for word, wanted in (("DS:1e1:1e1:1e1:1e1:1e1", "DS:1e1:1e1:1e1:10:10"), ("DS:a:GAUGE:9:-1.50:nan", "DS:a:GAUGE:9:-1.5:U"), ("RRA:1e1:1e1:1e1:1e1", "RRA:1e1:10:10:10"),
+                             ("RRA:MAX:0.50", "RRA:MAX:0.5"), ("RRA:", "RRA:"), ("DS:", "DS:"), ("DS:a:b:c:1.0:1.0:1.0", "DS:a:b:c:1:1:1")):
+            for at in range(3):
+                words = ["DS:x:GAUGE:9:U:U"] * at + [word] + ["RRA:MAX:0:1:1"]
+                self.assertEqual(self.recorder.create(self.file, 300, 1, *words), "")
+                self.assertEqual(self.given().decode().split("\0"), ["create", "--step=300", "--start=1", *words[:at], wanted, *words[at + 1:]])
+        before = self.library.call_count()
+        for word in ("DS", "ds:a", "RRA", "XRRA:", "D:S", "RR:A", "", "-", "DSS:"):
+            for others in ((), ("RRA:MAX:0:1:1",)):
+                self.assertEqual(self.recorder.create(self.file, 10, 1, *others, word), f"can't parse argument '{word}'")
+        self.assertEqual(self.library.call_count(), before)
+
+    def test_each_byte_of_a_word(self) -> None:
+        """A word has what is printable, and bytes of other languages: no spaces, and no control characters."""
+        for byte in (*range(1, 34), *range(126, 130), 255):
+            text = bytes([byte])
+            sample = (ctypes.c_char_p * 2)(b"10:" + text, None)
+            status = self.library.rrd_update_r(self.file.encode(), None, 1, sample)
+            self.assertEqual(status, -1 if byte <= 32 or byte == 127 else 0, byte)
+            names = self.library.rrd_update_r(self.file.encode(), b"a" + text, 0, sample)
+            self.assertEqual(names, status, byte)
+
+    def test_faults(self) -> None:
+        """The system's reason with the path, or rrdi's own text; of refused samples the first one, by its number."""
+        reason = os.strerror(errno.EACCES)
+        for fault, number, refused, output, of_update, of_create in (
+                (CANNOT_OPEN, errno.EACCES, 0, "cannot open", f"opening '{self.file}': {reason}", f"opening '{self.file}': {reason}"),
+                (CANNOT_WRITE, errno.EACCES, 0, "x", f"writing '{self.file}': {reason}", f"writing '{self.file}': {reason}"),
+                (CANNOT_OPEN, 0, 0, "cannot open", f"{self.file}: cannot open", f"{self.file}: cannot open"), (CANNOT_WRITE, 0, 0, "x", f"{self.file}: cannot write", f"{self.file}: x"),
+                (NO_MEMORY, 0, 0, "x", f"{self.file}: out of memory", f"{self.file}: x"), (BAD_BLOCK, errno.EACCES, 0, "file: bad block at 6", f"{self.file}: file: bad block at 6", f"{self.file}: file: bad block at 6"),
+                (0, 0, 1, "ERROR: why\nERROR: other\n", f"{self.file}: sample 2 of 1: why", ""), (0, 0, 2, "why", f"{self.file}: sample 2 of 1: why", ""),
+                (0, 0, 1, "ERROR:", f"{self.file}: sample 2 of 1: ERROR:", ""), (0, 0, 1, "\n", f"{self.file}: sample 2 of 1: ", ""), (0, errno.EACCES, 0, "text", "", "")):
+            self.answer(fault, number, refused, output)
+            self.assertEqual((self.recorder.update(self.file, None, "10:1"), self.recorder.create(self.file, 10, 1, "RRA:MAX:0:1:1")), (of_update, of_create), (fault, output))
+
+    def test_an_answer_of_any_length(self) -> None:
+        """Its end is that of the text, also if the text fills the room."""
+        for count in (0, 1, 2):
+            self.answer(0, 0, 0, "")
+            self.recorder.update(self.file, None, *["10:1"] * count)
+            room = self.library.last_room()
+            for length in (0, 1, room - 1, room):
+                self.answer(BAD_BLOCK, 0, 0, "y" * length)
+                self.assertEqual(self.recorder.update(self.file, None, *["10:1"] * count), f"{self.file}: {'y' * length}"[:1_023])
 
     def answer(self, fault: int, number: int, refused: int, output: str) -> None:
         self.kept = ctypes.create_string_buffer(output.encode())

@@ -50,7 +50,7 @@ def plan(file: OpenFile, slots: Slots) -> Plan:
     is_whole = not any(time % front.step for time in [front.last, *times])
     if not times or times[-1] >= max(late) or not is_whole:
         return cut(slots, front.last, [], {})
-    kept = {end: str(cells[0]) for end, cells in file.rows(archive, times[-1] + 1, front.last).items()
+    kept = {end: str(cells[0]) for end, cells in file.rows(archive, times[-1], front.last).items()
             if cells[0] is not None}
     return cut(slots, front.last, times, kept)
 

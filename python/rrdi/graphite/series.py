@@ -38,7 +38,7 @@ def read_series(file: OpenFile, start: int, end: int, now: int) -> Optional[Seri
     rows = file.rows(archive, first + seconds, after)
     values = [value_of(method, rows.get(at + seconds), archive.steps) for at in range(first, after, seconds)]
     unfinished = outline.last - outline.last % seconds
-    if archive.steps > 1 and outline.last > unfinished and first <= unfinished < after:
+    if first <= unfinished < after:
         values[(unfinished - first) // seconds] = unfinished_value(method, archive)
     return Series(first, after, seconds, values, method, outline.step)
 
