@@ -15,7 +15,7 @@ from rrdi.graphite import finding, slots
 from rrdi.graphite.late import plan, reverts_for
 from rrdi.graphite.layout import archives_of, check_retentions, method_of, template, unknown_share
 from rrdi.graphite.names import is_usable, metric_of, path_of
-from rrdi.graphite.series import read_series, value_of
+from rrdi.graphite.series import read_series, unfinished_value, value_of
 from rrdi.graphite.slots import bundles, lines_of, sample, sort_points
 from rrdi.reader.selected import OpenFile, Outline, StoredArchive
 
@@ -160,6 +160,14 @@ class Files(unittest.TestCase):
                 found = read_series(file, start, end, last)
                 assert found is not None
                 self.assertEqual(found.values, values, (passed, start - NOW, end - NOW))
+
+    def test_how_much_is_known_of_a_row(self) -> None:
+        """It is shown as soon as no more steps are unknown than may be; of zeros all steps count."""
+        for xff, steps, known, is_shown in ((500_000, 6, 3, True), (500_000, 6, 2, False), (500_000, 2, 1, True), (500_000, 2, 0, False), (499_999, 2, 1, False),
+                                            (0, 2, 1, False), (0, 1, 0, False), (999_999, 6, 1, True), (999_999, 6, 0, False), (833_333, 6, 1, False), (833_334, 6, 1, True)):
+            archive = StoredArchive("AVERAGE", steps, xff, 9, 10 * steps, 0, ((known, Millionths(8_000_000 * known)), (steps, Millionths(3_000_000 * steps))))
+            for method, value in (("average", 8.0), ("sum", 8.0 * known), ("max", 8.0 * known), ("avg_zero", 3.0)):
+                self.assertEqual(unfinished_value(method, archive), value if is_shown else None, (xff, steps, known, method))
 
     def test_values(self) -> None:
         for method, cells, value in (("average", [3_000_000], 3.0), ("max", [3_000_000, 1], 3.0), ("sum", [3_000_000, 2_000_000], 12.0), ("avg_zero", [3_000_000, 2_000_000], 2.0),

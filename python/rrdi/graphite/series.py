@@ -56,7 +56,7 @@ def value_of(method: str, cells: Optional[Cells], steps: int) -> Optional[float]
 def unfinished_value(method: str, archive: StoredArchive) -> Optional[float]:
     """The value of the row that is being filled, which whisper shows too if enough of its slots are known."""
     (known, amount), steps = archive.partial[0], archive.steps
-    if known == 0 or (steps - known) * MILLION > archive.xff * steps:
+    if (steps - known) * MILLION > archive.xff * steps:  # without a known step, too: the share is below 1
         return None
     if method == "avg_zero":
         return archive.partial[1][1] / steps / MILLION
