@@ -229,12 +229,12 @@ class Slices(unittest.TestCase):
 
     def test_random_logs(self) -> None:
         """Each change sets the length, where what was behind it is zeros, and then lays its pieces, one after the other."""
-        for seed in range(40):
+        for seed in range(100):
             chance = random.Random(seed)
             tail = chance.choice([20, PAGE - 1, PAGE, PAGE + 1, 3 * PAGE + 50])
             wanted = bytearray(b"RRDI" + bytes(chance.choices(range(1, 256), k=chance.choice([16, tail - 4, tail - 4]))))
             held = marks.with_base(bytes(wanted), tail)
-            for _ in range(chance.randrange(4)):
+            for _ in range(chance.randrange(8)):
                 size = chance.choice([16, 17, tail, tail, min(PAGE, tail), min(PAGE + 1, tail), chance.randrange(16, tail + 1)])
                 wanted[:] = wanted[:size].ljust(size, b"\0")
                 pieces = []
