@@ -3,6 +3,7 @@
  * accepts them, or gives the answer that a test has set. */
 #include "rrdi.h"
 
+#include <stdlib.h>
 #include <string.h>
 
 static uint8_t given[65536];
@@ -16,6 +17,17 @@ const uint8_t *last_given(void) { return given; }
 size_t last_length(void) { return length; }
 size_t last_room(void) { return room; }
 int call_count(void) { return calls; }
+
+/* Takes the place of realloc in record.c: has so many blocks left, or any number. */
+static long blocks_left = -1;
+
+void set_blocks(long count) { blocks_left = count; }
+
+void *some_blocks(void *block, size_t size) {
+    if (blocks_left == 0) return NULL;
+    if (blocks_left > 0) blocks_left--;
+    return realloc(block, size);
+}
 
 /* Sets the answer of later calls; the text must stay. */
 void set_answer(uint32_t fault, uint32_t system_error, uint64_t refused, const char *output) {

@@ -14,8 +14,11 @@ import shutil
 import subprocess
 import unittest
 from fractions import Fraction
+from functools import lru_cache
+from pathlib import Path
 from typing import List, Optional, Tuple
 
+from building import workshop
 from cases import new_folder, use_library
 from doubles import TOP, NothingStaysOpen
 from test_recorder import Recorder
@@ -33,16 +36,24 @@ BREAKING = ["110:1\ncreate --start 0 DS:x:GAUGE:9:U:U RRA:MAX:0:1:1", "110:1 120
             "110:1\x7f", "--template=x 110:1", "110:1\nrevert"]
 
 
+@lru_cache(maxsize=None)
+def recorder_of_lines() -> Path:
+    """Returns librrd/record.c with a library that keeps lines, compiled once."""
+    made, object_of_it = workshop() / "recorder_of_lines.so", workshop() / "record.o"
+    options = (str(CC), "-std=c11", "-Wall", "-Wextra", "-Werror", "-fPIC", f"-I{TOP}/include")
+    subprocess.run([*options, "-Drealloc=some_blocks", "-c", "-o", object_of_it, TOP / "librrd/record.c"], check=True)
+    subprocess.run([*options, "-shared", "-o", made, object_of_it, TOP / "tests/python/lines.c"], check=True)
+    return made
+
+
 @unittest.skipUnless(CC, "there is no C compiler cc")
 class Record(unittest.TestCase):
     """librrd/record.c over a library that keeps lines."""
 
     def setUp(self) -> None:
-        assert CC
         folder = new_folder(self)
         path = folder / "record.so"
-        subprocess.run([CC, "-std=c11", "-Wall", "-Wextra", "-Werror", "-shared", "-fPIC", f"-I{TOP}/include", "-o", path,
-                        TOP / "librrd/record.c", TOP / "tests/python/lines.c"], check=True)
+        shutil.copy(recorder_of_lines(), path)  # whose state is that of no other test
         self.recorder = Recorder(str(path))
         self.library = self.recorder.library
         self.library.last_given.restype = ctypes.c_void_p
@@ -188,6 +199,24 @@ class Record(unittest.TestCase):
                 (0, 0, 1, "ERROR:", f"{self.file}: sample 2 of 1: ERROR:", ""), (0, 0, 1, "\n", f"{self.file}: sample 2 of 1: ", ""), (0, errno.EACCES, 0, "text", "", "")):
             self.answer(fault, number, refused, output)
             self.assertEqual((self.recorder.update(self.file, None, "10:1"), self.recorder.create(self.file, 10, 1, "RRA:MAX:0:1:1")), (of_update, of_create), (fault, output))
+
+    def test_no_memory(self) -> None:
+        """Whichever block is refused, a call says so and changes nothing; the next one has memory again."""
+        self.recorder.update("/nowhere", None, "10:1")  # whose error stays if a call says nothing
+        for call, least in ((lambda: self.recorder.update(self.file, "a" * 300, "10:" + "9" * 700 + ".9999995", "20:1"), 3),
+                            (lambda: self.recorder.create(self.file, 10, 1, "DS:a:GAUGE:9:U:" + "9" * 400, "RRA:MAX:0:1:1"), 2)):
+            refused = 0
+            while True:
+                before = self.library.call_count()
+                self.library.set_blocks(ctypes.c_long(refused))
+                error = call()
+                self.library.set_blocks(ctypes.c_long(-1))
+                if not error:
+                    break
+                self.assertEqual((error, self.library.call_count()), ("out of memory", before))
+                refused += 1
+            self.assertGreaterEqual(refused, least)
+            self.assertEqual(self.library.call_count(), before + 1)
 
     def test_an_answer_of_any_length(self) -> None:
         """Its end is that of the text, also if the text fills the room."""
