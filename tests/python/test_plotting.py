@@ -4,6 +4,7 @@ from __future__ import annotations
 
 import math
 import os
+import re
 import time
 import xml.etree.ElementTree as ElementTree
 import unittest
@@ -16,13 +17,15 @@ import cases  # noqa: F401  (finds the package)
 from rrdi.tools.command_line import WrongArguments
 from rrdi.tools.plotting.asked import Bounds, read_bounds, read_size
 from rrdi.tools.plotting.columns import Columns, Curve, group_size, grouped, series_of
+from rrdi.tools.plotting import pages
 from rrdi.tools.plotting.gnuplot import Picture
 from rrdi.tools.plotting.labels import DISTANCES, Label, distance_of, label_days, labels
 from rrdi.tools.plotting.legend import legend_of
 from rrdi.tools.plotting.look import LEAST_PLOT_HEIGHT, LIGHT, UNTITLED, plot_height, size_of, title_room
 from rrdi.tools.plotting.numbers import axis, number_text
+from rrdi.tools.plotting.pages import Section
 from rrdi.tools.plotting.spikes import alike, CutMark, cut, cut_curve, cut_marks, range_of, runs
-from rrdi.tools.plotting.svg import STYLES, path_of, svg_of
+from rrdi.tools.plotting.svg import STYLES, Frame, outline, path_of, placed, svg_of, widened
 
 DAY = 86_400
 
@@ -173,6 +176,29 @@ class Marks(unittest.TestCase):
                              ["00:00\\n01 Jan", *(f"00:0{at}" for at in range(1, 8))])
             self.assertEqual([text for text, _ in labels(start, start + 150 * DAY, 822)],
                              [f"{month}\\n2024" for month in ("Jan", "Feb", "Mar", "Apr", "May")])
+
+    def test_times_that_begin_anywhere(self) -> None:
+        """The first label may come within the first quarter of an hour, and the last one at the very end."""
+        start = 1_700_006_400  # midnight, UTC
+        with in_zone("UTC"):
+            for begin in (start - 3_600, start - 3_599, start - 900, start - 100, start - 1, start):
+                for end in (start + 7_200, start + 7_201, start + 7_999):
+                    found = [at for at, in ((at,) for _, at in labels(begin, end, 822)) if at % 3_600 == 0]
+                    self.assertEqual(found, [at for at in range(start - 3_600, end + 1, 3_600) if at >= begin])
+        with in_zone("Asia/Kathmandu"):  # 5:45 ahead of UTC
+            self.assertEqual([text for text, _ in labels(start, start + 7 * 3_600, 822)], ["06:00\\n15 Nov", *(f"{hour:02}:00" for hour in range(7, 13))])
+
+    def test_months_and_years(self) -> None:
+        """Months apart, labels are at months that divide a year, from January on, in each year."""
+        start = 1_640_995_200  # 1 January 2022, UTC
+        years = {year: start + DAY * days for year, days in ((2022, 0), (2023, 365), (2024, 730), (2025, 1_096), (2026, 1_461), (2027, 1_826))}
+        with in_zone("UTC"):
+            for end, months in ((2023, "Jan Mar May Jul Sep Nov"), (2024, "Jan Jul"), (2025, "Jan Jul"), (2027, "Jan")):
+                found = [text.split("\\n") for text, _ in labels(start, years[end] - 1, 822)]
+                self.assertEqual(found, [[month, str(year)] for year in range(2022, end) for month in months.split()], end)
+            self.assertEqual([at for _, at in labels(start, years[2027], 822)], list(years.values()))
+            self.assertEqual(distance_of(49 * DAY), 7 * DAY)
+            self.assertEqual([text for text, _ in label_days(start, start + 28 * DAY, 7 * DAY)], [f"{day:02} Jan\\n2022" for day in (1, 8, 15, 22, 29)])
 
     def test_days_when_clocks_change(self) -> None:
         """A midnight at the end has its label, though a day was an hour shorter, or two hours, as in Troll."""
@@ -367,7 +393,90 @@ class SvgPictures(unittest.TestCase):
         picture = self.picture([1.0, 1.0])._replace(rows=rows)
         self.assertEqual(self.drawn(picture)["line c0"], "M29 197.5H450.5H872")
 
+    def test_places(self) -> None:
+        """From the left to the right and from below to above, wherever times and values begin; times stay within the plot."""
+        frame = Frame(10, 110, 20, 120, 1_000, 2_000, 5, 25)
+        self.assertEqual([frame.across(time) for time in (900, 1_000, 1_250, 2_000, 2_100)], [10, 10, 35, 110, 110])
+        self.assertEqual([frame.down(value) for value in (5, 10, 25, 30)], [120, 95, 20, -5])
+        stretch = [(1_000, 5.0, 10.0, 7.5, 15.0), (1_250, 5.0, 10.0, 7.5, 15.0), (1_250, 10.0, 20.0, 15.0, 25.0), (2_000, 10.0, 20.0, 15.0, 25.0)]
+        self.assertEqual(placed(frame, stretch, 2), [(10, 95), (35, 95), (35, 45), (110, 45)])
+        self.assertEqual(outline("line", frame, stretch), "M10 95H35V45H110")
+        self.assertEqual(outline("area", frame, stretch), "M10 95H35V45H110V95H35V120H10z")
+        self.assertEqual(outline("band", frame, stretch), "M10 70H35V20H110V70H35V107.5H10z")
+
+    def test_short_lines(self) -> None:
+        """A line is three points long at least."""
+        for end, points in ((0, [(3.5, 1), (5, 1), (5, 1), (6.5, 1)]), (2.5, [(4.75, 1), (5, 1), (7.5, 1), (7.75, 1)]), (3, [(5, 1), (8, 1)]), (4, [(5, 1), (9, 1)])):
+            self.assertEqual(widened([(5, 1), (5 + end, 1)]), points)
+
+    def test_what_is_drawn_of_a_source(self) -> None:
+        """Its band and its area, if the picture has them, and its line; after sixteen sources the colors come again."""
+        for has_band, style, kinds in ((False, "lines", ["line"]), (True, "lines", ["band", "line"]), (False, "area", ["area", "line"]), (True, "area", ["band", "area", "line"]),
+                                       (False, "stack", ["area", "line"])):
+            found = self.drawn(self.picture([1.0, 2.0])._replace(has_band=has_band, style=style))
+            self.assertEqual([name for name in found if name != "grid"], [f"{kind} c0" for kind in kinds])
+        names = [f"s{at}" for at in range(18)]
+        rows = Columns(names, 10, [10, 20], [[1.0, 2.0]] * 18)
+        found = self.drawn(self.picture([1.0, 2.0])._replace(rows=rows, series=series_of(rows, None, None, False)))
+        self.assertEqual(list(found), ["grid", *(f"line c{at}" for at in range(16))])
+
+    def test_marks_and_triangles(self) -> None:
+        """The text of a mark is left of its line, and a triangle at the edge beyond which a source goes."""
+        picture = self.picture([1.0, 9.0, -9.0, 1.0])
+        root = ElementTree.fromstring(svg_of(picture, 0, 40, ""))
+        marks = [(one.text, float(one.attrib["x"]), float(one.attrib["y"])) for one in root.iter() if one.attrib.get("class") == "mark"]
+        self.assertEqual([(text, across) for text, across, _ in marks], [(str(at), 21) for at in range(5)])
+        self.assertEqual([[round(one - other, 1) for (_, _, one), (_, _, other) in zip(marks, marks[1:])], [abs(marks[-1][2] - 10) < 8]], [[62.5] * 4, [True]])
+        found = svg_of(picture, 0, 40, "").splitlines()
+        self.assertEqual([line for line in found if 'class="cut' in line], ['<path class="cut c0" d="M345.1 10l-4 6h8z"/>', '<path class="cut c0" d="M555.9 260l-4-6h8z"/>'])
+
     def test_light_and_dark(self) -> None:
         light, dark = STYLES.split("@media (prefers-color-scheme:dark)")
         self.assertIn("--ground:#ffffff", light)
         self.assertIn("--ground:#181b1f", dark)
+        for text in (light, dark):  # what is behind an area or a band is seen through it, and a band is denser
+            fill, band = (float(re.findall(f"--{name}:([0-9.]+)[;}}]", text)[0]) for name in ("fill", "band"))
+            self.assertTrue(0.1 < fill < band < 0.4, (fill, band))
+
+
+class PageParts(SvgPictures):
+    """What a page shows of a file: the pictures of a length of time, and for whom does not see them, what they show."""
+
+    def section(self, *names: str, is_cut: bool = False) -> Section:
+        pictures = [self.picture([1.0, 9.0 if is_cut else 2.0], name=name)._replace(subtitle=["LAST of 10 s", f"cut of {name}"]) for name in names]
+        return Section("Last day", 10, 50, pictures)
+
+    def test_a_length_of_time(self) -> None:
+        for names in ((), ("a",), ("a", "b")):
+            one = self.section(*names)
+            parts = pages.section_of(one, "net<1>", "B/s")
+            told = [f"net<1>, last day{f': {name}' if len(names) > 1 else ''}" for name in names]
+            self.assertEqual([part for part in parts if part.startswith("<svg")], [svg_of(picture, 10, 50, text) for picture, text in zip(one.pictures, told)])
+            self.assertEqual([part for part in parts if part.startswith("<p>")], [f"<p>LAST of 10 s; cut of {name}</p>" for name in names]
+                             or ["<p>No value is known in this time, or there are fewer than two rows.</p>"])
+            self.assertEqual([part for part in parts if part.startswith("<tr")], [f'<tr><td class="name"><span class="swatch c0"></span>{name}</td><td>2.00 B/s</td><td>1.00 B/s</td>'
+                                                                                  '<td>1.50 B/s</td><td>2.00 B/s</td></tr>' for name in names])
+
+    def test_a_card(self) -> None:
+        """How far cut values go is told, and nothing where none is cut."""
+        for is_cut in (False, True):
+            for names in ((), ("a",), ("a", "b")):
+                one = self.section(*names, is_cut=is_cut)
+                lines = pages.card("x/net<1>", "<p>now</p>", one).splitlines()
+                self.assertEqual(lines[:2], ['<div><h2><a href="x/net%3C1%3E.html">x/net&lt;1&gt;</a></h2>', "<p>now</p>"])
+                told = [f"x/net<1>, last day{f': {name}' if len(names) > 1 else ''}" for name in names]
+                drawn = "\n".join(lines)
+                for picture, text in zip(one.pictures, told):
+                    self.assertIn(svg_of(picture, 10, 50, text), drawn)
+                self.assertEqual([line for line in lines[2:] if line.startswith("<p>")], ([f"<p>cut of {name}</p>" for name in names] if is_cut else [])
+                                 if names else ["<p>No value is known in this day.</p></div>"])
+                self.assertEqual(drawn.count('class="key"'), len(names))
+
+    def test_the_page_of_all(self) -> None:
+        for cards, files in (([], "0 files"), (["c"], "1 file"), (["c", "d"], "2 files")):
+            text = pages.index_page("a<b", cards, [pages.NotDrawn("x<y", "why")] if cards else [])
+            self.assertIn(f"<p>{files}, each with its last day;", text)
+            self.assertEqual("<li>x&lt;y: why</li>" in text, bool(cards))
+            self.assertEqual(text.count("Not drawn"), bool(cards))
+        for name, up in (("f", "index.html"), ("a/f", "../index.html"), ("a/b/f", "../../index.html")):
+            self.assertIn(f'<a href="{up}">All files</a>', pages.file_page(name, pages.age_text("noon", False), [self.section("a")], ""))

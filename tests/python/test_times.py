@@ -11,10 +11,10 @@ from unittest import mock
 
 from tool_case import NO_RRDTOOL, RRDTOOL, ToolCase
 
-from rrdi.tools.command_line import WrongArguments
+from rrdi.tools.command_line import Failure, WrongArguments
 from rrdi.tools.fix import times_of
 from rrdi.tools.graph import with_times
-from rrdi.tools.spans import as_of_rrdtool, length_text, span_of
+from rrdi.tools.spans import as_of_rrdtool, length_text, local_times, span_of, time_text, zone_of
 
 NOON = 1_704_106_800  # 2024-01-01 11:00 UTC, and 12:00 in Berlin
 
@@ -56,10 +56,52 @@ class Times(unittest.TestCase):
             with self.assertRaisesRegex(WrongArguments, "there is no time '2017-10-15 00:30'"):
                 as_of_rrdtool("2017-10-15 00:30")
 
+    def test_clocks_that_are_set_back_by_hours(self) -> None:
+        """Three of them in Casey, at 2 o'clock of 5 March 2010: both times are found, whichever `mktime` tells."""
+        with mock.patch.dict(os.environ, {"TZ": "Antarctica/Casey"}):
+            time.tzset()
+            for text, first in (("2010-03-04 23:00", 1_267_704_000), ("2010-03-05 00:30", 1_267_709_400), ("2010-03-05 01:59:59", 1_267_714_799)):
+                for told in (first, first + 10_800):
+                    with mock.patch.object(time, "mktime", lambda parts: float(told)):
+                        self.assertEqual(local_times(text, (*text[:10].split("-"), *text[11:].split(":"), *["00"] * (text.count(":") == 1))), [first, first + 10_800])
+            self.assertEqual(as_of_rrdtool("2010-03-05 02:00"), "epoch+1267725600")
+
+    def test_spans_that_are_none(self) -> None:
+        """The start is before the end; a time is one that there is."""
+        self.assertEqual(span_of(None, "@100000", 5), (13_600, 100_000))
+        self.assertEqual(span_of(None, "@86400", 5), (0, 86_400))
+        self.assertEqual(span_of(None, "@86399", 5), (0, 86_399))
+        self.assertEqual(span_of("@5", None, 6), (5, 6))
+        at = {0: "1970-01-01 01:00:00", 5: "1970-01-01 01:00:05", 6: "1970-01-01 01:00:06"}
+        for start, end, last, text in (("@5", "@5", 0, f"the start, {at[5]}, is not before the end, {at[5]}"), ("@6", "@5", 0, f"the start, {at[6]}, is not before the end, {at[5]}"),
+                                       ("@5", None, 5, f"the start, {at[5]}, is not before the end, {at[5]}, which is the last update of the file"),
+                                       (None, None, 0, f"the start, {at[0]}, is not before the end, {at[0]}, which is the last update of the file"), (None, "@0", 7, f"the start, {at[0]}, is not before the end, {at[0]}")):
+            with self.assertRaises(Failure) as failed:
+                span_of(start, end, last)
+            self.assertEqual(str(failed.exception), text)
+        for start, end, text in (("x", None, "cannot parse time: x"), (None, "x", "cannot parse time: x"), ("end-1h", "start+1h", "--start and --end cannot both be relative to each other")):
+            with self.assertRaises(WrongArguments) as wrong:
+                span_of(start, end, 5)
+            self.assertEqual(str(wrong.exception), text)
+
+    def test_zone_names(self) -> None:
+        for times, names in (((NOON,), "CET"), ((NOON, NOON + 5), "CET"), ((NOON, 1_719_792_000), "CET/CEST"), ((1_719_792_000, NOON, 1_719_792_000), "CEST/CET")):
+            self.assertEqual(zone_of(*times), names)
+        self.assertEqual((time_text(NOON), time_text(1_719_792_059)), ("2024-01-01 12:00:00", "2024-07-01 02:00:59"))
+
+    def test_each_end_of_a_date(self) -> None:
+        """The last second of a year, of a leap day, of a day; the first one of years that the calendar has."""
+        for text, seconds in (("2023-12-31T23:59:59Z", 1_704_067_199), ("2024-02-29T00:00:00Z", 1_709_164_800), ("2024-01-31 23:59:59Z", 1_706_745_599), ("1970-01-01T00:00Z", 0),
+                              ("2024-01-01T00:00:00+23:59", 1_703_980_860), ("2024-01-01T00:00:00-23:59", 1_704_153_540), ("2024-01-01T00:00-0030", 1_704_069_000), ("2024-01-01 12:59:59", 1_704_110_399),
+                              ("@0", 0), ("@9999999999", 9_999_999_999)):
+            self.assertEqual(as_of_rrdtool(text), f"epoch+{seconds}", text)
+        for text in ("@10000000000", "@", "@-1", "@1.5", "2024-1-01", "2024-01-01T1:00Z", "2024-01-01T", "2024-01-01T00Z", "2024-01-01+1", "noon", "now-5min"):
+            self.assertEqual(as_of_rrdtool(text), text)
+
     def test_lengths(self) -> None:
         """In the longest unit of which there are whole ones."""
         for seconds, text in ((0, "0 s"), (59, "59 s"), (60, "1 min"), (61, "61 s"), (5_400, "90 min"), (7_200, "2 h"),
-                              (86_400, "1 day"), (172_800, "2 days"), (604_800, "1 week"), (1_209_600, "2 weeks")):
+                              (3_599, "3599 s"), (3_600, "1 h"), (82_800, "23 h"), (90_000, "25 h"), (86_400, "1 day"), (172_800, "2 days"), (604_800, "1 week"), (1_209_600, "2 weeks")):
             self.assertEqual(length_text(seconds), text)
 
     def test_no_times(self) -> None:

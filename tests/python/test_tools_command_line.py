@@ -5,6 +5,7 @@ from __future__ import annotations
 import errno
 import importlib
 import io
+import os
 import re
 import signal
 import subprocess
@@ -136,6 +137,31 @@ class Ends(ToolCase):
         self.write("tool.py", text)
         ran = self.run_command(["sh", "-c", f"{{ {sys.executable} -B tool.py; echo $? >status; }} | head -n 1"])
         self.assertEqual((ran, self.read("status")), (Ran(0, "0\n", ""), b"1\n"))
+
+    def test_a_pipe_that_nobody_reads(self) -> None:
+        """What waits to be written is given up, whatever ends the tool: Python does not report it at its end."""
+        for act, status, error in (("print('a'); return 0", 1, ""), ("print('a'); raise BrokenPipeError", 1, ""), ("print('a'); raise KeyboardInterrupt", 130, ""),
+                                   ("print('a'); raise Failure('why')", 1, "rrdi-try: why\n"), ("print('a'); raise WrongArguments('why')", 2, "rrdi-try: why\n")):
+            text = TOOL.format(python=str(TOP / "python"), act=act)
+            reader, writer = os.pipe()
+            os.close(reader)
+            try:
+                ran = subprocess.run([sys.executable, "-B", "-c", text], stdout=writer, stderr=subprocess.PIPE, env=self.env, text=True)
+            finally:
+                os.close(writer)
+            self.assertEqual((ran.returncode, ran.stderr), (status, error), act)
+
+    def test_names(self) -> None:
+        """A tool has the name by which it was called, unless that is Python's."""
+        tool = command_line.Tool("rrdi-try", "", None, lambda words: 0)
+        for called, name in (("/bin/rrdi-try", "rrdi-try"), ("/bin/other", "other"), ("other", "other"), ("/x/tool.py", "rrdi-try"), ("tool.py", "rrdi-try"), ("", "rrdi-try"),
+                             ("-c", "rrdi-try"), ("-m", "rrdi-try"), ("__main__", "rrdi-try"), ("/x/__main__.py", "rrdi-try"), ("/x/", "rrdi-try"), ("py", "py"), ("tool.pyx", "tool.pyx")):
+            with mock.patch.object(sys, "argv", [called]):
+                self.assertEqual(command_line.called_name(tool), name, called)
+
+    def test_errors_of_the_system(self) -> None:
+        for error, text in ((OSError(errno.ENOENT, "no such"), "no such"), (OSError(errno.ENOENT, "no such", "f"), "f: no such"), (OSError("odd"), "odd"), (OSError(), "")):
+            self.assertEqual(command_line.error_text(error), text)
 
     def test_an_interrupt(self) -> None:
         """Ctrl-C ends a tool without a traceback. The tests may have inherited that SIGINT is ignored, as a shell sets it

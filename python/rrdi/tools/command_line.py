@@ -92,7 +92,7 @@ def run(tool: Tool, words: Optional[List[str]] = None) -> int:
     on standard error. A further line says which option was meant, or that a file is RRDtool's.
     """
     words = sys.argv[1:] if words is None else words
-    name = called_name(tool)
+    name, ended = called_name(tool), tool.failed
     try:
         if words[:1] in (["-h"], ["--help"]):
             print((tool.help or f"usage: {name} {tool.usage}").strip())  # PYTHONOPTIMIZE=2 leaves no help
@@ -112,7 +112,7 @@ def run(tool: Tool, words: Optional[List[str]] = None) -> int:
             if tool.help:
                 from .hints import option_hint  # few runs fail
                 add_line(name, option_hint(words, tool.help))
-        return tool.misused
+        ended = tool.misused
     except Failure as failure:
         print_line(name, str(failure))
         if str(failure).endswith("file: not ours"):
@@ -136,7 +136,7 @@ def run(tool: Tool, words: Optional[List[str]] = None) -> int:
         flush_output()
     except OSError:
         give_up_output()
-    return tool.failed
+    return ended
 
 
 def say(tool_name: str, text: str) -> None:
