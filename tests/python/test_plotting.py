@@ -235,6 +235,12 @@ class Asked(unittest.TestCase):
             self.assertEqual(read_size(given), size)
         for given in ({"size": "199"}, {"size": "300x"}, {"size": "300x10001"}, {"width": "300x200"}, {"height": "-5"}):
             self.assertRaises(WrongArguments, read_size, given)
+        for given, text in (({"width": "199"}, "--width must be a number of points from 200 to 10000, not '199'"), ({"height": "x"}, "--height must be a number of points from 200 to 10000, not 'x'"),
+                            ({"size": "300x10001"}, "--size must be WIDTHxHEIGHT, each from 200 to 10000, not '300x10001'"), ({"size": ""}, "--size must be WIDTHxHEIGHT, each from 200 to 10000, not ''")):
+            with self.assertRaises(WrongArguments) as wrong:
+                read_size(given)
+            self.assertEqual(str(wrong.exception), text)
+        self.assertEqual([read_size({name: "200", "size": "10000x200"}) for name in ("width", "height")], [(200, 200), (10_000, 200)])
 
     def test_bounds(self) -> None:
         self.assertEqual(read_bounds({}, {"--cut-spikes"}), Bounds(None, None, False, True))

@@ -115,6 +115,12 @@ class Ends(ToolCase):
             with self.subTest(act=act):
                 self.assertEqual(self.end(act, "a"), wanted)
 
+    def test_a_fault_of_the_tool(self) -> None:
+        """It is shown as Python shows it, and its status is that of a failure."""
+        ran = self.end("print('part', end=''); raise ValueError('odd')")
+        self.assertEqual((ran.status, ran.out), (1, "part"))
+        self.assertRegex(ran.err, "^Traceback .*(.|\n)*ValueError: odd\n$")
+
     def test_help(self) -> None:
         for option in ("-h", "--help"):
             self.assertEqual(self.end("raise Failure('not called')", option), Ran(0, "The help.\n", ""))
