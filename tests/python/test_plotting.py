@@ -165,6 +165,7 @@ class Marks(unittest.TestCase):
                 with self.subTest(width=width):
                     found: List[Label] = labels(start, start + DAY, width)
                     self.assertEqual([at for _, at in found], list(range(start, start + DAY + 1, distance)))
+                    self.assertEqual(found[0][0], "15 Nov\\n2023" if distance == DAY else "00:00\\n15 Nov")
 
     def test_seconds_and_months(self) -> None:
         """Seconds are told if there are some between two labels; months apart, labels are at the first days."""
@@ -440,9 +441,6 @@ class SvgPictures(unittest.TestCase):
         light, dark = STYLES.split("@media (prefers-color-scheme:dark)")
         self.assertIn("--ground:#ffffff", light)
         self.assertIn("--ground:#181b1f", dark)
-        for text in (light, dark):  # what is behind an area or a band is seen through it, and a band is denser
-            fill, band = (float(re.findall(f"--{name}:([0-9.]+)[;}}]", text)[0]) for name in ("fill", "band"))
-            self.assertTrue(0.1 < fill < band < 0.4, (fill, band))
 
 
 class PageParts(SvgPictures):
@@ -479,10 +477,16 @@ class PageParts(SvgPictures):
                 self.assertEqual(drawn.count('class="key"'), len(names))
 
     def test_the_page_of_all(self) -> None:
+        light, dark = pages.page("t", "all", []).split("@media (prefers-color-scheme:dark)")
+        for text in (light, dark):  # what is behind an area or a band is seen through it, and a band is denser
+            fill, band = (float(re.findall(f"--{name}:([0-9.]+)[;}}]", text)[0]) for name in ("fill", "band"))
+            self.assertTrue(0.1 < fill < band < 0.4, (fill, band))
         for cards, files in (([], "0 files"), (["c"], "1 file"), (["c", "d"], "2 files")):
             text = pages.index_page("a<b", cards, [pages.NotDrawn("x<y", "why")] if cards else [])
             self.assertIn(f"<p>{files}, each with its last day;", text)
+            self.assertTrue(all(part in text for part in ("<title>a&lt;b</title>", '<body class="all">', "<h1>a&lt;b</h1>")))
             self.assertEqual("<li>x&lt;y: why</li>" in text, bool(cards))
             self.assertEqual(text.count("Not drawn"), bool(cards))
         for name, up in (("f", "index.html"), ("a/f", "../index.html"), ("a/b/f", "../../index.html")):
-            self.assertIn(f'<a href="{up}">All files</a>', pages.file_page(name, pages.age_text("noon", False), [self.section("a")], ""))
+            text = pages.file_page(name, pages.age_text("noon", False), [self.section("a")], "")
+            self.assertTrue(all(part in text for part in (f'<a href="{up}">All files</a>', f"<title>{name}</title>", '<body class="one">', "<p>Last sample noon</p>")))

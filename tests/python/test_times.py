@@ -53,6 +53,8 @@ class Times(unittest.TestCase):
         with mock.patch.dict(os.environ, {"TZ": "America/Sao_Paulo"}):
             time.tzset()
             self.assertEqual(as_of_rrdtool("2017-10-15"), "epoch+1508036400")
+            self.assertEqual(span_of("2017-10-15", "2017-10-16", 5), (1_508_036_400, 1_508_119_200))
+            self.assertEqual(span_of("2017-10-14", "2017-10-15", 5), (1_507_950_000, 1_508_036_400))
             with self.assertRaisesRegex(WrongArguments, "there is no time '2017-10-15 00:30'"):
                 as_of_rrdtool("2017-10-15 00:30")
 
