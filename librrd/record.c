@@ -113,7 +113,8 @@ static bool read_number(const char *at, const char *end, struct number *number) 
     return at == end;
 }
 
-/* Adds one to a number in decimal digits with a point. If all digits are nines, adds a digit 1 at the front. */
+/* Adds one to a number in decimal digits with a point and six decimals. If all digits are nines, a digit 1 comes to the front, and one
+ * of the zeros at the end goes. */
 static void increment(struct text *text, size_t from) {
     if (text->has_failed) return;
     size_t at = text->length;
@@ -126,8 +127,6 @@ static void increment(struct text *text, size_t from) {
         }
         text->bytes[at] = '0';
     }
-    add(text, "0", 1);
-    if (text->has_failed) return;
     memmove(text->bytes + from + 1, text->bytes + from, text->length - from - 1);
     text->bytes[from] = '1';
 }
@@ -135,7 +134,7 @@ static void increment(struct text *text, size_t from) {
 /* Adds a number as rrdi reads it: without an exponent, and with six decimals at most. Rounds a half up. */
 static void add_rounded(struct text *text, const struct number *number) {
     long place = number->before; /* the power of ten of the next digit, plus one */
-    int rest = 0;                /* the dropped digits: 0 none, 1 below a half, 2 a half, 3 above a half */
+    int rest = 0;                /* the dropped digits: 0 below a half, 1 a half, 2 above a half */
     bool is_first_cut = true;
     if (number->is_negative) add(text, "-", 1);
     size_t from = text->length;
@@ -151,19 +150,17 @@ static void add_rounded(struct text *text, const struct number *number) {
             place--;
             if (place == 0) add(text, ".", 1);
         } else if (is_first_cut) {
-            rest = *at == '0' ? 0 : (*at < '5' ? 1 : (*at == '5' ? 2 : 3));
+            rest = *at < '5' ? 0 : (*at == '5' ? 1 : 2);
             is_first_cut = false;
-        } else if (*at != '0') {
-            rest = rest == 2 ? 3 : (rest == 0 ? 1 : rest);
+        } else if (*at != '0' && rest == 1) {
+            rest = 2;
         }
     }
     if (place > 0) {
         add_zeros(text, place);
         add(text, ".", 1);
-        place = 0;
     }
-    if (place > -DECIMALS) add_zeros(text, DECIMALS + place);
-    if (rest == 3 || (rest == 2 && !number->is_negative)) increment(text, from);
+    if (rest == 2 || (rest == 1 && !number->is_negative)) increment(text, from);
     while (!text->has_failed && text->bytes[text->length - 1] == '0') text->length--;
     if (!text->has_failed && text->bytes[text->length - 1] == '.') text->length--;
 }
@@ -171,14 +168,10 @@ static void add_rounded(struct text *text, const struct number *number) {
 /* Adds one field of a definition or a sample: a number, or the unchanged text, which rrdi refuses if it is invalid. */
 static void add_field(struct text *text, const char *at, const char *end) {
     struct number number;
-    bool is_plain = at < end;
-    for (const char *byte = at; byte < end; byte++) {
-        if ((*byte < '0' || *byte > '9') && !(byte == at && *byte == '-' && end - at > 1)) is_plain = false;
-    }
     size_t length = (size_t)(end - at);
     if ((length == 3 || (length == 4 && (*at == '-' || *at == '+'))) && strncasecmp(end - 3, "nan", 3) == 0) {
         add(text, "U", 1);
-    } else if (!is_plain && read_number(at, end, &number)) {
+    } else if (read_number(at, end, &number)) {
         add_rounded(text, &number);
     } else {
         add(text, at, length);

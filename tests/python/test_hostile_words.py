@@ -140,7 +140,7 @@ class Record(unittest.TestCase):
         """Also those that no float has; and so does what is no number, with each sign and each byte beside a digit's."""
         for text in ("0", "-0", "00", "-9", "9", "18446744073709551615", "-9223372036854775808", "1" * 60, "007", "", "-", "+", "--1", "1-", "1-1", "-+1", "/",
                      "1/", ";1", "1;", "1,5", "e", ".", "-.", "+.", ".e1", "1e", "1e-", "1e+", "1e1.", "1e1-", "1e--1", "1ee1", "1e1e1", "1..", "1.1.", "0x1", "nan1", "-nan1", "xnan", "na",
-                     "inf", "U", "NANx", "1f", "1d5"):
+                     "inf", "U", "NANx", "nab", "-nab", "nbn", "bna", "na-",  "1f", "1d5"):
             self.assertEqual(self.fields([text, "1.50"]), [text, "1.5"])
         for text in ("nan", "NAN", "NaN", "-nan", "+nan", "-NaN"):
             self.assertEqual(self.fields([text]), ["U"])
