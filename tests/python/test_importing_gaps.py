@@ -183,8 +183,16 @@ class Gaps(unittest.TestCase):
             with self.subTest(kinds=kinds):
                 self.assertEqual(self.differing(kinds, (1, 3, 4, 5, 9), (106,)), {})
 
+    def test_an_unfinished_row_of_which_only_the_steps_are_known(self) -> None:
+        """What is before them stays unknown, so that the row gets as many unknown steps as it has."""
+        for known in (1, 2, 3):
+            cells = [NAN if 96 <= step < 101 - known else self.cells[step] for step in range(101)]
+            found = moved(cells, [Kind("AVERAGE", 1, known), self.ROWS])
+            self.assertTrue(all(map(is_same, found[96:], cells[96:])), found[96:])
+
     def test_steps_inside_an_unfinished_row(self) -> None:
-        self.PLACES = tuple(range(97, 107))
+        """Also if only these are known of it."""
+        self.PLACES = tuple(range(94, 107))
         for count in (2, 4):
             steps = Kind("AVERAGE", 1, count)
             for kinds in ([steps, self.ROWS, self.COARSER], [steps, *with_extremes((6, 18))]):

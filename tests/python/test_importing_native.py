@@ -79,6 +79,11 @@ class Bytes(unittest.TestCase):
         for kind in ("GAUGE", "DERIVE", "ABSOLUTE", "DCOUNTER", "DDERIVE"):
             self.assertIsNotNone(read_native(rrd_bytes(kind=kind, version="0005")), kind)
 
+    def test_a_file_without_an_update(self) -> None:
+        for last in (0, 1):
+            old = read_native(rrd_bytes(last=last))
+            self.assertEqual(old and old.last, last)
+
     def test_cut_files(self) -> None:
         data = rrd_bytes()
         self.assertEqual([length for length in range(len(data)) if read_native(data[:length]) is not None], [])
