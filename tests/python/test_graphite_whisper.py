@@ -21,7 +21,8 @@ from rrdi.graphite.losses import Losses
 from rrdi.graphite.series import read_series
 from rrdi.graphite.store import StoreOptions, Store
 from rrdi.importing.dump import Refusal
-from rrdi.importing.whisper import NUMBERS, WhisperArchive, WhisperFile, read_whisper, samples, whisper_batch
+from rrdi.importing.whisper import spans as whisper_spans
+from rrdi.importing.whisper import NUMBERS, WhisperArchive, WhisperFile, read_whisper, samples, stretches, whisper_batch
 from rrdi.reader.selected import OpenFile
 from rrdi.tools import whisper_file
 from rrdi.tools.command_line import Failure
@@ -126,6 +127,17 @@ class Written(FolderCase):
                 found = list(samples(old, 100, start, lambda text: None))
                 self.assertEqual(found[:-1], lines)
                 self.assertEqual(found[-1].split(":")[0], "110")
+
+    def test_which_archive_gives_which_time(self) -> None:
+        """The finest one that has the time, from a whole point of the next one on; between them may be a time that none has."""
+        coarse = WhisperArchive(60, 10, {0: 3.0, 60: 4.0})
+        for at, begin in ((110, 60), (150, 120), (170, 120), (1_000, 960)):
+            fine = WhisperArchive(10, 6, {at: 1.0})
+            self.assertEqual(whisper_spans([fine, coarse]), [(coarse, 0, min(begin, 120)), (fine, begin, at + 10)])
+            known = [(60, "3.000000"), (120, "4.000000")][:1 + (begin > 60)]
+            self.assertEqual(stretches(WhisperFile("average", 0.5, [fine, coarse]), print), [*known, (at, None), (at + 10, "1.000000")])
+        self.assertEqual(whisper_spans([WhisperArchive(10, 6, {}), coarse]), [(coarse, 0, 120)])
+        self.assertEqual(whisper_spans([WhisperArchive(10, 6, {})]), [])
 
     def test_many_retentions(self) -> None:
         """Each archive is read where the header says that it is."""

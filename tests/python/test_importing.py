@@ -21,7 +21,7 @@ from rrdi.importing.differing import DifferingCell, differing_archives, differin
 from rrdi.importing.dump import RrdArchive, RrdFile, Refusal, RrdSource, read_dump
 from rrdi.importing.plan import Span, note_made_up_rows, plan
 from rrdi.importing.rates import SourceRates
-from rrdi.importing.steps import Rest, Wanted, lay, sum_of_rest
+from rrdi.importing.steps import Rest, Row, Wanted, lay, sum_of_rest
 
 NAN = math.nan
 
@@ -235,6 +235,15 @@ class Steps(unittest.TestCase):
                 ("nothing that fits", 3, 300, (200, 400, 1), [(3, 100)])):
             with self.subTest(what):
                 self.assertEqual(self.laid(steps, total, 8, *pins), wanted)
+
+    def test_means_that_a_row_may_have(self) -> None:
+        """Between its minimum and its maximum, up to what rounding may have taken."""
+        for minimum, maximum, mean, is_right in ((1_000_000, 2_000_000, 1.5, True), (1_000_000, 2_000_000, 0.9999995, True), (1_000_000, 2_000_000, 0.99999, False),
+                                                 (1_000_000, 2_000_000, 2.0000005, True), (1_000_000, 2_000_000, 2.00001, False), (None, 2_000_000, -9.0, True), (1_000_000, None, 9.0, True),
+                                                 (None, None, 9.0, True), (None, 2_000_000, 9.0, False), (1_000_000, None, -9.0, False)):
+            self.assertEqual(Row(True, 1.5, minimum, maximum).may_have(mean, 5), is_right, (minimum, maximum, mean))
+        self.assertEqual([Row(True, average, -7_000_000, 2_000_000, latest).size() for average, latest in ((1.0, None), (-8.0, 3_000_000), (1.0, 9_000_000))], [7, 8, 9])
+        self.assertEqual((Row(True, math.nan).is_known, Row(True, 0.0).is_known), (False, True))
 
     def test_the_rest_of_a_cut_row(self) -> None:
         later: list[tuple[int, int | None]] = [(20, 5), (40, None), (50, 9), (90, 1)]
