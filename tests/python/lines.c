@@ -18,15 +18,47 @@ size_t last_length(void) { return length; }
 size_t last_room(void) { return room; }
 int call_count(void) { return calls; }
 
-/* Takes the place of realloc in record.c: has so many blocks left, or any number. */
+/* Takes the place of realloc in record.c: has so many blocks left, or any number, and keeps what is behind each block. */
+#define BEHIND 64
+#define MOST_BLOCKS 8
 static long blocks_left = -1;
+static size_t block_count;
+static int damaged;
+static struct {
+    uint8_t *bytes;
+    size_t size;
+} blocks[MOST_BLOCKS];
 
 void set_blocks(long count) { blocks_left = count; }
+int damaged_blocks(void) { return damaged; }
+
+/* Counts the blocks behind which something was written, and forgets all. */
+static void check_blocks(void) {
+    for (size_t at = 0; at < block_count; at++) {
+        for (size_t behind = 0; behind < BEHIND; behind++) damaged += blocks[at].bytes[blocks[at].size + behind] != 0xa5;
+    }
+    block_count = 0;
+}
 
 void *some_blocks(void *block, size_t size) {
-    if (blocks_left == 0) return NULL;
+    size_t at = 0;
+    if (blocks_left == 0) {
+        block_count = 0; /* the call ends, and frees them */
+        return NULL;
+    }
     if (blocks_left > 0) blocks_left--;
-    return realloc(block, size);
+    while (at < block_count && blocks[at].bytes != block) at++;
+    if (at == MOST_BLOCKS) return NULL;
+    if (block != NULL && at < block_count) {
+        for (size_t behind = 0; behind < BEHIND; behind++) damaged += blocks[at].bytes[blocks[at].size + behind] != 0xa5;
+    }
+    uint8_t *grown = realloc(block, size + BEHIND);
+    if (grown == NULL) return NULL;
+    memset(grown + size, 0xa5, BEHIND);
+    blocks[at].bytes = grown;
+    blocks[at].size = size;
+    if (at == block_count) block_count++;
+    return grown;
 }
 
 /* Sets the answer of later calls; the text must stay. */
@@ -41,6 +73,7 @@ void set_answer(uint32_t fault, uint32_t system_error, uint64_t refused, const c
 
 static void keep(const uint8_t *bytes, size_t count, uint8_t *output, size_t output_length, struct rrdi_answer *answer) {
     size_t most = given_answer.output_length < output_length ? given_answer.output_length : output_length;
+    check_blocks();
     calls++;
     length = count < sizeof given ? count : sizeof given;
     memcpy(given, bytes, length);

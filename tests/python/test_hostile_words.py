@@ -60,6 +60,7 @@ class Record(unittest.TestCase):
         self.library.last_length.restype = self.library.last_room.restype = ctypes.c_size_t
         self.file = str(folder / "f.rrd")
         (folder / "f.rrd").touch()
+        self.addCleanup(lambda: self.assertEqual(self.library.damaged_blocks(), 0, "something was written behind a block of memory"))
 
     def given(self) -> bytes:
         return ctypes.string_at(self.library.last_given(), self.library.last_length())
