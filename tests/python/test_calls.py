@@ -427,3 +427,46 @@ class End(unittest.TestCase):
 
 class EndByExtension(ByExtension, End):
     pass
+
+
+class Begun:
+    """A call that another thread has begun."""
+
+    path: Optional[bytes] = b"/nowhere/f"
+    opened = None
+    thread = -1
+
+
+class Bookkeeping(unittest.TestCase):
+    """What is known of the calls of other threads, without calls."""
+
+    def setUp(self) -> None:
+        self.calls = running.Calls()
+        self.elsewhere = mock.Mock(running=lambda: [], files=lambda: [])
+        self.calls.elsewhere.append(self.elsewhere)
+
+    def test_a_child_forgets_each_call(self) -> None:
+        begun = [Begun(), Begun(), Begun()]
+        self.calls.known.update(enumerate(begun))  # type: ignore[arg-type]
+        self.assertEqual(len(self.calls.running_elsewhere()), 3)
+        self.calls.after_fork_in_child()
+        self.assertEqual([one.path for one in begun], [None] * 3)
+        self.assertEqual((self.calls.running_elsewhere(), self.calls.are_stopped()), ([], False))
+        self.assertEqual(self.elsewhere.mock_calls, [mock.call.stop(False), mock.call.forget_calls()])
+
+    def test_when_a_call_may_begin(self) -> None:
+        """Not while another thread forks, but for two seconds at most; then it goes on without asking again."""
+        now = time.monotonic()
+        for thread, until, waits in ((-1, now + HANG, True), (threading.get_ident(), now + HANG, False), (-1, now - 1, False), (0, 0.0, False)):
+            self.elsewhere.stop.reset_mock()
+            self.calls.stopped_by, self.calls.stopped_until = thread, until
+            self.assertEqual((self.calls.are_stopped(), self.calls.wait()), (waits, waits), (thread, until - now))
+            self.assertEqual(self.elsewhere.stop.mock_calls, [mock.call(False)] if until < now else [])
+        with mock.patch.object(running, "LONGEST_WAIT", 0):
+            self.calls.stop()
+        self.assertEqual(self.calls.stopped_by, threading.get_ident())
+        self.assertTrue(1.5 < self.calls.stopped_until - time.monotonic() <= 2)
+        self.assertEqual(self.elsewhere.stop.mock_calls[-1], mock.call(True))
+        self.calls.after_fork()
+        self.assertEqual((self.calls.stopped_by, self.calls.stopped_until, self.elsewhere.stop.mock_calls[-1]), (0, 0, mock.call(False)))
+        self.assertEqual((running.Calls().stopped_by, running.Calls().stopped_until), (0, 0))
