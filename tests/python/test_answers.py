@@ -7,6 +7,8 @@ import datetime
 import errno
 import math
 import os
+import pickle
+import re
 import time
 import unittest
 from decimal import Decimal
@@ -14,13 +16,14 @@ from typing import Any, List, Tuple, Type
 from unittest import mock
 
 from cases import new_folder
+from doubles import TOP
 from rrdi import errors
 from rrdi.amounts import Millionths, gauge_text, shortened
 from rrdi.by_program import as_argument, number_of, of_every_second, of_lines, output_of
 from rrdi.damaged import LONGEST_CREATION, is_being_made
 from rrdi.described import ArchiveInfo, Info, SourceInfo
 from rrdi.differences import difference
-from rrdi.environment import is_synced, milliseconds
+from rrdi.environment import is_synced, milliseconds, sync_of_environment, wait_of_environment
 from rrdi.errors import details_in, error_of, error_of_line, fault_of, reason_of, reasons_in
 from rrdi.printed import Settings, printed_rows, settings_of
 from rrdi.results import NamedRow, Table, info_of, last_update, table
@@ -69,6 +72,36 @@ class Faults(unittest.TestCase):
             has_place = fault in (errors.TRUNCATED, errors.BAD_BLOCK, errors.BAD_ENTRY, errors.TRAILING)
             self.assertIs(type(error), kind, (fault, number))
             self.assertEqual((error.reason, error.path, error.fault, getattr(error, "at", None), error.system_error), ("why", "f", fault, 7 if has_place else None, number))
+
+    def test_numbers(self) -> None:
+        """They are those of rrdi.h."""
+        header = (TOP / "include/rrdi.h").read_text(encoding="utf-8")
+        enum = header[header.index("enum rrdi_fault"):]
+        found, number = {}, -1
+        for name, given in re.findall(r"^ +RRDI_(\w+)(?: = (\d+))?,?(?: |$)", enum[:enum.index("};")], re.MULTILINE):
+            number = int(given) if given else number + 1
+            found[name] = number
+        own = {"OK": errors.OK, "NO_ROOM": errors.NO_ROOM, "NO_MEMORY": errors.NO_MEMORY, "USAGE": errors.USAGE, "BAD_WORD": errors.BAD_WORD, "REFUSED": errors.REFUSED, "CANNOT_OPEN": errors.CANNOT_OPEN,
+               "CANNOT_WRITE": errors.CANNOT_WRITE, "NOT_OURS": errors.NOT_OURS, "OTHER_VERSION": errors.VERSION, "TRUNCATED": errors.TRUNCATED, "BAD_BLOCK": errors.BAD_BLOCK, "BAD_ENTRY": errors.BAD_ENTRY,
+               "TRAILING": errors.TRAILING, "READ": errors.READ_FAILED}
+        self.assertEqual(found, own)
+        self.assertNotIn(errors.NO_DATABASE, found.values())
+
+    def test_exceptions_that_are_made_here(self) -> None:
+        error = errors.Exists("f")
+        self.assertEqual((error.reason, error.path, error.fault, error.errno, error.detail), ("cannot write", "f", errors.CANNOT_WRITE, errno.EEXIST, "overwrite=True replaces it, exist_ok=True keeps it"))
+        self.assertEqual(str(error), "f: cannot write: File exists; overwrite=True replaces it, exist_ok=True keeps it")
+        for one in (error, errors.Different("g", "the file has step=10")):
+            again = pickle.loads(pickle.dumps(one))
+            self.assertEqual((type(again), again.path, again.detail, again.errno), (type(one), one.path, one.detail, errno.EEXIST))
+        bad = errors.BadSample("bad value", "f", "value 1 is inf")
+        self.assertEqual((bad.reason, bad.path, bad.detail, bad.fault, str(bad)), ("bad value", "f", "value 1 is inf", errors.REFUSED, "f: bad value: value 1 is inf"))
+        for number, detail, text in ((0, "", "why"), (0, "more", "why: more"), (errno.EIO, "", "why: Input/output error"), (errno.EIO, "more", "why: Input/output error; more"),
+                                     (errno.EAGAIN, "", "why: another program holds its lock"), (errno.EAGAIN, "more", "why: more")):
+            self.assertEqual(str(errors.CannotOpen("why", None, errors.CANNOT_OPEN, None, number, detail)), text)
+            self.assertEqual(str(errors.CannotOpen("why", "a\nb", errors.CANNOT_OPEN, None, number, detail)), f"a\\nb: {text}")
+        plain = errors.CannotOpen("why")
+        self.assertEqual((plain.errno, plain.strerror, plain.filename, plain.stored, plain.at), (None, None, None, 0, None))
 
     def test_reasons_of_the_program(self) -> None:
         for reason, found in (("usage", (errors.USAGE, 0)), ("no database", (errors.NO_DATABASE, 0)), ("out of memory", (errors.NO_MEMORY, 0)), ("cannot open", (errors.CANNOT_OPEN, 0)),
@@ -249,6 +282,13 @@ class Words(unittest.TestCase):
         for wrong in (-0.001, -1, math.nan):
             with self.assertRaisesRegex(ValueError, "^busy_timeout must be 0 or more seconds, not "):
                 milliseconds(wrong)
+        for text, seconds in (("18446744073709551615", 3_600), ("18446744073709551616", 5), ("00000000000000000000000000000000000007", 7), ("99999999999999999999", 5), ("100000000000000000000", 5),
+                              ("3599", 3_599), ("3600", 3_600), ("3601", 3_600), ("000", 0), ("", 5), ("\u0661", 5), ("1 ", 5), ("+1", 5)):
+            with mock.patch.dict(os.environ, {"RRDI_WAIT": text}):
+                self.assertEqual(wait_of_environment(), 1_000 * seconds, text)
+        for text, is_set in (("1", True), ("0", False), ("", False), ("01", False), ("true", False)):
+            with mock.patch.dict(os.environ, {"RRDI_SYNC": text}):
+                self.assertEqual(sync_of_environment(), is_set, text)
         with mock.patch("rrdi.environment.WAIT", 7), mock.patch("rrdi.environment.SYNC", True):
             self.assertEqual((milliseconds(None), is_synced(None), is_synced(False)), (7, True, False))
 

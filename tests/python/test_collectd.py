@@ -161,6 +161,42 @@ class Writing(WriterCase):
         self.writer.end()
         self.assertEqual((len(making.lines), self.writer.counts["lost"]), (1, 4))
         self.assertEqual(self.files(), ["data/.._.._../load/derive.rrdi"])
+        self.assertEqual(self.collectd.lines, [*(f"rrdi: {name}: 1 samples lost: its name or its time cannot be used" for name in ("x" * 300, *["here/load/load"] * 3)),
+                                               "rrdi: 1 samples taken in, 4 lost"])
+
+    def test_why_a_sample_is_lost(self) -> None:
+        """What rrdi says of it stands alone, and other faults are named: also where collectd knows no such type."""
+        self.use(Making())
+        self.collectd.DATASETS = {**self.collectd.DATASETS, "odd": [("a b", "gauge", 0.0, 1.0)]}  # type: ignore[misc]
+        for given, why in ((values(NOW, 1, type="odd"), "the names of its sources cannot be used"), (values(NOW, 1, type="none"), "KeyError: 'none'")):
+            self.writer.write(given)
+            self.assertEqual(self.collectd.lines[-1], f"rrdi: here/load/{given.type}: 1 samples lost: {why}")
+
+    def test_how_long_samples_are_held(self) -> None:
+        """Each file from its own first sample on, whatever time the clock had then."""
+        making = self.use(Making())
+        for at, name, written in ((1_000, "a", []), (1_030, "b", []), (1_059, "a", []), (1_060, "c", []), (1_061, "a", ["a"]), (1_089, "b", ["a"]), (1_090, "b", ["a", "b"]), (1_119, "c", ["a", "b"]),
+                                  (1_120, "d", ["a", "b"]), (1_121, "c", ["a", "b", "c"])):
+            self.now = float(at)
+            self.writer.write(values(NOW + at, 1, type="derive", host=name))
+            self.assertEqual([path.split("/")[-3] for path, _ in making.batches], written, (at, name))
+
+    def test_lengths_of_names(self) -> None:
+        """A name of a file or a folder has 255 bytes at most, the end of a file's name among them."""
+        for given, is_right in (({"host": "x" * 255}, True), ({"host": "x" * 256}, False), ({"host": "\u00e4" * 127}, True), ({"host": "\u00e4" * 128}, False), ({"type": "t" * 250}, True), ({"type": "t" * 251}, False),
+                                ({"plugin": "p" * 200, "plugin_instance": "i" * 54}, True), ({"plugin": "p" * 200, "plugin_instance": "i" * 55}, False)):
+            self.assertEqual(collectd.file_of("/d", values(**given)) is not None, is_right, given)  # type: ignore[arg-type]
+
+    def test_bounds_of_options(self) -> None:
+        """Whole numbers from 0 or 1 on, below 10^9; a share below 1."""
+        for name, given, is_right in (("RRARows", 0, False), ("RRARows", 1, True), ("RRARows", 999_999_999, True), ("RRARows", 10**9, False), ("Journal", 0, False), ("Journal", 1, True), ("RRATimespan", 0, False),
+                                      ("RRATimespan", 1, True), ("StepSize", -1, False), ("StepSize", 0, True), ("HeartBeat", 999_999_999, True), ("HeartBeat", 10**9, False), ("XFF", 0, True), ("XFF", 0.999, True),
+                                      ("XFF", 1, False), ("XFF", -0.1, False), ("CacheTimeout", 0, True), ("CacheTimeout", -0.5, False), ("CacheTimeout", 999_999_999.5, True), ("OpenFiles", 0, True), ("OpenFiles", -1, False)):
+            try:
+                collectd.Configuration().set(name, given)
+                self.assertTrue(is_right, (name, given))
+            except ValueError as error:
+                self.assertEqual((str(error), is_right), (f"{name} is out of range: {given!r}", False))
 
     def test_a_refused_create(self) -> None:
         """Each sample is counted once, and nothing is left."""
