@@ -1,0 +1,321 @@
+# SPDX-License-Identifier: MIT OR Apache-2.0
+"""Tests of what tools choose, read and print, without the program: archives as RRDtool chooses them, columns, changes of a journal,
+RRDtool's texts, the files of a tree, and what a machine says of itself."""
+from __future__ import annotations
+
+import os
+import struct
+import time
+import unittest
+from typing import Any, Dict, List, Tuple
+from unittest import mock
+
+from cases import new_folder
+from rrdi.amounts import Millionths
+from rrdi.printed import Archive, Settings, Source
+from rrdi.reader.selected import Outline, StoredArchive
+from rrdi.tools import many_files, rows, show
+from rrdi.tools.changes import Changes, as_parts, raw_text, texts
+from rrdi.tools.children import Child, ChildAnswer
+from rrdi.tools.command_line import Failure, WrongArguments
+from rrdi.tools.graphing import as_json, as_xml
+from rrdi.tools.librrd import Exported
+from rrdi.tools.machine import load, memory, network
+from rrdi.tools.rows import NO_ARCHIVE, Rows, choose, rows_of
+from rrdi.tools.rrdtool.texts import fetch_text, last_update_text
+from rrdi.tools.rrdtool.texts import raw_text as text_of_rrdtool
+from rrdi.tools.rrdtool_output import guarded, lines_of, plain, with_lengths
+
+LAST = 1_700_000_040  # a multiple of 60, and of 120
+
+
+def settings(*archives: Tuple[str, int, int], last: int = LAST, step: int = 10) -> Settings:
+    sources = [Source("a", "GAUGE", 60, "U", "U", "2.500000"), Source("b", "COUNTER", 60, "0.000000", "U", "7")]
+    return Settings(step, last, 16, 0, sources, [Archive(function, "0.500000", steps, count) for function, steps, count in archives])
+
+
+class InUtc(unittest.TestCase):
+    def setUp(self) -> None:
+        patch = mock.patch.dict(os.environ, {"TZ": "UTC"})
+        patch.start()
+        time.tzset()
+        self.addCleanup(time.tzset)
+        self.addCleanup(patch.stop)
+
+
+class Choices(unittest.TestCase):
+    def test_archives(self) -> None:
+        """As `rrdtool fetch` chooses: of those that reach back to the start the nearest resolution, else the one that reaches back
+        farthest; of equals the first; and rows of one step for any function."""
+        fine, middle, coarse = ("AVERAGE", 1, 6), ("AVERAGE", 6, 6), ("AVERAGE", 12, 60)
+        for archives, start, resolution, number in (
+                ((fine, middle, coarse), LAST - 60, 1, 0), ((fine, middle, coarse), LAST - 61, 1, 1), ((fine, middle, coarse), LAST - 360, 1, 1), ((fine, middle, coarse), LAST - 361, 1, 2),
+                ((fine, middle, coarse), LAST - 60, 35, 0), ((fine, middle, coarse), LAST - 60, 36, 1), ((fine, middle, coarse), LAST - 60, 90, 1), ((fine, middle, coarse), LAST - 60, 91, 2),
+                ((fine, middle, coarse), LAST - 7_200, 1, 2), ((fine, middle, coarse), LAST - 9_999, 1, 2), ((coarse, middle, fine), LAST - 60, 1, 2), ((middle, middle), LAST, 1, 0),
+                ((fine, middle), LAST - 9_999, 1, 1), ((middle, fine), LAST - 9_999, 1, 0), ((("AVERAGE", 6, 1), ("AVERAGE", 1, 6)), LAST - 99, 1, 1), ((("AVERAGE", 6, 1), ("AVERAGE", 1, 6)), LAST - 99, 60, 0),
+                ((("MAX", 6, 9), middle), LAST - 9, 1, 1), ((("MAX", 1, 9), middle), LAST - 9, 1, 0), ((("MAX", 1, 9), middle), LAST - 9, 60, 1)):
+            self.assertEqual(choose(settings(*archives), "AVERAGE", start, LAST, resolution), number, (archives, start - LAST, resolution))
+        for archives, function in ((((("MAX", 6, 9)),), "AVERAGE"), ((("MAX", 1, 9),), "HWPREDICT"), ((), "MAX")):
+            with self.assertRaisesRegex(Failure, f"^{NO_ARCHIVE}$"):
+                choose(settings(*archives), function, LAST, LAST, 1)
+
+    def test_rows(self) -> None:
+        """From the row after the start to the one that ends after the end; those that the archive lacks are unknown."""
+        asked: List[List[str]] = []
+
+        def ask(words: List[str]) -> str:
+            asked.append(words)
+            begin, end = (int(words[words.index(option) + 1]) for option in ("--start", "--end"))
+            return "time: a b\n" + "".join(f"{at}: {at - LAST} nan\n" for at in range(begin - begin % 60 + 60, end - end % 60 + 61, 60))
+        with mock.patch.object(rows.program, "ask", ask):
+            for start, end, first, last, words in (
+                    (LAST - 120, LAST, LAST - 120, LAST + 60, (LAST - 120, LAST - 1)), (LAST - 121, LAST - 1, LAST - 180, LAST, (LAST - 180, LAST - 1)), (LAST - 61, LAST - 61, LAST - 120, LAST - 60, (LAST - 120, LAST - 61)),
+                    (LAST - 999, LAST - 300, LAST - 1_020, LAST - 240, (LAST - 360, LAST - 241)), (LAST - 999, LAST - 400, LAST - 1_020, LAST - 360, None), (LAST, LAST + 70, LAST, LAST + 120, None), (LAST - 60, LAST + 70, LAST - 60, LAST + 120, (LAST - 60, LAST - 1))):
+                asked.clear()
+                found = rows_of("f", settings(("MAX", 6, 6)), 0, start, end)
+                self.assertEqual((found.start, found.end, found.step, found.names), (first, last, 60, ["a", "b"]), (start - LAST, end - LAST))
+                self.assertEqual(asked, [["fetch", "f", "MAX", "--resolution", "60", "--start", str(words[0]), "--end", str(words[1])]] if words else [])
+                known = range(words[0] + 60, words[1] + 2, 60) if words else range(0)
+                self.assertEqual(found.cells, [[float(at - LAST) if at in known else None, None] for at in range(first + 60, last + 1, 60)])
+
+    def test_no_rows_before_1970(self) -> None:
+        with mock.patch.object(rows.program, "ask", return_value="time: a b\n60: 1 2\n") as ask:
+            found = rows_of("f", settings(("MAX", 6, 6), last=60), 0, 0, 59)
+        self.assertEqual((found.cells, ask.call_args[0][0][-3:]), ([[1.0, 2.0]], ["0", "--end", "59"]))
+        with self.assertRaisesRegex(Failure, r"^start \(6\) should be less than end \(5\)$"):
+            rows.fetch("f", "MAX", 6, 5)
+
+
+class Shown(InUtc):
+    def test_options(self) -> None:
+        for words, file, function, way, is_journal, values in (
+                ("f", "f", None, "text", False, {}), ("f MAX", "f", "MAX", "text", False, {}), ("--csv f", "f", None, "csv", False, {}), ("f --json -s 5", "f", None, "json", False, {"start": "5"}),
+                ("--journal f", "f", None, "text", True, {}), ("--journal f --json", "f", None, "json", True, {}), ("f MIN -a 2 -e=7 --openmetrics", "f", "MIN", "openmetrics", False, {"archive": "2", "end": "7"})):
+            found = show.read_options(words.split())
+            self.assertEqual(found, (file, function, way, is_journal, values))
+            self.assertEqual(found.has_rows, function is not None or bool(values))
+        for words in ("", "f MAX x", "f --csv --json", "--journal f MAX", "--journal f -s 5", "--journal f --csv", "--journal f --json --json", "--journal", "f avg"):
+            self.assertRaises(WrongArguments, show.read_options, words.split())
+
+    def test_cells(self) -> None:
+        """As many decimals as the numbers of a column need, and no point without one."""
+        for cells, shown in (([1_000_000, None, 2_500_000], ["1.0", "-", "2.5"]), ([1_000_000, 20_000_000], ["1", "20"]), ([None, None], ["-", "-"]), ([], []), ([1], ["0.000001"]), ([100_000_000], ["100"]),
+                             ([0, 10], ["0.00000", "0.00001"]), ([-1_500_000, 1_000_000], ["-1.5", "1.0"]), ([120_000_000, 1_100_000], ["120.0", "1.1"])):
+            self.assertEqual(show.shown_cells([None if cell is None else Millionths(cell) for cell in cells]), shown, cells)
+
+    def test_columns(self) -> None:
+        self.assertEqual(list(show.columns([["a", "long", "x"], ["long", "b", ""], ["", "c", "yy"]])), ["a     long  x", "long  b", "      c     yy"])
+
+    def table(self, **more: Any) -> show.ShownRows:
+        found: Dict[int, Any] = {LAST - 60: [Millionths(1_500_000), None], LAST: [Millionths(20_000_000), Millionths(-7)]}
+        return show.ShownRows(2, "MAX", 6, 10, ["a", "longer_name"], found)._replace(**more)
+
+    def test_a_table(self) -> None:
+        self.assertEqual(list(show.table_texts(self.table())), [
+            "MAX of 1 min (archive 2); a row ends at its time, UTC", "time                    a  longer_name", "2023-11-14 22:13:00   1.5            -", "2023-11-14 22:14:00  20.0    -0.000007"])
+        self.assertEqual(show.table_json(self.table()), f'{{"archive": 2, "function": "MAX", "seconds": 60, "sources": ["a", "longer_name"], "rows": '
+                         f'[{{"time": {LAST - 60}, "cells": [1.500000, null]}}, {{"time": {LAST}, "cells": [20.000000, -0.000007]}}]}}')
+        found = self.table().as_database()
+        self.assertEqual([(archive["function"], archive["steps"], len(archive["rows"])) for archive in found["archives"]], [("", 1, 0), ("", 1, 0), ("MAX", 6, 2)])
+        self.assertEqual((found["step"], [source["name"] for source in found["sources"]], found["archives"][2]["rows"][0]["time"]), (10, ["a", "longer_name"], LAST - 60))
+
+    def test_archives(self) -> None:
+        stored = [StoredArchive(function, steps, 0, 6, 10 * steps, 0, ()) for function, steps in (("AVERAGE", 1), ("MAX", 6), ("AVERAGE", 6), ("MAX", 12))]
+        outline = Outline(10, LAST, ("a",), (), tuple(stored), 0)
+        for words, begin, number in (("f", LAST - 60, 0), ("f", LAST - 61, 2), ("f MAX", LAST - 60, 1), ("f MAX -r 95", LAST - 60, 3), ("f MAX", LAST - 361, 3), ("f -a 3", LAST, 3), ("f -a 0", LAST, 0), ("f MAX -a 2", LAST, 2)):
+            self.assertEqual(show.archive_number(outline, show.read_options(words.split()), begin, LAST), number, words)
+        for words, text in (("f -a 4", "f: there is no archive 4, only 0 to 3"), ("f MIN", "f: no archive has MIN, only AVERAGE, MAX")):
+            with self.assertRaises(Failure) as failed:
+                show.archive_number(outline, show.read_options(words.split()), LAST, LAST)
+            self.assertEqual(str(failed.exception), text)
+        row = {"steps": 6, "function": "MAX", "row_count": 3}
+        self.assertEqual(show.archive_row(1, row, 10, LAST + 59), ["1", "MAX", "1 min", "3", "2023-11-14 22:11:00", "2023-11-14 22:14:00"])
+        self.assertEqual(show.archive_row(0, row, 10, 70), ["0", "MAX", "1 min", "3", "1970-01-01 00:00:00", "1970-01-01 00:01:00"])
+
+
+class Journals(InUtc):
+    """What each change was, the newest first: from the settings now, back."""
+
+    def changes(self, *journal: Dict[str, Any]) -> List[Any]:
+        source = {"name": "a", "type": "GAUGE", "heartbeat": 60, "min": None, "max": Millionths(5_000_000), "last_raw": Millionths(2_500_000)}
+        other = {**source, "name": "b", "type": "COUNTER", "last_raw": 7}
+        archives = [{"function": "MAX", "steps": 6, "rows": [1, 2, 3]}, {"function": "LAST", "steps": 1, "rows": [1]}]
+        return list(Changes({"journal": list(journal), "step": 10, "last_time": LAST, "sources": [source, other], "archives": archives}).changes())
+
+    def test_updates(self) -> None:
+        newest, older = ({"change": "update", "last_time": last, "sources": [{"last_raw": one}, {"last_raw": two}], "archives": [{"rows": finished}, {"rows": [5]}]}
+                         for last, one, two, finished in ((LAST - 10, None, 6, []), (LAST - 40, Millionths(1_000_000), None, [1, 2])))
+        found = self.changes(newest, older)
+        self.assertEqual([change[:4] for change in found], [(1, "update", LAST - 10, LAST), (2, "update", LAST - 40, LAST - 10)])
+        self.assertEqual([tuple(one) for one in found[0].differences], [("a", "last value", "U", "2.5"), ("b", "last value", "6", "7"), (None, "LAST of 10 s (archive 1)", "", "1 new row")])
+        self.assertEqual([tuple(one) for one in found[1].differences], [("a", "last value", "1", "U"), ("b", "last value", "U", "6"), (None, "MAX of 1 min (archive 0)", "", "2 new rows"), (None, "LAST of 10 s (archive 1)", "", "1 new row")])
+        self.assertEqual(list(texts(found[1])), ["  2  update    2023-11-14 22:13:20 -> 2023-11-14 22:13:50", "       a                         1 -> U", "       b                         U -> 6",
+                                                "       MAX of 1 min (archive 0)  2 new rows", "       LAST of 10 s (archive 1)  1 new row"])
+        self.assertEqual(as_parts(found[0])["differences"][0], {"source": "a", "what": "last value", "before": "U", "after": "2.5"})
+        self.assertEqual({name: value for name, value in as_parts(found[0]).items() if name != "differences"}, {"revert": 1, "change": "update", "time_before": LAST - 10, "time_after": LAST})
+
+    def test_settings(self) -> None:
+        """Of a tune the settings that it changed; a later change is seen against those before it."""
+        before = {"number": 0, "name": "old", "type": "GAUGE", "heartbeat": 30, "min": None, "max": None, "last_raw": None}
+        found = self.changes({"change": "tune", "sources": [before]}, {"change": "tune", "sources": [{**before, "heartbeat": 31, "min": Millionths(-500_000)}]})
+        self.assertEqual([tuple(one) for one in found[0].differences], [("a", "name", "old", "a"), ("a", "heartbeat", "30", "60"), ("a", "max", "U", "5")])
+        self.assertEqual([tuple(one) for one in found[1].differences], [("old", "heartbeat", "31", "30"), ("old", "min", "-0.5", "U")])
+        self.assertEqual(list(texts(found[1])), ["  2  tune      2023-11-14 22:14:00", "       old heartbeat  31 -> 30", "       old min        -0.5 -> U"])
+
+    def test_archives(self) -> None:
+        found = self.changes({"change": "resize", "archive": 0, "rows": [1, 2]}, {"change": "addition"}, {"change": "removal", "archive": 0, "function": "MIN", "steps": 12, "rows": [1]},
+                             {"change": "resize", "archive": 1, "rows": [1] * 9})
+        self.assertEqual([tuple(one) for change in found for one in change.differences], [
+            (None, "rows of MAX of 1 min (archive 0)", "2", "3"), (None, "archive 1", "none", "1 row of LAST of 10 s"), (None, "archive 0", "1 row of MIN of 2 min", "none"), (None, "rows of MAX of 1 min (archive 1)", "9", "2")])
+        self.assertEqual([change[:4] for change in found], [(at, kind, LAST, LAST) for at, kind in enumerate(("resize", "addition", "removal", "resize"), 1)])
+        self.assertEqual(list(texts(found[1])), ["  2  addition  2023-11-14 22:14:00", "       archive 1  none -> 1 row of LAST of 10 s"])
+        for value, text in ((None, "U"), (Millionths(1_500_000), "1.5"), (7, "7"), ("GAUGE", "GAUGE"), (Millionths(0), "0")):
+            self.assertEqual(raw_text(value), text)
+
+
+class OfRrdtool(unittest.TestCase):
+    """Texts as RRDtool 1.7.2 prints them."""
+
+    def test_rows(self) -> None:
+        found = Rows(1_000_000_000, 1_000_000_020, 10, ["a", "longer_name"], [[1.5, None], [None, -2e-300]])
+        self.assertEqual(fetch_text(found), "                              a         longer_name\n\n1000000010: 1.5000000000e+00 -nan\n1000000020: -nan -2.0000000000e-300\n")
+        self.assertEqual(fetch_text(Rows(0, 10, 10, ["a"], [[0.0]])), "                              a\n\n        10: 0.0000000000e+00\n")
+
+    def test_the_last_update(self) -> None:
+        self.assertEqual(last_update_text(settings()), f" a b\n\n{LAST}: 2.5 7\n")
+        self.assertEqual(last_update_text(settings(last=5)), " a b\n\n         5: 2.5 7\n")
+        for text, short in (("2.500000", "2.5"), ("100", "100"), ("100.000000", "100"), ("U", "U"), ("0.000000", "0")):
+            self.assertEqual(text_of_rrdtool(text), short)
+
+    def test_exports(self) -> None:
+        found = Exported(1_000, 1_020, 10, ["a", 'b"c'], [[1.5, None], [2.0, -3.0]])
+        for has_times, is_numbered in ((False, False), (True, False), (False, True), (True, True)):
+            tags = ("v0", "v1") if is_numbered else ("v", "v")
+            lines = as_xml(found, has_times, is_numbered).split("\n")
+            self.assertEqual(lines[:15], ['<?xml version="1.0" encoding="ISO-8859-1"?>', "", "<xport>", "  <meta>", "    <start>1010</start>", "    <end>1020</end>", "    <step>10</step>", "    <rows>2</rows>",
+                                          "    <columns>2</columns>", "    <legend>", "      <entry>a</entry>", '      <entry>b"c</entry>', "    </legend>", "  </meta>", "  <data>"])
+            self.assertEqual(lines[15:], [*(f"    <row>{f'<t>{at}</t>' if has_times else ''}<{tags[0]}>{one}</{tags[0]}><{tags[1]}>{other}</{tags[1]}></row>" for at, one, other in (
+                (1_010, "1.5000000000e+00", "NaN"), (1_020, "2.0000000000e+00", "-3.0000000000e+00"))), "  </data>", "</xport>", ""])
+            text = as_json(found, has_times)
+            first = ['"1010",', '"1020",'] if has_times else ["", ""]
+            self.assertTrue(text.endswith(f'  "data": [\n    [ {first[0]}1.5000000000e+00, null ],\n    [ {first[1]}2.0000000000e+00, -3.0000000000e+00 ]\n  ]\n}}\n'), text)
+            self.assertIn('    "start": 1010,\n    "end": 1020,\n    "step": 10,\n    "legend": [\n      "a",\n      "b\\"c"\n          ]', text)
+
+    def test_answers(self) -> None:
+        self.assertEqual((lines_of("a\n\nb\n"), lines_of("")), (["a", "", "b"], []))
+        self.assertEqual(plain(["a", b"\x89P", "b"]), b"a\n\x89Pb\n")
+        self.assertEqual(guarded(["OK x", "ERROR: y", "a\nOKAY\nb OK", b"OK"]), b" OK x\n ERROR: y\na\n OKAY\nb OK\nOK")
+        self.assertEqual((with_lengths("OK", ["a\u00e4", b"xyz", ""]), with_lengths("ERROR", [])), (b"OK 3 3 0\na\xc3\xa4xyz", b"ERROR\n"))
+
+
+class Trees(unittest.TestCase):
+    def setUp(self) -> None:
+        self.tree = new_folder(self)
+        for name in ("b.rrd", "a.rrd", "c.txt", "d/e.rrd", "d/f.rrdi", "z/g.rrd"):
+            (self.tree / name).parent.mkdir(exist_ok=True)
+            (self.tree / name).write_text(name)
+
+    def test_files(self) -> None:
+        """In the order of their names, those of a folder before those of the folders in it; without links."""
+        os.symlink("a.rrd", self.tree / "link.rrd")
+        os.symlink("c.txt", self.tree / "link.txt")
+        os.symlink("d", self.tree / "folder")
+        (self.tree / "odd.rrd").mkdir()
+        os.mkfifo(self.tree / "pipe.rrd")
+        found = list(many_files.found_below(str(self.tree), (".rrd",)))
+        self.assertEqual([one.name for one in found], ["a.rrd", "b.rrd", "d/e.rrd", "z/g.rrd"])
+        self.assertEqual([one.path for one in found], [str(self.tree / one.name) for one in found])
+        self.assertEqual([one.name for one in many_files.found_below(str(self.tree), (".rrd", ".rrdi"))], ["a.rrd", "b.rrd", "d/e.rrd", "d/f.rrdi", "z/g.rrd"])
+        self.assertEqual((many_files.links_below(str(self.tree), (".rrd",)), many_files.links_below(str(self.tree), (".wsp",)), many_files.links_below(str(self.tree / "d"), (".rrd",))), (2, 1, 0))
+        self.assertRaises(OSError, lambda: list(many_files.found_below(str(self.tree / "none"), (".rrd",))))
+
+    def test_arguments(self) -> None:
+        words = [str(self.tree / "d"), str(self.tree / "c.txt"), str(self.tree / "none.rrd")]
+        self.assertEqual([(one.path, one.name) for one in many_files.files_of(words, (".rrd",))], [(f"{words[0]}/e.rrd", "e.rrd"), (words[1], "c.txt"), (words[2], "none.rrd")])
+        for links, text in ((0, ""), (1, ", except links, which are passed over")):
+            with self.assertRaises(Failure) as failed:
+                many_files.files_of([str(self.tree / "z")], (".wsp", ".x"))
+            self.assertEqual(str(failed.exception), f"{self.tree}/z: no file below it has a name that ends in .wsp or .x{text}")
+            os.symlink("g.rrd", self.tree / "z/link.wsp") if not links else None
+
+    def test_new_names(self) -> None:
+        """A name is for the first file that gets it; the same file by another path may have it too."""
+        files = [many_files.OldFile(str(self.tree / name), name) for name in ("a.rrd", "b.rrd", "d/../a.rrd")]
+        names = many_files.NewNames(files, lambda file: "one" if file.name != "b.rrd" else "two")
+        self.assertEqual([names.new(file) for file in files], ["one", "two", "one"])
+        names = many_files.NewNames(files, lambda file: "one")
+        self.assertEqual(names.new(files[0]), "one")
+        with self.assertRaisesRegex(Failure, "^one is made of .*/a.rrd$"):
+            names.new(files[1])
+
+    def test_summaries(self) -> None:
+        made = many_files.Conversions.__new__(many_files.Conversions)
+        made.other = "rrdi"
+        for counts, refused, links, text, status in (
+                ({"whole": 1}, 0, 0, "1 file: 1 converted", 0), ({"whole": 2, "incomplete": 1}, 0, 0, "3 files: 3 converted, 1 of them without all data sources", 1), ({}, 0, 0, "0 files: 0 converted", 0),
+                ({"there": 1, "partly there": 2}, 0, 1, "3 files: 0 converted; 3 there already, 2 of them without all data sources; 1 link passed over", 1), ({"there": 1}, 0, 0, "1 file: 0 converted; 1 there already", 0),
+                ({"passed over": 2}, 3, 2, "5 files: 0 converted; 2 already of rrdi; 3 not converted; 2 links passed over", 1), ({"passed over": 1}, 0, 0, "1 file: 0 converted; 1 already of rrdi", 0)):
+            made.counts, made.refused = many_files.Counter(counts), refused
+            self.assertEqual((made.summary(links), made.status), (text, status), counts)
+        self.assertEqual((many_files.has(1, 2), many_files.has(2, 1), many_files.counted(0, "file")), (" (1 data source, 2 archives)", " (2 data sources, 1 archive)", "0 files"))
+
+
+class Answers(unittest.TestCase):
+    def test_pieces(self) -> None:
+        """An answer comes in pieces of any length, and what follows it stays."""
+        data = b"".join(struct.pack("Q", len(text)) + text for text in (b"+done", b"-", b"-why\xff", b"+"))
+        for size in (1, 2, 3, 7, 8, 9, 13, 100):
+            child, found = Child(0, 0, 0), []
+            for at in range(0, len(data), size):
+                child.data += data[at:at + size]
+                while True:
+                    answer = child.answer()
+                    if answer is None:
+                        break
+                    found.append(answer)
+            self.assertEqual((found, bytes(child.data)), ([ChildAnswer(True, "done"), ChildAnswer(False, ""), ChildAnswer(False, "why\udcff"), ChildAnswer(True, "")], b""), size)
+
+
+class Machines(unittest.TestCase):
+    MEMINFO = "MemTotal:  100 kB\nMemFree:  20 kB\nBuffers:  3 kB\nCached:  5 kB\nSwapTotal:  50 kB\nSwapFree:  40 kB\nSReclaimable:  7 kB\nHugePages:  9\n"
+
+    def with_proc(self, name: str, text: str) -> None:
+        folder = new_folder(self)
+        (folder / "net").mkdir()
+        (folder / name).write_text(text)
+        patch = mock.patch.dict(os.environ, {"RRDI_PROC": str(folder), "LOADAVG": ""})
+        patch.start()
+        self.addCleanup(patch.stop)
+        self.path = str(folder / name)
+
+    def test_loads(self) -> None:
+        self.with_proc("loadavg", "0.50 1.25 10 1/99 7\nmore\n")
+        self.assertEqual([tuple(one) for one in load()], [("load1", "GAUGE", "0.50"), ("load5", "GAUGE", "1.25"), ("load15", "GAUGE", "10")])
+        for text in ("", "1 2\n", "1 2 x 4\n", "1 2 3.\n", "\n1 2 3\n", "-1 2 3\n"):
+            self.with_proc("loadavg", text)
+            with self.assertRaisesRegex(Failure, f"^{self.path} has no three load averages$"):
+                load()
+
+    def test_memory(self) -> None:
+        self.with_proc("meminfo", self.MEMINFO)
+        kib = 1_024
+        self.assertEqual([tuple(one) for one in memory()], [("mem_used", "GAUGE", str(65 * kib)), ("mem_cached", "GAUGE", str(15 * kib)), ("mem_free", "GAUGE", str(20 * kib)), ("swap_used", "GAUGE", str(10 * kib))])
+        self.with_proc("meminfo", self.MEMINFO.replace("SReclaimable:  7 kB\n", "").replace("MemFree:  20", "MemFree:  99").replace("SwapFree:  40", "SwapFree:  60"))
+        self.assertEqual([one.value for one in memory()], ["0", str(8 * kib), str(99 * kib), "0"])
+        for name in ("MemTotal", "MemFree", "Buffers", "Cached", "SwapTotal", "SwapFree"):
+            self.with_proc("meminfo", self.MEMINFO.replace(f"{name}:", f"x{name}:"))
+            with self.assertRaisesRegex(Failure, f"^{self.path} has no {name}$"):
+                memory()
+
+    def test_networks(self) -> None:
+        """The first number of an interface is what it received, and the ninth what it sent."""
+        self.with_proc("net/dev", "Inter-|   Receive\n face |bytes\n    lo: 1 2 3 4 5 6 7 8 9 10\n eth0:11 12 13 14 15 16 17 18 19\nbr:0: 21 22 23 24 25 26 27 28 29\n short: 1 2 3 4 5 6 7 8\n")
+        for name, received, sent in (("lo", "1", "9"), ("eth0", "11", "19"), ("br:0", "21", "29")):
+            self.assertEqual([tuple(one) for one in network(name)], [("net_in", "DERIVE", received), ("net_out", "DERIVE", sent)])
+        for name in ("short", "none", "br"):
+            with self.assertRaisesRegex(Failure, f"^{self.path} has no interface {name}, only br:0, eth0, lo, short$"):
+                network(name)
+
+
+if __name__ == "__main__":
+    unittest.main()
