@@ -51,7 +51,7 @@ def end_of_links(path: str) -> str:
     # Errors
     `OSError` if the system can't look at a link, or there are too many.
     """
-    for _ in range(MOST_LINKS):
+    for _ in range(MOST_LINKS + 1):  # the last one finds that there is no further link
         try:
             target = os.readlink(path)
         except OSError as error:

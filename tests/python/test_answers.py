@@ -86,6 +86,9 @@ class Faults(unittest.TestCase):
                "TRAILING": errors.TRAILING, "READ": errors.READ_FAILED}
         self.assertEqual(found, own)
         self.assertNotIn(errors.NO_DATABASE, found.values())
+        for reason, name in (("file: truncated at 7", "TRUNCATED"), ("file: bad block at 7", "BAD_BLOCK"), ("file: bad entry 7", "BAD_ENTRY"), ("file: trailing at 7", "TRAILING")):
+            self.assertEqual(fault_of(reason), (found[name], 7))
+            self.assertIs(type(error_of(found[name], reason)), errors.Damaged)
 
     def test_exceptions_that_are_made_here(self) -> None:
         error = errors.Exists("f")

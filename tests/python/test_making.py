@@ -13,7 +13,7 @@ from unittest import mock
 
 from cases import DataCase, WithLibrary, WithProgram, use_library
 from rrdi import commands, damaged, errors
-from rrdi.making import NewFile, is_there, make, remove_left_over
+from rrdi.making import NewFile, end_of_links, is_there, make, remove_left_over
 from rrdi.tools import record
 
 DEFINITIONS = ("DS:g:GAUGE:60:U:U", "RRA:LAST:0.5:1:4")
@@ -150,6 +150,29 @@ class CannotLook(DataCase):
         self.assertEqual(raised.exception.errno, errno.ELOOP)
         self.assertFalse(any(name.endswith(".new") for name in self.files()))
 
+
+    def test_as_many_links_as_the_system_follows(self) -> None:
+        for count in (39, 40, 41, 42):
+            folder = self.folder / str(count)
+            folder.mkdir()
+            for at in range(count):
+                os.symlink(str(at + 1), folder / str(at))
+            try:
+                os.close(os.open(folder / "0", os.O_CREAT))
+                os.unlink(folder / str(count))
+                self.assertEqual(end_of_links(str(folder / "0")), str(folder / str(count)))
+            except OSError as error:
+                self.assertEqual((error.errno, count > 40), (errno.ELOOP, True))
+                with self.assertRaises(OSError) as raised:
+                    end_of_links(str(folder / "0"))
+                self.assertEqual((raised.exception.errno, raised.exception.filename), (errno.ELOOP, str(folder / "41")))
+
+    def test_errors_name_the_file(self) -> None:
+        """And not the other name, which nobody knows."""
+        for act in ("appear", "replace"):
+            with NewFile(str(self.path)) as new, self.assertRaises(FileNotFoundError) as raised:
+                getattr(new, act)()
+            self.assertEqual((raised.exception.errno, raised.exception.strerror, raised.exception.filename), (errno.ENOENT, os.strerror(errno.ENOENT), str(self.path)))
 
     def test_a_damaged_file(self) -> None:
         """It stays, and that is said: who asks keeps its samples."""

@@ -21,7 +21,6 @@ class Newest(unittest.TestCase):
     def test_items(self) -> None:
         for room, kept, lost in ((3, [1, 2, 3], 0), (9, [1, 2, 3], 0), (2, [2, 3], 1), (0, [], 3)):
             self.assertEqual(newest([1, 2, 3], room), (kept, lost))
-        self.assertEqual((MOST_OF_A_FILE, MOST_OF_ALL), (10_000, 1_000_000))
 
 
 class OfGraphite(DataCase):
@@ -45,6 +44,7 @@ class OfGraphite(DataCase):
         self.lost += self.losses.take()["failed"]
 
     def test_bounds(self) -> None:
+        self.assertEqual((MOST_OF_A_FILE, MOST_OF_ALL), (10_000, 1_000_000))
         with mock.patch.multiple(stores, MOST_OF_A_FILE=4, MOST_OF_ALL=10):
             waiting: List[int] = []
             for number, count in ((1, 3), (2, 9), (3, 3), (4, 2), (5, 1), (1, 1), (2, 1)):
