@@ -26,7 +26,7 @@ from rrdi.differences import difference
 from rrdi.environment import is_synced, milliseconds, sync_of_environment, wait_of_environment
 from rrdi.errors import details_in, error_of, error_of_line, fault_of, reason_of, reasons_in
 from rrdi.printed import Settings, printed_rows, settings_of
-from rrdi.results import NamedRow, Table, info_of, last_update, table
+from rrdi.results import Table, info_of, last_update, table
 from rrdi.words import encoded, flat, is_word, line_of, options, present
 
 INFO = """step = 10
@@ -130,13 +130,14 @@ class Runs(unittest.TestCase):
     """What a run of the program prints, where each line of a batch is followed by one of `last`."""
 
     def test_lines(self) -> None:
-        for given, printed, output, refused in (
+        cases: List[Tuple[List[str], str, str, Tuple[int, ...]]] = [
                 (["update 20:1"], "20\n", "", ()), (["update 20:1", "update 20:2", "update 30:1"], "20\nERROR: not later than 20\n20\n30\n", "ERROR: not later than 20\n", (2,)),
                 (["last", "first"], "20\n20\n10\n20\n", "20\n10\n", ()), (["last", "update 5:1", "last"], "20\n20\nERROR: x\n20\n20\n20\n", "20\nERROR: x\n20\n", (2,)),
                 (["fetch LAST"], "time: g\n10: 1.0\n20: nan\n20\n", "time: g\n10: 1.0\n20: nan\n", ()), (["info", "last"], "step = 10\na = b\n20\n20\n20\n", "step = 10\na = b\n20\n", ()),
                 (["", "  ", "update 20:1"], "20\n20\n20\n", "", ()), (["update 1:1", "info"], "ERROR: no database\nERROR: no database\nERROR: no database\nERROR: no database\n",
                                                                     "ERROR: no database\nERROR: no database\n", (1, 2)),
-                (["update 20:1", "update 30:1"], "20\n", "ERROR: no result\n", (2,)), ([], "", "", ())):
+                (["update 20:1", "update 30:1"], "20\n", "ERROR: no result\n", (2,)), ([], "", "", ())]
+        for given, printed, output, refused in cases:
             found = of_lines([line.encode() for line in given], printed.encode())
             self.assertEqual(found, (output.encode(), refused), given)
 
@@ -185,7 +186,7 @@ class Definitions(unittest.TestCase):
 
     def test_for_people(self) -> None:
         for kind in (float, Decimal):
-            found: Any = info_of(INFO, "net.rrdi", kind)  # type: ignore[type-var]
+            found: Any = info_of(INFO, "net.rrdi", kind)
             self.assertEqual(found, Info("net.rrdi", 10, 1_600_000_033, 16, 2, {
                 "g": SourceInfo("g", "GAUGE", 60, kind("-1.5"), None, kind("2.5")), "c": SourceInfo("c", "COUNTER", 70, kind("0"), kind("100"), None)},
                 (ArchiveInfo("AVERAGE", kind("0.5"), 1, 4, 10), ArchiveInfo("MAX", kind("0.25"), 6, 3, 60))))
@@ -219,16 +220,17 @@ class Rows(unittest.TestCase):
 
     def test_a_table(self) -> None:
         for kind in (float, Decimal):
-            found: Any = table(printed_rows(self.TEXT), 10, kind)  # type: ignore[type-var]
+            found: Any = table(printed_rows(self.TEXT), 10, kind)
             self.assertEqual((found.start, found.end, found.step, found.names, found.rows), (0, 20, 10, ("a", "b"), [(kind("1.5"), None), (None, kind("-2"))]))
-            self.assertEqual((list(found.times), list(found.records())), ([10, 20], [NamedRow(10, {"a": kind("1.5"), "b": None}), NamedRow(20, {"a": None, "b": kind("-2")})]))
+            self.assertEqual((list(found.times), list(found.records())), ([10, 20], [(10, {"a": kind("1.5"), "b": None}), (20, {"a": None, "b": kind("-2")})]))
             columns = found.columns()
             self.assertEqual([[None if math.isnan(cell) else cell for cell in columns[name]] for name in ("a", "b")], [[1.5, None], [None, -2.0]])
             self.assertEqual({type(cell) for column in columns.values() for cell in column}, {float})
             self.assertEqual(repr(found), f"Table(start=0, end=20, step=10, names=('a', 'b'), rows={found.rows!r})")
         self.assertEqual(tuple(Table((0, 20, 10), ("a",), [(1.0,), (None,)])), ((0, 20, 10), ("a",), [(1.0,), (None,)]))
+        wrong: Any = int
         with self.assertRaisesRegex(TypeError, "^values must be float or Decimal, not <class 'int'>$"):
-            table(printed_rows(self.TEXT), 10, int)  # type: ignore[type-var]
+            table(printed_rows(self.TEXT), 10, wrong)
 
     def test_the_last_update(self) -> None:
         found = last_update("time: a b\n1700000000: 5 U\n", float, datetime.timezone.utc)
@@ -251,11 +253,13 @@ class Amounts(unittest.TestCase):
 
 class Words(unittest.TestCase):
     def test_words(self) -> None:
-        self.assertEqual(flat(["a", 5, ["b", [6, ("c",)]], ()]), ["a", "5", "b", "6", "c"])
+        nested: List[Any] = ["a", 5, ["b", [6, ("c",)]], ()]
+        self.assertEqual(flat(nested), ["a", "5", "b", "6", "c"])
         for wrong in (True, 1.5, None, b"a", {"a"}):
             self.assertRaises(TypeError, flat, [wrong])
         self.assertEqual(options(start=5, end=None, step="x", rows=0), ["--start=5", "--step=x", "--rows=0"])
-        for words, data in (([], b""), (["a"], b"a"), (["a", "", "b"], b"a\0\0b"), ([""], b"")):
+        cases: List[Tuple[List[str], bytes]] = [([], b""), (["a"], b"a"), (["a", "", "b"], b"a\0\0b"), ([""], b"")]
+        for words, data in cases:
             self.assertEqual(encoded(words), data)
         for words, why in ((["a\0b"], "a word has a zero byte"), (["a", "\0"], "a word has a zero byte"), (["\0"], "a word has a zero byte"), (["\ud800"], "an argument is not in UTF-8")):
             with self.assertRaises(errors.Usage) as raised:

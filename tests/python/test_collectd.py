@@ -167,7 +167,7 @@ class Writing(WriterCase):
     def test_why_a_sample_is_lost(self) -> None:
         """What rrdi says of it stands alone, and other faults are named: also where collectd knows no such type."""
         self.use(Making())
-        self.collectd.DATASETS = {**self.collectd.DATASETS, "odd": [("a b", "gauge", 0.0, 1.0)]}  # type: ignore[misc]
+        self.collectd.DATASETS = {**self.collectd.DATASETS, "odd": [("a b", "gauge", 0.0, 1.0)]}
         for given, why in ((values(NOW, 1, type="odd"), "the names of its sources cannot be used"), (values(NOW, 1, type="none"), "KeyError: 'none'")):
             self.writer.write(given)
             self.assertEqual(self.collectd.lines[-1], f"rrdi: here/load/{given.type}: 1 samples lost: {why}")

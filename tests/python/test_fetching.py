@@ -99,9 +99,10 @@ class Steps(unittest.TestCase):
         self.assertEqual((TRIES, len(asked)), (10, 19))
 
     def test_a_table(self) -> None:
-        for kind, cells in ((float, [(1.5,), (None,)]), (Decimal, [(Decimal("1.500000"),), (None,)])):
+        cases: List[Tuple[Any, Any]] = [(float, [(1.5,), (None,)]), (Decimal, [(Decimal("1.500000"),), (None,)])]
+        for kind, cells in cases:
             run, asked = self.answers("time: g\n10: 1.500000\n40: U\n")
-            self.assertEqual(fetched(run, ["LAST"], NOW, kind), Table((-20, 40, 30), ("g",), cells))  # type: ignore[type-var]
+            self.assertEqual(fetched(run, ["LAST"], NOW, kind), Table((-20, 40, 30), ("g",), cells))
             self.assertEqual(asked, [["fetch", "LAST"]])
 
 
@@ -126,9 +127,10 @@ class Times(unittest.TestCase):
         for span, word in ((None, None), ("x", "x"), (5, 5), (-5, -5), (datetime.timedelta(minutes=2), 120), (datetime.timedelta(0), 0), (datetime.timedelta(seconds=-3), -3)):
             found: Optional[object] = span_word(span)
             self.assertEqual(found, word)
-        for span, kind, why in ((datetime.timedelta(seconds=1.5), ValueError, "a span must be whole seconds, not 0:00:01.500000"), (True, TypeError, "not bool"), (1.0, TypeError, "not float")):
+        wrong: List[Tuple[Any, Any, str]] = [(datetime.timedelta(seconds=1.5), ValueError, "a span must be whole seconds, not 0:00:01.500000"), (True, TypeError, "not bool"), (1.0, TypeError, "not float")]
+        for given, kind, why in wrong:
             with self.assertRaisesRegex(kind, why):
-                span_word(span)  # type: ignore[arg-type]
+                span_word(given)
         for time, word in ((None, None), ("N", "N"), (5, 5), (5.9, 5)):
             self.assertEqual(time_word(time), word)
 

@@ -108,8 +108,9 @@ class Slots(unittest.TestCase):
     def test_bundles(self) -> None:
         """A line has as many words as fit, its own word and the spaces included."""
         with mock.patch.object(slots, "LONGEST_LINE", 20):  # as "update aaaaaa bbbbbb"
-            for words, cuts in ((["a" * 6, "b" * 6], [(0, 2)]), (["a" * 6, "b" * 7], [(0, 1), (1, 2)]), (["a" * 13], [(0, 1)]), ([], []),
-                                (["a" * 13, "b" * 6, "c" * 6, "d"], [(0, 1), (1, 3), (3, 4)]), (["a" * 6, "b" * 7, "c" * 6, "d" * 6], [(0, 1), (1, 2), (2, 4)])):
+            cases: List[Tuple[List[str], List[Tuple[int, int]]]] = [(["a" * 6, "b" * 6], [(0, 2)]), (["a" * 6, "b" * 7], [(0, 1), (1, 2)]), (["a" * 13], [(0, 1)]), ([], []),
+                                (["a" * 13, "b" * 6, "c" * 6, "d"], [(0, 1), (1, 3), (3, 4)]), (["a" * 6, "b" * 7, "c" * 6, "d" * 6], [(0, 1), (1, 2), (2, 4)])]
+            for words, cuts in cases:
                 self.assertEqual([(one.start, one.stop) for one in bundles(words)], cuts, words)
 
 
@@ -128,8 +129,8 @@ class Files(unittest.TestCase):
         """A file that Graphite did not make has the function of its first archive; the longest of equal archives is read."""
         for names, method in ((("max",), "max"), (("sum", "zero"), "sum"), (("sum",), "last"), (("avg_zero",), "last"), (("temp",), "last")):
             self.assertEqual(method_of(self.open(graphite.file_bytes(130, names, function=3)).outline()), method)
-        for archives, wanted in ((((1, 4, {}), (1, 9, {}), (6, 4, {})), [(1, 9), (1, 4), (6, 4)]), (((6, 2, {}), (1, 9, {}), (1, 4, {})), [(1, 9), (1, 4), (6, 2)])):
-            outline = self.open(graphite.file_bytes(130, archives=archives)).outline()
+        for kept, wanted in ((((1, 4), (1, 9), (6, 4)), [(1, 9), (1, 4), (6, 4)]), (((6, 2), (1, 9), (1, 4)), [(1, 9), (1, 4), (6, 2)])):
+            outline = self.open(graphite.file_bytes(130, archives=[(steps, count, {}) for steps, count in kept])).outline()
             self.assertEqual([(one.steps, one.rows) for one in archives_of(outline, "average")], wanted)
             self.assertEqual([(one.steps, one.rows) for one in archives_of(outline, "max")], wanted)
 
@@ -240,9 +241,10 @@ class Patterns(unittest.TestCase):
             path.touch()
         os.symlink("..", top / "b/up")
         os.symlink("b", top / "link")
-        for pattern, files, folders in (
+        cases: List[Tuple[str, List[str], List[str]]] = [
                 ("{a,b*}", ["a", "b"], ["b"]), ("{b,a*}", ["a", "b"], ["ab", "b"]), ("b.*", ["b/c"], ["b/d", "b/up"]), ("*.c", ["ab/c", "b/c", "link/c"], []),
-                ("b.**.e", ["b/d/e"], []), ("**.e", ["b/d/e", "link/d/e"], []), ("b.up.a", [], []), ("link.d.e", ["link/d/e"], []), ("bc", [], [])):
+                ("b.**.e", ["b/d/e"], []), ("**.e", ["b/d/e", "link/d/e"], []), ("b.up.a", [], []), ("link.d.e", ["link/d/e"], []), ("bc", [], [])]
+        for pattern, files, folders in cases:
             for many in (0, 1, 100):  # names from which on the folder is asked for all that it has
                 with mock.patch.object(finding, "MANY_NAMES", many):
                     found = list(finding.find(str(top), pattern))
@@ -258,8 +260,9 @@ class Patterns(unittest.TestCase):
         os.symlink("..", top / "d/d/up")
         os.symlink("d", top / "d/d/down")
         os.symlink("../../..", top / "d/d/d/top")
-        for pattern, wanted in (("**.d.**.e", ["d/d/d/e", "d/d/down/e", "d/e"]), ("**.e", ["d/d/d/e", "d/d/down/e", "d/e", "f/e"]), ("d.d.up.e", []),
-                                ("d.**.d.e", ["d/d/d/e"]), ("*.e", ["d/e", "f/e"]), ("{f,d}.e", ["d/e", "f/e"])):
+        cases: List[Tuple[str, List[str]]] = [("**.d.**.e", ["d/d/d/e", "d/d/down/e", "d/e"]), ("**.e", ["d/d/d/e", "d/d/down/e", "d/e", "f/e"]), ("d.d.up.e", []),
+                                ("d.**.d.e", ["d/d/d/e"]), ("*.e", ["d/e", "f/e"]), ("{f,d}.e", ["d/e", "f/e"])]
+        for pattern, wanted in cases:
             found = [one.relative for one in finding.find(str(top), pattern)]
             self.assertEqual((sorted(found), len(set(found))), ([f"{name}.rrdi" for name in wanted], len(found)), pattern)
         self.assertTrue(finding.Walk(str(top), []).leads_up("none"))  # it is gone by now

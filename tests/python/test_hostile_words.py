@@ -16,7 +16,7 @@ import unittest
 from fractions import Fraction
 from functools import lru_cache
 from pathlib import Path
-from typing import List, Optional, Tuple
+from typing import Callable, List, Optional, Tuple
 
 from building import workshop
 from cases import new_folder, use_library
@@ -204,8 +204,9 @@ class Record(unittest.TestCase):
     def test_no_memory(self) -> None:
         """Whichever block is refused, a call says so and changes nothing; the next one has memory again."""
         self.recorder.update("/nowhere", None, "10:1")  # whose error stays if a call says nothing
-        for call, least in ((lambda: self.recorder.update(self.file, "a" * 300, "10:" + "9" * 700 + ".9999995", "20:1"), 3),
-                            (lambda: self.recorder.create(self.file, 10, 1, "DS:a:GAUGE:9:U:" + "9" * 400, "RRA:MAX:0:1:1"), 2)):
+        calls: List[Tuple[Callable[[], str], int]] = [(lambda: self.recorder.update(self.file, "a" * 300, "10:" + "9" * 700 + ".9999995", "20:1"), 3),
+                            (lambda: self.recorder.create(self.file, 10, 1, "DS:a:GAUGE:9:U:" + "9" * 400, "RRA:MAX:0:1:1"), 2)]
+        for call, least in calls:
             refused = 0
             while True:
                 before = self.library.call_count()

@@ -481,7 +481,8 @@ class PageParts(SvgPictures):
         for text in (light, dark):  # what is behind an area or a band is seen through it, and a band is denser
             fill, band = (float(re.findall(f"--{name}:([0-9.]+)[;}}]", text)[0]) for name in ("fill", "band"))
             self.assertTrue(0.1 < fill < band < 0.4, (fill, band))
-        for cards, files in (([], "0 files"), (["c"], "1 file"), (["c", "d"], "2 files")):
+        cases: List[Tuple[List[str], str]] = [([], "0 files"), (["c"], "1 file"), (["c", "d"], "2 files")]
+        for cards, files in cases:
             text = pages.index_page("a<b", cards, [pages.NotDrawn("x<y", "why")] if cards else [])
             self.assertIn(f"<p>{files}, each with its last day;", text)
             self.assertTrue(all(part in text for part in ("<title>a&lt;b</title>", '<body class="all">', "<h1>a&lt;b</h1>")))

@@ -8,12 +8,12 @@ import fcntl
 import os
 import threading
 import unittest
-from pathlib import Path
-from typing import Any, Callable, Dict, List, Optional
+from typing import Any, Callable, Dict, List, Optional, Tuple
 from unittest import mock
 
 import graphite_doubles as graphite
 from cases import new_folder
+from rrdi import locks
 from rrdi.errors import Damaged
 from rrdi.reader import files
 from rrdi.reader.selected import OpenFile
@@ -56,14 +56,15 @@ class Files(unittest.TestCase):
     def test_closed_after_an_error(self) -> None:
         for data in (b"", b"RRDX" + DATA[4:], DATA[:20]):
             self.path.write_bytes(data)
-            for call in (OpenFile, files.read_file):
+            calls: List[Callable[..., object]] = [OpenFile, files.read_file]
+            for call in calls:
                 error = kept_error(call, str(self.path))
                 self.assertIsInstance(error, Damaged)
                 self.assert_free()
 
     def test_bytes_of_a_regular_file(self) -> None:
         opened: List[Any] = []
-        own = files.open_locked
+        own = locks.open_locked
 
         def noted(*words: Any) -> Any:
             opened.append(own(*words))
@@ -78,23 +79,25 @@ class Files(unittest.TestCase):
         """One with a name is read to its end, and closed; standard input stays open."""
         pipe = self.path.with_name("pipe")
         os.mkfifo(pipe)
-        for call, wanted in ((files.read_bytes, DATA), (lambda path: files.read_file(path)["last_time"], 130)):
+        calls: List[Tuple[Callable[[str], object], object]] = [(files.read_bytes, DATA), (lambda path: files.read_file(path)["last_time"], 130)]
+        for call, wanted in calls:
             writer = threading.Thread(target=pipe.write_bytes, args=(DATA,))
             writer.start()
-            self.assertEqual(call(str(pipe)), wanted)  # type: ignore[operator]
+            self.assertEqual(call(str(pipe)), wanted)
             writer.join()
         kept = os.dup(0)
         self.addCleanup(os.close, kept)
         self.addCleanup(os.dup2, kept, 0)
-        for call, wanted in ((files.read_bytes, DATA), (lambda path: files.read_file(path)["last_time"], 130)):
+        for call, wanted in calls:
             with open(self.path, "rb") as given:
                 os.dup2(given.fileno(), 0)
-            self.assertEqual(call("-"), wanted)  # type: ignore[operator]
+            self.assertEqual(call("-"), wanted)
             self.assertEqual(os.fstat(0).st_size, len(DATA))
 
     def test_what_is_no_file(self) -> None:
         for path, number in ((self.path.with_name("none"), errno.ENOENT), (self.path.parent, errno.EISDIR)):
-            for call in (OpenFile, files.read_file, files.read_bytes):
+            calls: List[Callable[..., object]] = [OpenFile, files.read_file, files.read_bytes]
+            for call in calls:
                 error = kept_error(call, str(path))
                 self.assertEqual(getattr(error, "errno", None), number, (path, call))
 

@@ -6,7 +6,7 @@ from __future__ import annotations
 import io
 import math
 import unittest
-from typing import Any, List, Optional, Tuple
+from typing import Any, Dict, List, Optional, Tuple
 from unittest import mock
 
 import cases  # noqa: F401  (finds the package)
@@ -44,7 +44,8 @@ class Words(unittest.TestCase):
                 function_at([word], 0)
 
     def test_numbers(self) -> None:
-        for values, number in (({}, None), ({"jobs": "0"}, 0), ({"jobs": "007"}, 7), ({"jobs": "9999999999"}, 9_999_999_999), ({"other": "x"}, None)):
+        cases: List[Tuple[Dict[str, str], Optional[int]]] = [({}, None), ({"jobs": "0"}, 0), ({"jobs": "007"}, 7), ({"jobs": "9999999999"}, 9_999_999_999), ({"other": "x"}, None)]
+        for values, number in cases:
             self.assertEqual(number_of(values, "jobs"), number)
         for text in ("", "x", "-1", "+1", "1.0", "10000000000", "1 ", "\u0661"):
             with self.assertRaisesRegex(WrongArguments, "^--jobs must be a whole number, not "):
@@ -63,7 +64,8 @@ class Hints(unittest.TestCase):
             self.assertEqual(option_hint(words.split(), self.HELP), hint, words)
 
     def test_nearest(self) -> None:
-        for word, words, found in (("abcd", ["abcx", "axxx"], "abcx"), ("abcd", ["xxxx"], None), ("abcd", [], None), ("abcde", ["abcxx", "xxxxx"], "abcxx"), ("abcde", ["abxxx"], None)):
+        cases: List[Tuple[str, List[str], Optional[str]]] = [("abcd", ["abcx", "axxx"], "abcx"), ("abcd", ["xxxx"], None), ("abcd", [], None), ("abcde", ["abcxx", "xxxxx"], "abcxx"), ("abcde", ["abxxx"], None)]
+        for word, words, found in cases:
             self.assertEqual(nearest(word, words), found)
 
 
@@ -143,7 +145,8 @@ class Pictures(unittest.TestCase):
         found = columns_of(["a", "b"], {20: ["1", "10"], 30: ["nan", "20"], 40: ["3", "nan"]})
         self.assertEqual((found.names, found.seconds, found.times, [texts(column) for column in found.columns]), (["a", "b"], 10, [20, 30, 40], [[1, None, 3], [10, 20, None]]))
         self.assertEqual((found.begin, found.end), (10, 40))
-        for printed in ({}, {20: ["1"]}, {20: ["nan"], 30: ["nan"]}):
+        cases: List[Dict[int, List[str]]] = [{}, {20: ["1"]}, {20: ["nan"], 30: ["nan"]}]
+        for printed in cases:
             with self.assertRaisesRegex(NothingToDraw, "^nothing to draw: no known value, or fewer than two rows$"):
                 columns_of(["a"], printed)
         self.assertEqual(columns_of(["a"], {20: ["nan"], 30: ["5"]}).times, [20, 30])

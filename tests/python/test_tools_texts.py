@@ -7,14 +7,15 @@ import os
 import struct
 import time
 import unittest
-from typing import Any, Dict, List, Tuple
+from collections import Counter
+from typing import Any, Dict, List, Optional, Tuple
 from unittest import mock
 
 from cases import new_folder
 from rrdi.amounts import Millionths
 from rrdi.printed import Archive, Settings, Source
 from rrdi.reader.selected import Outline, StoredArchive
-from rrdi.tools import many_files, rows, show
+from rrdi.tools import many_files, program, rows, show
 from rrdi.tools.changes import Changes, as_parts, raw_text, texts
 from rrdi.tools.children import Child, ChildAnswer
 from rrdi.tools.command_line import Failure, WrongArguments
@@ -26,6 +27,7 @@ from rrdi.tools.rrdtool.texts import fetch_text, last_update_text
 from rrdi.tools.rrdtool.texts import raw_text as text_of_rrdtool
 from rrdi.tools.rrdtool_output import guarded, lines_of, plain, with_lengths
 
+NAN = float("nan")
 LAST = 1_700_000_040  # a multiple of 60, and of 120
 
 
@@ -67,7 +69,7 @@ class Choices(unittest.TestCase):
             asked.append(words)
             begin, end = (int(words[words.index(option) + 1]) for option in ("--start", "--end"))
             return "time: a b\n" + "".join(f"{at}: {at - LAST} nan\n" for at in range(begin - begin % 60 + 60, end - end % 60 + 61, 60))
-        with mock.patch.object(rows.program, "ask", ask):
+        with mock.patch.object(program, "ask", ask):
             for start, end, first, last, words in (
                     (LAST - 120, LAST, LAST - 120, LAST + 60, (LAST - 120, LAST - 1)), (LAST - 121, LAST - 1, LAST - 180, LAST, (LAST - 180, LAST - 1)), (LAST - 61, LAST - 61, LAST - 120, LAST - 60, (LAST - 120, LAST - 61)),
                     (LAST - 999, LAST - 300, LAST - 1_020, LAST - 240, (LAST - 360, LAST - 241)), (LAST - 999, LAST - 400, LAST - 1_020, LAST - 360, None), (LAST, LAST + 70, LAST, LAST + 120, None), (LAST - 60, LAST + 70, LAST - 60, LAST + 120, (LAST - 60, LAST - 1))):
@@ -79,7 +81,7 @@ class Choices(unittest.TestCase):
                 self.assertEqual(found.cells, [[float(at - LAST) if at in known else None, None] for at in range(first + 60, last + 1, 60)])
 
     def test_no_rows_before_1970(self) -> None:
-        with mock.patch.object(rows.program, "ask", return_value="time: a b\n60: 1 2\n") as ask:
+        with mock.patch.object(program, "ask", return_value="time: a b\n60: 1 2\n") as ask:
             found = rows_of("f", settings(("MAX", 6, 6), last=60), 0, 0, 59)
         self.assertEqual((found.cells, ask.call_args[0][0][-3:]), ([[1.0, 2.0]], ["0", "--end", "59"]))
         with self.assertRaisesRegex(Failure, r"^start \(6\) should be less than end \(5\)$"):
@@ -88,9 +90,10 @@ class Choices(unittest.TestCase):
 
 class Shown(InUtc):
     def test_options(self) -> None:
-        for words, file, function, way, is_journal, values in (
+        cases: List[Tuple[str, str, Optional[str], str, bool, Dict[str, str]]] = [
                 ("f", "f", None, "text", False, {}), ("f MAX", "f", "MAX", "text", False, {}), ("--csv f", "f", None, "csv", False, {}), ("f --json -s 5", "f", None, "json", False, {"start": "5"}),
-                ("--journal f", "f", None, "text", True, {}), ("--journal f --json", "f", None, "json", True, {}), ("f MIN -a 2 -e=7 --openmetrics", "f", "MIN", "openmetrics", False, {"archive": "2", "end": "7"})):
+                ("--journal f", "f", None, "text", True, {}), ("--journal f --json", "f", None, "json", True, {}), ("f MIN -a 2 -e=7 --openmetrics", "f", "MIN", "openmetrics", False, {"archive": "2", "end": "7"})]
+        for words, file, function, way, is_journal, values in cases:
             found = show.read_options(words.split())
             self.assertEqual(found, (file, function, way, is_journal, values))
             self.assertEqual(found.has_rows, function is not None or bool(values))
@@ -99,8 +102,9 @@ class Shown(InUtc):
 
     def test_cells(self) -> None:
         """As many decimals as the numbers of a column need, and no point without one."""
-        for cells, shown in (([1_000_000, None, 2_500_000], ["1.0", "-", "2.5"]), ([1_000_000, 20_000_000], ["1", "20"]), ([None, None], ["-", "-"]), ([], []), ([1], ["0.000001"]), ([100_000_000], ["100"]),
-                             ([0, 10], ["0.00000", "0.00001"]), ([-1_500_000, 1_000_000], ["-1.5", "1.0"]), ([120_000_000, 1_100_000], ["120.0", "1.1"])):
+        cases: List[Tuple[List[Optional[int]], List[str]]] = [([1_000_000, None, 2_500_000], ["1.0", "-", "2.5"]), ([1_000_000, 20_000_000], ["1", "20"]), ([None, None], ["-", "-"]), ([], []), ([1], ["0.000001"]), ([100_000_000], ["100"]),
+                             ([0, 10], ["0.00000", "0.00001"]), ([-1_500_000, 1_000_000], ["-1.5", "1.0"]), ([120_000_000, 1_100_000], ["120.0", "1.1"])]
+        for cells, shown in cases:
             self.assertEqual(show.shown_cells([None if cell is None else Millionths(cell) for cell in cells]), shown, cells)
 
     def test_columns(self) -> None:
@@ -188,7 +192,7 @@ class OfRrdtool(unittest.TestCase):
             self.assertEqual(text_of_rrdtool(text), short)
 
     def test_exports(self) -> None:
-        found = Exported(1_000, 1_020, 10, ["a", 'b"c'], [[1.5, None], [2.0, -3.0]])
+        found = Exported(1_000, 1_020, 10, ["a", 'b"c'], [(1.5, NAN), (2.0, -3.0)])
         for has_times, is_numbered in ((False, False), (True, False), (False, True), (True, True)):
             tags = ("v0", "v1") if is_numbered else ("v", "v")
             lines = as_xml(found, has_times, is_numbered).split("\n")
@@ -251,11 +255,12 @@ class Trees(unittest.TestCase):
     def test_summaries(self) -> None:
         made = many_files.Conversions.__new__(many_files.Conversions)
         made.other = "rrdi"
-        for counts, refused, links, text, status in (
+        cases: List[Tuple[Dict[str, int], int, int, str, int]] = [
                 ({"whole": 1}, 0, 0, "1 file: 1 converted", 0), ({"whole": 2, "incomplete": 1}, 0, 0, "3 files: 3 converted, 1 of them without all data sources", 1), ({}, 0, 0, "0 files: 0 converted", 0),
                 ({"there": 1, "partly there": 2}, 0, 1, "3 files: 0 converted; 3 there already, 2 of them without all data sources; 1 link passed over", 1), ({"there": 1}, 0, 0, "1 file: 0 converted; 1 there already", 0),
-                ({"passed over": 2}, 3, 2, "5 files: 0 converted; 2 already of rrdi; 3 not converted; 2 links passed over", 1), ({"passed over": 1}, 0, 0, "1 file: 0 converted; 1 already of rrdi", 0)):
-            made.counts, made.refused = many_files.Counter(counts), refused
+                ({"passed over": 2}, 3, 2, "5 files: 0 converted; 2 already of rrdi; 3 not converted; 2 links passed over", 1), ({"passed over": 1}, 0, 0, "1 file: 0 converted; 1 already of rrdi", 0)]
+        for counts, refused, links, text, status in cases:
+            made.counts, made.refused = Counter(counts), refused
             self.assertEqual((made.summary(links), made.status), (text, status), counts)
         self.assertEqual((many_files.has(1, 2), many_files.has(2, 1), many_files.counted(0, "file")), (" (1 data source, 2 archives)", " (2 data sources, 1 archive)", "0 files"))
 
