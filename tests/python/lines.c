@@ -18,12 +18,13 @@ size_t last_length(void) { return length; }
 size_t last_room(void) { return room; }
 int call_count(void) { return calls; }
 
-/* Takes the place of realloc in record.c: has so many blocks left, or any number, and keeps what is behind each block. */
+/* Take the places of realloc and free in record.c: there are so many blocks left, or any number; what is behind each block stays; and
+ * each block is freed. */
 #define BEHIND 64
 #define MOST_BLOCKS 8
 static long blocks_left = -1;
-static size_t block_count;
-static int damaged;
+static size_t block_count, refused_room;
+static int damaged, live;
 static struct {
     uint8_t *bytes;
     size_t size;
@@ -31,6 +32,8 @@ static struct {
 
 void set_blocks(long count) { blocks_left = count; }
 int damaged_blocks(void) { return damaged; }
+int live_blocks(void) { return live; }
+size_t last_refused_room(void) { return refused_room; }
 
 /* Counts the blocks behind which something was written, and forgets all. */
 static void check_blocks(void) {
@@ -55,10 +58,16 @@ void *some_blocks(void *block, size_t size) {
     uint8_t *grown = realloc(block, size + BEHIND);
     if (grown == NULL) return NULL;
     memset(grown + size, 0xa5, BEHIND);
+    live += block == NULL;
     blocks[at].bytes = grown;
     blocks[at].size = size;
     if (at == block_count) block_count++;
     return grown;
+}
+
+void free_block(void *block) {
+    live -= block != NULL;
+    free(block);
 }
 
 /* Sets the answer of later calls; the text must stay. */
@@ -92,6 +101,7 @@ void rrdi_batch_file(const char *path, size_t path_length, const uint8_t *lines,
                      uint64_t wait, bool syncs, uint8_t *output, size_t output_length, uint64_t *refused,
                      size_t refused_length, struct rrdi_answer *answer) {
     (void)path, (void)path_length, (void)now, (void)wait, (void)syncs;
+    refused_room = refused_length;
     if (refused_length > 0) refused[0] = 2;
     keep(lines, lines_length, output, output_length, answer);
 }

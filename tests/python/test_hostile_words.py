@@ -41,7 +41,7 @@ def recorder_of_lines() -> Path:
     """Returns librrd/record.c with a library that keeps lines, compiled once."""
     made, object_of_it = workshop() / "recorder_of_lines.so", workshop() / "record.o"
     options = (str(CC), "-std=c11", "-Wall", "-Wextra", "-Werror", "-fPIC", f"-I{TOP}/include")
-    subprocess.run([*options, "-Drealloc=some_blocks", "-c", "-o", object_of_it, TOP / "librrd/record.c"], check=True)
+    subprocess.run([*options, "-Drealloc=some_blocks", "-Dfree=free_block", "-c", "-o", object_of_it, TOP / "librrd/record.c"], check=True)
     subprocess.run([*options, "-shared", "-o", made, object_of_it, TOP / "tests/python/lines.c"], check=True)
     return made
 
@@ -60,7 +60,11 @@ class Record(unittest.TestCase):
         self.library.last_length.restype = self.library.last_room.restype = ctypes.c_size_t
         self.file = str(folder / "f.rrd")
         (folder / "f.rrd").touch()
-        self.addCleanup(lambda: self.assertEqual(self.library.damaged_blocks(), 0, "something was written behind a block of memory"))
+        self.addCleanup(self.check_blocks)
+
+    def check_blocks(self) -> None:
+        self.assertEqual(self.library.damaged_blocks(), 0, "something was written behind a block of memory")
+        self.assertEqual(self.library.live_blocks(), 0, "a block of memory was not freed")
 
     def given(self) -> bytes:
         return ctypes.string_at(self.library.last_given(), self.library.last_length())
@@ -252,8 +256,12 @@ class Record(unittest.TestCase):
 
     def test_there_is_room_for_each_refusal(self) -> None:
         """Each of the samples can be refused, with the longest message that one may have."""
+        self.recorder.create(self.file, 10, 1, "RRA:MAX:0:1:1")
+        self.assertTrue(256 <= self.library.last_room() < 512)
+        self.library.last_refused_room.restype = ctypes.c_size_t
         for count in (1, 64, 1_500):
             self.recorder.update(self.file, None, *["10:1"] * count)
+            self.assertEqual(self.library.last_refused_room(), 1)
             self.assertGreaterEqual(self.library.last_room(), count * len("ERROR: unreadable sample 18446744073709551615\n"))
 
 
