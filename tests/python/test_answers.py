@@ -71,6 +71,8 @@ class Faults(unittest.TestCase):
             error = error_of(fault, "why", "f", 7, number)
             has_place = fault in (errors.TRUNCATED, errors.BAD_BLOCK, errors.BAD_ENTRY, errors.TRAILING)
             self.assertIs(type(error), kind, (fault, number))
+            if isinstance(error, errors.SystemFault):
+                self.assertEqual((error.errno, error.strerror, error.filename), (number or None, os.strerror(number) if number else None, "f"))
             self.assertEqual((error.reason, error.path, error.fault, getattr(error, "at", None), error.system_error), ("why", "f", fault, 7 if has_place else None, number))
 
     def test_numbers(self) -> None:

@@ -181,6 +181,24 @@ class Writing(WriterCase):
             self.writer.write(values(NOW + at, 1, type="derive", host=name))
             self.assertEqual([path.split("/")[-3] for path, _ in making.batches], written, (at, name))
 
+    def test_the_end(self) -> None:
+        """What could not be written is lost then, once, and no file stays open."""
+        self.use(Making(graphite.BUSY))
+        self.writer.write(values(NOW, 1, type="derive"))
+        with mock.patch.object(self.writer._files, "close_all") as closed:
+            self.writer.end()
+        self.assertEqual((closed.call_count, self.collectd.lines[1:]), (1, ["rrdi: : 1 samples lost: their files could not be written before the end", "rrdi: 0 samples taken in, 1 lost"]))
+        self.writer.end()
+        self.assertEqual(self.collectd.lines[3:], ["rrdi: 0 samples taken in, 1 lost"])
+
+    def test_the_usual_spans(self) -> None:
+        """An hour, a day, a week, a month of 31 days and a year of 366."""
+        options = collectd.Configuration()
+        options.rrarows = 1
+        found = [word.split(":") for word in collectd.archives(options, 1)]
+        self.assertEqual([(word[1], word[3], word[4]) for word in found], [(function, steps, rows) for steps, rows in (("1", "3600"), ("86400", "1"), ("604800", "1"), ("2678400", "1"), ("31622400", "1"))
+                                                                          for function in ("AVERAGE", "MIN", "MAX")])
+
     def test_lengths_of_names(self) -> None:
         """A name of a file or a folder has 255 bytes at most, the end of a file's name among them."""
         for given, is_right in (({"host": "x" * 255}, True), ({"host": "x" * 256}, False), ({"host": "\u00e4" * 127}, True), ({"host": "\u00e4" * 128}, False), ({"type": "t" * 250}, True), ({"type": "t" * 251}, False),

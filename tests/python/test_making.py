@@ -51,6 +51,16 @@ class Making(DataCase):
         self.assertEqual(self.files(), ["data/.rrdi-00000000deadbeef.new", "data/.rrdi-mine.new"])
         self.assertEqual(remove_left_over(str(self.folder / "none")), [])
 
+    def test_how_long_a_file_may_be_filled(self) -> None:
+        """A day, to the second."""
+        left = self.folder / ".rrdi-0123456789abcdef.new"
+        for age, is_left_over in ((86_399, False), (86_400, False), (86_401, True)):
+            left.touch()
+            os.utime(left, (0, 1_700_000_000))
+            with mock.patch.object(time, "time", lambda: 1_700_000_000.0 + age):
+                self.assertEqual(remove_left_over(str(self.folder)), [str(left)] if is_left_over else [], age)
+            self.assertEqual(left.exists(), not is_left_over)
+
     def test_a_file_stays(self) -> None:
         self.path.write_text("old")
         self.assertFalse(self.made())

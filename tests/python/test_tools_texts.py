@@ -3,6 +3,8 @@
 RRDtool's texts, the files of a tree, and what a machine says of itself."""
 from __future__ import annotations
 
+import contextlib
+import io
 import os
 import struct
 import time
@@ -86,6 +88,10 @@ class Choices(unittest.TestCase):
         self.assertEqual((found.cells, ask.call_args[0][0][-3:]), ([[1.0, 2.0]], ["0", "--end", "59"]))
         with self.assertRaisesRegex(Failure, r"^start \(6\) should be less than end \(5\)$"):
             rows.fetch("f", "MAX", 6, 5)
+        with mock.patch.object(program, "ask", return_value="time: a b\n60: 1 2\n120: 3 4\n"), mock.patch.object(program, "settings", return_value=settings(("MAX", 6, 6), last=120)) as asked:
+            self.assertEqual(rows.fetch("f", "MAX", 5, 5, 60), Rows(0, 60, 60, ["a", "b"], [[1.0, 2.0]]))
+            self.assertEqual(rows.fetch("f", "MAX", 5, 60, 60), Rows(0, 120, 60, ["a", "b"], [[1.0, 2.0], [3.0, 4.0]]))
+        self.assertEqual(asked.mock_calls, [mock.call("f")] * 2)
 
 
 class Shown(InUtc):
@@ -108,6 +114,7 @@ class Shown(InUtc):
             self.assertEqual(show.shown_cells([None if cell is None else Millionths(cell) for cell in cells]), shown, cells)
 
     def test_columns(self) -> None:
+        self.assertEqual(list(show.columns([["a", "b"]])), ["a  b"])
         self.assertEqual(list(show.columns([["a", "long", "x"], ["long", "b", ""], ["", "c", "yy"]])), ["a     long  x", "long  b", "      c     yy"])
 
     def table(self, **more: Any) -> show.ShownRows:
@@ -132,6 +139,8 @@ class Shown(InUtc):
             with self.assertRaises(Failure) as failed:
                 show.archive_number(outline, show.read_options(words.split()), LAST, LAST)
             self.assertEqual(str(failed.exception), text)
+        fine = [StoredArchive("MAX", steps, 0, 600, steps, 0, ()) for steps in (3, 1)]  # without a resolution the finest one
+        self.assertEqual(show.archive_number(Outline(1, LAST, ("a",), (), tuple(fine), 0), show.read_options(["f"]), LAST - 9, LAST), 1)
         row = {"steps": 6, "function": "MAX", "row_count": 3}
         self.assertEqual(show.archive_row(1, row, 10, LAST + 59), ["1", "MAX", "1 min", "3", "2023-11-14 22:11:00", "2023-11-14 22:14:00"])
         self.assertEqual(show.archive_row(0, row, 10, 70), ["0", "MAX", "1 min", "3", "1970-01-01 00:00:00", "1970-01-01 00:01:00"])
@@ -164,6 +173,9 @@ class Journals(InUtc):
         found = self.changes({"change": "tune", "sources": [before]}, {"change": "tune", "sources": [{**before, "heartbeat": 31, "min": Millionths(-500_000)}]})
         self.assertEqual([tuple(one) for one in found[0].differences], [("a", "name", "old", "a"), ("a", "heartbeat", "30", "60"), ("a", "max", "U", "5")])
         self.assertEqual([tuple(one) for one in found[1].differences], [("old", "heartbeat", "31", "30"), ("old", "min", "-0.5", "U")])
+        both = self.changes({"change": "tune", "sources": [before, {**before, "number": 1, "name": "b", "type": "DERIVE"}]}, {"change": "tune", "sources": [{**before, "number": 1, "name": "c", "type": "DERIVE"}]})
+        self.assertEqual([tuple(one) for one in both[0].differences[3:]], [("b", "type", "DERIVE", "COUNTER"), ("b", "heartbeat", "30", "60"), ("b", "max", "U", "5")])
+        self.assertEqual([tuple(one) for one in both[1].differences], [("b", "name", "c", "b")])
         self.assertEqual(list(texts(found[1])), ["  2  tune      2023-11-14 22:14:00", "       old heartbeat  31 -> 30", "       old min        -0.5 -> U"])
 
     def test_archives(self) -> None:
@@ -251,6 +263,30 @@ class Trees(unittest.TestCase):
         self.assertEqual(names.new(files[0]), "one")
         with self.assertRaisesRegex(Failure, "^one is made of .*/a.rrd$"):
             names.new(files[1])
+
+    def test_what_a_kill_has_left(self) -> None:
+        """In each folder all files of that kind, once."""
+        for folder in ("d", "z"):
+            for number in range(2):
+                left = self.tree / folder / f".rrdi-{number:016x}.new"
+                left.touch()
+                os.utime(left, (0, 0))
+        folders = [str(self.tree / folder) for folder in ("z", "d", "z")]
+        with contextlib.redirect_stdout(io.StringIO()) as said:
+            many_files.tidy(folders)
+        self.assertEqual(sorted(said.getvalue().splitlines()), [f"{self.tree}/{folder}/.rrdi-{number:016x}.new: removed, a run that was killed had left it" for folder in ("d", "z") for number in range(2)])
+        self.assertEqual(sorted(os.listdir(self.tree / "d")), ["e.rrd", "f.rrdi"])
+
+    def test_the_bar_of_all(self) -> None:
+        """By the bytes of the files: those that are done, and of one that is read no more than it has."""
+        files = [many_files.OldFile(str(self.tree / name), name) for name in ("a.rrd", "d/e.rrd")]
+        with mock.patch.object(many_files, "Progress") as made:
+            bar = many_files.Bar(files)
+            for done, size in ((0, 5), (3, 5), (9, 5)):
+                bar.reading(done, size)
+            bar.end_file(5)
+            bar.reading(2, 7)
+        self.assertEqual(made.mock_calls, [mock.call("converting", has_bar=True), *(mock.call().show(done, 12) for done in (0, 3, 5)), mock.call().end(), mock.call().show(7, 12)])
 
     def test_summaries(self) -> None:
         made = many_files.Conversions.__new__(many_files.Conversions)
