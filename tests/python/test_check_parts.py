@@ -14,7 +14,7 @@ from cases import new_folder
 from rrdi.amounts import Millionths
 from rrdi.reader.selected import OpenFile
 from rrdi.tools import check
-from rrdi.tools.check import CRITICAL, OK, UNKNOWN, WARNING, CheckOptions, KnownRow, Verdict, WatchedSource
+from rrdi.tools.check import CRITICAL, OK, UNKNOWN, WARNING, CheckOptions, KnownRow, ValueRange, Verdict, WatchedSource
 from rrdi.tools.command_line import Failure, WrongArguments
 
 LAST = 1_700_000_040
@@ -88,7 +88,8 @@ class Sources(unittest.TestCase):
 
     def watched(self, cells: Dict[int, Optional[float]], rows: int = 30, seconds: int = 0, coarse: int = 0) -> WatchedSource:
         """A source with rows of ten seconds, by how long ago they ended, and perhaps rows of a minute."""
-        archives: List[Any] = [(1, rows, {LAST - ago: [0.0, value] for ago, value in cells.items()}), *([(6, coarse, {})] if coarse else [])]
+        archives: List[Any] = [(1, rows, {LAST - ago: [0.0, value] for ago, value in cells.items()})]
+        archives += [(6, coarse, {})] if coarse else []
         with open(self.path, "wb") as file:
             file.write(graphite.file_bytes(LAST, ("other", "a"), archives))
         opened = OpenFile(self.path)
@@ -128,8 +129,9 @@ class Sources(unittest.TestCase):
         """Those of the seconds before the newest one; if the first of them are unknown, with the row before them, and without one none,
         unless there are no earlier rows at all."""
         known: Dict[int, Optional[float]] = {0: 1.0, 10: 2.0, 20: 3.0, 100: 9.0}
-        for cells, rows, seconds, found in ((known, 30, 30, {20: 3, 10: 2, 0: 1}), (known, 30, 29, {20: 3, 10: 2, 0: 1}), (known, 30, 20, {10: 2, 0: 1}), (known, 30, 31, {100: 9, 20: 3, 10: 2, 0: 1}), (known, 30, 10, {0: 1}), (known, 30, 1, {0: 1}),
-                                            ({0: 1.0, 10: 2.0}, 30, 30, {}), ({0: 1.0, 10: 2.0}, 3, 30, {10: 2, 0: 1}), ({0: 1.0, 10: 2.0}, 4, 30, {}), ({0: 1.0}, 30, 10, {0: 1}), ({0: 1.0}, 30, 11, {})):
+        cases: List[Tuple[Dict[int, Optional[float]], int, int, Dict[int, float]]] = [(known, 30, 30, {20: 3, 10: 2, 0: 1}), (known, 30, 29, {20: 3, 10: 2, 0: 1}), (known, 30, 20, {10: 2, 0: 1}), (known, 30, 31, {100: 9, 20: 3, 10: 2, 0: 1}), (known, 30, 10, {0: 1}), (known, 30, 1, {0: 1}),
+                                            ({0: 1.0, 10: 2.0}, 30, 30, {}), ({0: 1.0, 10: 2.0}, 3, 30, {10: 2, 0: 1}), ({0: 1.0, 10: 2.0}, 4, 30, {}), ({0: 1.0}, 30, 10, {0: 1}), ({0: 1.0}, 30, 11, {})]
+        for cells, rows, seconds, found in cases:
             source = self.watched(cells, rows)
             newest = source.newest(LAST)
             assert newest is not None
@@ -163,9 +165,10 @@ class Sources(unittest.TestCase):
 
     def test_lines(self) -> None:
         limits = {CRITICAL: check.range_of("c", "~:20"), WARNING: check.range_of("w", "@5:10")}
-        for limits_of, verdict, line in (
+        cases: List[Tuple[Dict[int, ValueRange], Verdict, str]] = [
                 ({}, Verdict(OK, "fine", Millionths(1_500_000)), "OK - f: fine | a=1.5"), (limits, Verdict(CRITICAL, "bad", Millionths(0)), "CRITICAL - f: bad | a=0;@5:10;~:20"), (limits, Verdict(WARNING, "x", None), "WARNING - f: x | a=U;@5:10;~:20"),
-                ({WARNING: limits[WARNING]}, Verdict(OK, "x", Millionths(7)), "OK - f: x | a=0.000007;@5:10"), ({CRITICAL: limits[CRITICAL]}, Verdict(OK, "x", None), "OK - f: x | a=U;;~:20"), (limits, Verdict(UNKNOWN, "a|b\n", None), "UNKNOWN - f: a?b\\n")):
+                ({WARNING: limits[WARNING]}, Verdict(OK, "x", Millionths(7)), "OK - f: x | a=0.000007;@5:10"), ({CRITICAL: limits[CRITICAL]}, Verdict(OK, "x", None), "OK - f: x | a=U;;~:20"), (limits, Verdict(UNKNOWN, "a|b\n", None), "UNKNOWN - f: a?b\\n")]
+        for limits_of, verdict, line in cases:
             self.assertEqual(check.line_of(CheckOptions("f", "a", limits_of, 0, None, None), verdict), line)
 
     def test_files(self) -> None:
