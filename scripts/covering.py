@@ -7,6 +7,7 @@ import hashlib
 import json
 import os
 import queue
+import re
 import shutil
 import subprocess
 import sys
@@ -152,6 +153,13 @@ class Tests:
         if mutant.names and not places:
             return [test for test in self.all if mutant.file in test.lines]
         return [test for test in self.all if any(line in test.lines.get(file, ()) for file, line in places)]
+
+    def naming(self, mutant: Mutant) -> list[Test]:
+        """Returns the tests of the modules that have a name whose value a mutant decides, the fastest first: they may look at
+        the value itself, and run no line that uses it."""
+        found = {module for module in self.kept if any(
+            re.search(rf"\b{name}\b", (self.folder / f"{module}.py").read_text()) for name in mutant.names)}
+        return [test for test in self.all if test.name.split(".")[0] in found]
 
 
 def note_users(body: list[ast.stmt], file: str, found: dict[str, set[tuple[str, int]]], further: dict[str, set[str]]) -> None:

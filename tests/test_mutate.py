@@ -163,6 +163,15 @@ def test_a_small_repository(mutate: Any, capsys: pytest.CaptureFixture[str]) -> 
     assert mutate.TOP.joinpath("python/rrdi/parts.py").read_text() == SOURCE
 
 
+def test_a_test_of_a_constant(mutate: Any, capsys: pytest.CaptureFixture[str]) -> None:
+    """It runs no line that uses the constant, and has its name."""
+    text = TESTS[:TESTS.index("    def test_values")] + "    def test_limit(self):\n        self.assertEqual(rrdi.parts.LIMIT, 5)\n"
+    (mutate.TOP / "tests/python/test_constants.py").write_text(text)
+    assert mutate.main(mutate.parser().parse_args([str(mutate.TOP / "python/rrdi/parts.py"), "--jobs=1"])) == 1
+    said = capsys.readouterr().out
+    assert "LIMIT = 4" not in said and said.endswith("all: 4/8 killed (50.0 %); 4 killed, 4 not reached\n")
+
+
 def test_a_program_in_c(mutate: Any, capsys: pytest.CaptureFixture[str]) -> None:
     """It is made anew for each mutant, and its tests must pass without one."""
     options = mutate.parser().parse_args([str(mutate.TOP / "library"), "--jobs=2"])
