@@ -141,11 +141,11 @@ LDCONFIG = ldconfig
 # $(call manual,PAGE): a manual page as it is installed, where docs and examples are in other directories.
 manual = sed 's,\(^\|[ <]\)\(docs\|examples\)/,\1$(PREFIX)/share/rrdi/\2/,g' $(1) | gzip -9n
 
-# The pages for those who have the repository: the installed pages name them without a link.
-OF_REPOSITORY = ARCHITECTURE|CONTRIBUTING|DECISIONS|proofs|results
+# What those have who have the repository: the installed pages name it without a link.
+OF_REPOSITORY = ARCHITECTURE|CONTRIBUTING|DECISIONS|proofs|results|library/c|tests/README
 PAGES = CHANGELOG.md README.md $(filter-out $(patsubst %,docs/%.md,$(subst |, ,$(OF_REPOSITORY))),$(wildcard docs/*.md))
 # $(call page,PAGE): a page as it is installed.
-page = sed -zE 's,\[([^][]*)\]\((\.\./|docs/)?($(OF_REPOSITORY))\.md[^)]*\),\1,g' $(1)
+page = sed -zE 's,\[([^][]*)\]\((\.\./|docs/)?($(OF_REPOSITORY))(\.md[^)]*)?\),\1,g' $(1)
 # A script that only tests use.
 OF_TESTS = examples/rrdi-safely
 

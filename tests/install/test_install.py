@@ -15,6 +15,7 @@ from typing import Callable
 import pytest
 
 from install.listed import in_folder, in_package, listed
+from pages.test_links import leads_nowhere, parsed
 from support.program import TOP
 
 WITH_LIBRARY = ("rrdi with the library", "librrdi0", "librrdi-dev")
@@ -95,6 +96,21 @@ def test_a_wrong_installation(make: Callable[..., None], folder: Path) -> None:
         "644 share/man/man1/rrdi.1.gz", "700 bin/rrdi", "755 bin/rrdi", "700 bin"}
 
 
+def dead_links(place: Path) -> set[str]:
+    """Returns the links of the pages below a place that lead nowhere."""
+    pages = list(place.rglob("*.md"))
+    assert len(pages) > 20
+    return {f"{path.name}: {target}" for path in pages for _, target in parsed(path.read_text(encoding="utf-8")).links
+            if leads_nowhere(path, target)}
+
+
+def test_links_of_pages(make: Callable[..., None], folder: Path) -> None:
+    make("install", f"DESTDIR={folder}/new")
+    assert dead_links(folder / "new") == set()
+    (folder / "new/usr/local/share/rrdi/LICENSE").unlink()
+    assert dead_links(folder / "new") == {"README.md: LICENSE"}
+
+
 # ---- packages of Debian
 
 
@@ -109,6 +125,13 @@ def test_files_of_packages(packages: dict[str, Path]) -> None:
     for name, package in packages.items():
         sections = ("rrdi", "rrdi with the library") if name == "rrdi" else (name,)
         assert in_package(package) == listed(*sections, **DEBIAN), name
+
+
+@pytest.mark.xdist_group("packages")
+def test_links_of_packages(packages: dict[str, Path], folder: Path) -> None:
+    subprocess.run(["dpkg-deb", "-x", packages["rrdi"], folder / "new"], check=True)
+    assert dead_links(folder / "new") == set()
+    assert "(/usr/share/doc/rrdi/copyright)" in (folder / "new/usr/share/rrdi/README.md").read_text()
 
 
 @pytest.mark.xdist_group("packages")
