@@ -13,6 +13,7 @@ from .words import as_bytes, as_text
 
 EXPLAINED = "rrdi: "  # begins the line of an explanation
 IN_USE = "in use by another program"  # begins the reason if another program holds the lock
+CUT_SHORT = "no space left, or a limit on the size of files"  # the reason if only some bytes were written
 OF_THE_SYSTEM = frozenset({CANNOT_OPEN, CANNOT_WRITE, READ_FAILED})  # the faults for which the system has a reason
 ONE_NUMBER = frozenset({b"first", b"last"})  # the commands that print a line with nothing but a number
 
@@ -78,6 +79,8 @@ def number_of(explanation: str) -> int:
     reason = explanation.rpartition(": ")[2]
     if reason.startswith(IN_USE):
         return errno.EAGAIN
+    if reason == CUT_SHORT:
+        return errno.ENOSPC  # as the library
     numbered = re.search(r"\(os error (\d+)\)$", reason, re.ASCII)
     if numbered is not None:
         return int(numbered[1])

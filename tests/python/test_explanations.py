@@ -41,7 +41,8 @@ class Answers(unittest.TestCase):
     def test_reasons_of_the_system(self) -> None:
         for text, number in (("f: no such file or directory", errno.ENOENT), (IN_USE, errno.EAGAIN),
                              ("a: b: permission denied", errno.EACCES), ("f: is a directory", errno.EISDIR),
-                             ("f: No locks available (os error 37)", 37), ("f: anything", 0)):
+                             ("f: No locks available (os error 37)", 37), ("f: anything", 0),
+                             ("f: no space left, or a limit on the size of files", errno.ENOSPC)):
             self.assertEqual(number_of(text), number)
 
     def test_refused_samples(self) -> None:

@@ -497,7 +497,7 @@ class Record(ToolCase):
         self.make("a.rrdi", self.now + 500)
         ran = self.record("a.rrdi")
         self.assertEqual((ran.status, ran.out), (1, ""))
-        self.assertRegex(ran.err, f"^rrdi-record: not later than {self.now + 500}\nrrdi-record: {self.now + 500} is [45]\\d\\d seconds "
+        self.assertRegex(ran.err, f"^rrdi-record: a.rrdi: not later than {self.now + 500}\nrrdi-record: {self.now + 500} is [45]\\d\\d seconds "
                                   "ahead of the clock; if a sample has this wrong time, rrdi revert takes it back\n$")
         for text in ("", "1 2", "x y z"):
             self.assertEqual(self.record("n.rrdi", LOADAVG=self.write("l", text)),
@@ -509,13 +509,19 @@ class Record(ToolCase):
                          "rrdi-record: cannot run /nowhere: No such file or directory\n")
         with open(self.folder / "a.rrdi", "ab") as file:
             fcntl.flock(file, fcntl.LOCK_EX)
-            self.assertEqual(self.record("a.rrdi"), Ran(1, "", "rrdi-record: a.rrdi: cannot open\n"))
+            self.assertEqual(self.record("a.rrdi"), Ran(1, "", "rrdi-record: a.rrdi: cannot open: another program holds its lock\n"))
         self.assertFalse((self.folder / "a.rrdi.refused").exists())
 
     def test_a_full_disk(self) -> None:
+        """The first run, and a later one."""
+        why = f"cannot write: {os.strerror(errno.ENOSPC)}"
         ran = self.tool("rrdi-record", "new.rrdi", size=5_000)
-        self.assertEqual((ran.status, ran.err), (1, "rrdi-record: cannot write\n"))
+        self.assertEqual(ran, Ran(1, "", f"rrdi-record: new.rrdi: {why}\n"))
         self.assertFalse((self.folder / "new.rrdi").exists())
+        self.make("a.rrdi", self.now - 120)
+        full = self.stub("full", 'if [ $1 = update ]; then printf "ERROR: cannot write\\nrrdi: a.rrdi: no space left on device\\n" >&2\n'
+                                 f'exit 1; fi; exec {PROGRAM} "$@"')
+        self.assertEqual(self.record("a.rrdi", RRDI=full), Ran(1, "", f"rrdi-record: a.rrdi: {why}\n"))
 
     def test_it_waits_for_another_run(self) -> None:
         self.make("a.rrdi", self.now - 120)

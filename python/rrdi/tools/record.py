@@ -100,10 +100,14 @@ def copy(old: str, new: str) -> None:
 Fill = Callable[[str], object]  # creates an empty database
 
 
-def fill_for(numbers: List[Number], journal: str) -> Fill:
-    """Returns what creates an empty database for these numbers."""
+def fill_for(file: str, numbers: List[Number], journal: str) -> Fill:
+    """Returns what creates an empty database for these numbers. An error names the file, and not what will become it."""
     definitions = [f"DS:{number.name}:{number.type}:{HEARTBEAT}:0:U" for number in numbers]
-    return lambda new: program.ask(["create", new, "--step", "60", "--journal", journal, *definitions, *ARCHIVES])
+
+    def fill(new: str) -> None:
+        with program.naming(file):
+            program.ask(["create", new, "--step", "60", "--journal", journal, *definitions, *ARCHIVES])
+    return fill
 
 
 # ---- Damaged files
@@ -129,7 +133,7 @@ def look(file: str) -> Condition:
         reason = str(failed)
         fault, at = fault_of(reason)
         if not TRUNCATED <= fault <= TRAILING or not has_mark(file):
-            raise Failure(f"{file}: {reason}") from None
+            raise Failure(failed.of_file(file)) from None
         if fault == TRUNCATED and at == 0 and is_being_made(file):
             raise Failure(f"{file}: {reason}; another program may be making the file") from None
         return Condition(0, reason.partition(": ")[2])
@@ -274,7 +278,7 @@ def record(words: List[str]) -> int:
     os.environ["RRDI_SYNC"] = "1"
     with alone(file + ".lock"):
         numbers = [number for reader in arguments.readers for number in reader()]
-        last = make_ready(file, fill_for(numbers, arguments.journal))
+        last = make_ready(file, fill_for(file, numbers, arguments.journal))
         try:
             keep_copies(file, last)
         except (program.CommandFailed, OSError) as failed:  # the sample is recorded all the same
@@ -295,7 +299,7 @@ def update(file: str, numbers: List[Number]) -> None:
     except program.CommandFailed as failed:
         if str(failed) == "no such data source":
             raise Failure(f"{file} lacks one of {', '.join(names)}; record it in another file") from None
-        raise
+        raise program.CommandFailed(failed.of_file(file), detail=failed.detail) from None
 
 
 TOOL = Tool("rrdi-record", "[--load] [--memory] [--disk DIRECTORY] [--network INTERFACE] [--journal N] FILE", __doc__,
