@@ -46,7 +46,7 @@ class Error(Exception):
 
     def __str__(self) -> str:
         if self.system_error in LOCKED:
-            why = f": {self.detail or 'another program holds its lock'}"
+            why = f": {self.detail or of_system(self.system_error)}"
         else:
             why = f": {os.strerror(self.system_error)}" if self.system_error else ""
             if self.detail:
@@ -171,6 +171,11 @@ _REASONS: Dict[int, str] = {_FAULTS[reason]: reason for reason in ("out of memor
 def reason_of(fault: int, output: bytes) -> str:
     """Returns the reason of a fault: `output`, unless the output is the text that the lines of a batch printed."""
     return _REASONS.get(fault) or output.decode(errors="replace").rstrip("\n")
+
+
+def of_system(number: int) -> str:
+    """Returns what the system says of an error, by its number."""
+    return "another program holds its lock" if number in LOCKED else os.strerror(number)
 
 
 def reasons_in(output: str) -> List[str]:

@@ -53,7 +53,7 @@ class FeedCase(ProcessCase):
                    "time: g\n10: 1.000000\n20: 2.000000\n30: 3.000000\n")
         with locked(self.folder / "f.rrdi"):
             self.same("given up", self.ran(path_of("rrdi-feed"), "--patience", "1", given="f.rrdi 40:4 50:5\n"),
-                       Ran(1, "", "rrdi-feed: f.rrdi: cannot open; 2 samples may be lost\n"
+                       Ran(1, "", "rrdi-feed: f.rrdi: cannot open: another program holds its lock; 2 samples may be lost\n"
                                   "rrdi-feed: may be lost: f.rrdi 40:4 50:5\n"))
 
 

@@ -300,10 +300,12 @@ class Writers(EachWriter, unittest.TestCase):
         refused = Answer(0, 0, 0, b"ERROR: bad value\nERROR: not later than 20\n", (1, 3))
         self.assertEqual(self.outcome(refused),
                          Outcome(refused=((b"10:1", "bad value"), (b"30:3", "not later than 20"))))
-        for fault, text in ((CANNOT_OPEN, b"cannot open"), (NO_MEMORY, b"out of memory")):
-            self.assertEqual(self.outcome(Answer(fault, errno.EAGAIN, 0, text)), Outcome(again=text.decode()))
-        for fault, text in ((CANNOT_WRITE, b"cannot write"), (20, b"file: not ours")):
-            self.assertEqual(self.outcome(Answer(fault, 0, 0, text)), Outcome(lost=text.decode()))
+        for fault, number, text in ((CANNOT_OPEN, 0, "cannot open"), (NO_MEMORY, 0, "out of memory"),
+                                    (CANNOT_OPEN, errno.EAGAIN, "cannot open: another program holds its lock")):
+            self.assertEqual(self.outcome(Answer(fault, number, 0, text.partition(": ")[0].encode())), Outcome(again=text))
+        for fault, number, text in ((CANNOT_WRITE, 0, "cannot write"), (20, 0, "file: not ours"),
+                                    (CANNOT_WRITE, errno.ENOSPC, "cannot write: no space left on device")):
+            self.assertEqual(self.outcome(Answer(fault, number, 0, text.partition(": no ")[0].encode())), Outcome(lost=text))
 
     def program(self) -> str:
         """Returns the program of the chosen writer; the empty text for the library."""
@@ -342,6 +344,6 @@ class Writers(EachWriter, unittest.TestCase):
             with open(file, "rb") as other:
                 import fcntl
                 fcntl.flock(other, fcntl.LOCK_EX)
-                self.assertEqual(writer.write(name, [b"40:1"]), Outcome(again="cannot open"))
+                self.assertEqual(writer.write(name, [b"40:1"]), Outcome(again="cannot open: another program holds its lock"))
             file.write_bytes(b"other")
             self.assertEqual(writer.write(name, [b"40:1"]), Outcome(lost="file: not ours"))

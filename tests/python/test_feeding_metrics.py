@@ -265,7 +265,8 @@ class New(EachWriter, unittest.TestCase):
                                "rrdi-feed: 30 is not later than the last update, 30; the next sample may be at 31 or later\n")
         self.assertEqual(self.names(), ["b/b.rrdi", "c"])
         self.assertEqual(writer.write(file, [b"30:1", b"40:1"]), Outcome(refused=((b"30:1", "not later than 30"),)))
-        self.assertEqual(writer.create(os.path.join(self.folder, b"none/f"), ARGUMENTS.split()), "cannot write")
+        self.assertEqual(writer.create(os.path.join(self.folder, b"none/f"), ARGUMENTS.split()),
+                         "cannot write: no such file or directory")
         self.assertEqual(writer.create(os.path.join(self.folder, b"g"), ["DS:a:GAUGE:x:U:U"]), "unreadable definition 1")
         _, said = self.fed(b"none 1 20", EACH_NAME, writer)
         self.assertEqual(said, f"rrdi-feed: {os.fsdecode(self.folder)}/none.rrdi 20:1: no database\n"

@@ -87,7 +87,8 @@ class Open(unittest.TestCase):
 
     def test_faults(self) -> None:
         full, busy = Answer(CANNOT_WRITE, errno.ENOSPC, 0, b"cannot write"), Answer(CANNOT_OPEN, errno.EAGAIN, 0, b"cannot open")
-        for answer, wanted in ((full, Outcome(lost="cannot write")), (busy, Outcome(again="cannot open"))):
+        for answer, wanted in ((full, Outcome(lost="cannot write: no space left on device")),
+                               (busy, Outcome(again="cannot open: another program holds its lock"))):
             outcome, file, _ = self.write(SAMPLES[:2], answer)
             self.assertEqual((outcome, file.is_closed), (wanted, True))
 
@@ -95,7 +96,7 @@ class Open(unittest.TestCase):
         library: Any = FakeLibrary(None, Answer(CANNOT_OPEN, errno.EAGAIN, 0, b"cannot open"))
         use_library(self, library)
         writer = OpenWriter(library, OpenFiles(OpenBounds(seconds=1_000)))
-        self.assertEqual([writer.write(b".", SAMPLES[:2]).again for _ in range(2)], ["", "cannot open"])
+        self.assertEqual([writer.write(b".", SAMPLES[:2]).again for _ in range(2)], ["", "cannot open: another program holds its lock"])
         self.assertEqual(library.batches, 1)
 
 

@@ -7,7 +7,7 @@ from typing import List, NamedTuple, Optional, Protocol, Sequence, Tuple
 from ..by_program import NoAnswer
 from ..damaged import is_being_made
 from ..environment import is_synced, milliseconds
-from ..errors import CANNOT_OPEN, EXPLAINED, NO_MEMORY, OK, TRUNCATED, details_in, reason_of, reasons_in
+from ..errors import CANNOT_OPEN, EXPLAINED, NO_MEMORY, OK, TRUNCATED, details_in, of_system, reason_of, reasons_in
 from ..protocol import Answer, OnFiles
 from ..words import present
 
@@ -61,13 +61,19 @@ def lines_of(samples: List[bytes]) -> bytes:
     return b"update " + b"\nupdate ".join(samples)
 
 
+def reason_for(answer: Answer) -> str:
+    """Returns the reason of a fault, with that of the system if there is one."""
+    reason = reason_of(answer.fault, answer.output)
+    return f"{reason}: {of_system(answer.system_error).lower()}" if answer.system_error else reason
+
+
 def outcome_of(file: bytes, samples: List[bytes], answer: Answer) -> Outcome:
     """Returns the outcome of a batch that had a line for each of these samples."""
     is_empty = answer.fault == TRUNCATED and answer.at == 0
     if answer.fault in (CANNOT_OPEN, NO_MEMORY) or is_empty and may_be_made(file):
-        return Outcome(again=reason_of(answer.fault, answer.output))
+        return Outcome(again=reason_for(answer))
     if answer.fault != OK:
-        return Outcome(lost=reason_of(answer.fault, answer.output))
+        return Outcome(lost=reason_for(answer))
     reasons, details = reasons_in(text_of(answer.output)), details_in(answer.explanation)
     return Outcome(refused=tuple((samples[number - 1], Reason(why, details.get(number, "")))
                                  for number, why in zip(answer.refused, reasons)))
@@ -99,4 +105,4 @@ class BatchWriter:
         if answer.fault == OK:
             return ""
         detail = answer.explanation.decode(errors="replace") if answer.fault in EXPLAINED else ""
-        return Reason(reason_of(answer.fault, answer.output), detail)
+        return Reason(reason_for(answer), detail)

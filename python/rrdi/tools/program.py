@@ -12,7 +12,7 @@ from typing import TYPE_CHECKING, Callable, Iterable, Iterator, List, Optional
 from ..by_program import NoAnswer
 from ..choice import chosen, program_path
 from ..environment import milliseconds, sync_of_environment
-from ..errors import EXPLAINED, LOCKED, OK, details_in, reason_of, reasons_in
+from ..errors import EXPLAINED, OK, details_in, of_system, reason_of, reasons_in
 from ..limits import LONGEST_LINE
 from ..printed import Settings, settings_of
 from ..words import as_bytes, as_text
@@ -38,7 +38,7 @@ class CommandFailed(Failure):
         system is asked for the path `opened`, by default that of the file."""
         why = ""
         if self.system_error:
-            why = "another program holds its lock" if self.system_error in LOCKED else os.strerror(self.system_error)
+            why = of_system(self.system_error)
         elif str(self) == "cannot open":
             why = why_not_opened(file if opened is None else opened)
         return f"{file}: {self}{': ' if why else ''}{why}"
