@@ -148,6 +148,13 @@ class Batches(unittest.TestCase):
             f"b {' '.join(sample.decode() for sample, _ in late[:11])}: not later than 300", "c 5:1: not later than 7",
             "samples refused: 265")))
 
+    def test_samples_that_are_too_old(self) -> None:
+        """Their count is part of that of the refused samples."""
+        refused = tuple((b"%d:1" % at, Reason("too old" if at < 5 else "bad value")) for at in range(11))
+        for count, wanted in ((11, ["samples refused: 11", "of these too old: 5"]), (9, ["9:1: bad value", "samples too old: 5"])):
+            said = self.fed(b"a 1:1", {b"a": [Outcome(refused=(*refused[:count - 1], (b"9:1", "bad value")))]})[2]
+            self.assertEqual([line.rpartition("rrdi-feed: ")[2].replace("a ", "") for line in said.splitlines()[-2:]], wanted)
+
     def test_few_refused_samples(self) -> None:
         """Each has a line of its own; a minute later a reason is explained again."""
         late = tuple((b"%d:1" % at, Reason("not later than 300", f"{at} is late")) for at in range(1, 11))

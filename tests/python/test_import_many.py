@@ -278,6 +278,13 @@ class Many(ToolCase):
         self.assertEqual(self.cells("tree/a.rrd"), "1600000010: 1.000000 2.000000")
         self.assertEqual((self.read("tree/a.rrd.old"), self.read("tree/b.rrd")), (before, before))
 
+    def test_in_place_on_a_full_disk(self) -> None:
+        before, path = self.old("a.rrd"), f"{os.path.realpath(self.folder)}/a.rrd"
+        ran = self.tool("rrdi-import", "--in-place", "a.rrd", size=50)
+        self.assertEqual((ran.status, ran.err),
+                         (1, f"rrdi-import: a.rrd: not converted: {path}: cannot write: No space left on device\n"))
+        self.assertEqual((self.read("a.rrd"), [name.name for name in self.folder.glob("*.old")]), (before, []))
+
     @unittest.skipUnless(os.geteuid() == 0, "only root gives files to others")
     def test_in_place_keeps_the_owner(self) -> None:
         self.old("a.rrd")

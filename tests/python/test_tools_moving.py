@@ -129,7 +129,7 @@ class Import(ToolCase):
     @needs_program
     def test_a_full_disk_leaves_no_file(self) -> None:
         self.assertEqual(self.tool("rrdi-import", "old.rrd", "new.rrdi", size=50),
-                         Ran(1, "", NOTE + "rrdi-import: new.rrdi: cannot write\n"))
+                         Ran(1, "", NOTE + "rrdi-import: new.rrdi: cannot write: No space left on device\n"))
         self.assertEqual([path.name for path in self.folder.glob("new.rrdi*")], [])
         self.assertEqual(self.tool("rrdi-import", "old.rrd", "/nowhere/new.rrdi").err,
                          NOTE + "rrdi-import: /nowhere/new.rrdi: cannot open: No such file or directory\n")

@@ -266,7 +266,7 @@ class Pages(ToolCase):
         before = self.page("load.rrdi.html")
         self.database("tree/load.rrdi", spike=9)
         ran = self.tool("rrdi-plot", "--html", "tree", "out", size=500)
-        self.assertEqual(ran.status, 1)
+        self.assertEqual((ran.status, ran.err.splitlines()[-1]), (1, "rrdi-plot: out/index.html: File too large"))
         self.assertEqual(self.page("load.rrdi.html"), before)
         self.assertEqual([path.name for path in Path(self.folder / "out").rglob(".rrdi-*")], [])
 

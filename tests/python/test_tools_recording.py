@@ -336,6 +336,8 @@ class Plot(ToolCase):
         self.assertEqual((ran.status, ran.out, ran.err.count("\n")), (1, "", 1))
         self.assertIn("File too large", ran.err)
         self.assertFalse((self.folder / "p.png").exists())
+        (self.folder / "full.png").symlink_to("/dev/full")
+        self.assertEqual(self.draw(0, 39, "full.png"), Ran(1, "", "rrdi-plot: full.png: No space left on device\n"))
 
 
 class Disks(unittest.TestCase):

@@ -405,7 +405,7 @@ class Feeder:
         if self.refused > FEW:
             self.say(f"samples refused: {self.refused}")
         if self.too_old:
-            self.say(f"samples too old: {self.too_old}")
+            self.say(f"{'of these' if self.refused > FEW else 'samples'} too old: {self.too_old}")
 
     def write_held(self) -> None:
         """Passes on all held samples, and gives up files that cannot be opened for too long."""

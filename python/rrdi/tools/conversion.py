@@ -180,8 +180,7 @@ def swap_in(old: str, kept: str, lines: Iterable[str], look: Callable[[str], Non
     - `OSError` if the system refuses the owner, the mode or a name.
     """
     with NewFile(old) as made:
-        program.batch(made.unfinished, lines)
-        look(made.unfinished)
+        fill(made, old, lines, look)
         take_owner(made.unfinished, before)
         if state_of(os.stat(old)) != state_of(before):
             raise Failure("it changed while it was converted; first stop what records into it")

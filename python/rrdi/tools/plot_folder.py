@@ -78,8 +78,11 @@ def write_page(path: str, text: str) -> None:
     `OSError` if there is another file, or the system refuses the page.
     """
     with NewFile(path, makes_folder=True) as made:
-        with open(made.unfinished, "x", encoding="utf-8") as written:
-            written.write(text)
+        try:
+            with open(made.unfinished, "x", encoding="utf-8") as written:
+                written.write(text)
+        except OSError as error:
+            raise OSError(error.errno, error.strerror, path) from None
         if not made.appear():
             check_page(made.path)
             made.replace()

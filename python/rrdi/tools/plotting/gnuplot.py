@@ -148,7 +148,7 @@ def draw(file: str, path: str, picture: Picture) -> None:
     """Draws the points by gnuplot, and then writes the picture.
 
     # Errors
-    `Failure` if gnuplot drew nothing; gnuplot's message is on standard error.
+    `Failure` if gnuplot drew nothing, where its message is on standard error, or if the picture cannot be written.
     """
     with tempfile.TemporaryDirectory(prefix="rrdi-plot") as folder:
         with open(f"{folder}/points", "w", encoding="utf-8") as written:
@@ -161,4 +161,7 @@ def draw(file: str, path: str, picture: Picture) -> None:
             raise Failure(f"gnuplot did not draw {file}")
         if not os.path.exists(f"{folder}/picture"):
             raise Failure(f"gnuplot did not draw {file}")
-        shutil.copyfile(f"{folder}/picture", path)
+        try:
+            shutil.copyfile(f"{folder}/picture", path)
+        except OSError as error:
+            raise Failure(f"{path}: {error.strerror}") from None
