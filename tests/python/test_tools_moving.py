@@ -318,6 +318,17 @@ class Compare(ToolCase):
                 self.assertEqual((ran.status, ran.err), (1, ""))
                 self.assertIn(said, ran.out)
 
+    def test_archives_of_one_kind(self) -> None:
+        """A fetch reads the first of them, unless a later one has more rows."""
+        info = self.info.replace("rra[0].rows = 3", "rra[0].rows = 2")
+        for rows, last in ((3, "AVERAGE 10 s: 3 cells, 3 agree"),
+                           (2, "AVERAGE 10 s: not compared, since fetch reads an archive before it")):
+            self.create("f.rrdi", "DS:g:GAUGE:10:U:U", "RRA:AVERAGE:0.5:1:2", "RRA:MAX:0.5:3:1", f"RRA:AVERAGE:0.9:1:{rows}")
+            self.rrdi("update", "f.rrdi", "10:1", "20:U", "30:2")
+            self.write("info", f'{info}rra[2].cf = "AVERAGE"\nrra[2].rows = {rows}\nrra[2].pdp_per_row = 1\n')
+            ran = self.compare(f"{self.ONE} -nan {self.TWO}", self.TWO)
+            self.assertEqual((ran.status, ran.out.splitlines()[2:], ran.err), (int(rows == 2), [last], ""))
+
     def test_missing_sources(self) -> None:
         """Those that only the old file has are named; the status is that of the cells."""
         self.write("info", self.info + "".join(f'ds[{name}].type = "{kind}"\n' for name, kind in (

@@ -19,8 +19,8 @@ sources that only the old file has. rrdtool must be installed.
 environment:
   RRDI                 the program to run instead of the C library
 
-Exit status: 0 if all cells agree; 1 if one does not, if there is no archive to
-compare, or if a program failed; 2 after wrong arguments.
+Exit status: 0 if all cells agree; 1 if one does not, if an archive cannot be
+compared, or if a program failed; 2 after wrong arguments.
 """
 from __future__ import annotations
 
@@ -102,6 +102,11 @@ def spans(info: str) -> Iterator[ArchiveSpan]:
             yield ArchiveSpan(function, seconds, max(end - int(found[f"rra[{number}].rows"]) * seconds, 0), end - 1)
 
 
+def is_like(before: ArchiveSpan, span: ArchiveSpan) -> bool:
+    """Checks whether a fetch of all rows of an archive reads one before it, which has as many or more of the same kind."""
+    return before[:2] == span[:2] and before.begin <= span.begin
+
+
 def missing_sources(info: str, new: str) -> List[str]:
     """Returns the data sources of the old file that the new one does not have, each with its type."""
     found = dict(re.findall(r"^ds\[(.+)\]\.type = \"(.*)\"$", info, re.MULTILINE))
@@ -154,7 +159,11 @@ def compare(words: List[str]) -> int:
     if not archives:
         raise Failure(f"{old} has no archive that rrdi can have")
     status = 0
-    for span in archives:
+    for place, span in enumerate(archives):
+        if any(is_like(before, span) for before in archives[:place]):
+            print(f"{span.function} {span.seconds} s: not compared, since fetch reads an archive before it", flush=True)
+            status = 1
+            continue
         counts = compare_archive(old, new, span)
         print(f"{span.function} {span.seconds} s: {counts.text()}", flush=True)
         if not counts.is_equal():
