@@ -77,6 +77,17 @@ class Source:
     def inline(self) -> set[str]:
         return {name for header in self.top.glob("include/*.h") for name in INLINE.findall(header.read_text())}
 
+    def prototypes(self) -> dict[str, tuple[str, str]]:
+        """Returns what each function of the header returns, and its parameters."""
+        code = re.sub(r"/\*.*?\*/", "", self.header, flags=re.DOTALL)
+        found = self.found(r"^(?:static inline )?([\w ]+[ *])(rrdi_\w*[a-z])\(([^)]*)\)", code)
+        return {name: (kind.strip(), " ".join(parameters.split())) for kind, name, parameters in found}
+
+    def manual_prototypes(self) -> dict[str, tuple[str, str]]:
+        """Returns the same as the SYNOPSIS of rrdi.3 shows it."""
+        found = self.found(r"^\.Ft (.*)\n\.F[no] (\w+)(.*\n(?:\.Fa .*\n)*)", self.manual.split(".Sh DESCRIPTION")[0])
+        return {name: (kind, ", ".join(re.findall('"([^"]*)"', words) or words.split())) for kind, name, words in found}
+
     def python_faults(self) -> dict[str, int]:
         """Returns the numbers of the faults in the Python package, by its names for them."""
         rows = self.found(r"^([A-Z_, ]+) = ([\d, ]+)$", self.text("python/rrdi/errors.py"))
@@ -110,6 +121,7 @@ def compare_pages(source: Source, check: Check) -> None:
             ("SYNOPSIS of rrdi.3", sorted(re.findall(r"^\.F[no] (\w+)", synopsis, re.MULTILINE)), both),
             ("NAME of rrdi.3", sorted(re.findall(r"^\.Nm (rrdi_\w+)", source.manual, re.MULTILINE)), both)):
         compare(check, f"the functions of {what}", those, right)
+    compare(check, "the parameters in SYNOPSIS of rrdi.3", source.manual_prototypes(), source.prototypes())
     compare(check, "the soname in Python", "librrdi.so.0" in source.text("python/rrdi/library.py"), True)
 
 
@@ -231,6 +243,8 @@ FAULTS = (
     ("include/rrdi.h", "bool is_cut; ", "int is_cut; "),
     ("include/rrdi.h", "RRDI_EXPLANATION 8192", "RRDI_EXPLANATION 4096"),
     ("include/rrdi.h", "bool is_open; ", "int is_open; "), ("docs/rrdi.3", ".Fo rrdi_batch_file", ".Fo rrdi_batch"),
+    ("include/rrdi.h", "uint64_t start, uint64_t end,\n                       struct rrdi_rows *rows, struct rrdi_value *values, size_t room)",
+     "uint64_t end, uint64_t start,\n                       struct rrdi_rows *rows, struct rrdi_value *values, size_t room)"),
     ("docs/rrdi.3", ".Nm rrdi_words", ".Nm rrdi_word"), ("docs/rrdi.3", "Dv RRDI_READ No", "Dv RRDI_READ"),
     ("include/librrdi.map", "rrdi_batch_file;", ""), ("Makefile", "rrdi_fetch_open rrdi_close", "rrdi_fetch_open"),
     ("library/rrdi_c/specs/Numbers.antt.in", "= 26", "= 3"), ("python/rrdi/library.py", "librrdi.so.0", "librrdi.so"),
