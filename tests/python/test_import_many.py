@@ -92,6 +92,7 @@ class Refusals(unittest.TestCase):
         self.assertEqual(str(raised.exception), "a\\nb.rrd: unknown function 'M\\n\\u{1b}[2J'")
 
 
+@needs_program
 class Many(ToolCase):
     """Each old file begins as RRDtool's do and has the dump after that."""
 
