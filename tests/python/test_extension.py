@@ -741,8 +741,13 @@ class Costs(FastCase):
         refused = Answer(REFUSED, 0, 0, b"bad value")
 
         table = of_tree.table
+        self.fast.at_call = of_tree.running  # as a fork asks during a call
 
         def work() -> None:
+            of_tree.stop(True)
+            of_tree.stop(False)
+            of_tree.files()
+            of_tree.forget_calls()
             for answer in (DONE, refused):
                 self.fast.answer = answer
                 self.update_file(b"f", samples, 0, 0, False)
