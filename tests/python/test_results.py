@@ -49,6 +49,8 @@ class Tables(unittest.TestCase):
             self.assertTrue(math.isnan(columns["g"][1]) and math.isnan(columns["c"][0]))
             self.assertEqual(([columns["g"][0], columns["g"][2]], columns["c"][1:]), ([1.5, -2.25], [0.3, 0.7]))
             self.assertEqual({type(value) for column in columns.values() for value in column}, {float})
+        for values in (float, Decimal):  # 0 is known
+            self.assertEqual(table(printed_rows("time: g\n10: 0.000000\n20: 1.000000\n"), 10, values).columns(), {"g": [0.0, 1.0]})
 
 
 class Infos(unittest.TestCase):

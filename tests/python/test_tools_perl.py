@@ -250,6 +250,25 @@ show last => RRDs::last('f.rrdi');
         self.assertEqual(self.lines("show last => RRDs::last('f.rrdi')", {"RRDI": "/nowhere"}),
                          ["last: undef; error cannot run /nowhere: No such file or directory"])
 
+    def test_no_room_for_a_process(self) -> None:
+        """A call says so, and the next one tries again."""
+        assert PERL
+        script = r"""
+BEGIN { $main::lacks = 1; *CORE::GLOBAL::fork = sub () { return CORE::fork() unless $main::lacks; $! = 11; return undef } }
+""" + SHOW + r"""
+show fork => RRDs::last('f.rrdi');
+my @files; while (open my $file, '<', '/dev/null') { push @files, $file }
+show none => RRDs::last('f.rrdi');
+splice @files, -2;
+show one => RRDs::last('f.rrdi');
+(@files, $main::lacks) = ();
+show last => RRDs::last('f.rrdi');
+"""
+        ran = self.run_command(["sh", "-c", 'ulimit -n 64; exec "$@"', "sh", PERL, "-w", f"-I{TOP}/perl", "-e", script])
+        self.assertEqual((ran.err, ran.out.splitlines()), ("", [
+            "fork: undef; error fork: Resource temporarily unavailable", "none: undef; error pipe: Too many open files",
+            "one: undef; error pipe: Too many open files", "last: 0; error undef"]))
+
     def test_the_status_of_the_program_stays(self) -> None:
         self.assertEqual(self.perl("use RRDs; RRDs::last('f.rrdi'); exit 7").status, 7)
         script = "RRDs::last('f.rrdi'); system 'exit 3; true'; RRDs::last('f.rrdi'); print $? >> 8, qq(\\n)"

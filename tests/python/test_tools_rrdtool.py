@@ -2,6 +2,7 @@
 """Tests of rrdi-rrdtool: its output compared with rrdtool's, its errors, its pipe mode, and the choice of archives."""
 from __future__ import annotations
 
+import os
 import re
 import sys
 import unittest
@@ -156,6 +157,9 @@ class RRDtoolOutput(ToolCase):
                      "rra[1].pdp_per_row = 3", "rra[0].cur_row = 2", "rra[1].xff = 5.0000000000e-01",
                      "rra[1].cdp_prep[0].unknown_datapoints = 0", "header_size = 330"):
             self.assertIn(line + "\n", info)
+        odd = "a\f\x1c\u0085\u2028b.rrdi"  # which end lines elsewhere
+        os.link(self.folder / "x.rrdi", self.folder / odd)
+        self.assertEqual(self.tool(TOOL, "info", odd).out, info.replace("x.rrdi", odd))
         self.assertEqual(self.tool(TOOL, "updatev", "x.rrdi", "1000000047:3.75:285", "1000000061:2.5:U").out,
                          "return_value = 0\n"
                          "[1000000030]RRA[AVERAGE][1]DS[g] = 1.7500000000e+00\n"
@@ -240,6 +244,9 @@ class RRDtoolOutput(ToolCase):
                 ("lastupdate --daemon a x.rrdi", "lastupdate --daemon is not supported"),
                 ("first x.rrdi --rraindex 9", "x.rrdi: no such archive: the file has 2 archives, 0 to 1"),
                 ("dump x.rrdi", "dump is not supported: rrdi-export prints the XML"),
+                ("restore x.xml x.rrd", "restore is not supported: use rrdtool restore and rrdi-import"),
+                ("list .", "list is not supported: use ls"),
+                ("flushcached x.rrdi", "flushcached is not supported: rrdi has no daemon"),
                 ("frobnicate x", "unknown function 'frobnicate'"),
                 ("update --daemon a x.rrdi N:1", "update --daemon is not supported"),
                 ("create y.rrdi DS:g:COMPUTE:a RRA:MAX:0.5:1:4", "rrdi has no type COMPUTE: DS:g:COMPUTE:a"),
