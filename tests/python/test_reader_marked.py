@@ -122,11 +122,11 @@ class Marked(DataCase):
 
     def test_a_database_that_grows_again(self) -> None:
         """What was behind its end counts as zeros, in the file and in the changes."""
-        for size in (100, PAGE - 100, PAGE, PAGE + 100):
-            held = marks.with_base(b"\7" * len(NEW))
-            held = marks.with_change(held, len(NEW), (50, b"\7" * (len(NEW) - 50)))
-            held = marks.with_change(held, size, (0, NEW[:size]))
-            self.check(marks.with_change(held, len(NEW), *runs(NEW, size)), NEW)
+        base = marks.with_base(b"\7" * len(NEW))
+        for begun in (base, marks.with_change(base, len(NEW), (50, b"\7" * (len(NEW) - 50)))):
+            for size in (100, PAGE - 100, PAGE, PAGE + 100):
+                held = marks.with_change(begun, size, (0, NEW[:size]))
+                self.check(marks.with_change(held, len(NEW), *runs(NEW, size)), NEW)
 
     def test_a_change_that_is_not_right(self) -> None:
         """It does not count, nor what follows it. Without a right change the file stands for itself."""
