@@ -8,6 +8,8 @@ import fcntl
 import os
 import resource
 import signal
+import subprocess
+import sys
 import threading
 import time
 import unittest
@@ -18,6 +20,7 @@ from unittest import mock
 
 from building import ByExtension
 from cases import HANG, DataCase, needs_library, run_in_threads, sleeping_child, use_library
+from doubles import TOP
 from locking import BUSY, Locking
 from test_kept import is_locked
 
@@ -396,6 +399,16 @@ class WithTheLibrary(DataCase):
                 self.assertEqual((files.open_paths(), rrdi.last(self.path)), ([], self.at))
             self.update(files, 3)
             self.assertEqual(files.open_paths(), [os.fsencode(self.path)])
+
+    def test_the_end_of_a_process(self) -> None:
+        """It does not wait until the time of an open file is over."""
+        script = ("import sys\nfrom rrdi.open_files import OpenBounds, OpenFiles\n"
+                  f"files = OpenFiles(OpenBounds(seconds={ALWAYS}))\n"
+                  "for at in (10, 20, 30):\n    files.batch(sys.argv[1], [f'update {at}:1'])\n"
+                  "print(len(files.open_paths()))\n")
+        ran = subprocess.run([sys.executable, "-B", "-c", script, str(self.path)], stdout=subprocess.PIPE, stderr=subprocess.PIPE,
+                             universal_newlines=True, timeout=HANG, env={**os.environ, "PYTHONPATH": str(TOP / "python")})
+        self.assertEqual((ran.returncode, ran.stdout, ran.stderr, rrdi.last(self.path)), (0, "1\n", "", 30))
 
     def test_a_second_writer(self) -> None:
         """It waits until the time of the file is over, however busy the file is, and both changes are there."""
