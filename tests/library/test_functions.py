@@ -3,7 +3,7 @@
 
 The tests are the programs in c/: functions.c for the proved functions, inline.c for rrdi_words and rrdi_create_new, numbers.c
 for calls by numbers, system.c for what the library asks of the system, database.c for the first part of rrdi.h and its
-misuse, misuse.c for that of the other parts. database.c and misuse.c run by sanitizers too: no byte beyond a room is read or
+misuse, misuse.c for that of the other parts. The last two and inline.c run by sanitizers too: no byte beyond a room is read or
 written. With --long all run under valgrind, and some worked batches: nothing is read before it is written, and nothing is
 lost, but by a child that forgets the file of its parent."""
 from __future__ import annotations

@@ -163,6 +163,7 @@ static void test_paths(void) {
     test_error(NAME("nowhere/file"), ENOENT, 0, "a path in no folder");
     test_error(NAME("a\0b"), EINVAL, 0, "a path with a zero byte");
     test_error(path, sizeof path, ENAMETOOLONG, 0, "a path that is too long");
+    test_error(path, 4096, ENAMETOOLONG, 0, "a path that is too long by one byte");
     test_error(path, 4095, ENAMETOOLONG, 0, "a name that is too long");
     test_error(path, 255, ENAMETOOLONG, 0, "a name without room for another one");
     create(path, 220);
