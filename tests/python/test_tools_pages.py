@@ -211,8 +211,8 @@ class Pages(ToolCase):
         self.assertIn('class="area c0"', text)
         self.assertNotIn("c1\" d", text)
         self.assertIn("<h1>All</h1>", self.page("index.html"))
-        ran = self.draw("LAST")
-        self.assertEqual((ran.status, ran.out), (1, "0 files drawn; 1 not drawn\n"))
+        self.assertEqual(self.draw("LAST"), Ran(1, "0 files drawn; 1 not drawn\n", "rrdi-plot: tree/load.rrdi: not drawn: "
+                                                "no archive for this function: the archives have AVERAGE, MIN, MAX\n"))
 
     def test_the_age(self) -> None:
         """A file without a sample for a day says so; a file of today does not."""

@@ -105,7 +105,8 @@ def drawn_or_reason(asked: PagesAsked, file: OldFile) -> ChildAnswer:
     try:
         return ChildAnswer(True, draw_file(asked, file))
     except program.CommandFailed as failed:
-        return ChildAnswer(False, failed.of_file(file.path)[len(file.path) + 2:])
+        reason = failed.of_file(file.path)[len(file.path) + 2:]
+        return ChildAnswer(False, f"{reason}: {failed.detail}" if failed.detail else reason)
     except OSError as error:
         return ChildAnswer(False, error_text(error))
     except MemoryError:
