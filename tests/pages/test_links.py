@@ -155,7 +155,7 @@ def test_trust() -> None:
                 for path in (TOP / folder).glob(f"*/{part}/**/*") if path.suffix in (".rt", ".antt", ".in")]
     lines = {(str(path.relative_to(TOP)), line.strip()) for path in searched for line in path.read_text().splitlines()
              if WAY_AROUND.search(line.replace("#[unsafe(no_mangle)]", ""))}
-    assert lines == UNSAFE and "`unsafe impl Send for Record`; and one block in the C library" in text
+    assert lines == UNSAFE and "`unsafe impl Send for Record` and one block in the C library" in text
     calling = {str(path.relative_to(TOP)) for path in SOURCES if SYSTEM_CALL.search(path.read_text())}
     assert calling == {"library/rrdi_c/src/system.rt.in"}
 
