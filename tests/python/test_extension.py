@@ -234,6 +234,14 @@ class Loading(ByExtension, unittest.TestCase):
                 found.load(path, Answer, DONE, calls.wait)
         self.assertRaises(ValueError, found.load, "a\0b", Answer, DONE, calls.wait)
 
+    def test_what_is_no_library_is_forgotten(self) -> None:
+        found, done = the_extension(), object()
+        assert found is not None
+        used = sys.getrefcount(done)
+        for _ in range(9):
+            self.assertRaises(OSError, found.load, "libc.so.6", Answer, done, calls.wait)
+        self.assertEqual(sys.getrefcount(done), used)
+
     def test_what_is_no_extension(self) -> None:
         path = new_folder(self) / extension.NAME
         self.assertIsNone(extension.loaded(str(path)))

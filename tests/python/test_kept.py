@@ -19,6 +19,7 @@ from locking import BUSY, Locking
 from opcodes import between_all, between_each
 
 import rrdi
+from rrdi.by_ctypes import FileByWords
 from rrdi.errors import CANNOT_OPEN, CANNOT_WRITE, NO_MEMORY, READ_FAILED, REFUSED
 from rrdi.kept import KeptFile
 from rrdi.protocol import DONE, Answer, OpenedFile
@@ -46,6 +47,27 @@ class KeptCase(DataCase):
         """Returns what was called since the last time."""
         said, self.library.said = self.library.said, []
         return said
+
+
+class FastWays(KeptCase):
+    def test_faults_of_the_fast_ways(self) -> None:
+        """A fault closes the file. A refusal does not: `run` has to say it."""
+        samples, answer = ((10, 1.5), (20, 2.5)), DONE
+        with mock.patch.object(FileByWords, "update", lambda *_: answer), \
+                mock.patch.object(FileByWords, "update_many", lambda *_: (answer, 1)):
+            for fault in (CANNOT_WRITE, NO_MEMORY):
+                answer = Answer(fault, errno.ENOSPC, 0, b"a fault")
+                for add, stored in ((lambda: self.kept.add(samples[:1]), 0), (lambda: self.kept.add_many(samples, 3), 4)):
+                    self.kept.run(["last"])
+                    with self.assertRaises(rrdi.Error) as raised:
+                        add()
+                    error = raised.exception
+                    self.assertEqual((error.path, error.fault, error.stored), (str(self.path), fault, stored))
+                    self.assertFalse(is_locked(self.path))
+            answer = Answer(REFUSED, 0, 0, b"bad value")
+            self.kept.run(["last"])
+            self.assertEqual((self.kept.add(samples[:1]), self.kept.add_many(samples, 0)), (False, 1))
+            self.assertTrue(is_locked(self.path))
 
 
 class Files(KeptCase):
