@@ -328,6 +328,17 @@ class SetAside(DataCase):
             self.assertIn("the file has changed meanwhile", damaged.set_aside(self.file, fault))
         self.assertEqual((self.aside(), commands.last(self.file)), ([], 0))
 
+    def test_a_name_that_is_taken(self: Any) -> None:
+        """Nothing that has the name for the damaged file goes, not even a link to nothing."""
+        fault, now = self.cut(), time.time()
+        taken = f"{self.file}.damaged-{int(now)}-{os.getpid()}"
+        with mock.patch("time.time", return_value=now):
+            os.symlink("nothing", taken)
+            self.assertIn("the file has changed meanwhile", damaged.set_aside(self.file, fault))
+            self.assertEqual((os.readlink(taken), os.path.getsize(self.file)), ("nothing", 100))
+            os.unlink(taken)
+            self.assertIn(f"the file is now {taken}", damaged.set_aside(self.file, fault))
+
     def test_a_file_in_use(self: Any) -> None:
         fault = self.cut()
         with open(self.file, "rb") as other:
