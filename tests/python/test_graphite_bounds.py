@@ -35,6 +35,7 @@ class Retentions(unittest.TestCase):
             ([(10, 7), (60, 1)], "60:1 must reach farther back than 10:7"), ([(10, 5), (60, 2)], "10:5 has too few points for a point of 60 seconds"),
             ([(10, 6), (20, 3)], "20:3 must reach farther back than 10:6"), ([(10, 6), (60, 5), (360, 5)], "60:5 has too few points for a point of 360 seconds"),
             ([(1_000_001, 1)], "the shortest retention must have 1 to 1000000 seconds, not 1000001"), ([(-1, 1)], "the shortest retention must have 1 to"),
+            ([(0, 1)], "the shortest retention must have 1 to 1000000 seconds, not 0"), ([(0, 6), (60, 6)], "the shortest retention must have 1 to"),
             ([(1, 0)], "a retention must have 1 to 1000000 points, each of at most 1000000 of the shortest"), ([(1, 1_000_001)], "a retention must have 1 to"),
             ([(2, 1_000_000), (2_000_002, 2)], "2:1000000 has too few points for a point of 2000002 seconds"),
             ([(1, 1_000), (1_000, 1_001), (1_001_000, 2)], "a retention must have 1 to"),

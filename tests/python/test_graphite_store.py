@@ -32,6 +32,10 @@ class Edges(DataCase):
             tried = stores.give(str(self.folder / "m.rrdi"), reverts, lines, {10: "1", 20: "1"}, {})
             self.assertEqual((dict(tried.slots), tried.reason), (left, "nothing to revert"), (reverts, refused))
 
+    def test_the_usual_options(self) -> None:
+        """Those of a carbon.conf that sets none: 16 changes, 10 minutes ahead, and files named after hashes."""
+        self.assertEqual(stores.StoreOptions("/d")[:4], ("/d", 16, 600, True))
+
     def test_how_far_ahead_a_point_may_be(self) -> None:
         library, said = self.use(), []  # type: graphite.KeepingLibrary, List[str]
         losses = Losses(said.append)

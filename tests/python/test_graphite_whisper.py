@@ -212,6 +212,19 @@ class Moving(FolderCase):
                 self.lines(data)
             self.assertIn(reason, str(raised.exception))
 
+    def test_bounds_of_a_header(self) -> None:
+        """An xff is a share, and 1 to 128 archives follow. The next 4-byte numbers beyond 0 and 1 are 1e-45 and 1.0000001."""
+        for xff, is_right in ((0.0, True), (-0.0, True), (-1e-45, False), (1.0, True), (1.0000001, False), (2.0, False), (math.nan, False)):
+            data = whisper_bytes([(10, 60, {NOW: 1.0})], 1, xff)
+            if is_right:
+                self.assertTrue(self.lines(data)[0].startswith("create "), xff)
+            else:
+                self.assertRaisesRegex(Refusal, "^this is no file of whisper$", self.lines, data)
+        for count, reason in ((0, "^this is no file of whisper$"), (1, "must have 1 to"), (128, "must have 1 to"),
+                              (129, "^this is no file of whisper$")):
+            with self.assertRaisesRegex(Refusal, reason):
+                self.lines(struct.pack("!2LfL", 1, 1, 0.5, count) + bytes(12 * count))
+
     def test_rows(self) -> None:
         """The finest archive is as it was, and of all methods the next one too."""
         use_any_library(self)

@@ -10,7 +10,7 @@ import signal
 import threading
 import unittest
 from pathlib import Path
-from typing import Callable, List, Optional
+from typing import Any, Callable, List, Optional
 from unittest import mock
 
 from building import ByExtension
@@ -21,8 +21,10 @@ from opcodes import between_all, between_each
 import rrdi
 from rrdi.by_ctypes import FileByWords
 from rrdi.errors import CANNOT_OPEN, CANNOT_WRITE, NO_MEMORY, READ_FAILED, REFUSED
+from rrdi.fetching import Asked
 from rrdi.kept import KeptFile
 from rrdi.protocol import DONE, Answer, OpenedFile
+from rrdi.results import Table
 
 def is_locked(path: Path) -> bool:
     """Checks whether anybody has the lock of a file."""
@@ -68,6 +70,20 @@ class FastWays(KeptCase):
             self.kept.run(["last"])
             self.assertEqual((self.kept.add(samples[:1]), self.kept.add_many(samples, 0)), (False, 1))
             self.assertTrue(is_locked(self.path))
+
+
+    def test_rows(self) -> None:
+        """Rows without a row, or of a file that was closed meanwhile, are left to `run`."""
+        names, asked, rows = b"time: a b\n10: 1.000000 2.000000\n", Asked("AVERAGE", None, 100, 120), [(1.0, 2.0), (3.0, 4.0)]
+        found: List[Any] = [(100, 10, []), (100, 10, rows), (100, 10, rows[:1]), None]
+        self.assertIsNone(self.kept.rows(asked, 130))  # not open yet
+        self.kept.run(["last"])
+        with mock.patch.object(FileByWords, "fetch", lambda *_: found.pop(0)):
+            self.assertIsNone(self.kept.rows(asked, 130))
+            self.library.answers = [DONE._replace(output=names)]
+            for end, wanted in ((120, rows), (110, rows[:1])):
+                self.assertEqual(self.kept.rows(asked, 130), Table((100, end, 10), ("a", "b"), wanted))
+            self.assertIsNone(self.kept.rows(asked, 130))
 
 
 class Files(KeptCase):

@@ -78,6 +78,9 @@ def check_retentions(retentions: Retentions) -> None:
     if not retentions:
         raise ValueError("there must be a retention")
     ordered = sorted((int(seconds), int(rows)) for seconds, rows in retentions)
+    step = ordered[0][0]
+    if not 1 <= step <= LONGEST_STEP:
+        raise ValueError(f"the shortest retention must have 1 to {LONGEST_STEP} seconds, not {step}")
     for (seconds, rows), (coarser, more) in zip(ordered, ordered[1:]):
         if coarser % seconds or coarser == seconds:
             raise ValueError(f"{coarser} seconds must be a larger multiple of {seconds} seconds")
@@ -85,9 +88,6 @@ def check_retentions(retentions: Retentions) -> None:
             raise ValueError(f"{coarser}:{more} must reach farther back than {seconds}:{rows}")
         if rows < coarser // seconds:
             raise ValueError(f"{seconds}:{rows} has too few points for a point of {coarser} seconds")
-    step = ordered[0][0]
-    if not 1 <= step <= LONGEST_STEP:
-        raise ValueError(f"the shortest retention must have 1 to {LONGEST_STEP} seconds, not {step}")
     if any(not 1 <= rows <= MOST_ROWS or seconds // step > MOST_STEPS for seconds, rows in ordered):
         raise ValueError(f"a retention must have 1 to {MOST_ROWS} points, each of at most {MOST_STEPS} of the shortest")
     # No list is too long: each of its retentions has twice the seconds of the one before at least.

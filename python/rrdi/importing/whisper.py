@@ -82,7 +82,7 @@ def read_open(file: BinaryIO) -> WhisperFile:
         raise Refusal(f"the aggregation method {method} is not supported")
     try:
         check_retentions([(seconds, rows) for _, seconds, rows in infos])
-    except (ValueError, ZeroDivisionError) as error:
+    except ValueError as error:
         raise Refusal(str(error)) from None
     archives = [WhisperArchive(seconds, rows, read_points(file, offset, seconds, rows)) for offset, seconds, rows in infos]
     return WhisperFile(method, xff, sorted(archives, key=lambda archive: archive.seconds))
