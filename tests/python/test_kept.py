@@ -10,7 +10,7 @@ import signal
 import threading
 import unittest
 from pathlib import Path
-from typing import Any, Callable, List, Optional
+from typing import Any, Callable, List, Optional, Tuple
 from unittest import mock
 
 from building import ByExtension
@@ -59,7 +59,9 @@ class FastWays(KeptCase):
                 mock.patch.object(FileByWords, "update_many", lambda *_: (answer, 1)):
             for fault in (CANNOT_WRITE, NO_MEMORY):
                 answer = Answer(fault, errno.ENOSPC, 0, b"a fault")
-                for add, stored in ((lambda: self.kept.add(samples[:1]), 0), (lambda: self.kept.add_many(samples, 3), 4)):
+                ways: List[Tuple[Callable[[], object], int]] = [
+                    (lambda: self.kept.add(samples[:1]), 0), (lambda: self.kept.add_many(samples, 3), 4)]
+                for add, stored in ways:
                     self.kept.run(["last"])
                     with self.assertRaises(rrdi.Error) as raised:
                         add()
@@ -74,7 +76,8 @@ class FastWays(KeptCase):
 
     def test_rows(self) -> None:
         """Rows without a row, or of a file that was closed meanwhile, are left to `run`."""
-        names, asked, rows = b"time: a b\n10: 1.000000 2.000000\n", Asked("AVERAGE", None, 100, 120), [(1.0, 2.0), (3.0, 4.0)]
+        names, asked = b"time: a b\n10: 1.000000 2.000000\n", Asked("AVERAGE", None, 100, 120)
+        rows: List[Any] = [(1.0, 2.0), (3.0, 4.0)]
         found: List[Any] = [(100, 10, []), (100, 10, rows), (100, 10, rows[:1]), None]
         self.assertIsNone(self.kept.rows(asked, 130))  # not open yet
         self.kept.run(["last"])
