@@ -3,16 +3,19 @@
 of a picture. No program is needed."""
 from __future__ import annotations
 
+import fcntl
 import io
 import math
 import unittest
 from typing import Any, Dict, List, Optional, Tuple
 from unittest import mock
 
-import cases  # noqa: F401  (finds the package)
+from cases import DataCase
 
+from rrdi.locks import Identity, identity_at, open_regular
 from rrdi.tools import exponents
 from rrdi.tools.command_line import Failure, Progress, WrongArguments
+from rrdi.tools.fixing import held
 from rrdi.tools.hints import nearest, option_hint
 from rrdi.tools.options import function_at, given_words, number_of
 from rrdi.tools.plotting.columns import (Columns, Curve, NothingToDraw, chosen, columns_of, filled, group_size, grouped, known, limits, segments, series_of,
@@ -21,6 +24,42 @@ from rrdi.tools.plotting.legend import Legend, Place
 from rrdi.tools.plotting.numbers import Axis, axis, number_text, power_of
 
 NAN = math.nan
+
+
+class LockedFiles(DataCase):
+    """A file that a session has locked is opened once more; one that another program has put in its place is not."""
+
+    def read_by(self, before: Identity) -> Tuple[bool, List[io.FileIO]]:
+        """Returns whether the file was given, and what was opened."""
+        opened: List[io.FileIO] = []
+
+        def open_it(path: str) -> io.FileIO:
+            opened.append(open_regular(path))
+            return opened[-1]
+        session: Any = None
+        with mock.patch.object(held, "open_regular", open_it):
+            file = held.read_by(session, str(self.folder / "f"), before)
+        self.assertIs(file, opened[0] if file else None)
+        return file is not None, opened
+
+    def test_files(self) -> None:
+        path = self.folder / "f"
+        self.assertEqual(self.read_by((0, 0)), (False, []))
+        path.write_bytes(b"")
+        identity = identity_at(bytes(path))
+        assert identity is not None
+        for kind, before, is_given in ((fcntl.LOCK_SH, identity, True), (fcntl.LOCK_EX, identity, True), (fcntl.LOCK_UN, identity, False),
+                                       (fcntl.LOCK_EX, (identity[0], identity[1] + 1), False), (fcntl.LOCK_EX, (identity[0] + 1, identity[1]), False)):
+            with open(path, "rb") as session:
+                fcntl.flock(session, kind)
+                was_given, (file,) = self.read_by(before)
+                self.assertEqual((was_given, file.closed), (is_given, not is_given), (kind, before))
+                file.close()
+
+    def test_what_is_no_file(self) -> None:
+        (self.folder / "f").mkdir()
+        with self.assertRaisesRegex(Failure, f"^{self.folder / 'f'}: "):
+            self.read_by((0, 0))
 
 
 class Words(unittest.TestCase):
