@@ -2,11 +2,14 @@
 """What many files cost: rrdi-feed beside rrdcached, carbon-cache on rrdi beside whisper, and carbon's writer alone."""
 from __future__ import annotations
 
+import fcntl
 import os
 import shutil
 import socket
+import struct
 import subprocess
 import sys
+import termios
 import time
 from contextlib import suppress
 from functools import partial
@@ -37,8 +40,8 @@ WRITERS = 4
 
 
 def feed(samples: int, bench: Bench) -> Sides:
-    """The lines come sample by sample: one for each file, then the next one for each. In the end the rows of a few files
-    must be the same in all ways."""
+    """The lines come sample by sample: one for each file, then the next one for each. The start of a process does not count.
+    In the end the rows of a few files must be the same in all ways."""
     make_files(bench, LARGE, 1)
     files, compare = bench.few(1_000), TOP / "tools/rrdi-compare"
     folders = {way: bench.folder / way for way in ("library", "program", "rrdcached")}
@@ -65,14 +68,23 @@ def feed(samples: int, bench: Bench) -> Sides:
 
 def through_feed(named: Dict[str, str], folder: Path, data: bytes, count: int) -> Values:
     """Feeds lines by the program or by the library that a variable names."""
-    begin = time.monotonic()
     words = [sys.executable, str(TOP / "tools/rrdi-feed"), "--jobs", str(WRITERS)]
     with subprocess.Popen(words, stdin=subprocess.PIPE, env={**environment(None), **named}) as process:
         assert process.stdin
-        process.stdin.write(data)
+        first = data.index(b"\n") + 1
+        process.stdin.write(data[:first])
+        process.stdin.flush()
+        wait_until(partial(has_read, process.stdin.fileno()))
+        begin, before = time.monotonic(), processor_time(process.pid)
+        process.stdin.write(data[first:])
         process.stdin.close()
-        spent = processor_seconds(process)
+        spent = processor_seconds(process) - before
     return count / (time.monotonic() - begin), 1e6 * spent / count
+
+
+def has_read(pipe: int) -> bool:
+    """Whether the other end of a pipe has read all that was written: a process that has read a line has begun its work."""
+    return struct.unpack("i", fcntl.ioctl(pipe, termios.FIONREAD, bytes(4))) == (0,)
 
 
 def through_rrdcached(folder: Path, data: bytes, count: int) -> Values:
@@ -87,7 +99,7 @@ def through_rrdcached(folder: Path, data: bytes, count: int) -> Values:
             return [first, *(answers.readline() for _ in range(int(first.split()[0])))]
         try:
             wait_until(lambda: is_connected(to, str(place)))
-            begin = time.monotonic()
+            begin, before = time.monotonic(), processor_time(daemon.pid)
             answers = to.makefile("r")
             for lines in (b"BATCH", data + b".", b"FLUSHALL"):
                 ask(lines)
@@ -95,7 +107,7 @@ def through_rrdcached(folder: Path, data: bytes, count: int) -> Values:
             took = time.monotonic() - begin
         finally:
             daemon.terminate()
-        spent = processor_seconds(daemon)
+        spent = processor_seconds(daemon) - before
     return count / took, 1e6 * spent / count
 
 
