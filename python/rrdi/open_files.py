@@ -12,8 +12,8 @@ import resource
 import threading
 import time
 from collections import OrderedDict
-from contextlib import contextmanager, suppress
-from typing import Callable, Iterator, List, NamedTuple, Optional
+from contextlib import suppress
+from typing import Callable, List, NamedTuple, Optional, Tuple
 from weakref import WeakSet
 
 from .commands import Batch, Lines, batch_of, lines_of, text_of_lines, wait_to_change
@@ -50,11 +50,24 @@ class SeenFile:
 
 
 class Lent:
-    """What a batch may use: the open file; otherwise the path. `busy` is the answer if another program has held the lock
-    for so long that the batch need not wait once more. A file stays open only if the batch sets `is_sound`."""
+    """What a batch may use in a block: the open file; otherwise the path. `busy` is the answer if another program has held the
+    lock for so long that the batch need not wait once more. A file stays open only if the batch sets `is_sound`."""
 
-    def __init__(self, known: SeenFile, busy: Optional[Answer] = None):
-        self.known, self.opened, self.busy, self.is_sound = known, known.opened, busy, False
+    known: SeenFile
+    opened: Optional[OpenedFile]
+
+    def __init__(self, files: OpenFiles, path: bytes):
+        self._files, self._path = files, path
+        self.busy: Optional[Answer] = None
+        self.is_sound = False
+
+    def __enter__(self) -> Lent:
+        self.known, self.busy = self._files.take(self._path)
+        self.opened = self.known.opened
+        return self
+
+    def __exit__(self, *_: object) -> None:
+        self._files.give_back(self._path, self.known, self.is_sound)
 
 
 class OpenFiles:
@@ -86,15 +99,9 @@ class OpenFiles:
             answer = the_library().batch_file(name, text, now, wait, is_synced(None))
         return batch_of(given, answer, path)
 
-    @contextmanager
-    def lend(self, path: bytes) -> Iterator[Lent]:
+    def lend(self, path: bytes) -> Lent:
         """Lends an open file to one batch, or tells it to go by the path."""
-        lent = Lent(SeenFile(0)) if self.bounds.files == 0 else self._take(path)
-        try:
-            yield lent
-        finally:
-            if self.bounds.files:
-                self._give_back(path, lent)
+        return Lent(self, path)
 
     def close(self, path: bytes) -> None:
         """Closes a file, by whatever name it was opened, for a change of another kind. Its next batch goes by the path."""
@@ -111,18 +118,21 @@ class OpenFiles:
 
     # ---- One batch
 
-    def _take(self, path: bytes) -> Lent:
+    def take(self, path: bytes) -> Tuple[SeenFile, Optional[Answer]]:
+        """Returns the file for `Lent`, perhaps open, and an answer if another program holds its lock for too long."""
+        if self.bounds.files == 0:
+            return SeenFile(0), None
         now = self._clock()
         with self._guard:
             known = self._known.pop(path, None)
         if known is None or known.opened is not None:
             if known is not None and now < known.until and known.opened is not None and known.opened.is_current():
                 known.when = now
-                return Lent(known)
+                return known, None
             self._let_go(known)
-            return Lent(SeenFile(now))
+            return SeenFile(now), None
         is_soon, known.when = now - known.when < self.bounds.seconds, now
-        return Lent(known, self._open(path, known) if is_soon else None)
+        return known, self._open(path, known) if is_soon else None
 
     def _open(self, path: bytes, known: SeenFile) -> Optional[Answer]:
         """Opens a file if there is room. Returns an answer if another program holds its lock for too long."""
@@ -149,12 +159,13 @@ class OpenFiles:
         with self._guard:
             return sum(known.memory for known in self._opened)
 
-    def _give_back(self, path: bytes, lent: Lent) -> None:
-        known = lent.known
-        if known.opened is not None and not self._may_stay(lent):
+    def give_back(self, path: bytes, known: SeenFile, is_sound: bool) -> None:
+        """Takes the file of `Lent` back."""
+        if self.bounds.files == 0:
+            return
+        if known.opened is not None and not (is_sound and self._may_stay(known, known.opened)):
             self._let_go(known)
         with self._guard:
-            known = lent.known
             others = [self._known.pop(path, None)]  # another thread, against the rule
             self._known[path] = known
             while len(self._known) > self.bounds.files:
@@ -162,10 +173,8 @@ class OpenFiles:
         for other in others:
             self._let_go(other)
 
-    def _may_stay(self, lent: Lent) -> bool:
-        known = lent.known
-        is_in_time = self._clock() < known.until and self._has_timer()
-        return lent.is_sound and is_in_time and known.opened is not None and known.opened.is_current()
+    def _may_stay(self, known: SeenFile, opened: OpenedFile) -> bool:
+        return self._clock() < known.until and self._has_timer() and opened.is_current()
 
     # ---- Closing
 
@@ -188,12 +197,15 @@ class OpenFiles:
     def _has_timer(self) -> bool:
         """Begins the thread that closes files when their time is over. Returns whether it runs."""
         with self._guard:
-            if self._timer is None or not self._timer.is_alive():
-                timer = threading.Thread(target=self._close_old, daemon=True)
-                with suppress(RuntimeError, MemoryError):  # the system has no room for a thread
-                    timer.start()
-                    self._timer = timer
-            return self._timer is not None and self._timer.is_alive()
+            if self._timer is not None and self._timer.is_alive():
+                return True
+            timer = threading.Thread(target=self._close_old, daemon=True)
+            try:
+                timer.start()
+            except (RuntimeError, MemoryError):  # the system has no room for a thread
+                return False
+            self._timer = timer
+            return True
 
     def _close_old(self) -> None:
         while True:

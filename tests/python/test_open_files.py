@@ -15,7 +15,7 @@ import time
 import unittest
 from contextlib import contextmanager
 from pathlib import Path
-from typing import Callable, Iterator, List, Set
+from typing import Callable, Iterator, List, Optional, Set, Tuple
 from unittest import mock
 
 from building import ByExtension
@@ -282,7 +282,7 @@ class Closes(OpenCase):
 
     def test_a_fork_during_a_batch(self) -> None:
         """The batch finds the file closed, and goes by the path."""
-        with mock.patch.object(self.open, "_take", forking(self, self.open)):
+        with mock.patch.object(self.open, "take", forking(self, self.open)):
             self.assertEqual(self.run_on(self.path), ["close", "closed", PATH])
 
     def test_the_end_of_the_process(self) -> None:
@@ -325,15 +325,15 @@ class OpeningsByExtension(ByExtension, Openings):
     pass
 
 
-def forking(case: unittest.TestCase, files: OpenFiles) -> Callable[[bytes], open_files.Lent]:
+def forking(case: unittest.TestCase, files: OpenFiles) -> Callable[[bytes], Tuple[open_files.SeenFile, Optional[Answer]]]:
     """Forks after the file was lent."""
-    take = files._take
+    take = files.take
 
-    def lent(path: bytes) -> open_files.Lent:
+    def taken(path: bytes) -> Tuple[open_files.SeenFile, Optional[Answer]]:
         found = take(path)
         sleeping_child(case)
         return found
-    return lent
+    return taken
 
 
 @contextmanager

@@ -121,18 +121,18 @@ class Store:
         known = None if new else self._known_of(path)
         step = known.front.step if known else new.step if new else 1
         slots, left_out = sort_points(points, step, self._clock() + self.options.most_future)
-        counts, reason = Counter(left_out), ""
+        counts: List[Mapping[str, int]] = [left_out]
+        reason = ""
         if slots:
             tried = (self._begin(path, slots, new) if new else None) or put(path, slots, known, self._files)
             self._remember(path, known, slots, tried)
-            counts.update(tried.counts)
+            counts.append(tried.counts)
             if tried.slots:
                 tried = put(path, tried.slots, None, self._files)
-                counts.update(tried.counts)
-            counts["refused"] += len(tried.slots)
+                counts += [tried.counts, {"refused": len(tried.slots)}]
             reason = tried.reason
-        # Last, since points that have to wait come here again.
-        self.losses.add(metric, counts, reason)
+        if any(counts):  # last, since points that have to wait come here again
+            self.losses.add(metric, summed(counts), reason)
 
     def _known_of(self, path: str) -> Known:
         """Returns the first numbers of a file. They are read once, and then follow from what was written."""
@@ -143,7 +143,7 @@ class Store:
         if known and min(slots) > known.front.last and not tried.slots and not tried.reason:
             if len(self._known) >= MOST_KNOWN:
                 self._known.clear()
-            self._known[path] = known._replace(front=known.front._replace(last=max(slots)))
+            self._known[path] = Known(known.front._replace(last=max(slots)), known.identity)
 
     def _begin(self, path: str, slots: Slots, new: Template) -> Optional[Tried]:
         """Makes a file with its first slots. None if there is a file."""
@@ -155,6 +155,13 @@ class Store:
             tried = give(fresh, 0, lines, slots, {})
             return tried if is_there(fresh) else Tried({}, {"refused": len(slots)}, tried.reason)
         return make(path, fill, makes_folder=True)
+
+
+def summed(counts: Iterable[Mapping[str, int]]) -> Mapping[str, int]:
+    found: Counter[str] = Counter()
+    for more in counts:
+        found.update(more)
+    return found
 
 
 def read_known(path: str) -> Known:
