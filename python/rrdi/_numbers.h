@@ -15,6 +15,7 @@
 #define MOST_SOURCES 64
 #define DEEPEST 2         /* lists of samples in lists: a deeper one, or one that has itself, is for Python */
 #define LATEST 9999999999 /* a time, as limits.py has it */
+#define USUAL_DIGITS 10   /* of a time */
 #define LARGEST 1e18      /* from here on samples.py says which numbers are good */
 
 /* Bytes that belong to an object of Python's, or to a job. */
@@ -351,6 +352,61 @@ static PyObject *table_of(const char *text) {
     Py_XDECREF(rows);
     PyErr_Clear();
     return found;
+}
+
+/* ---- Lines of samples */
+
+/* Whether Python's bytes are split at a byte. */
+static bool is_space(char byte) {
+    return byte == ' ' || (byte >= '\t' && byte <= '\r');
+}
+
+/* Takes the next word out of a line. An empty one is none. */
+static struct bytes next_word(struct bytes *line) {
+    const char *end = line->at + line->length;
+    struct bytes word;
+    while (line->at < end && is_space(*line->at))
+        line->at++;
+    word.at = line->at;
+    while (line->at < end && !is_space(*line->at))
+        line->at++;
+    word.length = line->at - word.at;
+    line->length = end - line->at;
+    return word;
+}
+
+/* Appends the sample of a line to those of its file in a dict. Returns false, and has done nothing, if it has none of the file, or
+ * the line has another form. */
+static bool take_further(PyObject *held, PyObject *line, Py_ssize_t longest) {
+    struct bytes text, file, word;
+    if (!PyBytes_CheckExact(line) || PyBytes_AsStringAndSize(line, &text.at, &text.length) || text.length > longest)
+        return false;
+    file = next_word(&text);
+    word = next_word(&text);
+    if (!word.length || next_word(&text).length || *word.at < '0' || *word.at > '9')
+        return false;
+    PyObject *name = PyBytes_FromStringAndSize(file.at, file.length);
+    PyObject *samples = name ? PyDict_GetItemWithError(held, name) : NULL;
+    PyObject *sample = samples && PyList_CheckExact(samples) ? PyBytes_FromStringAndSize(word.at, word.length) : NULL;
+    bool is_taken = sample && !PyList_Append(samples, sample);
+    Py_XDECREF(sample);
+    Py_XDECREF(name);
+    PyErr_Clear(); /* there was no memory: Python tries the line again */
+    return is_taken;
+}
+
+/* Checks whether samples have times of ten digits, none of which is before the last one. */
+static bool are_ordered(PyObject *samples) {
+    uint64_t last = 0;
+    for (Py_ssize_t at = 0; at < PyList_Size(samples); at++) {
+        PyObject *sample = PyList_GetItem(samples, at);
+        const char *first = PyBytes_CheckExact(sample) ? PyBytes_AsString(sample) : "", *end = first;
+        uint64_t time = 0;
+        if (!read_digits(&end, &time, USUAL_DIGITS) || end - first < USUAL_DIGITS || *end != ':' || time < last)
+            return false;
+        last = time;
+    }
+    return true;
 }
 
 #endif

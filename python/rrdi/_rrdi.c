@@ -256,9 +256,10 @@ static void call_library(struct job *job) {
 /* Runs a job, again if there was too little room. Returns None for a job that Python has to do. */
 static PyObject *perform(struct job *job) {
     uint8_t first[FIRST_ROOM];
-    struct rrdi_answer answer = {0};
+    struct rrdi_answer answer; /* its long explanation is not cleared for each call */
     bool has_memory = true, is_again = false;
     PyObject *found = NULL;
+    memset(&answer, 0, offsetof(struct rrdi_answer, explanation));
     job->answer = &answer;
     job->output = first;
     job->output_room = sizeof first;
@@ -644,6 +645,30 @@ static PyObject *module_table(PyObject *module, PyObject *given) {
     return found;
 }
 
+/* Takes lines from an iterator, each with a further sample of a file that is in a dict, up to the first other one. Returns that
+ * one; None if there is none. */
+static PyObject *module_further(PyObject *module, PyObject *given) {
+    PyObject *held, *lines, *line;
+    Py_ssize_t longest;
+    (void)module;
+    if (!PyArg_ParseTuple(given, "O!On:further", &PyDict_Type, &held, &lines, &longest))
+        return NULL;
+    while ((line = PyIter_Next(lines))) {
+        if (!take_further(held, line, longest))
+            return line;
+        Py_DECREF(line);
+    }
+    if (PyErr_Occurred())
+        return NULL;
+    Py_RETURN_NONE;
+}
+
+/* Says whether the samples of a list are surely in the order of their times. */
+static PyObject *module_are_ordered(PyObject *module, PyObject *samples) {
+    (void)module;
+    return PyBool_FromLong(PyList_CheckExact(samples) && are_ordered(samples));
+}
+
 /* Only `load` and `open` make objects of the types. */
 static PyObject *refuse_new(PyTypeObject *type, PyObject *given, PyObject *named) {
     (void)given, (void)named;
@@ -703,6 +728,8 @@ static PyMethodDef module_methods[] = {
     {"files", module_files, METH_NOARGS, NULL},
     {"forget_calls", module_forget_calls, METH_NOARGS, NULL},
     {"table", module_table, METH_O, NULL},
+    {"further", module_further, METH_VARARGS, NULL},
+    {"are_ordered", module_are_ordered, METH_O, NULL},
     {NULL, NULL, 0, NULL}};
 static PyModuleDef_Slot module_slots[] = {{Py_mod_exec, prepare}, {0, NULL}, {0, NULL}};
 static PyModuleDef module_definition = {

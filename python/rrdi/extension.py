@@ -9,7 +9,7 @@ from __future__ import annotations
 import os
 from functools import lru_cache
 from importlib.machinery import EXTENSION_SUFFIXES, ExtensionFileLoader, ModuleSpec
-from typing import Callable, List, Optional, Protocol, Tuple, Type, cast
+from typing import Callable, Dict, Iterator, List, Optional, Protocol, Tuple, Type, cast
 
 from . import __version__
 from .calls import Elsewhere, calls
@@ -36,6 +36,12 @@ class Extension(Elsewhere, Protocol):
     def table(self, printed: str) -> Optional[Tuple[Tuple[str, ...], int, int, List[Tuple[Optional[float], ...]]]]:
         """Returns the names, the time of the first row, the seconds to the next and the rows of what `fetch` has printed.
         Returns None if it has another form, or one row."""
+
+    def further(self, held: Dict[bytes, List[bytes]], lines: Iterator[bytes], longest: int) -> Optional[bytes]:
+        """Does the same as `further_by_python` of feeding/ordering.py."""
+
+    def are_ordered(self, samples: List[bytes]) -> bool:
+        """Checks whether samples have times of ten digits, in their order."""
 
 
 @lru_cache(maxsize=None)

@@ -18,13 +18,12 @@ from typing import Callable, Dict, Iterable, Iterator, List, Optional, Set, Tupl
 from ..escaping import escaped
 from ..limits import LONGEST_LINE
 from ..open_files import OpenBounds
-from .ordering import in_order
+from .ordering import further, in_order
 from .workers import FIRST, Batch, Workers
 from .writers import NO_ROOM, TOO_OLD, Outcome, Reason, Writer, text_of
 
 UPDATE = b"update "
 SHORT = LONGEST_LINE - len(UPDATE)  # bytes of a line whose sample cannot be too long
-DIGITS = frozenset(b"0123456789")
 FIRST_PAUSE, LONGEST_PAUSE = 0.1, 60.0  # seconds
 SAMPLES_OF_A_LINE, FEW = 100, 10  # samples in a line of a message; with few of a file, each has a line of its own
 NUMBERS, EXPLAINED_AGAIN = re.compile("[0-9]+"), 60.0  # seconds
@@ -96,6 +95,7 @@ class Feeder:
         self.pauses: Dict[bytes, float] = {}
         self.threads = Workers(options.jobs, self.run)
         self.let_go: Callable[[], None] = nothing  # closes the files that stay open, before SIGUSR1 has all samples written
+        self.further = further()
         self.count, self.is_ending, self.is_hurried, self.has_failed = 0, False, False, False
         self.bad_lines = self.refused = self.too_old = 0
         self.explained: Dict[str, float] = {}  # when a kind of reason may be explained again
@@ -203,19 +203,15 @@ class Feeder:
         return self.lines[-1 - length_hint(self.left):]
 
     def take_all(self, lines: Iterable[bytes]) -> None:
-        """Takes lines. A short loop takes a further sample of a held file; `take` takes all other lines."""
-        samples_of, count = self.held.get, 0
-        try:
-            for line in lines:
-                words = line.split()
-                samples = samples_of(words[0]) if len(words) == 2 and len(line) <= SHORT else None
-                if samples is None or words[1][0] not in DIGITS:
-                    self.take(words, line)
-                else:
-                    samples.append(words[1])
-                    count += 1
-        finally:
-            self.count += count
+        """Takes lines. A short way takes the further samples of held files; `take` takes all other lines."""
+        left, line = iter(lines), None
+        while True:
+            before = length_hint(left)
+            line = self.further(self.held, left, SHORT)
+            self.count += before - length_hint(left) - (line is not None)
+            if line is None:
+                return
+            self.take(line.split(), line)
 
     def take(self, words: List[bytes], line: bytes) -> None:
         if words and words[0].upper() == b"UPDATE":

@@ -8,7 +8,7 @@ from ..by_program import NoAnswer
 from ..damaged import is_being_made
 from ..environment import is_synced, milliseconds
 from ..errors import CANNOT_OPEN, EXPLAINED, NO_MEMORY, OK, TRUNCATED, details_in, of_system, reason_of, reasons_in
-from ..protocol import Answer, OnFiles
+from ..protocol import DONE, Answer, OnFiles
 from ..words import present
 
 
@@ -40,6 +40,7 @@ class Writer(Protocol):
         """Creates a database. Returns the reason if that fails, a `Reason` if it is rrdi's, and otherwise nothing."""
 
 
+STORED = Outcome()
 NO_ROOM = "out of memory"
 TOO_OLD = "too old"  # begins the reason of a sample that is too late to be put in
 
@@ -69,6 +70,8 @@ def reason_for(answer: Answer) -> str:
 
 def outcome_of(file: bytes, samples: List[bytes], answer: Answer) -> Outcome:
     """Returns the outcome of a batch that had a line for each of these samples."""
+    if answer is DONE:
+        return STORED
     is_empty = answer.fault == TRUNCATED and answer.at == 0
     if answer.fault in (CANNOT_OPEN, NO_MEMORY) or is_empty and may_be_made(file):
         return Outcome(again=reason_for(answer))
