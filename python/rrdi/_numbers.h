@@ -1,5 +1,6 @@
 /* SPDX-License-Identifier: MIT OR Apache-2.0 */
-/* Samples of Python's numbers and texts, as values of rrdi.h and as the words of an update; and rows as Python's numbers.
+/* Samples of Python's numbers and texts, as values of rrdi.h and as the words of an update; rows as Python's numbers; and lines of
+ * rrdi-feed.
  *
  * What is not surely a sample is left to samples.py, which says what is wrong with it. Nothing here runs code of Python's, so no
  * list changes meanwhile. */

@@ -1,5 +1,6 @@
 /* SPDX-License-Identifier: MIT OR Apache-2.0 */
-/* Calls the C library for Python: what by_ctypes.py does, and samples and rows in numbers. extension.py loads it.
+/* Calls the C library for Python: what by_ctypes.py does, and samples and rows in numbers; and takes the lines of rrdi-feed.
+ * extension.py loads it.
  *
  * During a call the interpreter's lock is free, and what the call lends to the library belongs to it alone. A fork has to wait
  * for calls and to close files, so all that run and all that are open are in lists. Of such a list, and of an object, nothing is
