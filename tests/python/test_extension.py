@@ -76,7 +76,7 @@ class Fast:
     def __init__(self) -> None:
         self.said: List[str] = []
         self.answer = DONE
-        self.at_call: Callable[[], None] = lambda: None  # on an open file
+        self.at_call: Callable[[], object] = lambda: None  # on an open file
         self.rows: Tuple[int, int, int, int] = (0, 10, 0, 1)
         self.values: List[_Value] = []
         self.library = c_library({
@@ -740,8 +740,9 @@ class BothWays(ByExtension, DataCase):
 class Costs(FastCase):
     def test_memory(self) -> None:
         """Neither references nor memory are lost, whatever a call ends with."""
-        kept, opened, of_tree = KeptFile(self.path), self.opened(), the_extension()
-        assert of_tree is not None
+        kept, opened, found = KeptFile(self.path), self.opened(), the_extension()
+        assert found is not None
+        of_tree = found  # the functions below need a name that is never None
         kept.run(["last"])
         self.fast.rows = 100, 10, 2, 2
         self.fast.values = [_Value(1, 5, DECIMAL, False)] * 3 + [_Value(0, 0, UNKNOWN, False)]
