@@ -165,7 +165,8 @@ struct rrdi_db {
 #define RRDI_SYNCS 1
 
 /* Opens the database at a path for changes. Until rrdi_db_close nobody else can change the file, not even this process by its path;
- * others can read it. The call waits 5 seconds for a lock that another process holds.
+ * others can read it. (A change that meets a reader is an exception, as for rrdi_open.) The call waits 5 seconds for a lock that
+ * another process holds.
  *
  * Close a struct before you open it again: the call cannot know that there is something to close.
  *
@@ -254,8 +255,9 @@ void rrdi_create_new(const char *path, size_t path_length, const uint8_t *words,
 /* Opens the file at a path for changes, locks it, and reads its database. If an earlier change was interrupted, the call repairs
  * the file. A file that the struct had open before is closed first. With a fault the struct has no open file.
  *
- * Until rrdi_close others can read the file by rrdi, and nobody else can change it, not even this process by the path. A change
- * that meets a reader opens, locks and reads the file again. If a change fails
+ * Until rrdi_close others can read the file by rrdi, and nobody else can change it, not even this process by the path. There is one
+ * exception: a change that meets a reader lets go of the file and of the lock, and opens, locks and reads the file again, as a call
+ * by path does; a program that waits for the file may come first. If a change fails
  * (RRDI_CANNOT_WRITE), the library lets go of the file and of the lock, and the next call on the struct opens the file again;
  * only if there was no memory for the new bytes (ENOMEM) it may keep both.
  * After a batch with RRDI_NO_ROOM the next call reads the file again, under the same lock; if that fails, the library lets go too.

@@ -115,7 +115,8 @@ class Database:
 
     Each command runs when it is called, and its change is then in the file. The first command of a block opens the
     file, and the end of the block closes it. In between others can read the file by rrdi, and nobody else can change it,
-    this program by the path included. (If a handler of a signal raises just as the block ends, the file may stay open
+    this program by the path included; but a change that meets a reader opens the file again, and another program that
+    waits for it may come first. (If a handler of a signal raises just as the block ends, the file may stay open
     until this object is dropped, or its next block ends.) Without a block, each command opens and closes the file.
     `open` and `close` are a block without `with`.
 

@@ -3,7 +3,7 @@
 
 A command on such a file spares the opening, reading and decoding of the file, which is most of its work, and writes its
 change before it returns, as every command does. Until the file is closed, others can read it by rrdi between two
-commands, and cannot change it.
+commands, and cannot change it. A change that meets a reader opens the file again; who waits for it may come first.
 """
 from __future__ import annotations
 
