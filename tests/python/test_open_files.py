@@ -174,7 +174,8 @@ class HowMany(OpenCase):
         self.assertEqual(self.run_on(paths[2], paths[2], files=files)[-2:], ["open", OPEN])
         files.close_all()
         paths[2].write_bytes(b"a" * MEGABYTE)
-        self.assertEqual(self.run_on(paths[2], paths[2], files=files)[1:], [PATH] * 2)
+        said = self.run_on(paths[2], paths[2], files=files)
+        self.assertEqual([one for one in said if one != "close"], [PATH] * 2)  # another thread may still close files
 
     def test_threads(self) -> None:
         paths = [self.made(str(number)) for number in range(8)]
