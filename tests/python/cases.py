@@ -35,6 +35,15 @@ def new_folder(case: unittest.TestCase) -> Path:
     return folder
 
 
+def use_zone(case: unittest.TestCase, zone: str) -> None:
+    """Has local times be those of a time zone until the end of the test."""
+    patch = mock.patch.dict(os.environ, {"TZ": zone})
+    patch.start()
+    time.tzset()
+    case.addCleanup(time.tzset)
+    case.addCleanup(patch.stop)
+
+
 def sleeping_child(case: unittest.TestCase) -> int:
     """Forks a child, which has all open files of this process until the end of the test."""
     child = os.fork()

@@ -3,14 +3,13 @@
 at, ages and lines. No program is needed."""
 from __future__ import annotations
 
-import os
 import time
 import unittest
 from typing import Any, Dict, List, Optional, Tuple
 from unittest import mock
 
 import graphite_doubles as graphite
-from cases import new_folder
+from cases import new_folder, use_zone
 from rrdi.amounts import Millionths
 from rrdi.reader.selected import OpenFile
 from rrdi.tools import check
@@ -79,11 +78,7 @@ class Words(unittest.TestCase):
 
 class Sources(unittest.TestCase):
     def setUp(self) -> None:
-        patch = mock.patch.dict(os.environ, {"TZ": "UTC"})
-        patch.start()
-        time.tzset()
-        self.addCleanup(time.tzset)
-        self.addCleanup(patch.stop)
+        use_zone(self, "UTC")
         self.path = str(new_folder(self) / "f.rrdi")
 
     def watched(self, cells: Dict[int, Optional[float]], rows: int = 30, seconds: int = 0, coarse: int = 0) -> WatchedSource:

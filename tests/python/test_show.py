@@ -8,7 +8,7 @@ import time
 import unittest
 from unittest import mock
 
-from cases import needs_program
+from cases import needs_program, use_zone
 from tool_case import Ran, ToolCase
 
 from rrdi.amounts import Millionths
@@ -42,11 +42,7 @@ class Words(ToolCase):
 
 class Spans(unittest.TestCase):
     def setUp(self) -> None:
-        zone = mock.patch.dict(os.environ, {"TZ": "Europe/Berlin"})
-        zone.start()
-        time.tzset()
-        self.addCleanup(time.tzset)
-        self.addCleanup(zone.stop)
+        use_zone(self, "Europe/Berlin")
 
     def test_spans(self) -> None:
         """Hand-computed: Berlin is one hour ahead of UTC in January, and two in July."""

@@ -9,6 +9,7 @@ import time
 import unittest
 from unittest import mock
 
+from cases import use_zone
 from tool_case import NO_RRDTOOL, RRDTOOL, ToolCase
 
 from rrdi.tools.command_line import Failure, WrongArguments
@@ -23,11 +24,7 @@ class Times(unittest.TestCase):
     """Berlin is one hour ahead of UTC in January, and two in July. The seconds are those of GNU date."""
 
     def setUp(self) -> None:
-        zone = mock.patch.dict(os.environ, {"TZ": "Europe/Berlin"})
-        zone.start()
-        time.tzset()
-        self.addCleanup(time.tzset)
-        self.addCleanup(zone.stop)
+        use_zone(self, "Europe/Berlin")
 
     def test_zones(self) -> None:
         for text in ("2024-01-01T11:00:00Z", "2024-01-01 11:00Z", "2024-01-01 11:00:00 Z", "2024-01-01T12:00+01:00",

@@ -15,7 +15,7 @@ from pathlib import Path
 from typing import Dict, List, NamedTuple, Optional, Tuple
 from unittest import mock
 
-from cases import HANG, needs_library, needs_program, new_folder
+from cases import HANG, needs_program, new_folder, use_zone
 from doubles import PROGRAM, TOP
 from process_case import ProcessCase, locked
 from tool_case import Ran, ToolCase
@@ -57,11 +57,7 @@ class Words(ToolCase):
 
 class Times(unittest.TestCase):
     def setUp(self) -> None:
-        zone = mock.patch.dict(os.environ, {"TZ": "Europe/Berlin"})
-        zone.start()
-        time.tzset()
-        self.addCleanup(time.tzset)
-        self.addCleanup(zone.stop)
+        use_zone(self, "Europe/Berlin")
 
     def test_times(self) -> None:
         """Hand-computed. In Berlin 02:30 came twice on 2023-10-29, and not at all on 2023-03-26."""

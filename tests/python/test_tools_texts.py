@@ -7,13 +7,12 @@ import contextlib
 import io
 import os
 import struct
-import time
 import unittest
 from collections import Counter
 from typing import Any, Dict, List, Optional, Tuple
 from unittest import mock
 
-from cases import new_folder
+from cases import new_folder, use_zone
 from rrdi.amounts import Millionths
 from rrdi.printed import Archive, Settings, Source
 from rrdi.reader.selected import Outline, StoredArchive
@@ -40,11 +39,7 @@ def settings(*archives: Tuple[str, int, int], last: int = LAST, step: int = 10) 
 
 class InUtc(unittest.TestCase):
     def setUp(self) -> None:
-        patch = mock.patch.dict(os.environ, {"TZ": "UTC"})
-        patch.start()
-        time.tzset()
-        self.addCleanup(time.tzset)
-        self.addCleanup(patch.stop)
+        use_zone(self, "UTC")
 
 
 class Choices(unittest.TestCase):
