@@ -8,7 +8,7 @@ use crate::content::Content;
 use crate::rra::Rra;
 use crate::walk::Steps;
 use crate::{ArchiveList, RraDef, SavedArchive};
-use rrd_fixed::{Cell, Meter};
+use rrd_fixed::{Meter, StoredCell};
 use std::alloc::{AllocError, Global};
 
 impl Content {
@@ -76,7 +76,7 @@ pub(crate) fn new_all(
 }
 
 /// Adds steps to each archive. `row` has room for the cells of a row.
-pub(crate) fn take_all(archives: &mut [Rra], steps: &Steps, row: &mut [Cell], meter: &mut Meter)
+pub(crate) fn take_all(archives: &mut [Rra], steps: &Steps, row: &mut [StoredCell], meter: &mut Meter)
     requires valid { AllByRecursion (IsValidArchive (sources_of steps.now) steps.now.before) archives.old }
     requires steps_are { AreSteps steps.now }
     requires places { length row.old ≡ sources_of steps.now }

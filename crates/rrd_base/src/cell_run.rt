@@ -2,13 +2,13 @@
 ghost use Rattle.std.specs.Prelude.{◌≡◌, ◌≤◌, length, take};
 ghost use Rattle.rrd_base.specs.Words.{run_cells};
 
-use rrd_fixed::Cell;
+use rrd_fixed::StoredCell;
 
 /// A run of consecutive cells.
 #[derive(Clone, Copy)]
 pub(crate) enum CellRun<'a> {
     /// The cells of this slice.
-    Given(&'a [Cell]),
+    Given(&'a [StoredCell]),
     /// The number of unknown cells.
     Unknown(usize),
 }

@@ -7,7 +7,7 @@ ghost use Rattle.rrd_spec.specs.Choice as choice;
 
 use crate::content::Content;
 use crate::{Chosen, Refusal, RraDef};
-use rrd_fixed::Cell;
+use rrd_fixed::StoredCell;
 use rrd_fold::Function;
 use rrd_spec::limits::{MAX_SPAN, MAX_TIME};
 use rrd_spec::{Candidate, FetchRequest};
@@ -214,7 +214,7 @@ impl Content {
 
     /// Returns the cells of an archive's row at a time, a multiple of the resolution; `None` if the archive has no such
     /// row.
-    pub(crate) fn row(&self, archive: usize, time: i64) -> Option<&[Cell]>
+    pub(crate) fn row(&self, archive: usize, time: i64) -> Option<&[StoredCell]>
         requires { archive < length self.now.archives }
         ensures wide { IfSome result (λ row. length row.now ≡ length self.now.sources) }
         ensures cells { IfSome result (λ row. (source : ℕ)

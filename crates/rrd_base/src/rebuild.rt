@@ -32,7 +32,7 @@ use crate::{ArchiveList, Database, DsDef, Due, Outline, RraDef};
 use circular_buffer::HeapCircularBuffer;
 use cursor::Cursor;
 use piece_checks::is_source;
-use rrd_fixed::{Cell, Raw};
+use rrd_fixed::{Raw, StoredCell};
 use rrd_fold::{RowPrep, StepPrep};
 use rrd_spec::{first_slot_row, laws};
 use std::alloc::{AllocError, Global};
@@ -315,7 +315,7 @@ impl Rebuild {
     }
 
     // Returns whether a cell may come.
-    fn may_cell(&self, cell: Cell) -> bool
+    fn may_cell(&self, cell: StoredCell) -> bool
         ensures good { result ≡ true → MayCell self.now cell }
         ensures bad { MayCell self.now cell → result ≡ true }
     {
@@ -332,7 +332,7 @@ impl Rebuild {
     /// # Errors
     /// - `Bad`: another piece is due, or the cell has an absolute value above the maximum rate. The database is
     ///   unchanged.
-    pub fn cell(&mut self, cell: Cell) -> Result<(), PieceFault>
+    pub fn cell(&mut self, cell: StoredCell) -> Result<(), PieceFault>
         ensures ok { OnOk result (MayCell self.old cell × (self.new ≡ with_cell self.old cell)) }
         ensures bad { IfErr result (λ e. e ≡ Bad → MayCell self.old cell → ⊥) }
         ensures fault { IfErr result (λ e. e ≡ Bad) }
@@ -385,7 +385,7 @@ impl Rebuild {
     /// The effect is that of `cell` for one cell after another, up to the last whole row that `cells` has, or to the
     /// end of the archive. No cell may have an absolute value above the maximum rate. Returns 0 if the next cell is not
     /// the first of a row. Does not allocate.
-    pub fn rows(&mut self, cells: &[Cell]) -> usize
+    pub fn rows(&mut self, cells: &[StoredCell]) -> usize
         requires { AllByRecursion IsBounded cells.now }
         ensures few { result ≤ length cells.now }
         ensures may { MayCells self.old (take result cells.now) }

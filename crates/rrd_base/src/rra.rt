@@ -9,7 +9,7 @@ use crate::rows::{HasRows, rows_between};
 use crate::walk::Steps;
 use crate::walk::preparations::{add_steps, close_rows};
 use crate::{EachSource, RraDef, SavedArchive};
-use rrd_fixed::{Cell, Meter};
+use rrd_fixed::{Meter, StoredCell};
 use rrd_fold::RowPrep;
 use rrd_ring::Archive;
 use rrd_spec::laws;
@@ -116,7 +116,7 @@ impl Rra {
     }
 
     /// Writes the cell of a data source in a row. Row 0 is the oldest.
-    pub(crate) fn set_cell(&mut self, row: u64, source: usize, cell: Cell)
+    pub(crate) fn set_cell(&mut self, row: u64, source: usize, cell: StoredCell)
         requires there { row < length self.old.rows }
         requires within { source < length (nth_row self.old.rows row) }
         ensures { let cells = slice_set (nth_row self.old.rows row) source cell in
@@ -157,7 +157,7 @@ impl Rra {
     }
 
     /// Returns the cells of the row with an age, 0 for the newest; `None` if there is no such row.
-    pub(crate) fn row_of_age(&self, age: i128) -> Option<&[Cell]>
+    pub(crate) fn row_of_age(&self, age: i128) -> Option<&[StoredCell]>
         ensures some { IfSome result (λ row. (unknown : List Cell) → row_of_age self.now.rows unknown age ≡ row.now) }
         ensures none { IfNone result ((unknown : List Cell) → row_of_age self.now.rows unknown age ≡ unknown) }
     {
@@ -193,7 +193,7 @@ impl Rra {
     }
 
     // Adds a step `count` times to the partial rows. The meter counts one unit of work for each data source.
-    fn go_on(&mut self, step: &[Cell], count: u64, meter: &mut Meter)
+    fn go_on(&mut self, step: &[StoredCell], count: u64, meter: &mut Meter)
         requires row { IsRow (length self.old.parts) step.now }
         requires fits { AllByRecursion (λ (p : Part). p.known + count ≤ most_known) self.old.parts }
         requires turns { meter.old + length step.now < 2 ^ 64 }
@@ -207,7 +207,7 @@ impl Rra {
 
     // Writes the cells of the row that has all its steps, and empties the partial rows. The meter counts one unit of
     // work for each data source.
-    fn close_row(&mut self, row: &mut [Cell], meter: &mut Meter)
+    fn close_row(&mut self, row: &mut [StoredCell], meter: &mut Meter)
         requires places { length row.old ≡ length self.old.parts }
         requires some_steps { 0 < self.old.def.steps }
         requires few_steps { self.old.def.steps ≤ present.max_steps_per_row }
@@ -225,7 +225,7 @@ impl Rra {
 
     // Adds `row`, and then `other` `times` times, but only rows that the archive still has at the end. The meter counts
     // one unit of work for each cell of these rows.
-    fn push(&mut self, row: &[Cell], other: &[Cell], times: u64, meter: &mut Meter)
+    fn push(&mut self, row: &[StoredCell], other: &[StoredCell], times: u64, meter: &mut Meter)
         requires wide { HasWidth (length row.now) self.old.rows }
         requires same_width { length other.now ≡ length row.now }
         requires turns { meter.old + length row.now * min (1 + times) (length self.old.rows) < 2 ^ 64 }
@@ -241,7 +241,7 @@ impl Rra {
 
     /// Adds steps to the archive. Whole rows of equal steps are added at once: their cells are those of the steps, and
     /// only rows that the archive still has at the end are written. `row` has room for the cells of a row.
-    pub(crate) fn take(&mut self, steps: &Steps, row: &mut [Cell], meter: &mut Meter)
+    pub(crate) fn take(&mut self, steps: &Steps, row: &mut [StoredCell], meter: &mut Meter)
         requires valid { IsValidArchive (sources_of steps.now) steps.now.before self.old }
         requires steps_are { AreSteps steps.now }
         requires places { length row.old ≡ sources_of steps.now }
@@ -329,7 +329,7 @@ impl Rra {
 }
 
 // Adds a row `times` times, but only rows that the archive still has at the end.
-fn push_times(rows: &mut Archive, row: &[Cell], times: u64, meter: &mut Meter)
+fn push_times(rows: &mut Archive, row: &[StoredCell], times: u64, meter: &mut Meter)
     requires wide { HasWidth (length row.now) rows.old }
     requires turns { meter.old + length row.now * min times (length rows.old) < 2 ^ 64 }
     ensures rows { rows.new ≡ keep_last (length rows.old) (rows.old ++ replicate times row.now) }

@@ -28,7 +28,7 @@ use crate::content::Content;
 use crate::update::raws_into;
 use crate::{DsDef, Update};
 use preparations::{add_seconds, close_steps};
-use rrd_fixed::{Cell, Meter, Raw};
+use rrd_fixed::{Meter, Raw, StoredCell};
 use rrd_spec::laws;
 use std::alloc::{AllocError, Global};
 
@@ -38,9 +38,9 @@ pub(crate) struct Steps<'a> {
     /// The number of steps that ended before these.
     pub(crate) before: u64,
     /// The cells of the first step, one for each data source.
-    pub(crate) first: &'a [Cell],
+    pub(crate) first: &'a [StoredCell],
     /// The cells of each other step, one for each data source.
-    pub(crate) others: &'a [Cell],
+    pub(crate) others: &'a [StoredCell],
     /// The number of the other steps.
     pub(crate) count: u64,
 }
@@ -52,11 +52,11 @@ pub(crate) struct Walk {
     // The raw values of a sample.
     raws: Vec<Raw>,
     // The rates in the interval before the sample.
-    rates: Vec<Cell>,
+    rates: Vec<StoredCell>,
     // The cells of the step in which the interval begins, if the step ends.
-    step: Vec<Cell>,
+    step: Vec<StoredCell>,
     // The cells of the row in progress, if the row ends.
-    row: Vec<Cell>,
+    row: Vec<StoredCell>,
     meter: Meter,
 }
 
@@ -70,9 +70,9 @@ impl Walk {
     {
         Ok(Walk {
             raws: vec![in alloc; Raw::Unknown; sources]?,
-            rates: vec![in alloc; Cell::Unknown; sources]?,
-            step: vec![in alloc; Cell::Unknown; sources]?,
-            row: vec![in alloc; Cell::Unknown; sources]?,
+            rates: vec![in alloc; StoredCell::unknown(); sources]?,
+            step: vec![in alloc; StoredCell::unknown(); sources]?,
+            row: vec![in alloc; StoredCell::unknown(); sources]?,
             meter: Meter::new(),
         })
     }
@@ -97,7 +97,8 @@ impl Walk {
         ensures rest { self.new ≡ record self.old { rates = self.new.rates } }
     {
         for i in 0..sources.len() {
-            self.rates[i] = sources[i].rate(interval, old[i], self.raws[i]);
+            let rate = sources[i].rate(interval, old[i], self.raws[i]);
+            self.rates[i] = StoredCell::new(rate);
         }
     }
 }

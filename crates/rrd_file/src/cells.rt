@@ -7,12 +7,12 @@ ghost use Rattle.rrd_file.specs.Layout.Values as spelling;
 
 use crate::FileFault;
 use crate::fault::block_fault;
-use crate::layout::{ABSENT, ABSENT_HIGH, ABSENT_LOW, CELL_SIZE, MAX_ROW_CELLS, unknown_bytes};
+use crate::layout::{CELL_SIZE, MAX_ROW_CELLS, unknown_bytes};
 use crate::reader::PieceReader;
 use crate::values::{Halves, eight_of, halves_of, signed_of};
 use crate::writer::{BLOCK_SIZE, Block, PieceWriter};
 use rrd_base::{Database, Due, Rebuild, database_is_valid, is_bounded};
-use rrd_fixed::{Cell, WriteFault};
+use rrd_fixed::{StoredCell, WriteFault};
 use rrd_ring::{Table, are_unknown};
 use rrd_spec::first_slot_row;
 use rrd_spec::laws::rows_stand_in_slots;
@@ -21,22 +21,11 @@ use std::io::{Read, Write};
 /// The maximum number of cells that are read at once: as many as wait, which are enough for the widest row.
 const MAX_CELLS_AT_ONCE: usize = 128;
 
-// The halves of the number that is written for an unknown cell.
-const UNKNOWN: Halves = Halves {
-    high: ABSENT_HIGH,
-    low: ABSENT_LOW,
-};
-
 /// Returns the halves of the number that is written for a cell.
-///
-/// Every cell passes here, so the two cases are separated while the halves are computed, without a number in between.
-pub(crate) fn cell_halves(cell: Cell) -> Halves
+pub(crate) fn cell_halves(cell: StoredCell) -> Halves
     ensures { spelling.eight_bytes result.high ++ spelling.eight_bytes result.low ≡ spelling.cell_bytes cell }
 {
-    match cell {
-        Cell::Unknown => UNKNOWN,
-        Cell::Known(millionths) => halves_of(millionths),
-    }
+    halves_of(cell.number())
 }
 
 impl Block {
@@ -51,7 +40,7 @@ impl Block {
 }
 
 // Writes cells, one after another.
-fn write_each<W: Write>(out: &mut PieceWriter<'_, W>, cells: &[Cell]) -> Result<(), WriteFault>
+fn write_each<W: Write>(out: &mut PieceWriter<'_, W>, cells: &[StoredCell]) -> Result<(), WriteFault>
     ensures { Gathers W.contents out.old out.new
         (spelled (map OfCell cells.now)) result }
 {
@@ -172,38 +161,31 @@ pub(crate) fn write_cells<W: Write>(
 }
 
 /// Returns a cell, and the bytes after it.
-pub(crate) fn cell_of(bytes: &[u8]) -> (Cell, &[u8])
+pub(crate) fn cell_of(bytes: &[u8]) -> (StoredCell, &[u8])
     requires { CELL_SIZE ≤ length bytes.now }
     ensures spelled { bytes.now ≡ spelling.cell_bytes result.0 ++ result.1.now }
     ensures fits { FitsCell result.0 }
     ensures room { length result.1.now + CELL_SIZE ≡ length bytes.now }
 {
     let (number, rest) = signed_of(bytes);
-    if number == ABSENT {
-        return (Cell::Unknown, rest);
-    }
-    (Cell::Known(number), rest)
+    (StoredCell::of_number(number), rest)
 }
 
-// Writes the cell of a number, and returns true, unless the number has an absolute value above the maximum rate. Both
-// branches write: choosing a cell first and writing it after would take longer.
-fn put_number(into: &mut Cell, number: i128) -> bool
+// Writes the cell of a number, and returns true, unless the number has an absolute value above the maximum rate.
+fn put_number(into: &mut StoredCell, number: i128) -> bool
     ensures spelled { result ≡ true → spelling.signed_bytes number ≡ spelling.cell_bytes into.new }
     ensures bounded { result ≡ true → IsBounded into.new }
 {
-    if is_bounded(Cell::Known(number)) {
-        *into = Cell::Known(number);
-        return true;
+    let cell = StoredCell::of_number(number);
+    if !is_bounded(cell) {
+        return false;
     }
-    if number == ABSENT {
-        *into = Cell::Unknown;
-        return true;
-    }
-    false
+    *into = cell;
+    true
 }
 
 // Writes cells up to the first that has an absolute value above the maximum rate, and returns how many.
-fn cells_of(bytes: &[u8], cells: &mut [Cell]) -> usize
+fn cells_of(bytes: &[u8], cells: &mut [StoredCell]) -> usize
     requires { length bytes.now ≡ CELL_SIZE * length cells.old }
     ensures few { result ≤ length cells.new }
     ensures spelled { take (CELL_SIZE * result) bytes.now ≡ flat_map spelling.cell_bytes (take result cells.new) }
@@ -229,7 +211,7 @@ fn behind_unknown(bytes: &[u8]) -> Option<&[u8]>
 {
     let (high, rest) = eight_of(bytes);
     let (low, rest) = eight_of(rest);
-    let unknown = cell_halves(Cell::Unknown);
+    let unknown = cell_halves(StoredCell::unknown());
     if high != unknown.high || low != unknown.low {
         return None;
     }
@@ -288,7 +270,7 @@ fn take_unknown<R: Read + Drop>(input: &mut PieceReader<R>, build: &mut Rebuild)
 }
 
 // Returns how many of these rows' cells are before the unknown rows at the end, at least those of the first row.
-fn without_unknown_end(cells: &[Cell], cells_in_row: usize) -> usize
+fn without_unknown_end(cells: &[StoredCell], cells_in_row: usize) -> usize
     requires { 0 < cells_in_row }
     ensures { result ≤ length cells.now }
 {
@@ -300,7 +282,7 @@ fn without_unknown_end(cells: &[Cell], cells_in_row: usize) -> usize
 }
 
 // Writes cells as `cells_of` does, and returns how many of them are before the unknown rows at the end.
-fn cells_before_unknown_end(bytes: &[u8], cells: &mut [Cell], cells_in_row: usize) -> usize
+fn cells_before_unknown_end(bytes: &[u8], cells: &mut [StoredCell], cells_in_row: usize) -> usize
     requires some { 0 < cells_in_row }
     requires room { length bytes.now ≡ CELL_SIZE * length cells.old }
     ensures few { result ≤ length cells.new }
@@ -318,7 +300,7 @@ fn cells_before_unknown_end(bytes: &[u8], cells: &mut [Cell], cells_in_row: usiz
 fn take_rows<R: Read + Drop>(
     input: &mut PieceReader<R>,
     build: &mut Rebuild,
-    room: &mut [Cell],
+    room: &mut [StoredCell],
 ) -> usize
     ensures steps { (bytes : List ℕ) → 0 < result → Stands bytes (Body build.old) input.old
         → Stands bytes (Body build.new) input.new }
@@ -371,7 +353,7 @@ fn gather_row<R: Read + Drop>(
 fn read_some_cells<R: Read + Drop>(
     input: &mut PieceReader<R>,
     build: &mut Rebuild,
-    room: &mut [Cell],
+    room: &mut [StoredCell],
 ) -> Result<(), FileFault>
     requires is_due { due build.old ≡ CellDue }
     requires waits { CELL_SIZE ≤ length input.old.waiting }
@@ -399,7 +381,7 @@ pub(crate) fn read_cells<R: Read + Drop>(
     ensures advanced { OnOk result (Advances input.old input.new) }
 {
     input.wait_for(CELL_SIZE)?;
-    let mut room = [Cell::Unknown; MAX_CELLS_AT_ONCE];
+    let mut room = [StoredCell::unknown(); MAX_CELLS_AT_ONCE];
     while let Due::CellDue = build.due() {
         gather_row(input, build.cells_in_row())?;
         if input.waiting() < CELL_SIZE {

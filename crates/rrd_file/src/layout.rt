@@ -68,16 +68,10 @@ pub(crate) const NUMBER_SIZE: usize = 2;
 pub(crate) const BEFORE_TUNE_SIZE: usize = NUMBER_SIZE + SETTINGS_SIZE + CELL_SIZE;
 
 /// The number that represents an absent value: the minimum, which no value is.
-pub(crate) const ABSENT: i128 = i128::MIN;
-
-/// The higher eight bytes of `ABSENT`.
-pub(crate) const ABSENT_HIGH: u64 = ((ABSENT >> 64) & 0xffff_ffff_ffff_ffff) as u64;
-
-/// The lower eight bytes of `ABSENT`.
-pub(crate) const ABSENT_LOW: u64 = (ABSENT & 0xffff_ffff_ffff_ffff) as u64;
+const ABSENT: i128 = i128::MIN;
 
 /// The first byte of `ABSENT`. All other bytes are zero.
-const FIRST_BYTE: u8 = (ABSENT_HIGH >> 56) as u8;
+const FIRST_BYTE: u8 = ((ABSENT >> 120) & 0xff) as u8;
 
 /// The bytes of `ABSENT`. The proof of `unknown_bytes` shows that they are those of unknown cells.
 const ABSENT_BYTES: [u8; CELL_SIZE] = [

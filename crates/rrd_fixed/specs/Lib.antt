@@ -8,3 +8,4 @@ pub mod Writing
 pub mod Text
 pub mod Reading
 pub mod Puts
+pub mod Stored

@@ -13,6 +13,7 @@ mod puts;
 mod rates;
 mod raw;
 mod rounding;
+mod stored;
 mod streams;
 mod text;
 
@@ -26,5 +27,6 @@ pub use puts::{put_cell, put_time};
 pub use rates::rate;
 pub use raw::Raw;
 pub use rounding::near;
+pub use stored::StoredCell;
 pub use streams::{ReadFault, TRIES, WriteFault, flush, read_some, write_bytes};
 pub use text::{MILLIONTHS, cell_string, message, numbered_message, raw_string, time_string};

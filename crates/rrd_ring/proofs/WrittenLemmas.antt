@@ -41,8 +41,8 @@ unknown_there all start n xs h fits =
     let later : drop start (xs ++ rest) ≡ replicate (all - length xs - past) Unknown = grind (arith, drop-drop past (length xs) (xs ++ rest), drop_at xs rest (length xs) refl, drop-replicate past (all - length xs) Unknown) in
     ap (take n) later ∙ take-replicate n (all - length xs - past) Unknown (omega arith)
 
-pub row_unwritten : (all start w : ℕ) (xs : List Cell) → length xs ≤ start → start + w ≤ all → w ≤ 64 → take w (replicate 64 Unknown) ≡ take w (drop start (with_unwritten all xs))
-row_unwritten all start w xs h fits few = take-replicate w 64 Unknown few ∙ sym (unknown_there all start w xs h fits)
+pub row_unwritten : (all start w : ℕ) (xs : List Cell) → length xs ≤ start → start + w ≤ all → replicate w Unknown ≡ take w (drop start (with_unwritten all xs))
+row_unwritten all start w xs h fits = sym (unknown_there all start w xs h fits)
 
 -- ---- a row is written
 

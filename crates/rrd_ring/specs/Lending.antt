@@ -2,7 +2,7 @@
 use Rattle.std.specs.Prelude.{ℕ, List}
 use Rattle.std.specs.Borrow.{Fml, MutBor, Array, Lends}
 use Rattle.rrd_fixed.specs.declared.cell.Cell.{Cell}
-use Rattle.rrd_fixed.specs.contracts.cell.Cell.{the_row as cell_row}
+use Rattle.rrd_fixed.specs.contracts.stored.StoredCell.{the_row as cell_row}
 use Rattle.rrd_ring.specs.Rows.{with_row}
 use Rattle.rrd_ring.specs.contracts.archive.Archive.{the_row as archive_row}
 

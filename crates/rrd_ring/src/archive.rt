@@ -10,7 +10,8 @@ use crate::ring::{
     are_unknown, cells_of, fill_up, forget, index_of, parts_of, push_parts, row_at, row_mut,
     rows_written, run_from, save_parts, unknown_cells, wrap, write_cells, write_from, write_row_at,
 };
-use rrd_fixed::{Cell, Meter};
+use crate::unwritten::UnwrittenRow;
+use rrd_fixed::{Meter, StoredCell};
 use std::alloc::{AllocError, Global};
 use std::marker::Model;
 use std::mem;
@@ -24,9 +25,11 @@ pub struct Archive {
     // The cells of the rows, one row after another, up to the last written row of the vector: the others are unknown.
     // The capacity is that of all rows from the start, so that no row allocates later. Unwritten rows cost no time and
     // touch no memory.
-    cells: Vec<Cell>,
+    cells: Vec<StoredCell>,
     rows: usize,
     sources: usize,
+    // A row of unknown cells, which stands for each unwritten row.
+    unwritten: UnwrittenRow,
     // The index of the oldest row among the vector's rows. The row after the vector's last one is its first.
     oldest: usize,
 }
@@ -34,14 +37,14 @@ pub struct Archive {
 impl Model for Archive {
     ghost use Rattle.std.specs.Prelude.{List};
     ghost use Rattle.rrd_fixed.specs.declared.cell.Cell.{Cell};
-    ghost use Rattle.std.specs.Prelude.{◌*◌};
+    ghost use Rattle.std.specs.Prelude.{◌≡◌, ◌*◌};
     ghost use Rattle.rrd_ring.specs.Ring.{ring_rows, with_unwritten, IsPartlyWritten};
 
     ghost Value = { List (List Cell) };
 
     ghost view = { λ a. ring_rows a.rows a.sources a.oldest (with_unwritten (a.rows * a.sources) a.cells.items) };
 
-    ghost invariant = { λ a. IsPartlyWritten a.rows a.sources a.oldest a.cells };
+    ghost invariant = { λ a. IsPartlyWritten a.rows a.sources a.oldest a.cells × (a.unwritten ≡ a.sources) };
 }
 
 impl Archive {
@@ -85,10 +88,12 @@ impl Archive {
     {
         let (rows, sources) = (rows as usize, sources as usize);
         let cells = Vec::with_capacity(alloc, cells_of(rows, sources))?;
+        let unwritten = UnwrittenRow::new(alloc, sources)?;
         Ok(Archive {
             cells,
             rows,
             sources,
+            unwritten,
             oldest: wrap(rows - first as usize, rows),
         })
     }
@@ -126,19 +131,19 @@ impl Archive {
     }
 
     /// Returns the cells of row `i`. Row 0 is the oldest.
-    pub fn row(&self, i: u64) -> &[Cell]
+    pub fn row(&self, i: u64) -> &[StoredCell]
         requires { i < length self.now }
         ensures { result.now ≡ nth_row self.now i }
     {
         let index = index_of(i as usize, self.oldest, self.rows);
-        row_at(&self.cells, self.sources, index)
+        row_at(&self.cells, &self.unwritten, self.sources, index)
     }
 
     /// Returns the first of `most` rows from row `first` on that are consecutive in memory.
     ///
     /// The result is their number, from 1 to `most`, and their cells, one row after another. Row 0 is the oldest. Rows
     /// that were never written may be returned one at a time.
-    pub fn contiguous_rows(&self, first: u64, most: u64) -> (u64, &[Cell])
+    pub fn contiguous_rows(&self, first: u64, most: u64) -> (u64, &[StoredCell])
         requires some { 0 < most }
         requires there { first + most ≤ length self.now }
         ensures some { 0 < result.0 }
@@ -146,14 +151,15 @@ impl Archive {
         ensures cells { result.1.now ≡ row_cells (take result.0 (drop first self.now)) }
     {
         let index = index_of(first as usize, self.oldest, self.rows);
-        let (count, cells) = run_from(&self.cells, self.sources, index, most as usize);
+        let most = most as usize;
+        let (count, cells) = run_from(&self.cells, &self.unwritten, self.sources, index, most);
         (count as u64, cells)
     }
 
     /// Lends the cells of row `i` for writing. Row 0 is the oldest.
     ///
     /// Does not allocate.
-    pub fn row_mut(&mut self, i: u64) -> &mut [Cell]
+    pub fn row_mut(&mut self, i: u64) -> &mut [StoredCell]
         requires { i < length self.old }
         ensures* writes_back { sem 𝓛 (LendsRow self.entry i result) }
         ensures value { result.now ≡ nth_row self.old i }
@@ -178,7 +184,7 @@ impl Archive {
     }
 
     // Writes rows as `write_rows_wrapping` does, at their places in the vector.
-    fn put_rows(&mut self, i: u64, count: u64, cells: &[Cell])
+    fn put_rows(&mut self, i: u64, count: u64, cells: &[StoredCell])
         requires there { i < length self.old }
         requires few { count ≤ length self.old }
         requires one_each { length cells.now ≡ count * width self.old }
@@ -195,7 +201,7 @@ impl Archive {
     ///
     /// Row 0 is the oldest, and `count` is at most the number of rows. `cells` holds the rows one after another. Does
     /// not allocate.
-    pub fn write_rows_wrapping(&mut self, i: u64, count: u64, cells: &[Cell])
+    pub fn write_rows_wrapping(&mut self, i: u64, count: u64, cells: &[StoredCell])
         requires there { i < length self.old }
         requires few { count ≤ length self.old }
         requires one_each { length cells.now ≡ count * width self.old }
@@ -228,7 +234,7 @@ impl Archive {
     /// Drops the oldest row, and adds `cells` as the newest, one for each data source.
     ///
     /// The meter counts one unit of work for each cell. Does not allocate.
-    pub fn push_row(&mut self, cells: &[Cell], meter: &mut Meter)
+    pub fn push_row(&mut self, cells: &[StoredCell], meter: &mut Meter)
         requires one_each { length cells.now ≡ width self.old }
         requires turns { meter.old + length cells.now < 2 ^ 64 }
         ensures rows { self.new ≡ drop 1 (self.old ++ cells.now ∷ []) }
@@ -297,10 +303,12 @@ impl Archive {
         let room = cells_of(wanted, self.sources);
         let mut cells = unknown_cells(alloc, room, cells_of(wanted - kept, self.sources))?;
         push_parts(&mut cells, &self.cells, parts)?;
+        let unwritten = UnwrittenRow::new(alloc, self.sources)?;
         Ok(Archive {
             cells,
             rows: wanted,
             sources: self.sources,
+            unwritten,
             oldest: 0,
         })
     }

@@ -4,7 +4,7 @@ ghost use Rattle.smallvec.specs.SmallVec.{small_vec_len};
 ghost use Rattle.rrd_ring.specs.Rows.{nth_row, row_cells, width, HasWidth, max_rows, max_sources};
 
 use crate::ring::cells_of;
-use rrd_fixed::Cell;
+use rrd_fixed::StoredCell;
 use smallvec::SmallVec;
 use std::marker::Model;
 
@@ -14,7 +14,7 @@ use std::marker::Model;
 pub const PLACES: usize = 2;
 
 /// The cells of dropped rows, one row after another.
-pub type DroppedCells = SmallVec<Cell, PLACES>;
+pub type DroppedCells = SmallVec<StoredCell, PLACES>;
 
 /// Rows that were the oldest of an archive, all with the same number of cells.
 ///
@@ -71,7 +71,7 @@ impl Dropped {
     }
 
     /// Returns the cells of row `i`. Row 0 is the oldest.
-    pub fn row(&self, i: u64) -> &[Cell]
+    pub fn row(&self, i: u64) -> &[StoredCell]
         requires { i < length self.now }
         ensures { result.now ≡ nth_row self.now i }
     {
@@ -82,7 +82,7 @@ impl Dropped {
     /// Returns `most` rows from row `first` on, which are all consecutive in memory.
     ///
     /// The result is their number and their cells, one row after another. Row 0 is the oldest.
-    pub fn contiguous_rows(&self, first: u64, most: u64) -> (u64, &[Cell])
+    pub fn contiguous_rows(&self, first: u64, most: u64) -> (u64, &[StoredCell])
         requires some { 0 < most }
         requires there { first + most ≤ length self.now }
         ensures all { result.0 ≡ most }

@@ -8,6 +8,7 @@ mod archive;
 mod dropped;
 mod ring;
 mod table;
+mod unwritten;
 
 pub use archive::Archive;
 pub use dropped::{Dropped, DroppedCells, PLACES};

@@ -8,11 +8,9 @@ ghost use Rattle.rrd_ring.specs.Ring.{cells_in, from_index, row_of, with_unwritt
 ghost use Rattle.rrd_ring.specs.Rows.{max_rows, max_sources};
 
 use crate::dropped::DroppedCells;
-use rrd_fixed::{Cell, Meter};
+use crate::unwritten::UnwrittenRow;
+use rrd_fixed::{Meter, StoredCell};
 use std::alloc::{AllocError, Global};
-
-// The cells of a row that was never written. 64 is the maximum number of data sources, as in `rrd_spec::limits`.
-static UNWRITTEN: [Cell; 64] = [Cell::Unknown; 64];
 
 // Returns `index` modulo `rows`: the row after the last row of a ring is the first row. A comparison is faster than a
 // division.
@@ -84,11 +82,11 @@ pub(crate) fn unknown_cells(
     alloc: Global,
     room: usize,
     count: usize,
-) -> Result<Vec<Cell>, AllocError>
+) -> Result<Vec<StoredCell>, AllocError>
     ensures { IfOk result (λ cells. cells.items ≡ replicate count Unknown) }
 {
     let mut cells = Vec::with_capacity(alloc, room)?;
-    cells.resize(count, Cell::Unknown)?;
+    cells.resize(count, StoredCell::unknown())?;
     Ok(cells)
 }
 
@@ -128,8 +126,13 @@ fn contiguous_count(written: usize, index: usize, most: usize) -> usize
 
 // Returns `count` cells of a ring's vector from cell `start` on. These are the cells of whole written rows, or of one
 // row that is not written.
-fn row_from(cells: &[Cell], start: usize, count: usize) -> &[Cell]
-    requires few { length cells.now ≤ start → count ≤ max_sources }
+fn row_from<'a>(
+    cells: &'a [StoredCell],
+    unwritten: &'a UnwrittenRow,
+    start: usize,
+    count: usize,
+) -> &'a [StoredCell]
+    requires few { length cells.now ≤ start → count ≤ unwritten.now }
     requires whole { start < length cells.now → start + count ≤ length cells.now }
     ensures { (all : ℕ) → start + count ≤ all
         → result.now ≡ take count (drop start (with_unwritten all cells.now)) }
@@ -137,28 +140,36 @@ fn row_from(cells: &[Cell], start: usize, count: usize) -> &[Cell]
     if start < cells.len() {
         return &cells[start..start + count];
     }
-    &UNWRITTEN[..count]
+    unwritten.front(count)
 }
 
 // Returns the cells of the vector's row `index`.
-pub(crate) fn row_at(cells: &[Cell], sources: usize, index: usize) -> &[Cell]
+pub(crate) fn row_at<'a>(
+    cells: &'a [StoredCell],
+    unwritten: &'a UnwrittenRow,
+    sources: usize,
+    index: usize,
+) -> &'a [StoredCell]
+    requires wide { unwritten.now ≡ sources }
     requires whole { AreWhole sources cells.now }
     requires few_sources { sources ≤ max_sources }
     requires within { index < max_rows }
     ensures { (rows : ℕ) → index < rows
         → result.now ≡ row_of sources (with_unwritten (rows * sources) cells.now) index }
 {
-    row_from(cells, cells_of(index, sources), sources)
+    row_from(cells, unwritten, cells_of(index, sources), sources)
 }
 
 // Returns how many of `most` rows from row `index` of the vector on are consecutive in memory, and their cells. A row
 // that is not written is returned alone.
-pub(crate) fn run_from(
-    cells: &[Cell],
+pub(crate) fn run_from<'a>(
+    cells: &'a [StoredCell],
+    unwritten: &'a UnwrittenRow,
     sources: usize,
     index: usize,
     most: usize,
-) -> (usize, &[Cell])
+) -> (usize, &'a [StoredCell])
+    requires wide { unwritten.now ≡ sources }
     requires whole { AreWhole sources cells.now }
     requires some_sources { 0 < sources }
     requires few_sources { sources ≤ max_sources }
@@ -173,11 +184,11 @@ pub(crate) fn run_from(
 {
     let count = contiguous_count(cells.len() / sources, index, most);
     let start = cells_of(index, sources);
-    (count, row_from(cells, start, cells_of(count, sources)))
+    (count, row_from(cells, unwritten, start, cells_of(count, sources)))
 }
 
 // Returns the written ones of `count` cells of a ring's vector from cell `start` on, and how many unwritten ones follow.
-fn part_from(ring: &[Cell], start: usize, count: usize) -> (&[Cell], usize)
+fn part_from(ring: &[StoredCell], start: usize, count: usize) -> (&[StoredCell], usize)
     ensures count { length result.0.now + result.1 ≡ count }
     ensures cells { (all : ℕ) → length ring.now ≤ all → start + count ≤ all
         → result.0.now ++ replicate result.1 Unknown ≡ take count (drop start (with_unwritten all ring.now)) }
@@ -189,8 +200,8 @@ fn part_from(ring: &[Cell], start: usize, count: usize) -> (&[Cell], usize)
 
 // Appends copies of `count` cells of a ring's vector from cell `start` on. Cells that are not written are unknown.
 fn push_part(
-    copies: &mut Vec<Cell>,
-    ring: &[Cell],
+    copies: &mut Vec<StoredCell>,
+    ring: &[StoredCell],
     start: usize,
     count: usize,
 ) -> Result<(), AllocError>
@@ -202,15 +213,15 @@ fn push_part(
 {
     let (written, unwritten) = part_from(ring, start, count);
     copies.extend_from_slice(written)?;
-    copies.resize(copies.len() + unwritten, Cell::Unknown)?;
+    copies.resize(copies.len() + unwritten, StoredCell::unknown())?;
     Ok(())
 }
 
 // Appends copies of some rows of a ring, whose vector begins with the cells of `ring`. Cells that are not written are
 // unknown. The vector needs at most two slices.
 pub(crate) fn push_parts(
-    copies: &mut Vec<Cell>,
-    ring: &[Cell],
+    copies: &mut Vec<StoredCell>,
+    ring: &[StoredCell],
     parts: Parts,
 ) -> Result<(), AllocError>
     requires few_in_front { parts.front ≤ max_rows * max_sources }
@@ -228,7 +239,7 @@ pub(crate) fn push_parts(
 // Appends copies of `count` cells of a ring's vector to a short list, as `push_part` does.
 fn save_part(
     copies: &mut DroppedCells,
-    ring: &[Cell],
+    ring: &[StoredCell],
     start: usize,
     count: usize,
 ) -> Result<(), AllocError>
@@ -240,14 +251,14 @@ fn save_part(
 {
     let (written, unwritten) = part_from(ring, start, count);
     copies.extend_from_slice(written)?;
-    copies.resize(copies.len() + unwritten, Cell::Unknown)?;
+    copies.resize(copies.len() + unwritten, StoredCell::unknown())?;
     Ok(())
 }
 
 // Copies some rows of a ring into a short list, as `push_parts` does.
 pub(crate) fn save_parts(
     alloc: Global,
-    ring: &[Cell],
+    ring: &[StoredCell],
     parts: Parts,
 ) -> Result<DroppedCells, AllocError>
     requires few_in_front { parts.front ≤ max_rows * max_sources }
@@ -263,29 +274,22 @@ pub(crate) fn save_parts(
 }
 
 // Appends unknown cells to the written ones until there are at least `end` cells. Does not allocate.
-pub(crate) fn fill_up(cells: &mut Vec<Cell>, end: usize)
+pub(crate) fn fill_up(cells: &mut Vec<StoredCell>, end: usize)
     requires { end ≤ vec_capacity cells.old }
     ensures items { cells.new.items ≡ with_unwritten end cells.old.items }
     ensures capacity { vec_capacity cells.old ≤ vec_capacity cells.new }
 {
     if cells.len() < end {
-        let _has_room = cells.resize(end, Cell::Unknown);
+        let _has_room = cells.resize(end, StoredCell::unknown());
     }
 }
 
-// Returns whether a cell is unknown.
-fn is_unknown(cell: Cell) -> bool
-    ensures { IsTrue result → cell ≡ Unknown }
-{
-    matches!(cell, Cell::Unknown)
-}
-
 /// Returns whether all cells are unknown.
-pub fn are_unknown(cells: &[Cell]) -> bool
+pub fn are_unknown(cells: &[StoredCell]) -> bool
     ensures { IsTrue result → cells.now ≡ replicate (length cells.now) Unknown }
 {
     for i in 0..cells.len() {
-        if !is_unknown(cells[i]) {
+        if !cells[i].is_unknown() {
             return false;
         }
     }
@@ -293,7 +297,7 @@ pub fn are_unknown(cells: &[Cell]) -> bool
 }
 
 // Writes `part` into a ring's vector from cell `start` on. Does not allocate.
-pub(crate) fn write_cells(cells: &mut Vec<Cell>, start: usize, part: &[Cell])
+pub(crate) fn write_cells(cells: &mut Vec<StoredCell>, start: usize, part: &[StoredCell])
     requires { start + length part.now ≤ vec_capacity cells.old }
     ensures items { let filled = with_unwritten (start + length part.now) cells.old.items in
         cells.new.items ≡ take start filled ++ (part.now ++ drop (length part.now) (drop start filled)) }
@@ -310,19 +314,19 @@ pub(crate) fn write_cells(cells: &mut Vec<Cell>, start: usize, part: &[Cell])
 }
 
 // Makes written cells unknown, from `start` to before `end`.
-fn overwrite(cells: &mut Vec<Cell>, start: usize, end: usize)
+fn overwrite(cells: &mut Vec<StoredCell>, start: usize, end: usize)
     requires start_le_end { start ≤ end }
     requires in_bounds { end ≤ vec_len cells.old }
     ensures items { cells.new.items ≡ take start cells.old.items
         ++ (replicate (end - start) Unknown ++ drop (end - start) (drop start cells.old.items)) }
     ensures capacity { vec_capacity cells.old ≤ vec_capacity cells.new }
 {
-    cells[start..end].fill(Cell::Unknown);
+    cells[start..end].fill(StoredCell::unknown());
 }
 
 // Makes `count` cells of a ring's vector unknown from cell `start` on. Cells that were never written are unknown
 // already. Does not allocate.
-pub(crate) fn forget(cells: &mut Vec<Cell>, start: usize, count: usize)
+pub(crate) fn forget(cells: &mut Vec<StoredCell>, start: usize, count: usize)
     requires { start + count < 2 ^ 64 }
     ensures cells { (all : ℕ) → length cells.old.items ≤ all → start + count ≤ all
         → with_unwritten all cells.new.items ≡ take start (with_unwritten all cells.old.items)
@@ -338,7 +342,7 @@ pub(crate) fn forget(cells: &mut Vec<Cell>, start: usize, count: usize)
 
 // Writes `cells` into a ring from cell `start` on, wrapping from the last cell to the first. The vector needs at most
 // two slices.
-pub(crate) fn write_from(ring: &mut [Cell], start: usize, cells: &[Cell])
+pub(crate) fn write_from(ring: &mut [StoredCell], start: usize, cells: &[StoredCell])
     requires within { start ≤ length ring.old }
     requires few { length cells.now ≤ length ring.old }
     ensures { from_index start ring.new ≡ cells.now ++ drop (length cells.now) (from_index start ring.old) }
@@ -350,7 +354,7 @@ pub(crate) fn write_from(ring: &mut [Cell], start: usize, cells: &[Cell])
 
 // Writes the cells of a row. The meter counts the cells that are written into an archive, at the statement that writes
 // each.
-pub(crate) fn write_row(row: &mut [Cell], cells: &[Cell], meter: &mut Meter)
+pub(crate) fn write_row(row: &mut [StoredCell], cells: &[StoredCell], meter: &mut Meter)
     requires one_each { length cells.now ≡ length row.old }
     requires turns { meter.old + length cells.now < 2 ^ 64 }
     ensures written { row.new ≡ cells.now }
@@ -363,7 +367,7 @@ pub(crate) fn write_row(row: &mut [Cell], cells: &[Cell], meter: &mut Meter)
 }
 
 // Appends the cells of a row to the written ones. The meter counts the cells as in `write_row`.
-fn push_each(cells: &mut Vec<Cell>, row: &[Cell], meter: &mut Meter)
+fn push_each(cells: &mut Vec<StoredCell>, row: &[StoredCell], meter: &mut Meter)
     requires room { vec_len cells.old + length row.now ≤ vec_capacity cells.old }
     requires turns { meter.old + length row.now < 2 ^ 64 }
     ensures written { cells.new.items ≡ cells.old.items ++ row.now }
@@ -378,7 +382,7 @@ fn push_each(cells: &mut Vec<Cell>, row: &[Cell], meter: &mut Meter)
 
 // Writes the cells of a row from cell `start` on: over a written row, or after the last one. The meter counts the cells
 // as in `write_row`.
-pub(crate) fn write_row_at(cells: &mut Vec<Cell>, start: usize, row: &[Cell], meter: &mut Meter)
+pub(crate) fn write_row_at(cells: &mut Vec<StoredCell>, start: usize, row: &[StoredCell], meter: &mut Meter)
     requires within { start ≤ vec_len cells.old }
     requires whole { start < vec_len cells.old → start + length row.now ≤ vec_len cells.old }
     requires room { start + length row.now ≤ vec_capacity cells.old }
@@ -396,7 +400,7 @@ pub(crate) fn write_row_at(cells: &mut Vec<Cell>, start: usize, row: &[Cell], me
 }
 
 // Lends the cells from `start` to before `end` for writing.
-fn part_mut(cells: &mut Vec<Cell>, start: usize, end: usize) -> &mut [Cell]
+fn part_mut(cells: &mut Vec<StoredCell>, start: usize, end: usize) -> &mut [StoredCell]
     requires start_le_end { start ≤ end }
     requires in_bounds { end ≤ vec_len cells.old }
     ensures* writes_back { sem 𝓛 (LendsPart cells.entry start result) }
@@ -407,7 +411,7 @@ fn part_mut(cells: &mut Vec<Cell>, start: usize, end: usize) -> &mut [Cell]
 
 // Lends the cells from `start` to before `end`, and gets as many back: so a caller knows that other rows stay
 // unchanged.
-pub(crate) fn row_mut(cells: &mut Vec<Cell>, start: usize, end: usize) -> &mut [Cell]
+pub(crate) fn row_mut(cells: &mut Vec<StoredCell>, start: usize, end: usize) -> &mut [StoredCell]
     requires start_le_end { start ≤ end }
     requires in_bounds { end ≤ vec_len cells.old }
     ensures* writes_back { sem 𝓛 (LendsAsMany cells.entry start end result) }

@@ -1,7 +1,7 @@
 //! The trait of archives and of the rows that they dropped.
 use crate::archive::Archive;
 use crate::dropped::Dropped;
-use rrd_fixed::Cell;
+use rrd_fixed::StoredCell;
 
 /// Rows of cells, oldest first: those of an archive, or those that an archive dropped.
 ///
@@ -20,14 +20,14 @@ pub trait Table {
         ensures few { result ≤ max_rows };
 
     /// Returns the cells of row `number`. Row 0 is the oldest.
-    fn at(&self, number: u64) -> &[Cell]
+    fn at(&self, number: u64) -> &[StoredCell]
         requires { number < length (table self.now) }
         ensures { result.now ≡ nth_row (table self.now) number };
 
     /// Returns the first of `most` rows from row `first` on that are consecutive in memory.
     ///
     /// The result is their number, from 1 to `most`, and their cells, one row after another.
-    fn together(&self, first: u64, most: u64) -> (u64, &[Cell])
+    fn together(&self, first: u64, most: u64) -> (u64, &[StoredCell])
         requires some { 0 < most }
         requires there { first + most ≤ length (table self.now) }
         ensures some { 0 < result.0 }
@@ -42,11 +42,11 @@ impl Table for Archive {
         self.rows()
     }
 
-    fn at(&self, number: u64) -> &[Cell] {
+    fn at(&self, number: u64) -> &[StoredCell] {
         self.row(number)
     }
 
-    fn together(&self, first: u64, most: u64) -> (u64, &[Cell]) {
+    fn together(&self, first: u64, most: u64) -> (u64, &[StoredCell]) {
         self.contiguous_rows(first, most)
     }
 }
@@ -58,11 +58,11 @@ impl Table for Dropped {
         self.len()
     }
 
-    fn at(&self, number: u64) -> &[Cell] {
+    fn at(&self, number: u64) -> &[StoredCell] {
         self.row(number)
     }
 
-    fn together(&self, first: u64, most: u64) -> (u64, &[Cell]) {
+    fn together(&self, first: u64, most: u64) -> (u64, &[StoredCell]) {
         self.contiguous_rows(first, most)
     }
 }

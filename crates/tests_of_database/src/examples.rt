@@ -67,7 +67,7 @@ fn newest_cell(rt: &impl Abort, database: &Database) -> Result<Cell, Fail> {
     assert!(rt; chosen.archive < database.archives());
     let time = i64::try_from(last).ok().ok_or("late")?;
     let row = database.row(chosen.archive, time).ok_or("no row")?;
-    Ok(*row.get(0).ok_or("no cell")?)
+    Ok(row.get(0).ok_or("no cell")?.cell())
 }
 
 #[test]

@@ -19,7 +19,7 @@ pub(crate) fn cell(
     assert!(rt; archive < database.archives());
     assert!(rt; source < database.sources());
     match database.row(archive, time) {
-        Some(row) => row[source as usize],
+        Some(row) => row[source as usize].cell(),
         None => NONE,
     }
 }

@@ -3,71 +3,92 @@
 ghost use Rattle.std.specs.Prelude.{◌≡◌, ◌≤◌, length, IfOk};
 ghost use Rattle.rrd_ring.specs.Rows.{width, HasWidth, max_rows};
 
-use rrd_fixed::{Cell, Meter};
+use rrd_fixed::{Meter, StoredCell};
 use rrd_ring::{Archive, Dropped, DroppedCells, Table};
 use std::alloc::{AllocError, Global};
 use std::process::Abort;
 use std::test::Fail;
 
-const UNKNOWN: Cell = Cell::Unknown;
+// The number of an unknown cell.
+const UNKNOWN: i128 = i128::MIN;
 
-const ONE: Cell = Cell::Known(1);
+const ONE: i128 = 1;
 
-const TWO: Cell = Cell::Known(2);
+const TWO: i128 = 2;
 
-const THREE: Cell = Cell::Known(3);
+const THREE: i128 = 3;
 
-const FOUR: Cell = Cell::Known(4);
+const FOUR: i128 = 4;
 
-const FIVE: Cell = Cell::Known(5);
+const FIVE: i128 = 5;
 
-const SIX: Cell = Cell::Known(6);
+const SIX: i128 = 6;
 
-const SEVEN: Cell = Cell::Known(7);
+const SEVEN: i128 = 7;
 
-const EIGHT: Cell = Cell::Known(8);
+const EIGHT: i128 = 8;
 
-const NINE: Cell = Cell::Known(9);
+const NINE: i128 = 9;
 
-const TEN: Cell = Cell::Known(10);
+const TEN: i128 = 10;
+
+// The stored cells of these numbers.
+fn stored(alloc: Global, numbers: &[i128]) -> Result<Vec<StoredCell>, AllocError>
+    ensures { IfOk result (λ cells. length cells.items ≡ length numbers.now) }
+{
+    let mut cells = Vec::new(alloc);
+    for number in numbers {
+        cells.push(StoredCell::of_number(*number))?;
+    }
+    Ok(cells)
+}
+
+// The cells have these numbers.
+fn assert_cells(rt: &impl Abort, cells: &[StoredCell], numbers: &[i128], case: u64) {
+    assert!(rt; cells.len() == numbers.len(), "{case}");
+    for (i, cell) in cells.iter().enumerate() {
+        assert_eq!(rt; Some(&cell.number()), numbers.get(i), "{case}, {i}");
+    }
+}
 
 // The archive has these rows, of one cell each.
-fn assert_rows(rt: &impl Abort, archive: &Archive, cells: &[Cell])
-    ensures count { length archive.now ≡ length cells.now }
+fn assert_rows(rt: &impl Abort, archive: &Archive, numbers: &[i128])
+    ensures count { length archive.now ≡ length numbers.now }
     ensures one_source { width archive.now ≡ 1 }
     ensures each_row { HasWidth 1 archive.now }
 {
-    assert_eq!(rt; archive.rows(), cells.len() as u64);
+    assert_eq!(rt; archive.rows(), numbers.len() as u64);
     assert_eq!(rt; archive.sources(), 1);
-    for (i, cell) in cells.iter().enumerate() {
-        assert_eq!(rt; archive.row(i as u64), [*cell].as_slice(), "row {i}");
+    for (i, number) in numbers.iter().enumerate() {
+        assert_cells(rt, archive.row(i as u64), &[*number], i as u64);
     }
 }
 
 // The same of dropped rows.
-fn assert_dropped(rt: &impl Abort, dropped: &Dropped, cells: &[Cell])
-    ensures { length dropped.now ≡ length cells.now }
+fn assert_dropped(rt: &impl Abort, dropped: &Dropped, numbers: &[i128])
+    ensures { length dropped.now ≡ length numbers.now }
 {
-    assert_eq!(rt; dropped.len(), cells.len() as u64);
-    for (i, cell) in cells.iter().enumerate() {
-        assert_eq!(rt; dropped.row(i as u64), [*cell].as_slice(), "row {i}");
+    assert_eq!(rt; dropped.len(), numbers.len() as u64);
+    for (i, number) in numbers.iter().enumerate() {
+        assert_cells(rt, dropped.row(i as u64), &[*number], i as u64);
     }
 }
 
 // Dropped rows of one cell each.
-fn dropped_rows(alloc: Global, cells: &[Cell]) -> Result<Dropped, AllocError>
-    requires { length cells.now ≤ max_rows }
-    ensures { IfOk result (λ dropped. (length dropped ≡ length cells.now) × HasWidth 1 dropped) }
+fn dropped_rows(alloc: Global, numbers: &[i128]) -> Result<Dropped, AllocError>
+    requires { length numbers.now ≤ max_rows }
+    ensures { IfOk result (λ dropped. (length dropped ≡ length numbers.now) × HasWidth 1 dropped) }
 {
+    let cells = stored(alloc, numbers)?;
     let rows = cells.len() as u64;
-    Ok(Dropped::from_cells(DroppedCells::from_slice(alloc, cells)?, rows, 1))
+    Ok(Dropped::from_cells(DroppedCells::from_slice(alloc, &cells)?, rows, 1))
 }
 
 // Pushes a row of one cell, which is one turn.
-fn push(rt: &impl Abort, archive: &mut Archive, cell: Cell) {
+fn push(rt: &impl Abort, archive: &mut Archive, number: i128) {
     assert_eq!(rt; archive.sources(), 1);
     let mut meter = Meter::new();
-    archive.push_row(&[cell], &mut meter);
+    archive.push_row(&[StoredCell::of_number(number)], &mut meter);
     assert_eq!(rt; meter.turns(), 1);
 }
 
@@ -76,14 +97,14 @@ fn archive_as_list(rt: HostRuntime) -> Result<(), Fail> {
     let alloc = rt.alloc();
     let mut archive = Archive::new(alloc, 3, 1)?;
     assert_rows(&rt, &archive, &[UNKNOWN, UNKNOWN, UNKNOWN]);
-    for cell in [ONE, TWO, THREE, FOUR] {
-        push(&rt, &mut archive, cell);
+    for number in [ONE, TWO, THREE, FOUR] {
+        push(&rt, &mut archive, number);
     }
     assert_rows(&rt, &archive, &[TWO, THREE, FOUR]);
     let dropped = archive.oldest(alloc, 2)?;
     assert_dropped(&rt, &dropped, &[TWO, THREE]);
-    for cell in [FIVE, SIX] {
-        push(&rt, &mut archive, cell);
+    for number in [FIVE, SIX] {
+        push(&rt, &mut archive, number);
     }
     assert_rows(&rt, &archive, &[FOUR, FIVE, SIX]);
     archive.put_back(dropped);
@@ -102,7 +123,7 @@ fn archive_as_list(rt: HostRuntime) -> Result<(), Fail> {
 fn rows_are_written_and_swapped(rt: HostRuntime) -> Result<(), Fail> {
     let alloc = rt.alloc();
     let mut archive = Archive::new(alloc, 2, 1)?;
-    archive.row_mut(1).copy_from_slice(&[ONE]);
+    archive.row_mut(1).copy_from_slice(&[StoredCell::of_number(ONE)]);
     let mut other = Archive::new(alloc, 1, 1)?;
     archive.swap(&mut other);
     assert_rows(&rt, &archive, &[UNKNOWN]);
@@ -116,16 +137,16 @@ fn pushed_to_ten(rt: &impl Abort, alloc: Global) -> Result<Archive, AllocError>
     ensures { IfOk result (λ archive. (length archive ≡ 3) × (width archive ≡ 1)) }
 {
     let mut archive = Archive::new(alloc, 3, 1)?;
-    for cell in [ONE, TWO, THREE, FOUR, FIVE, SIX, SEVEN, EIGHT, NINE, TEN] {
-        push(rt, &mut archive, cell);
+    for number in [ONE, TWO, THREE, FOUR, FIVE, SIX, SEVEN, EIGHT, NINE, TEN] {
+        push(rt, &mut archive, number);
     }
     assert_rows(rt, &archive, &[EIGHT, NINE, TEN]);
     Ok(archive)
 }
 
-// A row of three, how many are changed from it on, the cells that are put there (none: they become unknown), and the three
+// A row of three, how many are changed from it on, the numbers that are put there (none: they become unknown), and the three
 // rows then.
-const CHANGED: &[(u64, u64, Option<&[Cell]>, &[Cell])] = &[
+const CHANGED: &[(u64, u64, Option<&[i128]>, &[i128])] = &[
     (0, 0, Some(&[]), &[EIGHT, NINE, TEN]),
     (0, 1, Some(&[ONE]), &[ONE, NINE, TEN]),
     (1, 2, Some(&[ONE, TWO]), &[EIGHT, ONE, TWO]),
@@ -141,16 +162,17 @@ const CHANGED: &[(u64, u64, Option<&[Cell]>, &[Cell])] = &[
 #[test]
 fn rows_are_changed_round_the_end(rt: HostRuntime) -> Result<(), Fail> {
     let alloc = rt.alloc();
-    for (first, count, cells, rows) in CHANGED {
+    for (first, count, numbers, rows) in CHANGED {
         let mut archive = pushed_to_ten(&rt, alloc)?;
         assert!(&rt;
             *first < archive.rows() && *count <= archive.rows(),
             "{count} from {first}"
         );
-        match cells {
-            Some(cells) => {
+        match numbers {
+            Some(numbers) => {
+                let cells = stored(alloc, numbers)?;
                 assert_eq!(&rt; cells.len() as u64, *count, "{count} from {first}");
-                archive.write_rows_wrapping(*first, *count, cells);
+                archive.write_rows_wrapping(*first, *count, &cells);
             }
             None => archive.clear_rows_wrapping(*first, *count),
         }
@@ -165,22 +187,22 @@ fn rows_are_written_from_one_on(rt: HostRuntime) -> Result<(), Fail> {
     let alloc = rt.alloc();
     let mut archive = Archive::new_filled_from(alloc, 4, 1, 2)?;
     assert_rows(&rt, &archive, &[UNKNOWN, UNKNOWN, UNKNOWN, UNKNOWN]);
-    archive.write_rows_wrapping(2, 1, &[ONE]);
+    archive.write_rows_wrapping(2, 1, &[StoredCell::of_number(ONE)]);
     archive.clear_rows_wrapping(3, 2);
     assert_rows(&rt, &archive, &[UNKNOWN, UNKNOWN, ONE, UNKNOWN]);
-    archive.write_rows_wrapping(1, 1, &[TWO]);
+    archive.write_rows_wrapping(1, 1, &[StoredCell::of_number(TWO)]);
     assert_rows(&rt, &archive, &[UNKNOWN, TWO, ONE, UNKNOWN]);
     Ok(())
 }
 
 // The rows are lent from the oldest on in these runs, of rows of one cell.
-fn assert_runs<T: Table>(rt: &impl Abort, rows: &T, runs: &[&[Cell]]) {
+fn assert_runs<T: Table>(rt: &impl Abort, rows: &T, runs: &[&[i128]]) {
     let mut first = 0;
-    for cells in runs {
+    for numbers in runs {
         assert!(rt; first < rows.count(), "from {first}");
         let (count, lent) = rows.together(first, rows.count() - first);
-        assert_eq!(rt; lent, *cells, "from {first}");
-        assert_eq!(rt; count, cells.len() as u64, "from {first}");
+        assert_cells(rt, lent, numbers, first);
+        assert_eq!(rt; count, numbers.len() as u64, "from {first}");
         first += count;
     }
     assert_eq!(rt; first, rows.count());
@@ -207,9 +229,11 @@ fn rows_are_lent_together(rt: HostRuntime) -> Result<(), Fail> {
 fn wider_rows_are_lent_as_asked(rt: HostRuntime) -> Result<(), Fail> {
     let alloc = rt.alloc();
     let mut archive = Archive::new(alloc, 3, 2)?;
-    archive.write_rows_wrapping(0, 3, &[ONE, TWO, THREE, FOUR, FIVE, SIX]);
+    let cells = stored(alloc, &[ONE, TWO, THREE, FOUR, FIVE, SIX])?;
+    assert!(&rt; cells.len() == 6);
+    archive.write_rows_wrapping(0, 3, &cells);
     let dropped = archive.oldest(alloc, 3)?;
-    for (first, most, cells) in [
+    for (first, most, numbers) in [
         (0, 1, [ONE, TWO].as_slice()),
         (0, 3, &[ONE, TWO, THREE, FOUR, FIVE, SIX]),
         (1, 2, &[THREE, FOUR, FIVE, SIX]),
@@ -217,11 +241,11 @@ fn wider_rows_are_lent_as_asked(rt: HostRuntime) -> Result<(), Fail> {
     ] {
         let (count, lent) = archive.contiguous_rows(first, most);
         assert_eq!(&rt; count, most, "{most} from {first}");
-        assert_eq!(&rt; lent, cells, "{most} from {first}");
+        assert_cells(&rt, lent, numbers, first);
         assert!(&rt; first + most <= dropped.len(), "{most} from {first}");
         let (count, lent) = dropped.contiguous_rows(first, most);
         assert_eq!(&rt; count, most, "{most} from {first}");
-        assert_eq!(&rt; lent, cells, "{most} from {first}");
+        assert_cells(&rt, lent, numbers, first);
     }
     Ok(())
 }

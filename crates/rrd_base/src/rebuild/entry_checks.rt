@@ -11,7 +11,7 @@ use crate::named::has_double_name;
 use crate::rra::Rra;
 use crate::{DsDef, RraDef, SavedSource};
 use arrayvec::ArrayVec;
-use rrd_fixed::{Cell, Name, Raw};
+use rrd_fixed::{Name, Raw, StoredCell};
 use rrd_fold::{RowPrep, StepPrep};
 use rrd_ring::{Archive, Table};
 use rrd_spec::limits::MAX_SOURCES;
@@ -19,7 +19,7 @@ use rrd_spec::limits::MAX_SOURCES;
 // ---- rows
 
 // Returns whether a row has one cell for each data source, none with an absolute value above the maximum rate.
-fn is_row(cells: &[Cell], sources: usize) -> bool
+fn is_row(cells: &[StoredCell], sources: usize) -> bool
     ensures good { result ≡ true → IsRow sources cells.now }
     ensures bad { IsRow sources cells.now → result ≡ true }
 {

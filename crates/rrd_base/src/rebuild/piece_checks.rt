@@ -4,7 +4,7 @@ ghost use Rattle.rrd_base.specs.Names.{AllByRecursion, IsBounded, weight, presen
 
 use crate::create::{has_bad_bounds, is_bad_heartbeat, is_bad_rows, is_bad_steps, is_bad_xff};
 use crate::{DsDef, RraDef};
-use rrd_fixed::Cell;
+use rrd_fixed::StoredCell;
 use rrd_fold::Function;
 use rrd_spec::limits::MAX_BOUND;
 
@@ -52,18 +52,16 @@ pub(super) fn is_archive(def: &RraDef) -> bool
 }
 
 /// Returns whether a cell is unknown, or at most the maximum rate in size.
-pub fn is_bounded(cell: Cell) -> bool
+pub fn is_bounded(cell: StoredCell) -> bool
     ensures good { result ≡ true → IsBounded cell }
     ensures bad { IsBounded cell → result ≡ true }
 {
-    match cell {
-        Cell::Unknown => true,
-        Cell::Known(value) => -MAX_CELL <= value && value <= MAX_CELL,
-    }
+    let number = cell.number();
+    (-MAX_CELL <= number && number <= MAX_CELL) || cell.is_unknown()
 }
 
 /// Returns whether no cell has an absolute value above the maximum rate.
-pub(super) fn are_bounded(cells: &[Cell]) -> bool
+pub(super) fn are_bounded(cells: &[StoredCell]) -> bool
     ensures good { result ≡ true → AllByRecursion IsBounded cells.now }
     ensures bad { AllByRecursion IsBounded cells.now → result ≡ true }
 {

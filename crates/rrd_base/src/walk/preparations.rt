@@ -3,11 +3,11 @@ ghost use Rattle.std.specs.Prelude.{◌≡◌, ◌+◌, ◌^◌, ◌<◌, ◌≤
 ghost use Rattle.rrd_base.specs.Names.{AllByRecursion, fold, Part, nothing, step_cell, with_each, Consolidating, most_known, Average, anew, map_each, row_of, with_steps, present, IsRow};
 
 use crate::RraDef;
-use rrd_fixed::{Cell, Meter};
+use rrd_fixed::{Meter, StoredCell};
 use rrd_fold::{RowPrep, StepPrep};
 
 /// Adds `seconds` seconds of each data source's rate to its partial step. Each is one unit of work.
-pub(crate) fn add_seconds(preps: &mut [StepPrep], rates: &[Cell], seconds: u64, meter: &mut Meter)
+pub(crate) fn add_seconds(preps: &mut [StepPrep], rates: &[StoredCell], seconds: u64, meter: &mut Meter)
     requires row { IsRow (length preps.old) rates.now }
     requires fits { AllByRecursion (λ (p : Part). p.known + seconds ≤ most_known) preps.old }
     requires turns { meter.old + length preps.old < 2 ^ 64 }
@@ -15,13 +15,13 @@ pub(crate) fn add_seconds(preps: &mut [StepPrep], rates: &[Cell], seconds: u64, 
     ensures ticked { meter.new ≡ meter.old + length preps.old }
 {
     for i in 0..preps.len() {
-        preps[i].add(rates[i], seconds, meter);
+        preps[i].add(rates[i].cell(), seconds, meter);
     }
 }
 
 /// Writes the cell of each data source's step of `step` seconds, and empties its partial step. Each is one unit of
 /// work.
-pub(crate) fn close_steps(preps: &mut [StepPrep], step: u64, cells: &mut [Cell], meter: &mut Meter)
+pub(crate) fn close_steps(preps: &mut [StepPrep], step: u64, cells: &mut [StoredCell], meter: &mut Meter)
     requires places { length cells.old ≡ length preps.old }
     requires some { 1 ≤ step }
     requires few { step ≤ present.max_step_seconds }
@@ -33,12 +33,12 @@ pub(crate) fn close_steps(preps: &mut [StepPrep], step: u64, cells: &mut [Cell],
     ensures ticked { meter.new ≡ meter.old + length preps.old }
 {
     for i in 0..preps.len() {
-        cells[i] = preps[i].close(step, meter);
+        cells[i] = StoredCell::new(preps[i].close(step, meter));
     }
 }
 
 /// Adds each data source's step to its partial row, `count` times. Each is one unit of work.
-pub(crate) fn add_steps(preps: &mut [RowPrep], step: &[Cell], count: u64, meter: &mut Meter)
+pub(crate) fn add_steps(preps: &mut [RowPrep], step: &[StoredCell], count: u64, meter: &mut Meter)
     requires row { IsRow (length preps.old) step.now }
     requires fits { AllByRecursion (λ (p : Consolidating). p.part.known + count ≤ most_known) preps.old }
     requires turns { meter.old + length preps.old < 2 ^ 64 }
@@ -46,13 +46,13 @@ pub(crate) fn add_steps(preps: &mut [RowPrep], step: &[Cell], count: u64, meter:
     ensures ticked { meter.new ≡ meter.old + length preps.old }
 {
     for i in 0..preps.len() {
-        preps[i].add_many(step[i], count, meter);
+        preps[i].add_many(step[i].cell(), count, meter);
     }
 }
 
 /// Writes the cell of each data source's row, in an archive with these settings, and empties its partial row. Each is
 /// one unit of work.
-pub(crate) fn close_rows(preps: &mut [RowPrep], def: &RraDef, row: &mut [Cell], meter: &mut Meter)
+pub(crate) fn close_rows(preps: &mut [RowPrep], def: &RraDef, row: &mut [StoredCell], meter: &mut Meter)
     requires places { length row.old ≡ length preps.old }
     requires some { 1 ≤ def.now.steps }
     requires few { def.now.steps ≤ present.max_steps_per_row }
@@ -66,6 +66,6 @@ pub(crate) fn close_rows(preps: &mut [RowPrep], def: &RraDef, row: &mut [Cell], 
 {
     let share = def.share();
     for i in 0..preps.len() {
-        row[i] = preps[i].close(def.steps, share, meter);
+        row[i] = StoredCell::new(preps[i].close(def.steps, share, meter));
     }
 }

@@ -1,14 +1,7 @@
 -- Definition: the values that the bytes of a record can represent; a law says that no two of them have the same bytes.
 use Rattle.std.specs.Prelude.{◌≡◌, ◌^◌, ◌<◌, ◌≤ℤ◌, ℕ, ℤ, pos, unsigned_abs, true, Option, Some, None}
-use Rattle.rrd_file.specs.Names.{w128, FitsSigned, Cell, Raw, fits, Part, DsDef, RraDef, SavedSource, Header, Source, Version, One, Two}
-
--- a number other than the minimum, which represents an absent value
-abbrev pub FitsNumber : ℤ → Type 0
-FitsNumber z = unsigned_abs z < 2 ^ 127
-
-abbrev pub FitsCell : Cell → Type 0
-FitsCell Cell.Unknown = Unit {0}
-FitsCell (Cell.Known millionths) = FitsNumber millionths
+use Rattle.rrd_file.specs.Names.{w128, FitsSigned, Raw, fits, Part, DsDef, RraDef, SavedSource, Header, Source, Version, One, Two}
+pub use Rattle.rrd_fixed.specs.Stored.{FitsCell, FitsNumber}
 
 abbrev pub FitsRaw : Raw → Type 0
 FitsRaw Raw.Unknown = Unit {0}

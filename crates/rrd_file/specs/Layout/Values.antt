@@ -1,6 +1,7 @@
 -- Definition: the bytes of single values. Whole numbers have the highest byte first.
-use Rattle.std.specs.Prelude.{ℕ, ◌-◌, ◌^◌, ℤ, negsuc, unsigned_abs, List, ◌∷◌, ◌++◌, length, replicate, Option, Some, None}
+use Rattle.std.specs.Prelude.{ℕ, ◌-◌, ℤ, unsigned_abs, List, ◌∷◌, ◌++◌, length, replicate, Option, Some, None}
 use Rattle.rrd_file.specs.Names.{w16, w32, w64, w128, to_be_bytes, cast_unsigned, Cell, Raw, Kind, Gauge, Counter, Derive, Absolute, Name, Function, Average, Min, Max, Last, Part, DsDef, RraDef}
+pub use Rattle.rrd_fixed.specs.Stored.{cell_number, least}
 
 -- ---- numbers
 
@@ -18,13 +19,6 @@ unfoldable pub signed_bytes : ℤ → List ℕ
 signed_bytes z = to_be_bytes w128 (cast_unsigned w128 z)
 
 -- ---- values that may be unknown or absent: then the minimum is written, 80 00 .. 00, which no value is
-
-abbrev pub least : ℤ
-least = negsuc (2 ^ 127 - 1)
-
-abbrev pub cell_number : Cell → ℤ
-cell_number Cell.Unknown = least
-cell_number (Cell.Known millionths) = millionths
 
 abbrev pub raw_number : Raw → ℤ
 raw_number Raw.Unknown = least

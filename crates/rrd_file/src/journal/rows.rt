@@ -9,7 +9,7 @@ use crate::fault::bad_entry;
 use crate::layout::CELL_SIZE;
 use crate::reader::PieceReader;
 use rrd_base::{Rebuild, is_bounded};
-use rrd_fixed::Cell;
+use rrd_fixed::StoredCell;
 use rrd_ring::{Archive, Dropped, DroppedCells};
 use std::alloc::Global;
 use std::io::Read;
@@ -18,7 +18,7 @@ use std::io::Read;
 fn read_row_cell<R: Read + Drop>(
     input: &mut PieceReader<R>,
     build: &Rebuild,
-) -> Result<Cell, FileFault>
+) -> Result<StoredCell, FileFault>
     ensures { (bytes : List ℕ) (pieces : List Piece) (later : List DueInEntry)
         → Comes bytes build.now pieces (RowCellDue ∷ later) input.old
         → Brings bytes build.now (λ cell. pieces ++ OfCell cell ∷ []) (λ cell. later) input.new result }
@@ -36,7 +36,7 @@ fn read_row_cell<R: Read + Drop>(
 fn read_row<R: Read + Drop>(
     input: &mut PieceReader<R>,
     build: &Rebuild,
-    row: &mut [Cell],
+    row: &mut [StoredCell],
 ) -> Result<(), FileFault>
     ensures brings { (bytes : List ℕ) (pieces : List Piece) (later : List DueInEntry)
         → Comes bytes build.now pieces (replicate (length row.old) RowCellDue ++ later) input.old

@@ -5,7 +5,7 @@ ghost use Rattle.rrd_file.specs.Layout.Values as spelling;
 
 use crate::cells::cell_halves;
 use crate::layout::{CELL_SIZE, MAX_ROW_CELLS};
-use rrd_fixed::Cell;
+use rrd_fixed::StoredCell;
 use std::marker::Model;
 
 /// The number of bytes that fit into a block: the widest row, and some pieces before it. A block is cleared before it is
@@ -76,7 +76,7 @@ impl Block {
     }
 
     /// Adds cells.
-    pub(crate) fn cells(&mut self, cells: &[Cell])
+    pub(crate) fn cells(&mut self, cells: &[StoredCell])
         requires { length self.old + CELL_SIZE * length cells.now ≤ BLOCK_SIZE }
         ensures { self.new ≡ self.old ++ flat_map spelling.cell_bytes cells.now }
     {
@@ -87,7 +87,7 @@ impl Block {
 }
 
 // Writes a cell over sixteen bytes.
-fn put_cell(into: &mut [u8], cell: Cell)
+fn put_cell(into: &mut [u8], cell: StoredCell)
     requires { length into.old ≡ CELL_SIZE }
     ensures { into.new ≡ spelling.cell_bytes cell }
 {
@@ -97,7 +97,7 @@ fn put_cell(into: &mut [u8], cell: Cell)
 }
 
 /// Writes cells over bytes, sixteen for each.
-pub(crate) fn put_cells(into: &mut [u8], cells: &[Cell])
+pub(crate) fn put_cells(into: &mut [u8], cells: &[StoredCell])
     requires { length into.old ≡ CELL_SIZE * length cells.now }
     ensures { into.new ≡ flat_map spelling.cell_bytes cells.now }
 {

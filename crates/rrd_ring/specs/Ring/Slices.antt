@@ -8,7 +8,7 @@ use Rattle.std.specs.contracts.alloc.Global.{the_row as heap_row}
 use Rattle.std.specs.contracts.impls.GlobalAllocator.TheImpl.{ghosts}
 use Rattle.std.specs.contracts.vec.Vec.{the_row as vec_row}
 use Rattle.rrd_fixed.specs.declared.cell.Cell.{Cell}
-use Rattle.rrd_fixed.specs.contracts.cell.Cell.{the_row as cell_row}
+use Rattle.rrd_fixed.specs.contracts.stored.StoredCell.{the_row as cell_row}
 
 -- the logic's name for the type of a vector of cells
 abbrev pub cells_row : RattleType

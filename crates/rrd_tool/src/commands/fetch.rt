@@ -13,7 +13,7 @@ use crate::{Command, LineFault, Part};
 use arrayvec::ArrayString;
 use clap::ArgMatches;
 use rrd_base::{Chosen, Database, Refusal, database_is_valid};
-use rrd_fixed::{Cell, Name, WriteFault, put_cell, put_time, write_bytes};
+use rrd_fixed::{Cell, Name, StoredCell, WriteFault, put_cell, put_time, write_bytes};
 use rrd_spec::FetchRequest;
 use std::alloc::{AllocError, Global};
 use std::io::Write;
@@ -50,13 +50,13 @@ pub(crate) fn read(matches: &ArgMatches<'_>, now: u64) -> Result<Command, LineFa
 }
 
 // Returns the cell of a data source in a row; unknown if there is no such row.
-fn cell_in(row: Option<&[Cell]>, source: usize) -> Cell
+fn cell_in(row: Option<&[StoredCell]>, source: usize) -> Cell
     requires { IfSome row (λ cells. source < length cells.now) }
     ensures some { IfSome row.entry (λ cells. result ≡ slice_index_or cells.now source Unknown) }
     ensures none { IfNone row.entry (result ≡ Unknown) }
 {
     match row {
-        Some(cells) => cells[source],
+        Some(cells) => cells[source].cell(),
         None => Cell::Unknown,
     }
 }

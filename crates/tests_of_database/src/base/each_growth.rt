@@ -1,9 +1,9 @@
 //! The pieces of a file, each given again where it found no memory: it is taken then, since nothing had changed.
 //! `tests/program/test_growths_in_tests.py` has each growth refused in turn; otherwise each piece is taken at once.
 use super::rebuild::{archive, finished, gauge, taken};
-use crate::shared::{NONE, assert_bytes};
+use crate::shared::assert_bytes;
 use rrd_base::{Header, PieceFault, Rebuild, Version};
-use rrd_fixed::Raw;
+use rrd_fixed::{Raw, StoredCell};
 use std::alloc::Global;
 use std::process::Abort;
 use std::test::Fail;
@@ -77,7 +77,7 @@ fn pieces_are_taken(rt: HostRuntime) -> Result<(), Fail> {
     give_prep(&rt, &mut pieces);
     give_prep(&rt, &mut pieces);
     for _ in 0..8 {
-        taken(pieces.cell(NONE))?;
+        taken(pieces.cell(StoredCell::unknown()))?;
     }
     let file = file_of(alloc, &finished(&rt, pieces))?;
     let wanted = file_of(alloc, &made(alloc, TWO_GAUGES)?)?;

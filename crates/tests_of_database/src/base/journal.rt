@@ -1,7 +1,7 @@
 //! Tunes and resizes, what the journal holds of a change, and what taking it back leaves.
-use crate::shared::{NONE, assert_rows};
+use crate::shared::assert_rows;
 use rrd_base::{Change, Database, Entry, SavedArchive};
-use rrd_fixed::{Cell, Kind, Raw};
+use rrd_fixed::{Kind, Raw, StoredCell};
 use rrd_fold::Function;
 use std::process::Abort;
 use std::test::Fail;
@@ -62,7 +62,7 @@ fn assert_kept(rt: &impl Abort, kept: &SavedArchive, function: Function, count: 
     let rows = kept.rows();
     assert_eq!(rt; rows.len(), count);
     assert!(rt; 0 < rows.len());
-    assert_eq!(rt; rows.row(0), [NONE].as_slice());
+    assert_eq!(rt; rows.row(0), [StoredCell::unknown()].as_slice());
     let preps = kept.preps();
     assert!(rt; preps.len() == 1);
     let row = &preps[0];
@@ -158,7 +158,7 @@ fn assert_four_rows_kept(rt: &impl Abort, database: &Database) {
         panic!(rt; "no resize")
     };
     assert_eq!(rt; old.rows(), 4);
-    assert_eq!(rt; old.row(0), [Cell::Known(1_000_000)].as_slice());
+    assert_eq!(rt; old.row(0), [StoredCell::of_number(1_000_000)].as_slice());
     assert!(rt; database.archives() == 1);
     assert_eq!(rt; database.archive(0).rows, 1);
 }
@@ -191,7 +191,7 @@ fn assert_first_kept(rt: &impl Abort, database: &Database) {
     assert_eq!(rt; old.preps()[0].known(), 1);
     let rows = old.archive();
     assert_eq!(rt; rows.rows(), 3);
-    assert_eq!(rt; rows.row(2), [Cell::Known(1_000_000)].as_slice());
+    assert_eq!(rt; rows.row(2), [StoredCell::of_number(1_000_000)].as_slice());
 }
 
 // Another archive is added, and the first one is removed in the middle of a row.

@@ -1,11 +1,13 @@
 //! Databases from the pieces of their files, and pieces that are bad.
-use crate::shared::{NONE, assert_bytes};
+ghost use Rattle.rrd_base.specs.Names.{IsBounded};
+
+use crate::shared::assert_bytes;
 use arrayvec::ArrayVec;
 use rrd_base::{
     BeforeUpdate, Database, DsDef, Due, EachSource, Entry, Header, PieceFault, Rebuild, RraDef,
     SavedArchive, SavedSource, Version,
 };
-use rrd_fixed::{Cell, Kind, Name, Raw};
+use rrd_fixed::{Kind, Name, Raw, StoredCell};
 use rrd_fold::{Function, RowPrep, StepPrep};
 use rrd_ring::{Dropped, DroppedCells};
 use std::alloc::Global;
@@ -13,7 +15,19 @@ use std::process::Abort;
 use std::test::Fail;
 use test_data::worked_files::{file_of, sampled_file};
 
-const ONE: Cell = Cell::Known(1_000_000);
+// An unknown cell.
+fn none() -> StoredCell
+    ensures { IsBounded result }
+{
+    StoredCell::unknown()
+}
+
+// A cell of 1.
+fn one() -> StoredCell
+    ensures { IsBounded result }
+{
+    StoredCell::of_number(1_000_000)
+}
 
 const BAD: Result<(), PieceFault> = Err(PieceFault::Bad);
 
@@ -74,7 +88,7 @@ fn with_heads(alloc: Global) -> Result<Rebuild, Fail> {
 // The same with its cells: the row at 10 stands in the slot 1.
 fn with_cells(alloc: Global) -> Result<Rebuild, Fail> {
     let mut pieces = with_heads(alloc)?;
-    for cell in [NONE, ONE, NONE, NONE] {
+    for cell in [none(), one(), none(), none()] {
         taken(pieces.cell(cell))?;
     }
     Ok(pieces)
@@ -83,7 +97,7 @@ fn with_cells(alloc: Global) -> Result<Rebuild, Fail> {
 // What was before the sample, the last time being this one: of the archive one row fell out.
 fn before(alloc: Global, last: u64) -> Result<Entry, Fail> {
     let preps = EachSource::from_slice(alloc, &[RowPrep::new(Function::Last)])?;
-    let cells = DroppedCells::from_slice(alloc, &[NONE])?;
+    let cells = DroppedCells::from_slice(alloc, &[none()])?;
     let saved = SavedArchive::new(Function::Last, preps, Dropped::from_cells(cells, 1, 1));
     let mut archives = Vec::new(alloc);
     archives.push(saved)?;
@@ -162,13 +176,13 @@ fn bad_preparations_and_cells(rt: HostRuntime) -> Result<(), Fail> {
     let g = gauge(b"g", 100)?;
     taken(pieces.source(g, Raw::Known(1_000_000), 0, 0))?;
     taken(pieces.archive(archive(1, 4)))?;
-    assert_eq!(&rt; pieces.cell(NONE), BAD);
+    assert_eq!(&rt; pieces.cell(none()), BAD);
     assert_eq!(&rt; pieces.prep(1, 1_000_000), BAD);
     let mut pieces = with_heads(alloc)?;
-    let past = Cell::Known(18_446_744_073_709_551_615_000_001);
+    let past = StoredCell::of_number(18_446_744_073_709_551_615_000_001);
     assert_eq!(&rt; pieces.cell(past), BAD);
     let mut pieces = with_cells(alloc)?;
-    assert_eq!(&rt; pieces.cell(NONE), BAD);
+    assert_eq!(&rt; pieces.cell(none()), BAD);
     Ok(())
 }
 
@@ -188,11 +202,11 @@ fn with_two_sources(alloc: Global) -> Result<Rebuild, Fail> {
 fn rows_are_their_cells(rt: HostRuntime) -> Result<(), Fail> {
     let alloc = rt.alloc();
     let mut pieces = with_two_sources(alloc)?;
-    assert_eq!(&rt; pieces.rows(&[ONE, NONE, ONE]), 2);
+    assert_eq!(&rt; pieces.rows(&[one(), none(), one()]), 2);
     assert_eq!(&rt; pieces.unknown_rows(3), 2);
-    assert_eq!(&rt; pieces.rows(&[NONE, ONE, ONE, ONE]), 2);
+    assert_eq!(&rt; pieces.rows(&[none(), one(), one(), one()]), 2);
     let mut again = with_two_sources(alloc)?;
-    for cell in [ONE, NONE, NONE, NONE, NONE, ONE] {
+    for cell in [one(), none(), none(), none(), none(), one()] {
         taken(again.cell(cell))?;
     }
     let (one, other) = (finished(&rt, pieces), finished(&rt, again));
@@ -211,19 +225,19 @@ fn rows_that_come_at_once(rt: HostRuntime) -> Result<(), Fail> {
     let alloc = rt.alloc();
     let mut pieces = with_two_sources(alloc)?;
     assert_eq!(&rt; pieces.cells_in_row(), 2);
-    assert_eq!(&rt; pieces.rows(&[ONE]), 0);
+    assert_eq!(&rt; pieces.rows(&[one()]), 0);
     assert_eq!(&rt; pieces.unknown_rows(1), 0);
-    assert_eq!(&rt; pieces.rows(&[ONE, NONE, ONE]), 2);
-    taken(pieces.cell(NONE))?;
-    assert_eq!(&rt; pieces.rows(&[ONE, ONE]), 0);
+    assert_eq!(&rt; pieces.rows(&[one(), none(), one()]), 2);
+    taken(pieces.cell(none()))?;
+    assert_eq!(&rt; pieces.rows(&[one(), one()]), 0);
     assert_eq!(&rt; pieces.unknown_rows(2), 0);
-    taken(pieces.cell(ONE))?;
+    taken(pieces.cell(one()))?;
     assert_eq!(&rt; pieces.unknown_rows(64), 2);
     assert_eq!(&rt; pieces.unknown_rows(64), 0);
     let database = finished(&rt, pieces);
     // The last time is 10, in slot 1: the newest row stands there.
     let rows = database.rows(0);
-    for (number, row) in [[NONE, NONE], [ONE, NONE], [NONE, ONE]].iter().enumerate() {
+    for (number, row) in [[none(), none()], [one(), none()], [none(), one()]].iter().enumerate() {
         assert!(&rt; (number as u64) < rows.rows(), "{number}");
         assert_eq!(&rt; rows.row(number as u64), row.as_slice(), "{number}");
     }

@@ -2,7 +2,7 @@
 -- vector ends with what was written, and not that there is as much of it, so this proof walks the code by hand.
 use Rattle.rrd_ring.proofs.Common.{◌≡◌, ℕ, List, [], ◌∷◌, refl, sym, ap, ◌∙◌, length, MutBor, proved, Ura, Lifetime, named, w64, Val, vint, SProp, ent, sep, ex, emp, guard, id⊢, coded_list, Lft, GName, Share, ftrue, flft, fobs, fbor, Logic, sem, takes_part, open_ref, cells, Arr, Body, Item, ‵, ◌⊛◌, raw, given, some, later, ◌$◌, ◌∵◌, !, qed, move, keep, split, split3, join, group, rewrite, feq_i, feq_l, fsplit, fsplit3, fjoin, use1, use2, updating, await, pick, learn, check, now, show, suffices, frame, done, stop, addr, and_then, no_more, returns, enter, alloc_all, pass_all, free_all, look_at, get, through, sets, lands_as, fact, tables, Array, usize, yes, no, follows, follows_then, heres_id, slice_of, mem, uint_vals, uint_Tells, RattleType, mut_vals, mut_Tells, pure_l, plain, MutSlice, Room, shr_slice_at, slice_val, nothing, heard, only, calls_at, lasts, triple_of, framed, says, Stays, stay_dropped, Goes-dropped, Goes-spent_ref, ends_at, refill, slice_range, with_items_from, Cell, cells_row, refill_same}
 use types.Kit.{drop}
-use Rattle.rrd_fixed.specs.contracts.cell.Cell.{the_row as cell_row}
+use Rattle.rrd_fixed.specs.contracts.stored.StoredCell.{the_row as cell_row}
 use Rattle.rrd_ring.specs.contracts.ring.row_mut as f
 use Rattle.rrd_ring.proofs.ring.row_mut.Statement.{statement}
 use Rattle.rrd_ring.proofs.ring.row_mut.Code as code

@@ -5,14 +5,14 @@ use Rattle.rrd_base.proofs.walk.Walk.find_rates.Goals as goal
 pub bounds-old-i : goal.bounds-old-i
 bounds-old-i c = omega (arith, length-accepted c.args.sources.now c.args.old.now c.requires.old_accepted)
 
-pub rate-requires-clause-old_accepted : goal.rate-requires-clause-old_accepted
-rate-requires-clause-old_accepted c =
+pub rate-rate-requires-clause-old_accepted : goal.rate-rate-requires-clause-old_accepted
+rate-rate-requires-clause-old_accepted c =
     let i = c.loop-i.i in
     subst (λ (source : DsDef). IsAccepted source.kind (get_or c.args.old.now i Unknown)) (sym c.index-sources-i.is)
     (accepted_at c.args.sources.now c.args.old.now i c.index-sources-i.result Unknown c.requires.old_accepted (omega arith) (omega (arith, length-accepted c.args.sources.now c.args.old.now c.requires.old_accepted)))
 
-pub rate-requires-clause-new_accepted : goal.rate-requires-clause-new_accepted
-rate-requires-clause-new_accepted c =
+pub rate-rate-requires-clause-new_accepted : goal.rate-rate-requires-clause-new_accepted
+rate-rate-requires-clause-new_accepted c =
     let i = c.loop-i.i in
     let d = c.index-sources-i.result in
     let walk = c.args.self.now in
@@ -34,7 +34,7 @@ loop-i-preserved c =
     let new = walk.raws.items in
     let cells = walk.rates.items in
     let d = c.index-sources-i.result in
-    let cell = c.rate.result in
+    let cell = c.new.result in
     let was = c.loop-i.invariant in
     let within : i < length sources = omega arith in
     let within_old : i < length old = omega (arith, length-accepted sources old c.requires.old_accepted) in
@@ -43,7 +43,8 @@ loop-i-preserved c =
     let left : i < length c.loop-i.self.rates.items = omega (arith, c.loop-i.self.rates.ok.0, was.places) in
     let same : c.loop-i.self.raws ≡ walk.raws = ap (λ (w : Walk). w.raws) was.rest in
     let read : c.index.result.now ≡ get_or new i c.index.result.now = c.index.ensures ∙ ap (λ v. get_or v.items i c.index.result.now) same in
-    let this = c.rate.ensures.value
+    let this = c.new.ensures
+    ∙ c.rate-rate.ensures.value
     ∙ ap (λ source. rate_of n source (get_or old i Unknown) c.index.result.now) c.index-sources-i.is
     ∙ ap (rate_of n (get_or sources i d) (get_or old i Unknown)) (get_or_read new i c.index.result.now within_new read Unknown) in
     let P = λ (k : ℕ). AllByRecursion IsBounded (take k (set c.loop-i.self.rates.items i cell)) in
@@ -51,7 +52,7 @@ loop-i-preserved c =
       value = ap (λ ys. set ys i cell) was.value
           ∙ rates_more sources n old new cells i d Unknown Unknown cell within within_old within_new place this
           ∙ ap (λ k. rates (take k sources) n (take k old) (take k new) ++ drop k cells) {x = suc i} {y = i + 1} (omega arith);
-      bounded = subst P {x = suc i} {y = i + 1} (omega arith) (All-take-set IsBounded c.loop-i.self.rates.items i cell left was.bounded c.rate.ensures.bounded);
+      bounded = subst P {x = suc i} {y = i + 1} (omega arith) (All-take-set IsBounded c.loop-i.self.rates.items i cell left was.bounded (subst IsBounded (sym c.new.ensures) c.rate-rate.ensures.bounded));
       places = was.places;
       rest = ap (λ (w : Walk). let v : Walk = record w { rates = with_item c.loop-i.self.rates i cell } in v) was.rest;
     }

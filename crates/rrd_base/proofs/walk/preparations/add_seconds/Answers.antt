@@ -1,4 +1,4 @@
-use Rattle.rrd_base.proofs.Common.{◌≡◌, sym, ◌∙◌, ap, ◌+◌, ◌++◌, take, drop, suc, ℕ, replicate, length, set, get_or, ◌<◌, arith, fold, Cell, Part, Average, map_each, fold-with_each, map_each_more, map_each_next, map_each_all}
+use Rattle.rrd_base.proofs.Common.{◌≡◌, sym, ◌∙◌, ap, ◌+◌, ◌++◌, take, drop, suc, ℕ, replicate, length, set, get_or, ◌<◌, arith, get_or_read, fold, Cell, Part, Average, map_each, fold-with_each, map_each_more, map_each_next, map_each_all}
 use Rattle.rrd_fixed.specs.declared.cell.Cell.TheVariants.{Unknown}
 use Rattle.rrd_fold.specs.Parts.{with_cell}
 use Rattle.rrd_base.proofs.walk.preparations.add_seconds.Goals as goal
@@ -15,7 +15,7 @@ loop-i-preserved c =
     let within : i < length old = omega arith in
     let within_rates : i < length rates = omega (arith, c.requires.row.one_each) in
     let here : get_or c.loop-i.preps i d ≡ get_or old i d = ap (λ ps. get_or ps i d) was ∙ map_each_next f old rates i d within within_rates in
-    let step : c.add.new.self ≡ f (get_or old i d) (get_or rates i Unknown) = c.add.ensures.added ∙ ap (λ p. f p (get_or rates i Unknown)) here in
+    let step : c.add.new.self ≡ f (get_or old i d) (get_or rates i Unknown) = c.add.ensures.added ∙ ap (f (get_or c.loop-i.preps i d)) (c.cell.ensures ∙ get_or_read rates i c.index-rates-i.result within_rates c.index-rates-i.is Unknown) ∙ ap (λ p. f p (get_or rates i Unknown)) here in
     record {
       added = ap (λ ps. set ps i c.add.new.self) was
           ∙ map_each_more f old rates i c.add.new.self d Unknown within within_rates step

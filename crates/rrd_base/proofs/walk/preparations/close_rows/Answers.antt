@@ -15,8 +15,8 @@ loop-i-preserved c =
     let was = c.loop-i.invariant in
     let here : get_or c.loop-i.preps i d ≡ get_or old i d = ap (λ ps. get_or ps i d) was.anew ∙ map_next anew old old i d within within in
     record {
-      cells = ap (λ ys. set ys i c.close.result) was.cells
-          ∙ map_more f old row i d c.close.result within within_row (c.close.ensures.value ∙ ap (λ xff. row_of xff def.steps (get_or c.loop-i.preps i d)) share ∙ ap f here)
+      cells = ap (λ ys. set ys i c.new.result) was.cells
+          ∙ map_more f old row i d c.new.result within within_row (c.new.ensures ∙ c.close.ensures.value ∙ ap (λ xff. row_of xff def.steps (get_or c.loop-i.preps i d)) share ∙ ap f here)
           ∙ ap (λ k. map f (take k old) ++ drop k row) {x = suc i} {y = i + 1} (omega arith);
       anew = ap (λ ps. set ps i c.close.new.self) was.anew
           ∙ map_more anew old old i d c.close.new.self within within (c.close.ensures.anew ∙ ap anew here)

@@ -9,7 +9,7 @@ blank rows sources index [] none within = grind (arith, common_steps, ring_unkno
 blank rows sources index (cell ∷ written) none within = absurd (omega arith)
 
 pub overflow_sub-self-inside : goal.overflow_sub-self-inside
-overflow_sub-self-inside c = omega (arith, c.requires, row_count c.self.invariant c.self.view_is)
+overflow_sub-self-inside c = omega (arith, c.requires, row_count c.self.invariant.0 c.self.view_is)
 
 pub returns-then-is_empty : goal.returns-then-is_empty
 returns-then-is_empty c = grind (arith, common_steps, vec_len, eqb-true, blank)

@@ -4,10 +4,10 @@ use Rattle.rrd_ring.proofs.archive.Archive.put_back.Goals as goal
 use Rattle.rrd_ring.proofs.archive.Archive.put_back.Goals.{After-fill_up, After-write_from}
 
 pub overflow_sub-self-inside : goal.overflow_sub-self-inside
-overflow_sub-self-inside c = omega (arith, c.requires.fits, row_count c.self.invariant c.self.view_is, rows_len _ _ _ _ c.dropped.view_is)
+overflow_sub-self-inside c = omega (arith, c.requires.fits, row_count c.self.invariant.0 c.self.view_is, rows_len _ _ _ _ c.dropped.view_is)
 
 filled : (c : After-fill_up) → MayPutBack c.self.inside.rows c.self.inside.sources c.self.inside.oldest c.dropped.inside.rows c.args.self.now c.args.dropped c.fill_up.new.cells.items c.dropped.inside.cells.items
-filled c = ring_filled_up c.self.invariant c.self.view_is c.dropped.invariant c.dropped.view_is c.requires.fits c.requires.one_width c.cells_of.ensures.count c.fill_up.ensures.items
+filled c = ring_filled_up c.self.invariant.0 c.self.view_is c.dropped.invariant c.dropped.view_is c.requires.fits c.requires.one_width c.cells_of.ensures.count c.fill_up.ensures.items
 
 pub write_from-requires-clause-within : goal.write_from-requires-clause-within
 write_from-requires-clause-within c =
