@@ -76,7 +76,12 @@ pub(crate) fn new_all(
 }
 
 /// Adds steps to each archive. `row` has room for the cells of a row.
-pub(crate) fn take_all(archives: &mut [Rra], steps: &Steps, row: &mut [StoredCell], meter: &mut Meter)
+pub(crate) fn take_all(
+    archives: &mut [Rra],
+    steps: &Steps,
+    row: &mut [StoredCell],
+    meter: &mut Meter,
+)
     requires valid { AllByRecursion (IsValidArchive (sources_of steps.now) steps.now.before) archives.old }
     requires steps_are { AreSteps steps.now }
     requires places { length row.old ≡ sources_of steps.now }

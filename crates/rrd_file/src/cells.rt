@@ -40,7 +40,10 @@ impl Block {
 }
 
 // Writes cells, one after another.
-fn write_each<W: Write>(out: &mut PieceWriter<'_, W>, cells: &[StoredCell]) -> Result<(), WriteFault>
+fn write_each<W: Write>(
+    out: &mut PieceWriter<'_, W>,
+    cells: &[StoredCell],
+) -> Result<(), WriteFault>
     ensures { Gathers W.contents out.old out.new
         (spelled (map OfCell cells.now)) result }
 {
@@ -218,13 +221,39 @@ fn behind_unknown(bytes: &[u8]) -> Option<&[u8]>
     Some(rest)
 }
 
+// Returns whether these bytes are the same. Looking at all of them is faster than ending at the first that differs.
+fn are_same(bytes: &[u8], others: &[u8]) -> bool
+    requires { length bytes.now ≡ length others.now }
+    ensures { result ≡ true → bytes.now ≡ others.now }
+{
+    let mut same = true;
+    for i in 0..bytes.len() {
+        same &= bytes[i] == others[i];
+    }
+    same
+}
+
+// Returns how many of the first cells are unknown, in blocks of 64, and the bytes behind them.
+fn unknown_blocks(bytes: &[u8]) -> (usize, &[u8])
+    ensures spelled { bytes.now ≡ flat_map spelling.cell_bytes (replicate result.0 Unknown) ++ result.1.now }
+    ensures room { length result.1.now + CELL_SIZE * result.0 ≡ length bytes.now }
+{
+    let block = unknown_bytes(MAX_ROW_CELLS);
+    let mut count = 0;
+    let mut rest = bytes;
+    while rest.len() >= block.len() && are_same(&rest[..block.len()], block) {
+        count += MAX_ROW_CELLS;
+        rest = &rest[block.len()..];
+    }
+    (count, rest)
+}
+
 // Returns how many of the first cells are unknown.
 fn unknown_front(bytes: &[u8]) -> usize
     ensures few { CELL_SIZE * result ≤ length bytes.now }
     ensures spelled { take (CELL_SIZE * result) bytes.now ≡ flat_map spelling.cell_bytes (replicate result Unknown) }
 {
-    let mut count = 0;
-    let mut rest = bytes;
+    let (mut count, mut rest) = unknown_blocks(bytes);
     while rest.len() >= CELL_SIZE {
         let Some(more) = behind_unknown(rest) else {
             return count;

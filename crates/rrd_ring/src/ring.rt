@@ -184,7 +184,10 @@ pub(crate) fn run_from<'a>(
 {
     let count = contiguous_count(cells.len() / sources, index, most);
     let start = cells_of(index, sources);
-    (count, row_from(cells, unwritten, start, cells_of(count, sources)))
+    (
+        count,
+        row_from(cells, unwritten, start, cells_of(count, sources)),
+    )
 }
 
 // Returns the written ones of `count` cells of a ring's vector from cell `start` on, and how many unwritten ones follow.
@@ -382,7 +385,12 @@ fn push_each(cells: &mut Vec<StoredCell>, row: &[StoredCell], meter: &mut Meter)
 
 // Writes the cells of a row from cell `start` on: over a written row, or after the last one. The meter counts the cells
 // as in `write_row`.
-pub(crate) fn write_row_at(cells: &mut Vec<StoredCell>, start: usize, row: &[StoredCell], meter: &mut Meter)
+pub(crate) fn write_row_at(
+    cells: &mut Vec<StoredCell>,
+    start: usize,
+    row: &[StoredCell],
+    meter: &mut Meter,
+)
     requires within { start ≤ vec_len cells.old }
     requires whole { start < vec_len cells.old → start + length row.now ≤ vec_len cells.old }
     requires room { start + length row.now ≤ vec_capacity cells.old }

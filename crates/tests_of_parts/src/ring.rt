@@ -123,7 +123,9 @@ fn archive_as_list(rt: HostRuntime) -> Result<(), Fail> {
 fn rows_are_written_and_swapped(rt: HostRuntime) -> Result<(), Fail> {
     let alloc = rt.alloc();
     let mut archive = Archive::new(alloc, 2, 1)?;
-    archive.row_mut(1).copy_from_slice(&[StoredCell::of_number(ONE)]);
+    archive
+        .row_mut(1)
+        .copy_from_slice(&[StoredCell::of_number(ONE)]);
     let mut other = Archive::new(alloc, 1, 1)?;
     archive.swap(&mut other);
     assert_rows(&rt, &archive, &[UNKNOWN]);

@@ -7,7 +7,12 @@ use rrd_fixed::{Meter, StoredCell};
 use rrd_fold::{RowPrep, StepPrep};
 
 /// Adds `seconds` seconds of each data source's rate to its partial step. Each is one unit of work.
-pub(crate) fn add_seconds(preps: &mut [StepPrep], rates: &[StoredCell], seconds: u64, meter: &mut Meter)
+pub(crate) fn add_seconds(
+    preps: &mut [StepPrep],
+    rates: &[StoredCell],
+    seconds: u64,
+    meter: &mut Meter,
+)
     requires row { IsRow (length preps.old) rates.now }
     requires fits { AllByRecursion (λ (p : Part). p.known + seconds ≤ most_known) preps.old }
     requires turns { meter.old + length preps.old < 2 ^ 64 }
@@ -21,7 +26,12 @@ pub(crate) fn add_seconds(preps: &mut [StepPrep], rates: &[StoredCell], seconds:
 
 /// Writes the cell of each data source's step of `step` seconds, and empties its partial step. Each is one unit of
 /// work.
-pub(crate) fn close_steps(preps: &mut [StepPrep], step: u64, cells: &mut [StoredCell], meter: &mut Meter)
+pub(crate) fn close_steps(
+    preps: &mut [StepPrep],
+    step: u64,
+    cells: &mut [StoredCell],
+    meter: &mut Meter,
+)
     requires places { length cells.old ≡ length preps.old }
     requires some { 1 ≤ step }
     requires few { step ≤ present.max_step_seconds }
@@ -52,7 +62,12 @@ pub(crate) fn add_steps(preps: &mut [RowPrep], step: &[StoredCell], count: u64, 
 
 /// Writes the cell of each data source's row, in an archive with these settings, and empties its partial row. Each is
 /// one unit of work.
-pub(crate) fn close_rows(preps: &mut [RowPrep], def: &RraDef, row: &mut [StoredCell], meter: &mut Meter)
+pub(crate) fn close_rows(
+    preps: &mut [RowPrep],
+    def: &RraDef,
+    row: &mut [StoredCell],
+    meter: &mut Meter,
+)
     requires places { length row.old ≡ length preps.old }
     requires some { 1 ≤ def.now.steps }
     requires few { def.now.steps ≤ present.max_steps_per_row }

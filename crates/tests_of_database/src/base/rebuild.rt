@@ -237,7 +237,10 @@ fn rows_that_come_at_once(rt: HostRuntime) -> Result<(), Fail> {
     let database = finished(&rt, pieces);
     // The last time is 10, in slot 1: the newest row stands there.
     let rows = database.rows(0);
-    for (number, row) in [[none(), none()], [one(), none()], [none(), one()]].iter().enumerate() {
+    for (number, row) in [[none(), none()], [one(), none()], [none(), one()]]
+        .iter()
+        .enumerate()
+    {
         assert!(&rt; (number as u64) < rows.rows(), "{number}");
         assert_eq!(&rt; rows.row(number as u64), row.as_slice(), "{number}");
     }
