@@ -1,6 +1,6 @@
 -- What tests of an entry find out, item by item.
-use Rattle.std.specs.Prelude.{◌≡◌, ◌+◌, ◌<◌, ◌≤◌, ℕ, zero, suc, List, [], ◌∷◌, Some, length, take, ◌-◌, ◌^◌, min, sum, slice_get, slice_index_or, slice_set}
-use Rattle.rrd_base.proofs.Names.{◌∙◌, sym, ap, subst, arith, refl, get_or, set, take_all, add-one, length-set, append-nil, AllByRecursion, refill, drop_all, map-set, Name, Consolidating, Part, parts_in, SavedSource, DsDef, RraDef, SavedArchive, present, rows_of, with_row_number, with_sources, MaySave, MaySaveEach, names, Rise, with_names, with_kept}
+use Rattle.std.specs.Prelude.{◌≡◌, ◌+◌, ◌<◌, ◌≤◌, ℕ, zero, suc, List, [], ◌∷◌, length, ◌-◌, ◌^◌, min, sum, slice_index_or, slice_set}
+use Rattle.rrd_base.proofs.Names.{◌∙◌, sym, ap, subst, arith, refl, get_or, set, take_all, length-set, append-nil, AllByRecursion, refill, drop_all, map-set, Name, Consolidating, Part, parts_in, SavedSource, DsDef, RraDef, present, rows_of, with_row_number, with_sources, names, Rise, with_names, with_kept}
 use Rattle.rrd_base.proofs.Rebuilt.{fold_sum}
 
 -- ---- of each item
@@ -10,34 +10,6 @@ pub All_here_part : (P : Part → Type 0) (preps : List Consolidating) (i : ℕ)
 All_here_part P [] i prep h e all = absurd (omega arith)
 All_here_part P (x ∷ preps) zero prep h e all = subst (λ (c : Consolidating). P c.part) (sym e) all.0
 All_here_part P (x ∷ preps) (suc i) prep h e all = All_here_part P preps i prep (omega arith) e all.1
-
-pub item_there : {A : Type 0} (xs : List A) (i : ℕ) (x : A) → slice_get xs i ≡ Some x → x ≡ get_or xs i x
-item_there [] i x e = absurd cc
-item_there (y ∷ xs) zero x e = let same : y ≡ x = cc in sym same
-item_there (y ∷ xs) (suc i) x e = item_there xs i x e
-
--- ---- what was saved of archives
-
-pub saves_lengths : (step from to sources : ℕ) (defs : List RraDef) (olds : List SavedArchive) → MaySaveEach step from to sources defs olds → length olds ≡ length defs
-saves_lengths step from to sources [] [] is = refl
-saves_lengths step from to sources (def ∷ defs) (old ∷ olds) is = ap suc (saves_lengths step from to sources defs olds is.1)
-saves_lengths step from to sources x y is = absurd is
-
-saves_suc : (step from to sources : ℕ) (defs : List RraDef) (olds : List SavedArchive) (i : ℕ) (def : RraDef) (old : SavedArchive) → i < length defs → i < length olds → def ≡ get_or defs i def → old ≡ get_or olds i old
-    → MaySaveEach step from to sources (take i defs) (take i olds) → MaySave step from to sources def old → MaySaveEach step from to sources (take (suc i) defs) (take (suc i) olds)
-saves_suc step from to sources (x ∷ defs) (y ∷ olds) zero def old h k d o all one = (subst (λ (z : RraDef). MaySave step from to sources z y) d (subst (MaySave step from to sources def) o one), tt)
-saves_suc step from to sources (x ∷ defs) (y ∷ olds) (suc i) def old h k d o all one = (all.0, saves_suc step from to sources defs olds i def old (omega arith) (omega arith) d o all.1 one)
-saves_suc step from to sources x olds i def old h k d o all one = absurd (omega arith)
-
-pub saves_more : (step from to sources : ℕ) (defs : List RraDef) (olds : List SavedArchive) (i : ℕ) (def : RraDef) (old : SavedArchive) → i < length defs → i < length olds → def ≡ get_or defs i def → old ≡ get_or olds i old
-    → MaySaveEach step from to sources (take i defs) (take i olds) → MaySave step from to sources def old → MaySaveEach step from to sources (take (i + 1) defs) (take (i + 1) olds)
-saves_more step from to sources defs olds i def old h k d o all one = subst (λ n. MaySaveEach step from to sources (take n defs) (take n olds)) (sym (add-one i)) (saves_suc step from to sources defs olds i def old h k d o all one)
-
-pub saves_here : (step from to sources : ℕ) (defs : List RraDef) (olds : List SavedArchive) (i : ℕ) (def : RraDef) (old : SavedArchive) → i < length defs → i < length olds → def ≡ get_or defs i def → old ≡ get_or olds i old
-    → MaySaveEach step from to sources defs olds → MaySave step from to sources def old
-saves_here step from to sources (x ∷ defs) (y ∷ olds) zero def old h k d o all = subst (λ (z : RraDef). MaySave step from to sources z old) (sym d) (subst (MaySave step from to sources x) (sym o) all.0)
-saves_here step from to sources (x ∷ defs) (y ∷ olds) (suc i) def old h k d o all = saves_here step from to sources defs olds i def old (omega arith) (omega arith) d o all.1
-saves_here step from to sources x olds i def old h k d o all = absurd (omega arith)
 
 -- ---- numbers that rise
 

@@ -6,7 +6,7 @@ pub use Rattle.rrd_base.specs.Rebuild.{ArePrepared, Coming, HeadsCame, IsArchive
 pub use Rattle.rrd_base.specs.Rebuild.Begins.{Begins, header_said}
 pub use Rattle.rrd_base.specs.Rebuild.CellRun.{run_cells}
 pub use Rattle.rrd_base.specs.Rebuild.Cursors.{Advances, AreFewer, KnowsPlace, KnowsPlaceIn, Passes, filled_by}
-pub use Rattle.rrd_base.specs.Rebuild.EntryChecks.{HasPlace, IsOutline, IsValidOutline, with_names}
+pub use Rattle.rrd_base.specs.Rebuild.EntryChecks.{HasPlace, IsChecked, IsOutline, IsValidOutline, with_names}
 pub use Rattle.rrd_base.specs.Rebuild.Runs.{MayCells, with_cells}
 pub use Rattle.rrd_base.specs.Rebuild.Validators.{EntryValidator, validator}
 pub use Rattle.rrd_base.specs.Resize.{HasFewRows, settings}

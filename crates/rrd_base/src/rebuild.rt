@@ -6,7 +6,7 @@
 //! piece (`MaySource`, `MayHead`, ..) and in the function whose contract names that definition; the contract of
 //! `finish` shows if a rule is missing. A rule of an entry, a partial step, a partial row or an archive's settings
 //! belongs in `EntryValidator`: a reader checks each piece of an entry by it, and this module checks the complete
-//! entry, and the pieces before the entries.
+//! entry (of an update nothing is left to check), and the pieces before the entries.
 //!
 //! Pitfalls:
 //!
@@ -20,7 +20,7 @@
 //! - `whole_rows` takes whole rows at once, and must have the same effect as `cell` for one cell after another.
 ghost use Rattle.std.specs.Prelude.{◌≡◌, ◌++◌, ◌∷◌, [], ◌<◌, ◌≤◌, length, replicate, take, true, IfErr, IfSome, None, OnOk, OnErr};
 ghost use Rattle.rrd_base.specs.Names.{AllByRecursion, IsBounded, Part, EntryDue, NothingDue, Source, filed, MayCell, MayEntry, MayHead, MayPrep, MaySource, due, limits, outline_left, unprepared, with_cell, with_entry, with_head, with_prep, with_source, present, IsValidDatabaseWithin};
-ghost use Rattle.rrd_base.specs.Words.{Begins, header_said, run_cells, MayCells, with_cells, entry_of, Bad, OutOfMemory, validator};
+ghost use Rattle.rrd_base.specs.Words.{Begins, IsChecked, header_said, run_cells, MayCells, with_cells, entry_of, Bad, OutOfMemory, validator};
 ghost use Rattle.rrd_fixed.specs.declared.cell.Cell.TheVariants.{Unknown as CellUnknown};
 
 use crate::cell_run::CellRun;
@@ -430,6 +430,7 @@ impl Rebuild {
 
     // Returns whether an entry may come.
     fn may_entry(&self, entry: &Entry) -> bool
+        requires { IsChecked (validator self.now) (entry_of entry.now) }
         ensures good { result ≡ true → MayEntry self.now (entry_of entry.now) }
         ensures bad { MayEntry self.now (entry_of entry.now) → result ≡ true }
     {
@@ -441,12 +442,14 @@ impl Rebuild {
 
     /// Adds the next entry, newest first.
     ///
-    /// Does not allocate: the journal has room for all its entries from the start.
+    /// Each piece of an update was checked by the validator. An entry of another kind is checked here. Does not
+    /// allocate: the journal has room for all its entries from the start.
     ///
     /// # Errors
     /// - `Bad`: another piece is due, or the entry does not fit the outline that the entries before it leave. The
     ///   database is unchanged.
     pub fn entry(&mut self, entry: Entry) -> Result<(), PieceFault>
+        requires { IsChecked (validator self.old) (entry_of entry) }
         ensures ok { OnOk result (MayEntry self.old (entry_of entry)
             × (self.new ≡ with_entry self.old (entry_of entry))) }
         ensures bad { IfErr result (λ e. e ≡ Bad → MayEntry self.old (entry_of entry) → ⊥) }

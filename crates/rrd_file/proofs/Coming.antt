@@ -90,7 +90,7 @@ pub closed : (bytes : List ℕ) (f new : Filed) (input : Input) (e : Entry) → 
 closed bytes f new input e c m = grind (arith, c, front_more bytes c.stage (Body new) c.last c.rest c.front (c.goes_on (Body new) (e, refl, m.0, ap Body m.1)))
 
 -- it may not: no entry with these pieces may
-pub denied : (bytes : List ℕ) (f : Filed) (input : Input) (e : Entry) → Comes bytes f (entry_pieces e) [] input → IsShaped (outline_left f) e → (MayEntry f e → ⊥) → IsBad bytes (BadEntry (suc (length f.entries)))
+pub denied : (bytes : List ℕ) (f : Filed) (input : Input) (e : Entry) → Comes bytes f (entry_pieces e) [] input → IsShaped f e → (MayEntry f e → ⊥) → IsBad bytes (BadEntry (suc (length f.entries)))
 denied bytes f input e c shaped never =
     let before = flat_map spell c.front.pieces in
     let long : length bytes ≡ length before + (length (spell c.last) + length c.rest) = ap length c.front.parts ∙ length-append before (spell c.last ++ c.rest) ∙ ap (λ n. length before + n) (length-append (spell c.last) c.rest) in
@@ -102,7 +102,7 @@ denied bytes f input e c shaped never =
       whole = omega (arith, c.whole, length-append (spell c.last) c.rest);
       none = λ q n t same.
           let goes = c.only q n t (same ∙ take_at (spell c.last) c.rest (size c.stage) c.whole) in
-          never (subst (MayEntry f) (shaped_one (outline_left f) goes.0 e (undo_shaped f goes.0 goes.2) shaped goes.1) goes.2);
+          never (subst (MayEntry f) (shaped_one f goes.0 e (undo_shaped f goes.0 goes.2) shaped goes.1) goes.2);
       at = length before;
       place = omega (arith, long, length-append (spell c.last) c.rest);
       fault_is = c.fault_is (length before);

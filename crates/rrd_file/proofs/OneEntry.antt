@@ -1,12 +1,12 @@
 -- An entry that may come has pieces that no other such entry has.
 use Rattle.std.proofs.Common.{arith}
 use Rattle.std.specs.Prelude.{◌≡◌, List}
-use Rattle.rrd_file.proofs.Names.{refl, Entry, Filed, MayEntry, outline_left, entry_pieces, Piece, Stage, DueInEntry, GoesOn, Takes}
+use Rattle.rrd_file.proofs.Names.{refl, Entry, Filed, MayEntry, entry_pieces, Piece, Stage, DueInEntry, GoesOn, Takes}
 use Rattle.rrd_file.proofs.OneShape.{shaped_one, undo_shaped}
 use Rattle.rrd_file.proofs.Ways.{Step, ToMark, ToVersion, ToHeader, ToSource, ToHead, ToPrep, ToCell, ToEntry, ToPiece, step_of}
 
 pub one_entry : (f : Filed) (x y : Entry) → MayEntry f x → MayEntry f y → entry_pieces x ≡ entry_pieces y → x ≡ y
-one_entry f x y h k e = shaped_one (outline_left f) x y (undo_shaped f x h) (undo_shaped f y k) e
+one_entry f x y h k e = shaped_one f x y (undo_shaped f x h) (undo_shaped f y k) e
 
 -- ---- so a piece leads to one stage
 

@@ -1,6 +1,6 @@
 -- Entries with the same pieces are one, where their lists are as long as the outline says.
 use Rattle.std.specs.Prelude.{◌≡◌, ◌++◌, ◌∷◌, ℕ, List, [], length, map}
-use Rattle.rrd_file.proofs.Names.{◌∙◌, sym, ap, refl, get_or, arith, append_assoc, AllByRecursion, flat_map, length-map, flat_map-cons, Cell, Raw, Part, HasWidth, SavedSource, Outline, RraDef, BeforeUpdate, Entry, SavedArchive, UpdateEntry, TuneEntry, ResizeEntry, AddedEntry, RemovedEntry, Rra, Filed, Limits, MaySaveEach, MayUndo, MayEntry, limits, outline_left, IsRow, entry_pieces, raws_and_parts, row_pieces, saved_pieces, Piece, Mark, OfCell, OfPrep, OfRawAndPart, OfRows, OfSavedSource, OfTag, AnUpdate, ATune, AResize, AnAddition, AreSavedShaped, IsRemovedShaped, IsShaped, IsUpdateShaped}
+use Rattle.rrd_file.proofs.Names.{◌∙◌, sym, ap, refl, get_or, arith, append_assoc, AllByRecursion, flat_map, length-map, flat_map-cons, Cell, Raw, Part, HasWidth, SavedSource, Outline, RraDef, BeforeUpdate, Entry, SavedArchive, UpdateEntry, TuneEntry, ResizeEntry, AddedEntry, RemovedEntry, Rra, Filed, MaySaveEach, MayUpdate, MayEntry, outline_left, IsRow, entry_pieces, raws_and_parts, row_pieces, saved_pieces, Piece, Mark, OfCell, OfPrep, OfRawAndPart, OfRows, OfSavedSource, OfTag, AnUpdate, ATune, AResize, AnAddition, IsRemovedShaped, IsShaped}
 use Rattle.rrd_file.proofs.Spelled.{append_same}
 use Rattle.rrd_file.proofs.Told.{accepted_length, length_before}
 
@@ -36,6 +36,10 @@ raws_one z u x y l m e = absurd (omega (arith, m))
 
 -- ---- rows of one width
 
+rows_shaped : (width : ℕ) (rows : List (List Cell)) → AllByRecursion (IsRow width) rows → HasWidth width rows
+rows_shaped width [] h = tt
+rows_shaped width (row ∷ rows) h = (h.0.one_each, rows_shaped width rows h.1)
+
 row_cut : (row : List Cell) (rows : List (List Cell)) (a : List Piece) → row_pieces (row ∷ rows) ++ a ≡ map OfCell row ++ (row_pieces rows ++ a)
 row_cut row rows a = ap (λ l. l ++ a) (flat_map-cons (λ (r : List Cell). map OfCell r) row rows) ∙ append_assoc (map OfCell row) (row_pieces rows) a
 
@@ -52,24 +56,24 @@ rows_one width x y a b h k l e = absurd (omega (arith, l))
 saved_cut : (old : SavedArchive) (olds : List SavedArchive) → flat_map saved_pieces (old ∷ olds) ≡ map OfPrep old.parts ++ (OfRows (length old.rows) ∷ (row_pieces old.rows ++ flat_map saved_pieces olds))
 saved_cut old olds = flat_map-cons saved_pieces old olds ∙ append_assoc (map OfPrep old.parts) (OfRows (length old.rows) ∷ row_pieces old.rows) (flat_map saved_pieces olds)
 
-saved_one : (sources : ℕ) (defs : List RraDef) (olds news : List SavedArchive) → AreSavedShaped sources defs olds → AreSavedShaped sources defs news → flat_map saved_pieces olds ≡ flat_map saved_pieces news → olds ≡ news
-saved_one sources [] olds news h k e = grind arith
-saved_one sources (def ∷ defs) [] news h k e = absurd h
-saved_one sources (def ∷ defs) (old ∷ olds) (new ∷ news) h k e =
-    let same : length (map OfPrep old.parts) ≡ length (map OfPrep new.parts) = length-map old.parts OfPrep ∙ h.0.one_part_each ∙ sym k.0.one_part_each ∙ sym (length-map new.parts OfPrep) in
+saved_one : (step from to sources : ℕ) (defs : List RraDef) (olds news : List SavedArchive) → MaySaveEach step from to sources defs olds → MaySaveEach step from to sources defs news → flat_map saved_pieces olds ≡ flat_map saved_pieces news → olds ≡ news
+saved_one step from to sources [] olds news h k e = grind arith
+saved_one step from to sources (def ∷ defs) [] news h k e = absurd h
+saved_one step from to sources (def ∷ defs) (old ∷ olds) (new ∷ news) h k e =
+    let same : length (map OfPrep old.parts) ≡ length (map OfPrep new.parts) = length-map old.parts OfPrep ∙ h.0.parts_are.one_each ∙ sym k.0.parts_are.one_each ∙ sym (length-map new.parts OfPrep) in
     let both = append_same (map OfPrep old.parts) (OfRows (length old.rows) ∷ (row_pieces old.rows ++ flat_map saved_pieces olds)) (map OfPrep new.parts) (OfRows (length new.rows) ∷ (row_pieces new.rows ++ flat_map saved_pieces news)) same (sym (saved_cut old olds) ∙ e ∙ saved_cut new news) in
     let count : length old.rows ≡ length new.rows = cc in
     let rest : row_pieces old.rows ++ flat_map saved_pieces olds ≡ row_pieces new.rows ++ flat_map saved_pieces news = cc in
     let function : old.function ≡ new.function = h.0.same_function ∙ sym k.0.same_function in
     let parts = map_one OfPrep prep_same old.parts new.parts both.0 in
-    let rows = rows_one sources old.rows new.rows (flat_map saved_pieces olds) (flat_map saved_pieces news) h.0.one_cell_each k.0.one_cell_each count rest in
-    λ i. record { function = function i; parts = parts i; rows = rows.0 i } ∷ (saved_one sources defs olds news h.1 k.1 rows.1) i
-saved_one sources x y z h k e = absurd k
+    let rows = rows_one sources old.rows new.rows (flat_map saved_pieces olds) (flat_map saved_pieces news) (rows_shaped sources old.rows h.0.each_row) (rows_shaped sources new.rows k.0.each_row) count rest in
+    λ i. record { function = function i; parts = parts i; rows = rows.0 i } ∷ (saved_one step from to sources defs olds news h.1 k.1 rows.1) i
+saved_one step from to sources x y z h k e = absurd k
 
 -- ---- entries
 
-update_one : (now : Outline) (old new : BeforeUpdate) → IsUpdateShaped now old → IsUpdateShaped now new → entry_pieces (UpdateEntry old) ≡ entry_pieces (UpdateEntry new) → old ≡ new
-update_one now old new h k e = grind (arith, length_before, append_same, raws_one, saved_one)
+update_one : (step : ℕ) (now : Outline) (old new : BeforeUpdate) → MayUpdate step now old → MayUpdate step now new → entry_pieces (UpdateEntry old) ≡ entry_pieces (UpdateEntry new) → old ≡ new
+update_one step now old new h k e = grind (arith, accepted_length, length_before, append_same, raws_one, saved_one)
 
 resize_one : (width x y : ℕ) (rows olds : List (List Cell)) → HasWidth width rows → HasWidth width olds → entry_pieces (ResizeEntry x rows) ≡ entry_pieces (ResizeEntry y olds) → ResizeEntry x rows ≡ ResizeEntry y olds
 resize_one width x y rows olds h k e =
@@ -94,38 +98,26 @@ removed_one now x y a b h k e =
     let rows = rows_one (length now.sources) a.rows b.rows [] [] h.one_cell_each k.one_cell_each count (ap (λ l. l ++ []) both.1) in
     λ i. RemovedEntry (number i) (record { def = def i; parts = parts i; rows = rows.0 i })
 
-pub shaped_one : (now : Outline) (x y : Entry) → IsShaped now x → IsShaped now y → entry_pieces x ≡ entry_pieces y → x ≡ y
-shaped_one now (UpdateEntry x) (UpdateEntry y) h k e = ap UpdateEntry (update_one now x y h k e)
-shaped_one now (TuneEntry x) (TuneEntry y) h k e = tune_one x y e
-shaped_one now (ResizeEntry x rows) (ResizeEntry y olds) h k e = resize_one (length now.sources) x y rows olds h k e
-shaped_one now AddedEntry AddedEntry h k e = refl
-shaped_one now (RemovedEntry x a) (RemovedEntry y b) h k e = removed_one now x y a b h k e
-shaped_one now (UpdateEntry x) (TuneEntry y) h k e = absurd (let bad : OfTag AnUpdate ≡ OfTag ATune = ap (λ l. get_or l 0 Mark) e in cc)
-shaped_one now (UpdateEntry x) (ResizeEntry y olds) h k e = absurd (let bad : OfTag AnUpdate ≡ OfTag AResize = ap (λ l. get_or l 0 Mark) e in cc)
-shaped_one now (TuneEntry x) (UpdateEntry y) h k e = absurd (let bad : OfTag ATune ≡ OfTag AnUpdate = ap (λ l. get_or l 0 Mark) e in cc)
-shaped_one now (TuneEntry x) (ResizeEntry y olds) h k e = absurd (let bad : OfTag ATune ≡ OfTag AResize = ap (λ l. get_or l 0 Mark) e in cc)
-shaped_one now (ResizeEntry x rows) (UpdateEntry y) h k e = absurd (let bad : OfTag AResize ≡ OfTag AnUpdate = ap (λ l. get_or l 0 Mark) e in cc)
-shaped_one now (ResizeEntry x rows) (TuneEntry y) h k e = absurd (let bad : OfTag AResize ≡ OfTag ATune = ap (λ l. get_or l 0 Mark) e in cc)
-shaped_one now (UpdateEntry x) y h k e = grind arith
-shaped_one now (TuneEntry x) y h k e = grind arith
-shaped_one now (ResizeEntry x rows) y h k e = grind arith
-shaped_one now AddedEntry (UpdateEntry y) h k e = absurd (let bad : OfTag AnAddition ≡ OfTag AnUpdate = ap (λ l. get_or l 0 Mark) e in cc)
-shaped_one now AddedEntry (TuneEntry y) h k e = absurd (let bad : OfTag AnAddition ≡ OfTag ATune = ap (λ l. get_or l 0 Mark) e in cc)
-shaped_one now x y h k e = grind arith
+pub shaped_one : (f : Filed) (x y : Entry) → IsShaped f x → IsShaped f y → entry_pieces x ≡ entry_pieces y → x ≡ y
+shaped_one f (UpdateEntry x) (UpdateEntry y) h k e = ap UpdateEntry (update_one f.header.step (outline_left f) x y h k e)
+shaped_one f (TuneEntry x) (TuneEntry y) h k e = tune_one x y e
+shaped_one f (ResizeEntry x rows) (ResizeEntry y olds) h k e = resize_one (length (outline_left f).sources) x y rows olds h k e
+shaped_one f AddedEntry AddedEntry h k e = refl
+shaped_one f (RemovedEntry x a) (RemovedEntry y b) h k e = removed_one (outline_left f) x y a b h k e
+shaped_one f (UpdateEntry x) (TuneEntry y) h k e = absurd (let bad : OfTag AnUpdate ≡ OfTag ATune = ap (λ l. get_or l 0 Mark) e in cc)
+shaped_one f (UpdateEntry x) (ResizeEntry y olds) h k e = absurd (let bad : OfTag AnUpdate ≡ OfTag AResize = ap (λ l. get_or l 0 Mark) e in cc)
+shaped_one f (TuneEntry x) (UpdateEntry y) h k e = absurd (let bad : OfTag ATune ≡ OfTag AnUpdate = ap (λ l. get_or l 0 Mark) e in cc)
+shaped_one f (TuneEntry x) (ResizeEntry y olds) h k e = absurd (let bad : OfTag ATune ≡ OfTag AResize = ap (λ l. get_or l 0 Mark) e in cc)
+shaped_one f (ResizeEntry x rows) (UpdateEntry y) h k e = absurd (let bad : OfTag AResize ≡ OfTag AnUpdate = ap (λ l. get_or l 0 Mark) e in cc)
+shaped_one f (ResizeEntry x rows) (TuneEntry y) h k e = absurd (let bad : OfTag AResize ≡ OfTag ATune = ap (λ l. get_or l 0 Mark) e in cc)
+shaped_one f (UpdateEntry x) y h k e = grind arith
+shaped_one f (TuneEntry x) y h k e = grind arith
+shaped_one f (ResizeEntry x rows) y h k e = grind arith
+shaped_one f AddedEntry (UpdateEntry y) h k e = absurd (let bad : OfTag AnAddition ≡ OfTag AnUpdate = ap (λ l. get_or l 0 Mark) e in cc)
+shaped_one f AddedEntry (TuneEntry y) h k e = absurd (let bad : OfTag AnAddition ≡ OfTag ATune = ap (λ l. get_or l 0 Mark) e in cc)
+shaped_one f x y h k e = grind arith
 
--- ---- an entry that fits has such lists
+-- ---- an entry that fits is shaped so
 
-rows_shaped : (width : ℕ) (rows : List (List Cell)) → AllByRecursion (IsRow width) rows → HasWidth width rows
-rows_shaped width [] h = tt
-rows_shaped width (row ∷ rows) h = (h.0.one_each, rows_shaped width rows h.1)
-
-saved_shaped : (step from to sources : ℕ) (defs : List RraDef) (olds : List SavedArchive) → MaySaveEach step from to sources defs olds → AreSavedShaped sources defs olds
-saved_shaped step from to sources [] [] h = tt
-saved_shaped step from to sources (def ∷ defs) (old ∷ olds) h = grind (arith, rows_shaped, saved_shaped step from to sources defs olds h.1)
-saved_shaped step from to sources x y h = absurd h
-
-fits_shaped : (l : Limits) (step : ℕ) (now : Outline) (e : Entry) → MayUndo l step now e → IsShaped now e
-fits_shaped l step now x m = grind (arith, accepted_length, saved_shaped, rows_shaped)
-
-pub undo_shaped : (f : Filed) (e : Entry) → MayEntry f e → IsShaped (outline_left f) e
-undo_shaped f e m = fits_shaped (limits f) f.header.step (outline_left f) e m.fits
+pub undo_shaped : (f : Filed) (e : Entry) → MayEntry f e → IsShaped f e
+undo_shaped f x m = grind (arith, rows_shaped)

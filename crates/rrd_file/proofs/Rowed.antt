@@ -1,6 +1,6 @@
 -- Rows that come one after another into a table.
 use Rattle.std.specs.Prelude.{◌≡◌, ◌+◌, ◌-◌, ◌<◌, ◌≤◌, ◌++◌, ℕ, zero, suc, List, [], ◌∷◌, length, replicate, take, map, slice_set}
-use Rattle.rrd_file.proofs.Names.{refl, ◌∙◌, sym, ap, subst, length-set, arith, append-nil, length-replicate, map-append, flat_map-cons, Cell, Unknown, HasWidth, nth_row, row_cells, unknown_rows, with_row, Filed, outline_left, Input, row_pieces, OfCell, Piece, DueInEntry, RowCellDue, cells_due, Comes}
+use Rattle.rrd_file.proofs.Names.{refl, ◌∙◌, sym, ap, subst, length-set, arith, append-nil, length-replicate, map-append, AllByRecursion, flat_map-cons, Cell, Unknown, IsBounded, IsRow, HasWidth, nth_row, row_cells, unknown_rows, with_row, Filed, outline_left, Input, row_pieces, OfCell, Piece, DueInEntry, RowCellDue, cells_due, Comes}
 use Rattle.rrd_file.proofs.Turns.{more_row, no_cells, row_less, taken_all}
 
 unknown_many : (n width : ℕ) → length (unknown_rows n width) ≡ n
@@ -46,6 +46,17 @@ rows_go_on f n i rows row old new first h more is wide brings =
 pub pieces_of_cells : (rows : List (List Cell)) → map OfCell (row_cells rows) ≡ row_pieces rows
 pieces_of_cells [] = refl
 pieces_of_cells (row ∷ rows) = cc (flat_map-cons (λ (r : List Cell). r) row rows, map-append OfCell row (row_cells rows), pieces_of_cells rows, flat_map-cons (λ (r : List Cell). map OfCell r) row rows)
+
+all_before : (P : Cell → Type 0) (xs ys : List Cell) → AllByRecursion P (xs ++ ys) → AllByRecursion P xs × AllByRecursion P ys
+all_before P [] ys h = (tt, h)
+all_before P (x ∷ xs) ys h = let both = all_before P xs ys h.1 in ((h.0, both.0), both.1)
+
+-- rows of cells that were checked one by one
+pub bounded_rows : (width : ℕ) (rows : List (List Cell)) → HasWidth width rows → AllByRecursion IsBounded (row_cells rows) → AllByRecursion (IsRow width) rows
+bounded_rows width [] h k = tt
+bounded_rows width (row ∷ rows) h k =
+    let both = all_before IsBounded row (row_cells rows) (subst (AllByRecursion IsBounded) (flat_map-cons (λ (r : List Cell). r) row rows) k) in
+    (record { one_each = h.0; each = both.0 }, bounded_rows width rows h.1 both.1)
 
 -- ---- a table that rows are read into
 

@@ -1,6 +1,6 @@
 -- What one more turn of a loop over an entry's pieces adds, and what is due then.
 use Rattle.std.specs.Prelude.{◌≡◌, ◌++◌, ◌∷◌, ◌+◌, ◌-◌, ◌*◌, ◌<◌, ◌≤◌, ◌⊎◌, ℕ, zero, suc, List, [], length, take, drop, map, Some, replicate, slice_get, slice_set}
-use Rattle.rrd_file.proofs.Names.{◌∙◌, sym, ap, refl, arith, append_assoc, append-nil, flat_map, flat_map-append, map-append, replicate-append-replicate, take_more_set, flat_map-cons, Cell, Raw, Consolidating, Part, Function, AllOf, parts_in, EntryDue, NothingDue, Outline, RraDef, Entry, SavedArchive, Filed, due, with_entry, raws_and_parts, row_pieces, OfCell, OfPrep, OfRawAndPart, Piece, AreSavedShaped, IsSavedShaped, DueInEntry, NamedDue, RowCellDue, cells_due, named_due}
+use Rattle.rrd_file.proofs.Names.{◌∙◌, sym, ap, refl, arith, append_assoc, append-nil, flat_map, flat_map-append, map-append, replicate-append-replicate, take_more_set, flat_map-cons, All-append, length-append, Cell, Raw, IsAccepted, Consolidating, Part, Function, AllOf, parts_in, EntryDue, NothingDue, Outline, DsDef, RraDef, AreAccepted, AreParts, IsPart, MaySave, MaySaveEach, Entry, SavedArchive, Filed, due, with_entry, raws_and_parts, row_pieces, OfCell, OfPrep, OfRawAndPart, Piece, DueInEntry, NamedDue, RowCellDue, cells_due, named_due}
 use Rattle.rrd_file.proofs.Order.{before_entry}
 use native.Mathlib.Nat as nat
 
@@ -87,11 +87,26 @@ named_less lowest n i h = ap (named_due lowest) (less n i h)
 
 -- ---- what was saved
 
-pub shaped_more : (sources : ℕ) (defs : List RraDef) (j : ℕ) (def : RraDef) (olds : List SavedArchive) (old : SavedArchive) → slice_get defs j ≡ Some def → AreSavedShaped sources (take j defs) olds → IsSavedShaped sources def old → AreSavedShaped sources (take (j + 1) defs) (olds ++ old ∷ [])
-shaped_more sources [] j def olds old e h k = absurd cc
-shaped_more sources (d ∷ defs) zero def olds old e h k = grind arith
-shaped_more sources (d ∷ defs) (suc j) def [] old e h k = absurd h
-shaped_more sources (d ∷ defs) (suc j) def (o ∷ olds) old e h k = grind (arith, shaped_more sources defs j def olds old e h.1 k)
+pub saves_more : (step from to sources : ℕ) (defs : List RraDef) (j : ℕ) (def : RraDef) (olds : List SavedArchive) (old : SavedArchive) → slice_get defs j ≡ Some def → MaySaveEach step from to sources (take j defs) olds → MaySave step from to sources def old
+    → MaySaveEach step from to sources (take (j + 1) defs) (olds ++ old ∷ [])
+saves_more step from to sources [] j def olds old e h k = absurd cc
+saves_more step from to sources (d ∷ defs) zero def olds old e h k = grind arith
+saves_more step from to sources (d ∷ defs) (suc j) def [] old e h k = absurd h
+saves_more step from to sources (d ∷ defs) (suc j) def (o ∷ olds) old e h k = grind (arith, saves_more step from to sources defs j def olds old e h.1 k)
+
+-- ---- what was accepted
+
+pub accepted_more : (defs : List DsDef) (j : ℕ) (def : DsDef) (raws : List Raw) (raw : Raw) → slice_get defs j ≡ Some def → AreAccepted (take j defs) raws → IsAccepted def.kind raw → AreAccepted (take (j + 1) defs) (raws ++ raw ∷ [])
+accepted_more [] j def raws raw e h k = absurd cc
+accepted_more (d ∷ defs) zero def raws raw e h k = grind arith
+accepted_more (d ∷ defs) (suc j) def [] raw e h k = absurd h
+accepted_more (d ∷ defs) (suc j) def (r ∷ raws) raw e h k = grind (arith, accepted_more defs j def raws raw e h.1 k)
+
+pub parts_more : (function : Function) (sources passed : ℕ) (parts : List Part) (part : Part) → AreParts function sources passed parts → IsPart function passed part → AreParts function (sources + 1) passed (parts ++ part ∷ [])
+parts_more function sources passed parts part h k = record {
+  one_each = omega (arith, length-append parts (part ∷ []), h.one_each);
+  each = All-append (IsPart function passed) parts (part ∷ []) h.each (k, tt);
+}
 
 pub all_more : (function : Function) (preps : List Consolidating) (prep : Consolidating) → AllOf function preps → prep.function ≡ function → AllOf function (preps ++ prep ∷ [])
 all_more function [] prep h e = (e, tt)

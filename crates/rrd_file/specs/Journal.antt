@@ -1,6 +1,6 @@
 -- Glue: the properties of an entry that is written, and of one that was read record by record.
-use Rattle.std.specs.Prelude.{◌≡◌, ◌<◌, ℕ, List, [], ◌∷◌, length, ◌^◌}
-use Rattle.rrd_file.specs.Names.{Cell, HasWidth, SavedSource, Outline, RraDef, Entry, BeforeUpdate, SavedArchive, UpdateEntry, TuneEntry, ResizeEntry, AddedEntry, RemovedEntry, undone, Filed, Rra, Content, with_entry, Fits, IsValid}
+use Rattle.std.specs.Prelude.{◌≡◌, ◌<◌, ℕ, List, length, ◌^◌}
+use Rattle.rrd_file.specs.Names.{Cell, HasWidth, SavedSource, Outline, Entry, UpdateEntry, TuneEntry, ResizeEntry, AddedEntry, RemovedEntry, undone, Filed, Rra, Content, MayUpdate, outline_left, with_entry, Fits, IsValid}
 use Rattle.rrd_file.specs.Layout.Pieces.{Tag, AnUpdate, ATune, AResize, AnAddition, ARemoval}
 use Rattle.rrd_file.specs.declared.layout.Tag.{Tag as TagRead}
 use Rattle.rrd_file.specs.declared.layout.Tag.TheVariants as read
@@ -25,35 +25,19 @@ pub record AreRows (count sources : ℕ) (rows : List (List Cell)) : Type 0 wher
   pub as_many : length rows ≡ count
   pub one_width : HasWidth sources rows
 
--- the values that an update saved of an archive
-pub record IsSavedShaped (sources : ℕ) (def : RraDef) (old : SavedArchive) : Type 0 where
-  pub same_function : old.function ≡ def.function
-  pub one_part_each : length old.parts ≡ sources
-  pub one_cell_each : HasWidth sources old.rows
-
-abbrev pub AreSavedShaped : ℕ → List RraDef → List SavedArchive → Type 0
-AreSavedShaped sources [] [] = Unit {0}
-AreSavedShaped sources [] (old ∷ olds) = ⊥
-AreSavedShaped sources (def ∷ defs) [] = ⊥
-AreSavedShaped sources (def ∷ defs) (old ∷ olds) = IsSavedShaped sources def old × AreSavedShaped sources defs olds
-
-pub record IsUpdateShaped (now : Outline) (old : BeforeUpdate) : Type 0 where
-  pub one_raw_each : length old.raws ≡ length now.sources
-  pub one_part_each : length old.parts ≡ length now.sources
-  pub archives_are : AreSavedShaped (length now.sources) now.archives old.archives
-
 -- a removed archive
 pub record IsRemovedShaped (now : Outline) (archive : Rra) : Type 0 where
   pub one_part_each : length archive.parts ≡ length now.sources
   pub rows_are : length archive.rows ≡ archive.def.rows
   pub one_cell_each : HasWidth (length now.sources) archive.rows
 
-abbrev pub IsShaped : Outline → Entry → Type 0
-IsShaped now (UpdateEntry old) = IsUpdateShaped now old
-IsShaped now (TuneEntry olds) = Unit {0}
-IsShaped now (ResizeEntry archive rows) = HasWidth (length now.sources) rows
-IsShaped now AddedEntry = Unit {0}
-IsShaped now (RemovedEntry number archive) = IsRemovedShaped now archive
+-- an update was checked by pieces, and fits; of another entry the numbers of its values are known
+abbrev pub IsShaped : Filed → Entry → Type 0
+IsShaped f (UpdateEntry old) = MayUpdate f.header.step (outline_left f) old
+IsShaped f (TuneEntry olds) = Unit {0}
+IsShaped f (ResizeEntry archive rows) = HasWidth (length (outline_left f).sources) rows
+IsShaped f AddedEntry = Unit {0}
+IsShaped f (RemovedEntry number archive) = IsRemovedShaped (outline_left f) archive
 
 -- one more entry was read
 pub record HasOneMore (old new : Filed) : Type 0 where

@@ -2,7 +2,7 @@
 pub use Rattle.rrd_file.specs.Encoded.{HoldsBeforeJournal, HoldsCells, HoldsJournal, HoldsRows, HoldsSlots, cell_bytes, front_bytes, journal_bytes, row_bytes}
 pub use Rattle.rrd_file.specs.End.{archives_before, by_tag, by_version, count_in, head_size, parts_size, rows_size}
 pub use Rattle.rrd_file.specs.Faults.{Front, IsAnswer, IsBad, IsFault, IsFile, IsTrailing, IsTruncated, IsValidIn, IsWhole, bad_at, bad_in_body}
-pub use Rattle.rrd_file.specs.Journal.{AreRows, AreSavedShaped, HasOneMore, HasSmallNumber, IsEntryOfSome, IsRemovedShaped, IsSavedShaped, IsShaped, IsUpdateShaped, tag_said}
+pub use Rattle.rrd_file.specs.Journal.{AreRows, HasOneMore, HasSmallNumber, IsEntryOfSome, IsRemovedShaped, IsShaped, tag_said}
 pub use Rattle.rrd_file.specs.Laws.{EndIsFound, FileBegins, FrontHasTheFault, IsOfFile, RevertRestoresBytes, RevertRestoresBytesButOldest}
 pub use Rattle.rrd_file.specs.Layout.{body_pieces, entry_pieces, head_pieces, layout, layout_in, pieces_filed, raws_and_parts, row_pieces, saved_pieces, spelled}
 pub use Rattle.rrd_file.specs.Layout.Fitting.{FitsArchive, FitsBound, FitsCell, FitsDef, FitsHeader, FitsNumber, FitsPart, FitsRaw, FitsSavedSource, FitsSource, counts}

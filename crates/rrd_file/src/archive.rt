@@ -1,6 +1,6 @@
 //! The archive headers of a file: writing and reading. Each has the settings and the partial rows.
-ghost use Rattle.std.specs.Prelude.{◌≡◌, ◌+◌, ◌^◌, ◌<◌, ◌≤◌, ℕ, [], ◌∷◌, ◌++◌, ◌≢◌, IfOk, IfSome, List, None, OnOk, Some, length, map, replicate, slice_get, unsigned_abs};
-ghost use Rattle.rrd_file.specs.Names.{flat_map, filed, head_of, newest, present, Rra, AllOf, parts_in, RraDef, due, outline_left, EntryDue, HeadDue, PrepDue};
+ghost use Rattle.std.specs.Prelude.{◌≡◌, ◌+◌, ◌^◌, ◌/◌, ◌%◌, ◌<◌, ◌≤◌, ℕ, [], ◌∷◌, ◌++◌, ◌≢◌, IfOk, IfSome, List, None, OnOk, Some, length, map, replicate, slice_get, unsigned_abs};
+ghost use Rattle.rrd_file.specs.Names.{flat_map, filed, head_of, newest, present, Rra, AllOf, AreParts, IsRowPart, parts_in, RraDef, due, outline_left, EntryDue, HeadDue, PrepDue};
 ghost use Rattle.rrd_file.specs.Words.{head_pieces, spelled, OfArchive, OfPrep, Piece, spell, Gathers, Body, DueInEntry, RowPrepDue, FitsArchive, Advances, Brings, Comes, Reaches, Stands};
 ghost use Rattle.rrd_file.specs.Layout.Values as spelling;
 
@@ -198,6 +198,7 @@ fn read_row_prep<R: Read + Drop>(
         → Comes bytes build.now pieces (RowPrepDue last def.now ∷ later) input.old
         → Brings bytes build.now (λ prep. pieces ++ OfPrep prep.part ∷ []) (λ prep. later) input.new result }
     ensures function { IfOk result (λ prep. prep.function ≡ def.now.function) }
+    ensures checked { IfOk result (λ prep. IsRowPart build.now.header.step last def.now prep.part) }
 {
     let mut piece = [0u8; PREP_SIZE];
     input.piece(&mut piece)?;
@@ -226,7 +227,8 @@ pub(crate) fn read_row_preps<R: Read + Drop>(
         → Brings bytes build.now (λ preps. pieces ++ map OfPrep (parts_in preps.items)) (λ preps. later)
         input.new result }
     ensures function { IfOk result (λ preps. AllOf def.now.function preps.items) }
-    ensures shaped { IfOk result (λ preps. length preps.items ≡ length (outline_left build.now).sources) }
+    ensures checked { IfOk result (λ preps. AreParts def.now.function (length (outline_left build.now).sources)
+        (last / build.now.header.step % def.now.steps) (parts_in preps.items)) }
 {
     let sources = build.sources();
     let mut preps = EachSource::with_capacity(alloc, sources as usize)?;

@@ -1,6 +1,6 @@
 //! The entries of the journal, newest first: writing and reading.
 ghost use Rattle.std.specs.Prelude.{◌≡◌, ◌≤◌, ◌∷◌, [], ℕ, IfOk, List, OnOk, length, take, true};
-ghost use Rattle.rrd_file.specs.Names.{flat_map, due, limits, outline_left, EntryDue, entry_of};
+ghost use Rattle.rrd_file.specs.Names.{flat_map, due, limits, EntryDue, entry_of};
 ghost use Rattle.rrd_file.specs.Words.{Gathers, HasOneMore, IsEntryOfSome, IsShaped, tag_said, entry_pieces, spelled, OfTag, Body, IsTagWithin, first_due, Brings, Closes, Reaches, Stands};
 
 use crate::FileFault;
@@ -104,7 +104,7 @@ fn read_untaken<R: Read + Drop>(
     requires { due build.now ≡ EntryDue }
     ensures closes { (bytes : List ℕ) → Stands bytes (Body build.now) input.old
         → Closes bytes build.now input.new result }
-    ensures shaped { IfOk result (λ entry. IsShaped (outline_left build.now) (entry_of entry)) }
+    ensures shaped { IfOk result (λ entry. IsShaped build.now (entry_of entry)) }
 {
     match read_tag(input, build)? {
         Tag::AnUpdate => read_update(alloc, input, build),

@@ -1,6 +1,6 @@
--- Glue: the outlines on which a check of an entry works; and the names of a tune.
+-- Glue: the outlines on which a check of an entry works; what its readers have checked; and the names of a tune.
 use Rattle.std.specs.Prelude.{◌≡◌, ◌<◌, ◌≤◌, List, length, sum}
-use Rattle.rrd_base.specs.Names.{AllByRecursion, Name, SavedSource, Outline, Version, Content, limits_of, present, AddedEntry, Entry, RemovedEntry, ResizeEntry, TuneEntry, UpdateEntry, IsRemovedNumber, outline_of, rows_of, IsValidWithin}
+use Rattle.rrd_base.specs.Names.{AllByRecursion, Name, SavedSource, Outline, Version, Content, limits_of, present, AddedEntry, Entry, RemovedEntry, ResizeEntry, TuneEntry, UpdateEntry, IsRemovedNumber, MayUpdate, outline_of, rows_of, IsValidWithin}
 use Rattle.rrd_spec.specs.Journal.Fitting.{IsArchiveDef}
 use Rattle.rrd_base.specs.Rebuild.Validators.{EntryValidator}
 use Rattle.rrd_base.specs.Tune.{with_kept}
@@ -30,6 +30,14 @@ HasPlace now (TuneEntry olds) = Unit {0}
 HasPlace now (ResizeEntry archive rows) = Unit {0}
 HasPlace now AddedEntry = Unit {0}
 HasPlace now (RemovedEntry number archive) = IsRemovedNumber present now number
+
+-- what the readers of its pieces have checked of the next entry: all of an update; the others are checked as a whole
+abbrev pub IsChecked : EntryValidator → Entry → Type 0
+IsChecked j (UpdateEntry old) = MayUpdate j.step j.outline old
+IsChecked j (TuneEntry olds) = Unit {0}
+IsChecked j (ResizeEntry archive rows) = Unit {0}
+IsChecked j AddedEntry = Unit {0}
+IsChecked j (RemovedEntry number archive) = Unit {0}
 
 -- the names after the data sources of a tune's entry are restored
 abbrev pub with_names : List Name → List SavedSource → List Name

@@ -1,18 +1,20 @@
 //! The checks of a complete journal entry against an outline: each piece by its rule in `EntryValidator`.
+//!
+//! Updates are by far the most entries: a reader checks all of their rules piece by piece, and nothing is left to check.
 ghost use Rattle.std.specs.Prelude.{◌≡◌, ◌%◌, ◌/◌, List, ◌<◌, ◌≤◌, length, true};
-ghost use Rattle.rrd_base.specs.Names.{AllByRecursion, Average, parts_in, limits_of, present, AddedEntry, with_sources, IsSavedSource, MayRemove, MayResize, MaySave, MaySaveEach, MayTune, MayUndo, MayUpdate, names, AreAccepted, AreParts, IsPart, IsRow, Rise};
-ghost use Rattle.rrd_base.specs.Words.{entry_of, update_of};
+ghost use Rattle.rrd_base.specs.Names.{AllByRecursion, parts_in, limits_of, present, AddedEntry, with_sources, IsSavedSource, MayRemove, MayResize, MayTune, MayUndo, names, AreParts, IsPart, IsRow, Rise};
+ghost use Rattle.rrd_base.specs.Words.{IsChecked, entry_of};
 ghost use Rattle.rrd_spec.specs.Journal.Fitting.{IsArchiveDef};
 
 use super::piece_checks::are_bounded;
 use super::validator::EntryValidator;
-use crate::journal::{BeforeUpdate, Entry, SavedArchive, put_back};
+use crate::journal::{Entry, put_back};
 use crate::named::has_double_name;
 use crate::rra::Rra;
 use crate::{DsDef, RraDef, SavedSource};
 use arrayvec::ArrayVec;
-use rrd_fixed::{Name, Raw, StoredCell};
-use rrd_fold::{RowPrep, StepPrep};
+use rrd_fixed::{Name, StoredCell};
+use rrd_fold::RowPrep;
 use rrd_ring::{Archive, Table};
 use rrd_spec::limits::MAX_SOURCES;
 
@@ -39,40 +41,7 @@ fn are_rows<T: Table>(rows: &T, sources: usize) -> bool
     true
 }
 
-// ---- entries of updates
-
-// Returns whether each data source accepts its raw value.
-fn are_raws(validator: &EntryValidator, raws: &[Raw]) -> bool
-    ensures good { result ≡ true → AreAccepted validator.now.outline.sources raws.now }
-    ensures bad { AreAccepted validator.now.outline.sources raws.now → result ≡ true }
-{
-    let sources = validator.outline().sources.len();
-    if raws.len() != sources {
-        return false;
-    }
-    for source in 0..sources {
-        if !validator.accepts_raw(source, raws[source]) {
-            return false;
-        }
-    }
-    true
-}
-
-// Returns whether these can be the partial steps of data sources at `last`.
-fn are_step_parts(validator: &EntryValidator, last: u64, preps: &[StepPrep]) -> bool
-    ensures good { result ≡ true → AllByRecursion (IsPart Average (last % validator.now.step)) preps.now }
-    ensures bad { AllByRecursion (IsPart Average (last % validator.now.step)) preps.now → result ≡ true }
-{
-    for prep in preps {
-        if validator
-            .step_part(last, prep.known(), prep.sum())
-            .is_none()
-        {
-            return false;
-        }
-    }
-    true
-}
+// ---- partial rows
 
 // Returns whether these can be partial rows at `last` in an archive with these settings.
 fn are_row_parts(validator: &EntryValidator, last: u64, def: &RraDef, preps: &[RowPrep]) -> bool
@@ -102,51 +71,6 @@ fn are_preps(validator: &EntryValidator, last: u64, def: &RraDef, preps: &[RowPr
         (last / validator.now.step % def.now.steps) (parts_in preps.now) → result ≡ true }
 {
     preps.len() == validator.outline().sources.len() && are_row_parts(validator, last, def, preps)
-}
-
-// Returns whether an update from `from` may have saved these values of an archive with these settings.
-fn may_save(validator: &EntryValidator, from: u64, def: &RraDef, old: &SavedArchive) -> bool
-    requires { IsArchiveDef present def.now }
-    ensures good { result ≡ true → MaySave validator.now.step from validator.now.outline.last
-        (length validator.now.outline.sources) def.now old.now }
-    ensures bad { MaySave validator.now.step from validator.now.outline.last
-        (length validator.now.outline.sources) def.now old.now → result ≡ true }
-{
-    old.function() == def.function
-        && are_preps(validator, from, def, old.preps())
-        && old.rows().len() == validator.replaced_row_count(from, def)
-        && are_rows(old.rows(), validator.outline().sources.len())
-}
-
-// Returns whether an update from `from` may have saved these values of each archive.
-fn may_save_each(validator: &EntryValidator, from: u64, olds: &[SavedArchive]) -> bool
-    ensures good { result ≡ true → MaySaveEach validator.now.step from validator.now.outline.last
-        (length validator.now.outline.sources) validator.now.outline.archives olds.now }
-    ensures bad { MaySaveEach validator.now.step from validator.now.outline.last
-        (length validator.now.outline.sources) validator.now.outline.archives olds.now → result ≡ true }
-{
-    let archives = validator.outline().archives.len();
-    if olds.len() != archives {
-        return false;
-    }
-    for archive in 0..archives {
-        if !may_save(validator, from, validator.archive(archive), &olds[archive]) {
-            return false;
-        }
-    }
-    true
-}
-
-// Returns whether an update may have left this outline.
-fn may_update(validator: &EntryValidator, old: &BeforeUpdate) -> bool
-    ensures good { result ≡ true → MayUpdate validator.now.step validator.now.outline (update_of old.now) }
-    ensures bad { MayUpdate validator.now.step validator.now.outline (update_of old.now) → result ≡ true }
-{
-    validator.is_before_last_time(old.last)
-        && old.preps.len() == validator.outline().sources.len()
-        && are_raws(validator, &old.raws)
-        && are_step_parts(validator, old.last, &old.preps)
-        && may_save_each(validator, old.last, &old.archives)
 }
 
 // ---- entries of tunes
@@ -240,15 +164,16 @@ fn may_remove(validator: &EntryValidator, archive: u64, old: &Rra) -> bool
 }
 
 impl EntryValidator {
-    /// Returns whether an entry fits the outline.
+    /// Returns whether an entry fits the outline. An update's pieces were all checked while they were read.
     pub(super) fn may_undo(&self, entry: &Entry) -> bool
+        requires { IsChecked self.now (entry_of entry.now) }
         ensures good { result ≡ true
             → MayUndo (limits_of self.now.version) self.now.step self.now.outline (entry_of entry.now) }
         ensures bad { MayUndo (limits_of self.now.version) self.now.step self.now.outline (entry_of entry.now)
             → result ≡ true }
     {
         match entry {
-            Entry::Update(old) => may_update(self, old),
+            Entry::Update(_) => true,
             Entry::Tune(olds) => may_tune(self, olds.as_slice()),
             Entry::Resize { archive, old } => may_resize(self, *archive, old),
             Entry::Added => may_add(self),

@@ -1,7 +1,7 @@
 //! The checks of journal entries while a file is read.
 //!
 //! Each rule of an entry is here once: a reader checks each piece of an entry by it, and `may_undo` checks the
-//! complete entry.
+//! complete entry, unless it is of an update.
 ghost use Rattle.std.specs.Prelude.{◌≡◌, ◌++◌, ◌∷◌, [], ◌%◌, ◌<◌, ◌≤◌, IfOk, IfSome, None, OnErr, OnOk, Some, length, min, slice_get, slice_index_or, true};
 ghost use Rattle.rrd_base.specs.Names.{IsAccepted, Average, IsRowPart, rows_between, AreOldRows, AreRemovedSettings, IsRemovedNumber, IsSavedSource, outline_undone, allows_archive_changes_of, limits_of, max_tuned, present, IsPart, DsDef};
 ghost use Rattle.rrd_base.specs.Words.{entry_of, HasPlace, IsOutline, EntryValidator};

@@ -114,7 +114,7 @@ pub(super) fn read_removed<R: Read + Drop>(
     requires { due build.now ≡ EntryDue }
     ensures closes { (bytes : List ℕ) → Comes bytes build.now (OfTag ARemoval ∷ []) (first_due ARemoval) input.old
         → Closes bytes build.now input.new result }
-    ensures shaped { IfOk result (λ entry. IsShaped (outline_left build.now) (entry_of entry)) }
+    ensures shaped { IfOk result (λ entry. IsShaped build.now (entry_of entry)) }
 {
     let archive = read_removed_number(input, build)?;
     let def = read_removed_settings(input, build)?;

@@ -105,7 +105,7 @@ pub(super) fn read_resize<R: Read + Drop>(
     requires { due build.now ≡ EntryDue }
     ensures closes { (bytes : List ℕ) → Comes bytes build.now (OfTag AResize ∷ []) (first_due AResize) input.old
         → Closes bytes build.now input.new result }
-    ensures shaped { IfOk result (λ entry. IsShaped (outline_left build.now) (entry_of entry)) }
+    ensures shaped { IfOk result (λ entry. IsShaped build.now (entry_of entry)) }
 {
     let archive = read_number(input, build)?;
     let count = read_old_row_count(input, build, archive)?;

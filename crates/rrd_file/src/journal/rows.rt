@@ -1,6 +1,6 @@
 //! The rows of entries: reading. The module `cells` writes them.
 ghost use Rattle.std.specs.Prelude.{◌<◌, ◌≤◌, ◌∷◌, [], ◌≡◌, ◌++◌, ℕ, IfOk, List, length, map, replicate};
-ghost use Rattle.rrd_file.specs.Names.{small_vec_len, present, due, outline_left, EntryDue};
+ghost use Rattle.rrd_file.specs.Names.{AllByRecursion, IsBounded, IsRow, small_vec_len, present, due, outline_left, EntryDue};
 ghost use Rattle.rrd_file.specs.Words.{row_pieces, OfCell, Piece, AreRows, DueInEntry, RowCellDue, cells_due, Brings, Comes};
 
 use crate::FileFault;
@@ -19,9 +19,10 @@ fn read_row_cell<R: Read + Drop>(
     input: &mut PieceReader<R>,
     build: &Rebuild,
 ) -> Result<StoredCell, FileFault>
-    ensures { (bytes : List ℕ) (pieces : List Piece) (later : List DueInEntry)
+    ensures brings { (bytes : List ℕ) (pieces : List Piece) (later : List DueInEntry)
         → Comes bytes build.now pieces (RowCellDue ∷ later) input.old
         → Brings bytes build.now (λ cell. pieces ++ OfCell cell ∷ []) (λ cell. later) input.new result }
+    ensures bounded { IfOk result (λ cell. IsBounded cell) }
 {
     let mut piece = [0u8; CELL_SIZE];
     input.piece(&mut piece)?;
@@ -60,6 +61,7 @@ fn read_saved_cells<R: Read + Drop>(
         → Comes bytes build.now pieces (replicate count RowCellDue ++ later) input.old
         → Brings bytes build.now (λ cells. pieces ++ map OfCell cells.items) (λ cells. later) input.new result }
     ensures all { IfOk result (λ cells. small_vec_len cells ≡ count) }
+    ensures bounded { IfOk result (λ cells. AllByRecursion IsBounded cells.items) }
 {
     let mut cells = DroppedCells::with_capacity(alloc, count as usize)?;
     for _ in 0..count {
@@ -81,7 +83,8 @@ pub(super) fn read_saved_rows<R: Read + Drop>(
     ensures brings { (bytes : List ℕ) (pieces : List Piece) (later : List DueInEntry)
         → Comes bytes build.now pieces (cells_due count (outline_left build.now) ++ later) input.old
         → Brings bytes build.now (λ rows. pieces ++ row_pieces rows) (λ rows. later) input.new result }
-    ensures shaped { IfOk result (λ rows. AreRows count (length (outline_left build.now).sources) rows) }
+    ensures as_many { IfOk result (λ rows. length rows ≡ count) }
+    ensures each_row { IfOk result (λ rows. AllByRecursion (IsRow (length (outline_left build.now).sources)) rows) }
 {
     let sources = build.sources();
     let cells = read_saved_cells(alloc, input, build, count * sources)?;

@@ -1,6 +1,6 @@
 //! The entry of a tune of data sources: writing and reading.
 ghost use Rattle.std.specs.Prelude.{◌≡◌, ◌<◌, ◌≤◌, ◌^◌, ◌∷◌, [], ◌≢◌, ◌+◌, ◌++◌, ℕ, IfOk, IfSome, List, None, length, map};
-ghost use Rattle.rrd_file.specs.Names.{AllByRecursion, TuneEntry, max_tuned, present, SavedSource, outline_left, entry_of};
+ghost use Rattle.rrd_file.specs.Names.{AllByRecursion, TuneEntry, max_tuned, present, SavedSource, entry_of};
 ghost use Rattle.rrd_file.specs.Words.{Gathers, HasSmallNumber, IsShaped, entry_pieces, spelled, ATune, OfCount, OfSavedSource, OfTag, Piece, spell, CountDue, DueInEntry, NamedDue, first_due, named_due, FitsSavedSource, Brings, Closes, Comes};
 
 use crate::FileFault;
@@ -141,7 +141,7 @@ pub(super) fn read_tune<R: Read + Drop>(
 ) -> Result<Entry, FileFault>
     ensures closes { (bytes : List ℕ) → Comes bytes build.now (OfTag ATune ∷ []) (first_due ATune) input.old
         → Closes bytes build.now input.new result }
-    ensures shaped { IfOk result (λ entry. IsShaped (outline_left build.now) (entry_of entry)) }
+    ensures shaped { IfOk result (λ entry. IsShaped build.now (entry_of entry)) }
 {
     let count = read_count(input, build)?;
     let mut olds = ArrayVec::new();

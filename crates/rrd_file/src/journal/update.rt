@@ -1,7 +1,7 @@
 //! The entry of an update: writing and reading.
-ghost use Rattle.std.specs.Prelude.{◌≡◌, ◌≤◌, ◌∷◌, [], ◌<◌, ◌++◌, ℕ, IfOk, List, Some, length, map, min, slice_get};
-ghost use Rattle.rrd_file.specs.Names.{flat_map, UpdateEntry, rows_between, IsArchiveDef, present, due, outline_left, EntryDue, DsDef, RraDef, entry_of, update_of};
-ghost use Rattle.rrd_file.specs.Words.{Gathers, entry_pieces, raws_and_parts, saved_pieces, spelled, AnUpdate, OfRawAndPart, OfRows, OfTag, OfTime, Piece, spell, AreSavedShaped, IsSavedShaped, IsShaped, BeforeDue, DueInEntry, RowsDue, TimeDue, archive_due, behind, first_due, Brings, Closes, Comes};
+ghost use Rattle.std.specs.Prelude.{◌≡◌, ◌%◌, ◌≤◌, ◌∷◌, [], ◌<◌, ◌++◌, ℕ, IfOk, List, Some, length, map, min, slice_get};
+ghost use Rattle.rrd_file.specs.Names.{flat_map, Average, IsAccepted, AreAccepted, AreParts, IsPart, MaySave, MaySaveEach, UpdateEntry, rows_between, IsArchiveDef, present, due, outline_left, EntryDue, DsDef, RraDef, entry_of, update_of};
+ghost use Rattle.rrd_file.specs.Words.{Gathers, entry_pieces, raws_and_parts, saved_pieces, spelled, AnUpdate, OfRawAndPart, OfRows, OfTag, OfTime, Piece, spell, IsShaped, BeforeDue, DueInEntry, RowsDue, TimeDue, archive_due, behind, first_due, Brings, Closes, Comes};
 
 use crate::FileFault;
 use crate::archive::{read_row_preps, write_preps};
@@ -117,11 +117,12 @@ pub(super) fn write_update<W: Write>(
 
 // Reads the last time before an update.
 fn read_time<R: Read + Drop>(input: &mut PieceReader<R>, build: &Rebuild) -> Result<u64, FileFault>
-    ensures { (bytes : List ℕ) (pieces : List Piece) (later : List DueInEntry)
+    ensures brings { (bytes : List ℕ) (pieces : List Piece) (later : List DueInEntry)
         → Comes bytes build.now pieces (TimeDue ∷ later) input.old
         → Brings bytes build.now (λ last. pieces ++ OfTime last ∷ [])
         (λ last. behind build.now.header.step (outline_left build.now) TimeDue (OfTime last) ++ later)
         input.new result }
+    ensures earlier { IfOk result (λ last. last < (outline_left build.now).last) }
 {
     let mut piece = [0u8; TIME_SIZE];
     input.piece(&mut piece)?;
@@ -140,11 +141,14 @@ fn read_raw_and_part<R: Read + Drop>(
     source: usize,
 ) -> Result<(Raw, StepPrep), FileFault>
     requires { source < length (outline_left build.now).sources }
-    ensures { (bytes : List ℕ) (pieces : List Piece) (later : List DueInEntry) (def : DsDef)
+    ensures brings { (bytes : List ℕ) (pieces : List Piece) (later : List DueInEntry) (def : DsDef)
         → slice_get (outline_left build.now).sources source ≡ Some def
         → Comes bytes build.now pieces (BeforeDue last def ∷ later) input.old
         → Brings bytes build.now (λ both. pieces ++ OfRawAndPart both.0 both.1 ∷ []) (λ both. later)
         input.new result }
+    ensures raw { (def : DsDef) → slice_get (outline_left build.now).sources source ≡ Some def
+        → IfOk result (λ both. IsAccepted def.kind both.0) }
+    ensures part { IfOk result (λ both. IsPart Average (last % build.now.header.step) both.1) }
 {
     let mut piece = [0u8; BEFORE_UPDATE_SIZE];
     input.piece(&mut piece)?;
@@ -169,8 +173,9 @@ fn read_raws_and_parts<R: Read + Drop>(
         → Comes bytes build.now pieces (map (BeforeDue last) (outline_left build.now).sources ++ later) input.old
         → Brings bytes build.now (λ both. pieces ++ raws_and_parts both.0.items both.1.items) (λ both. later)
         input.new result }
-    ensures shaped { IfOk result (λ both. (length both.0.items ≡ length (outline_left build.now).sources)
-        × (length both.1.items ≡ length (outline_left build.now).sources)) }
+    ensures raws { IfOk result (λ both. AreAccepted (outline_left build.now).sources both.0.items) }
+    ensures parts { IfOk result (λ both. AreParts Average (length (outline_left build.now).sources)
+        (last % build.now.header.step) both.1.items) }
 {
     let sources = build.undone().sources.len();
     let mut raws = EachSource::with_capacity(alloc, sources)?;
@@ -224,8 +229,9 @@ fn read_saved<R: Read + Drop>(
         → Comes bytes build.now pieces
         (archive_due build.now.header.step (outline_left build.now) last def ++ later) input.old
         → Brings bytes build.now (λ old. pieces ++ saved_pieces old) (λ old. later) input.new result }
-    ensures shaped { (def : RraDef) → slice_get (outline_left build.now).archives archive ≡ Some def
-        → IfOk result (IsSavedShaped (length (outline_left build.now).sources) def) }
+    ensures checked { (def : RraDef) → slice_get (outline_left build.now).archives archive ≡ Some def
+        → IfOk result (MaySave build.now.header.step last (outline_left build.now).last
+        (length (outline_left build.now).sources) def) }
 {
     let def = build.validator().archive(archive);
     let preps = read_row_preps(alloc, input, build, last, def)?;
@@ -247,8 +253,8 @@ fn read_all_saved<R: Read + Drop>(
         (flat_map (archive_due build.now.header.step (outline_left build.now) last) (outline_left build.now).archives
         ++ later) input.old
         → Brings bytes build.now (λ olds. pieces ++ flat_map saved_pieces olds.items) (λ olds. later) input.new result }
-    ensures shaped { IfOk result (λ olds. AreSavedShaped (length (outline_left build.now).sources)
-        (outline_left build.now).archives olds.items) }
+    ensures checked { IfOk result (λ olds. MaySaveEach build.now.header.step last (outline_left build.now).last
+        (length (outline_left build.now).sources) (outline_left build.now).archives olds.items) }
 {
     let archives = build.undone().archives.len();
     let mut olds = Vec::with_capacity(alloc, archives)?;
@@ -268,7 +274,7 @@ pub(super) fn read_update<R: Read + Drop>(
     requires { due build.now ≡ EntryDue }
     ensures closes { (bytes : List ℕ) → Comes bytes build.now (OfTag AnUpdate ∷ []) (first_due AnUpdate) input.old
         → Closes bytes build.now input.new result }
-    ensures shaped { IfOk result (λ entry. IsShaped (outline_left build.now) (entry_of entry)) }
+    ensures shaped { IfOk result (λ entry. IsShaped build.now (entry_of entry)) }
 {
     let last = read_time(input, build)?;
     let (raws, preps) = read_raws_and_parts(alloc, input, build, last)?;

@@ -4,16 +4,16 @@ ghost use Rattle.rrd_base.specs.Names.{IsBounded};
 use crate::shared::assert_bytes;
 use arrayvec::ArrayVec;
 use rrd_base::{
-    BeforeUpdate, Database, DsDef, Due, EachSource, Entry, Header, PieceFault, Rebuild, RraDef,
-    SavedArchive, SavedSource, Version,
+    Database, DsDef, Due, Entry, Header, PieceFault, Rebuild, RraDef, SavedSource, Version,
 };
 use rrd_fixed::{Kind, Name, Raw, StoredCell};
-use rrd_fold::{Function, RowPrep, StepPrep};
-use rrd_ring::{Dropped, DroppedCells};
+use rrd_fold::Function;
+use rrd_spec::limits::MAX_TUNED;
 use std::alloc::Global;
 use std::process::Abort;
 use std::test::Fail;
-use test_data::worked_files::{file_of, sampled_file};
+use test_data::joined;
+use test_data::worked_files::{ONE_RENAMED, file_of, joined_parts, sampled_file};
 
 // An unknown cell.
 fn none() -> StoredCell
@@ -94,19 +94,15 @@ fn with_cells(alloc: Global) -> Result<Rebuild, Fail> {
     Ok(pieces)
 }
 
-// What was before the sample, the last time being this one: of the archive one row fell out.
-fn before(alloc: Global, last: u64) -> Result<Entry, Fail> {
-    let preps = EachSource::from_slice(alloc, &[RowPrep::new(Function::Last)])?;
-    let cells = DroppedCells::from_slice(alloc, &[none()])?;
-    let saved = SavedArchive::new(Function::Last, preps, Dropped::from_cells(cells, 1, 1));
-    let mut archives = Vec::new(alloc);
-    archives.push(saved)?;
-    Ok(Entry::Update(BeforeUpdate {
-        last,
-        raws: EachSource::from_slice(alloc, &[Raw::Unknown])?,
-        preps: EachSource::from_slice(alloc, &[StepPrep::new()])?,
-        archives,
-    }))
+// What a tune kept of the source with a number: it was `a`.
+fn before(number: u64) -> Result<ArrayVec<SavedSource, MAX_TUNED>, Fail> {
+    let mut olds = ArrayVec::new();
+    olds.push(SavedSource {
+        number,
+        source: gauge(b"a", 100)?,
+        raw: Raw::Unknown,
+    });
+    Ok(olds)
 }
 
 // The database of all pieces.
@@ -117,15 +113,24 @@ pub(super) fn finished(rt: &impl Abort, pieces: Rebuild) -> Database {
     pieces.finish()
 }
 
+// The file of the pieces with cells, and of a tune.
+fn tuned_file(alloc: Global) -> Result<Vec<u8>, Fail> {
+    let sampled = sampled_file(alloc)?;
+    let entry = joined_parts(alloc, ONE_RENAMED.get(13..).ok_or("short")?)?;
+    let front = sampled.get(..224).ok_or("short")?;
+    Ok(joined(alloc, &[front, &entry])?)
+}
+
 #[test]
 fn a_file_made_again_by_its_pieces(rt: HostRuntime) -> Result<(), Fail> {
     let alloc = rt.alloc();
     let mut pieces = with_cells(alloc)?;
-    taken(pieces.entry(before(alloc, 0)?))?;
-    assert_eq!(&rt; pieces.undone().last, 0);
+    taken(pieces.entry(Entry::Tune(before(0)?)))?;
+    let undone = pieces.undone().sources.as_slice();
+    assert_eq!(&rt; undone.first().ok_or("none")?.name.as_str(), "a");
     let database = finished(&rt, pieces);
     let file = file_of(alloc, &database)?;
-    assert_bytes(&rt, &file, &sampled_file(alloc)?, "made again");
+    assert_bytes(&rt, &file, &tuned_file(alloc)?, "made again");
     Ok(())
 }
 
@@ -247,20 +252,14 @@ fn rows_that_come_at_once(rt: HostRuntime) -> Result<(), Fail> {
     Ok(())
 }
 
-// An update that took no time, and a tune of a source that isn't there: the right one fits after them.
+// An addition of the only archive, and a tune of a source that isn't there: the right one fits after them.
 #[test]
 fn bad_entries(rt: HostRuntime) -> Result<(), Fail> {
     let alloc = rt.alloc();
     let mut pieces = with_cells(alloc)?;
-    assert_eq!(&rt; pieces.entry(before(alloc, 10)?), BAD);
-    let mut olds = ArrayVec::new();
-    olds.push(SavedSource {
-        number: 1,
-        source: gauge(b"h", 100)?,
-        raw: Raw::Unknown,
-    });
-    assert_eq!(&rt; pieces.entry(Entry::Tune(olds)), BAD);
-    taken(pieces.entry(before(alloc, 0)?))?;
+    assert_eq!(&rt; pieces.entry(Entry::Added), BAD);
+    assert_eq!(&rt; pieces.entry(Entry::Tune(before(1)?)), BAD);
+    taken(pieces.entry(Entry::Tune(before(0)?)))?;
     assert_eq!(&rt; finished(&rt, pieces).undoable(), 1);
     Ok(())
 }

@@ -7,7 +7,7 @@ returns-in_err-row-clause-brings g c = λ bytes pieces later st.
     let n = length c.args.row.now in
     let i = c.loop-i.i in
     let more : i < n = omega arith in
-    rw (p.1, p.2) (c.in_err-row.ensures bytes (pieces ++ map OfCell (take i c.loop-i.row)) (replicate (n - (i + 1)) RowCellDue ++ later)
+    rw (p.1, p.2) (c.in_err-row.ensures.brings bytes (pieces ++ map OfCell (take i c.loop-i.row)) (replicate (n - (i + 1)) RowCellDue ++ later)
     (subst (λ (l : List DueInEntry). Comes bytes c.args.build.now (pieces ++ map OfCell (take i c.loop-i.row)) l c.loop-i.input) (one_less RowCellDue n i later more) (c.loop-i.invariant.1 bytes pieces later st)))
 
 pub loop-i-preserved : goal.loop-i-preserved
@@ -20,7 +20,7 @@ loop-i-preserved g c =
       omega (arith, length-set {A = Cell}, c.loop-i.invariant.0),
       λ bytes pieces later st.
           subst (λ (l : List Piece). Comes bytes c.args.build.now l (replicate (n - (i + 1)) RowCellDue ++ later) c.read_row_cell.new.input) (more_cell pieces c.loop-i.row i cell within)
-          (c.in_ok-row.ensures bytes (pieces ++ map OfCell (take i c.loop-i.row)) (replicate (n - (i + 1)) RowCellDue ++ later)
+          (c.in_ok-row.ensures.brings bytes (pieces ++ map OfCell (take i c.loop-i.row)) (replicate (n - (i + 1)) RowCellDue ++ later)
           (subst (λ (l : List DueInEntry). Comes bytes c.args.build.now (pieces ++ map OfCell (take i c.loop-i.row)) l c.loop-i.input) (one_less RowCellDue n i later more) (c.loop-i.invariant.1 bytes pieces later st))),
     )
 

@@ -1,4 +1,4 @@
-use Rattle.rrd_file.proofs.Common.{◌≡◌, ◌∙◌, ◌+◌, ◌<◌, ◌++◌, ◌∷◌, [], List, sym, ap, take, drop, length, subst, rules, flat_map, err_from_is_err_and, SavedArchive, outline_left, saved_pieces, Piece, AreSavedShaped, DueInEntry, archive_due, Comes, there, more_flat, next_archive, shaped_more}
+use Rattle.rrd_file.proofs.Common.{◌≡◌, ◌∙◌, ◌+◌, ◌<◌, ◌++◌, ◌∷◌, [], List, sym, ap, take, drop, length, subst, rules, flat_map, err_from_is_err_and, SavedArchive, outline_left, MaySaveEach, saved_pieces, Piece, DueInEntry, archive_due, Comes, there, more_flat, next_archive, saves_more}
 use Rattle.rrd_file.proofs.journal.update.read_all_saved.Goals as goal
 
 pub returns-in_err-old-clause-brings : goal.returns-in_err-old-clause-brings
@@ -19,8 +19,9 @@ loop-archive-preserved g c =
     let found = there now.archives i more in
     let olds = c.loop-archive.olds.items in
     let old = c.in_ok-old.old in
+    let step = c.args.build.now.header.step in
     let items : c.push.new.self.items ≡ olds ++ old ∷ [] = search rules in (
-      subst (AreSavedShaped (length now.sources) (take (i + 1) now.archives)) (sym items) (shaped_more (length now.sources) now.archives i found.0 olds old found.1 c.loop-archive.invariant.0 (c.in_ok-old.ensures.shaped found.0 found.1)),
+      subst (MaySaveEach step c.args.last now.last (length now.sources) (take (i + 1) now.archives)) (sym items) (saves_more step c.args.last now.last (length now.sources) now.archives i found.0 olds old found.1 c.loop-archive.invariant.0 (c.in_ok-old.ensures.checked found.0 found.1)),
       λ bytes pieces later st.
           subst (λ (l : List Piece). Comes bytes c.args.build.now l (flat_map (archive_due c.args.build.now.header.step now c.args.last) (drop (i + 1) now.archives) ++ later) c.read_saved.new.input) (more_flat saved_pieces pieces olds old ∙ ap (λ (l : List SavedArchive). pieces ++ flat_map saved_pieces l) (sym items))
           (c.in_ok-old.ensures.brings bytes (pieces ++ flat_map saved_pieces olds) (flat_map (archive_due c.args.build.now.header.step now c.args.last) (drop (i + 1) now.archives) ++ later) found.0 found.1
