@@ -11,6 +11,7 @@ examples:
   rrdi-plot --html /var/lib/rrdi /var/www/rrdi
 
 PICTURE ends in .png or .svg, and is written at the end, if all went well.
+Without FUNCTION you get that of the file's first archive.
 
 The second form writes pages for a browser, without gnuplot: OUT/index.html
 shows the last day of each database below DIR, and OUT/NAME.html the last day,
