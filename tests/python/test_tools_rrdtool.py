@@ -1,5 +1,5 @@
 # SPDX-License-Identifier: MIT OR Apache-2.0
-"""Tests of rrdi-rrdtool: its output compared with rrdtool's, its errors, its pipe mode, and the choice of archives."""
+"""Tests of rrdi-rrdtool: its output compared with rrdtool's, its errors, and its pipe mode."""
 from __future__ import annotations
 
 import os
@@ -13,14 +13,12 @@ from cases import needs_program
 from doubles import TOP
 from tool_case import NO_RRDTOOL, RRDTOOL, Ran, ToolCase
 
-from rrdi.tools import program
-from rrdi.tools import rows as rrdtool_rows
 from rrdi.tools.rrdtool_output import Printed
 from rrdi.tools.command_line import Failure
 from rrdi.printed import Archive, Settings, Source
 from rrdi.tools.rrdtool.running import Commands, needed
 from rrdi.tools.rrdtool.pipe import split
-from rrdi.tools.rrdtool.texts import VERSION, raw_text
+from rrdi.tools.rrdtool.texts import VERSION
 
 TOOL = "rrdi-rrdtool"
 DEFINITIONS = ["--step", "10", "--start", "1000000000", "DS:g:GAUGE:60:-5:U", "DS:count_of_packets:COUNTER:60:U:100",
@@ -47,11 +45,6 @@ class Words(unittest.TestCase):
             with self.subTest(line=line), self.assertRaises(Failure):
                 split(line)
 
-    def test_raw_values(self) -> None:
-        for text, wanted in (("1.500000", "1.5"), ("2.000000", "2"), ("10.000000", "10"), ("100", "100"), ("U", "U"),
-                             ("-0.000001", "-0.000001")):
-            self.assertEqual(raw_text(text), wanted)
-
     def test_what_tune_changes(self) -> None:
         now = settings(Archive("MAX", "0.5", 1, 4))
         for option, value, wanted in (("--data-source-type", "g:GAUGE", False), ("--data-source-type", "g:COUNTER", True),
@@ -61,43 +54,6 @@ class Words(unittest.TestCase):
                                       ("--data-source-rename", "g:h", True), ("--maximum", "none:5.5", True)):
             with self.subTest(option=option, value=value):
                 self.assertEqual(needed(now, option, value), wanted)
-
-
-class Choice(unittest.TestCase):
-    """Which archive a fetch takes; resolutions are 10, 30 and 60 seconds, and the last time is 1,000."""
-
-    def choose(self, function: str, start: int, resolution: int, *archives: Archive) -> int:
-        return rrdtool_rows.choose(settings(*archives), function, start, 1_000, resolution)
-
-    def test_choices(self) -> None:
-        fine, middle, coarse = (Archive("AVERAGE", "0.5", steps, rows) for steps, rows in ((1, 20), (3, 20), (6, 16)))
-        for start, resolution, wanted in ((900, 1, 0), (900, 60, 2), (900, 30, 1), (900, 44, 1), (900, 46, 2), (800, 1, 0),
-                                          (799, 1, 1), (390, 1, 1), (389, 1, 2), (10, 1, 2)):
-            with self.subTest(start=start, resolution=resolution):
-                self.assertEqual(self.choose("AVERAGE", start, resolution, fine, middle, coarse), wanted)
-        self.assertEqual(self.choose("AVERAGE", 900, 45, fine, middle, coarse), 1)
-        self.assertEqual(self.choose("AVERAGE", 900, 10, fine, fine), 0)
-        self.assertEqual(self.choose("AVERAGE", 1, 1, fine, Archive("AVERAGE", "0.5", 1, 30)), 1)
-
-    def test_one_step_serves_all_functions(self) -> None:
-        fine, coarse = Archive("AVERAGE", "0.5", 1, 20), Archive("AVERAGE", "0.5", 3, 20)
-        self.assertEqual(self.choose("MAX", 900, 1, coarse, fine), 1)
-        with self.assertRaisesRegex(Failure, "does not contain an RRA matching the chosen CF"):
-            self.choose("MAX", 900, 1, coarse)
-
-    def test_rows_that_an_archive_lacks_are_unknown(self) -> None:
-        now = settings(Archive("AVERAGE", "0.5", 3, 3))
-        with mock.patch.object(program, "ask", return_value="time: g\n960: 1.000000\n990: nan\n") as asked:
-            rows = rrdtool_rows.rows_of("f", now, 0, 845, 1_030)
-        self.assertEqual((rows.start, rows.end, rows.step), (840, 1_050, 30))
-        self.assertEqual(rows.cells, [[None], [None], [None], [1.0], [None], [None], [None]])
-        self.assertEqual(" ".join(asked.call_args[0][0]), "fetch f AVERAGE --resolution 30 --start 900 --end 989")
-        with mock.patch.object(program, "ask", return_value="time: g\n"):
-            self.assertEqual(rrdtool_rows.rows_of("f", now, 0, 840, 990).end, 1_020)
-        with mock.patch.object(program, "ask") as asked:
-            self.assertEqual(rrdtool_rows.rows_of("f", now, 0, 2_000, 2_009).cells, [[None]])
-            self.assertEqual(rrdtool_rows.rows_of("f", now, 0, 0, 10).cells, [[None]])
-        asked.assert_not_called()
 
 
 class Spans(unittest.TestCase):

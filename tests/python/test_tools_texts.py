@@ -54,6 +54,9 @@ class Choices(unittest.TestCase):
                 ((fine, middle), LAST - 9_999, 1, 1), ((middle, fine), LAST - 9_999, 1, 0), ((("AVERAGE", 6, 1), ("AVERAGE", 1, 6)), LAST - 99, 1, 1), ((("AVERAGE", 6, 1), ("AVERAGE", 1, 6)), LAST - 99, 60, 0),
                 ((("MAX", 6, 9), middle), LAST - 9, 1, 1), ((("MAX", 1, 9), middle), LAST - 9, 1, 0), ((("MAX", 1, 9), middle), LAST - 9, 60, 1)):
             self.assertEqual(choose(settings(*archives), "AVERAGE", start, LAST, resolution), number, (archives, start - LAST, resolution))
+        # The last time is in the middle of a row of all but the finest: they end at 1000, 990 and 960.
+        for start, resolution, number in ((900, 1, 0), (900, 44, 1), (900, 45, 1), (900, 46, 2), (800, 1, 0), (799, 1, 1), (390, 1, 1), (389, 1, 2), (10, 1, 2)):
+            self.assertEqual(choose(settings(("AVERAGE", 1, 20), ("AVERAGE", 3, 20), ("AVERAGE", 6, 16), last=1_000), "AVERAGE", start, 1_000, resolution), number, (start, resolution))
         for archives, function in ((((("MAX", 6, 9)),), "AVERAGE"), ((("MAX", 1, 9),), "HWPREDICT"), ((), "MAX")):
             with self.assertRaisesRegex(Failure, f"^{NO_ARCHIVE}$"):
                 choose(settings(*archives), function, LAST, LAST, 1)
@@ -76,6 +79,10 @@ class Choices(unittest.TestCase):
                 self.assertEqual(asked, [["fetch", "f", "MAX", "--resolution", "60", "--start", str(words[0]), "--end", str(words[1])]] if words else [])
                 known = range(words[0] + 60, words[1] + 2, 60) if words else range(0)
                 self.assertEqual(found.cells, [[float(at - LAST) if at in known else None, None] for at in range(first + 60, last + 1, 60)])
+
+        with mock.patch.object(program, "ask", return_value="time: a b\n960: 1 2\n990: nan nan\n") as asking:  # the newest row ends at 990
+            found = rows_of("f", settings(("MAX", 3, 3), last=1_000), 0, 845, 1_030)
+        self.assertEqual((found.start, found.end, found.cells, asking.call_args[0][0][-3:]), (840, 1_050, [[None] * 2, [None] * 2, [None] * 2, [1.0, 2.0], [None] * 2, [None] * 2, [None] * 2], ["900", "--end", "989"]))
 
     def test_no_rows_before_1970(self) -> None:
         with mock.patch.object(program, "ask", return_value="time: a b\n60: 1 2\n") as ask:
