@@ -11,7 +11,6 @@ import time
 import unittest
 from pathlib import Path
 from typing import Any, List, Optional
-from unittest import mock
 
 from cases import WithLibrary, WithProgram, new_folder, use_library
 from doubles import TOP
@@ -19,7 +18,6 @@ from doubles import TOP
 import rrdi
 from rrdi.compat import rrdtool
 from rrdi.compat.syntax import OPTIONS, Untranslatable, read_length, read_number, read_options
-from rrdi.compat.at_style import Moment, span
 from rrdi.compat.translate import translate
 from rrdi.printed import Archive, Settings
 
@@ -58,31 +56,6 @@ class Translations(unittest.TestCase):
         with self.assertRaisesRegex(Untranslatable, "rows must be a multiple of 300 seconds, not 450s"):
             read_length("450s", "rows", 300)
 
-    def test_times(self) -> None:
-        for text, wanted in (("now", NOW), ("N", NOW), ("now-1h", NOW - 3_600), ("-5", NOW - 5),
-                             ("-1d2h", NOW - 93_600), ("1600000000", 1_600_000_000),
-                             ("1600000000-10", 1_599_999_990), ("epoch+7", 7)):
-            self.assertEqual(Moment(text, NOW).seconds(), wanted, text)
-        for text in ("end-1h", "start+1h"):
-            with self.assertRaises(Untranslatable) as refused:
-                Moment(text, NOW).seconds()
-            self.assertEqual(str(refused.exception), f"this time is relative to itself: {text}")
-        self.assertEqual(Moment("end-1h", NOW).seconds(end=NOW), NOW - 3_600)
-        self.assertEqual(Moment("start+1h", NOW).seconds(start=NOW), NOW + 3_600)
-        # The day has no 24:00, and the hour no minute 60; minutes have two digits; years have two, or are those of 1900 and
-        # later.
-        for text in ("", "32:00", "x", "12:00 13:00", "now-", "1970-01-01", "24:00", "23:60", "01/02/0139", "12:5", "12:x",
-                     "jan foo", "jan", "now-x", "now+1h-", "1/x/2000", "1/2.2000", "1/2/x",
-                     "315360000", "epoch", "epoch 5", "now-3x", "now-3hs", "now-3ss", "epoch-1s", "now+9999999999y"):
-            with self.assertRaisesRegex(Untranslatable, "cannot parse time: "):
-                Moment(text, NOW).seconds()
-        with self.assertRaisesRegex(Untranslatable, "relative to itself"):
-            Moment("end-1h", NOW).seconds()
-        for text in ("end", "start", "s", "e", "end 5", "start noon"):
-            with self.assertRaisesRegex(Untranslatable, "cannot parse time: "):
-                Moment(text, NOW).seconds(NOW, NOW)
-        self.assertEqual(Moment("epoch+0s", NOW).seconds(), 0)
-
     def test_letters_in_one_word(self) -> None:
         """Those after an option without a value begin the next option."""
         for words in (["-Ob5", "f"], ["-O", "-b", "5", "f"], ["-O", "-b5", "f"], ["--no-overwrite", "f", "--start=5"]):
@@ -97,49 +70,6 @@ class Translations(unittest.TestCase):
         """rrdi says what is wrong with them."""
         for wrong in ("RRA:AVERAGE:0.5:1", "RRA:MAX:0.5:1:5m:9"):
             self.assertEqual(translate("create", ["f", wrong], NOW, Questions())[0][-1], wrong)
-
-    def test_days_and_hours(self) -> None:
-        """What `rrdtool fetch` 1.7.2 takes these times for in UTC."""
-        with mock.patch.dict(os.environ, {"TZ": "UTC"}):
-            time.tzset()
-            for text, wanted in (("20240203", 1_706_918_400), ("12am 20240203", 1_706_918_400), ("12pm 20240203", 1_706_961_600),
-                                 ("1pm 20240203", 1_706_965_200), ("8:30am 02/03/2024", 1_706_949_000),
-                                 ("noon 03.02.2024", 1_706_961_600), ("03.02.24", 1_706_918_400), ("02/03/95", 791_769_600), ("01/02/0138", 2_146_003_200),
-                                 ("teatime 20240203", 1_706_976_000), ("20240203 6pm", 1_706_983_200),
-                                 ("315360001", 315_360_001), ("noon today", 1_699_963_200), ("noon yesterday", 1_699_876_800),
-                                 ("noon tomorrow", 1_700_049_600), ("noon jan 5 2024", 1_704_456_000),
-                                 ("noon mar 3 24", 1_709_467_200), ("december 31 99 6pm", 946_663_200), ("noon may 9", 1_683_633_600)):
-                self.assertEqual(Moment(text, NOW).seconds(), wanted, text)
-            sunday = 1_699_790_400  # at noon: the week begins with it
-            for number, name in enumerate(("sunday", "mon", "tuesday", "wed", "thursday", "friday", "sat")):
-                self.assertEqual(Moment(f"noon {name}", NOW).seconds(), sunday + 86_400 * number, name)
-        with mock.patch.dict(os.environ, {"TZ": "CET-1CEST,M3.5.0,M10.5.0/3"}):
-            time.tzset()
-            # Half an hour before a Tuesday of summer ends.
-            self.assertEqual(Moment("noon tuesday", 1_721_165_400).seconds(), 1_721_124_000)
-            # A day from or to another time has 24 hours, as in `rrdtool fetch`, also when clocks are set back.
-            for words in (("end-1d", "1698577200"), ("1698490800", "start+1d")):
-                self.assertEqual(span(*words, NOW), (1_698_490_800, 1_698_577_200))
-        time.tzset()
-        with self.assertRaisesRegex(Untranslatable, "cannot parse time: "):
-            Moment("13pm 20240203", NOW).seconds()
-
-    def test_months_and_minutes(self) -> None:
-        """An m alone is a month up to 5, and a minute from 6 on; after hours it is a minute, and after days a month, whatever
-        its number, as in RRDtool's manual of fetch."""
-        self.addCleanup(time.tzset)
-        zone = mock.patch.dict(os.environ, TZ="UTC")
-        zone.start()
-        self.addCleanup(zone.stop)
-        time.tzset()
-        now = 1_700_000_000  # in November 2023
-        for number in range(1, 13):
-            month = datetime.datetime.fromtimestamp(now, datetime.timezone.utc)
-            month = month.replace(year=2023 if number < 11 else 2022, month=(10 - number) % 12 + 1)
-            minutes, months = now - 60 * number, int(month.timestamp())
-            for text, wanted in ((f"-{number}m", months if number <= 5 else minutes), (f"-{number}min", minutes), (f"-{number}mon", months),
-                                 (f"-1h{number}m", minutes - 3_600), (f"-1d{number}m", months - 86_400)):
-                self.assertEqual(span(text, "now", now)[0], wanted, text)
 
     def test_commands(self) -> None:
         for words, wanted in (
