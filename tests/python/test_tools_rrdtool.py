@@ -88,7 +88,7 @@ class RRDtoolOutput(ToolCase):
 
     def test_usage(self) -> None:
         self.check_usage(TOOL, "[--exact | --rrdi | --show] COMMAND ARGUMENT.. | [--exact] [--lengths] - [DIRECTORY]",
-                         [[], ["--rrdi"], ["--show"], ["-", "a", "b"], [""]])
+                         [[], ["-", "a", "b"]])
         for words in (["-v"], ["--version"]):
             self.assertEqual(self.tool(TOOL, *words), Ran(0, VERSION + "\n", ""))
         self.assertRegex(VERSION, r"^RRDtool 1\.7\.2 ")

@@ -19,7 +19,7 @@ from rrdi.reader.selected import Outline, StoredArchive
 from rrdi.tools import many_files, program, rows, show
 from rrdi.tools.changes import Changes, as_parts, raw_text, texts
 from rrdi.tools.children import Child, ChildAnswer
-from rrdi.tools.command_line import Failure, WrongArguments
+from rrdi.tools.command_line import Failure
 from rrdi.tools.graphing import as_json, as_xml
 from rrdi.tools.librrd import Exported
 from rrdi.tools.machine import load, memory, network
@@ -97,17 +97,6 @@ class Choices(unittest.TestCase):
 
 
 class Shown(InUtc):
-    def test_options(self) -> None:
-        cases: List[Tuple[str, str, Optional[str], str, bool, Dict[str, str]]] = [
-                ("f", "f", None, "text", False, {}), ("f MAX", "f", "MAX", "text", False, {}), ("--csv f", "f", None, "csv", False, {}), ("f --json -s 5", "f", None, "json", False, {"start": "5"}),
-                ("--journal f", "f", None, "text", True, {}), ("--journal f --json", "f", None, "json", True, {}), ("f MIN -a 2 -e=7 --openmetrics", "f", "MIN", "openmetrics", False, {"archive": "2", "end": "7"})]
-        for words, file, function, way, is_journal, values in cases:
-            found = show.read_options(words.split())
-            self.assertEqual(found, (file, function, way, is_journal, values))
-            self.assertEqual(found.has_rows, function is not None or bool(values))
-        for words in ("", "f MAX x", "f --csv --json", "--journal f MAX", "--journal f -s 5", "--journal f --csv", "--journal f --json --json", "--journal", "f avg"):
-            self.assertRaises(WrongArguments, show.read_options, words.split())
-
     def test_cells(self) -> None:
         """As many decimals as the numbers of a column need, and no point without one."""
         cases: List[Tuple[List[Optional[int]], List[str]]] = [([1_000_000, None, 2_500_000], ["1.0", "-", "2.5"]), ([1_000_000, 20_000_000], ["1", "20"]), ([None, None], ["-", "-"]), ([], []), ([1], ["0.000001"]), ([100_000_000], ["100"]),
