@@ -4,6 +4,7 @@ installed for /usr/bin/python3, the tests make the same calls of both modules, a
 from __future__ import annotations
 
 import datetime
+import errno
 import os
 import subprocess
 import sys
@@ -11,6 +12,7 @@ import time
 import unittest
 from pathlib import Path
 from typing import Any, List, Optional
+from unittest import mock
 
 from cases import WithLibrary, WithProgram, new_folder, use_library
 from doubles import TOP
@@ -124,6 +126,12 @@ class Translations(unittest.TestCase):
                 ("info f.rrd -F", ["info f.rrd"]), ("resize f.rrd 0 GROW 3", ["resize f.rrd 0 GROW 3"])):
             command, *others = words.split()
             self.assertEqual([" ".join(one) for one in translate(command, others, NOW, Questions())], wanted, words)
+
+    def test_a_copy_that_cannot_be_made(self) -> None:
+        with mock.patch.object(rrdtool, "resize_copy", side_effect=OSError(errno.ENOSPC, "", "x")), self.assertRaises(rrdtool.OperationalError) as raised:
+            rrdtool.resize("f", "0", "GROW", "5")
+        error = raised.exception
+        self.assertEqual((error.reason, error.path, error.fault, error.system_error, str(error)), ("cannot open", "x", 0, errno.ENOSPC, "x: cannot open: No space left on device"))
 
     def test_no_overwrite(self) -> None:
         folder = new_folder(self)

@@ -7,6 +7,7 @@ import errno
 import io
 import itertools
 import os
+import random
 import time
 import unittest
 from typing import Any, Dict, List, Sequence, Tuple, cast
@@ -19,6 +20,7 @@ from tool_case import EachWriter, finished, taken
 import rrdi
 from rrdi import choice, library
 from rrdi.errors import CANNOT_OPEN, CANNOT_WRITE, NO_MEMORY, NoLibrary
+from rrdi.feeding import feeder as feeders
 from rrdi.feeding.feeder import FIRST_PAUSE, LONGEST_PAUSE, Feeder, FeedOptions, line_text
 from rrdi.by_program import ByProgram
 from rrdi.feeding.writers import BatchWriter, Outcome, Reason
@@ -281,6 +283,96 @@ class Batches(unittest.TestCase):
         feeder.end_batches(HANG)
         self.assertEqual(feeder.writer.batches[1:], [(b"a", [b"10:1", b"20:2", b"30:3"])])
         feeder.threads.shutdown()
+
+
+class States(unittest.TestCase):
+    """Whatever comes in whatever order, each sample is in one place, and a file is written when it is due, never before."""
+
+    def setUp(self) -> None:
+        patch = mock.patch.object(time, "monotonic", lambda: self.now)
+        patch.start()
+        self.addCleanup(patch.stop)
+
+    def begin(self, seed: int) -> None:
+        self.chance, self.now, self.arrived, self.given, self.count = random.Random(seed), 1_000.0, {}, [], 0  # type: Any, float, Dict[bytes, float], List[Any], int
+        self.pauses: Dict[bytes, float] = {}
+        self.settled: List[bytes] = []  # samples that were stored, refused, or named as lost
+        self.feeder = Feeder(FeedOptions(seconds=60, held=30), Stub())
+        self.feeder.threads.give = lambda batch, running: self.given.append(batch)  # type: ignore[assignment]
+        self.feeder.say_lost = lambda file, reason, samples: self.settled.extend(samples)  # type: ignore[assignment]
+        self.hurried = False
+
+    def take(self) -> None:
+        file = self.chance.choice((b"a", b"b", b"c"))
+        samples = [b"%d:1" % (self.count + at) for at in range(self.chance.choice((1, 1, 2)))]
+        self.count += len(samples)
+        if file not in self.feeder.held:
+            self.arrived[file] = self.now
+        self.feeder.take_all([b" ".join([file, *samples])])
+
+    def pass_on(self) -> None:
+        waiting, held = dict(self.feeder.waiting), {file: list(samples) for file, samples in self.feeder.held.items()}
+        is_full, running, before = self.feeder.count >= 30, set(self.feeder.running), len(self.given)
+        self.feeder.start_due()
+        due = {file for file, one in waiting.items() if (self.hurried or self.now >= one.due) and one.samples + held.get(file, [])}
+        due |= {file for file in held if file not in waiting and file not in running and (is_full or self.hurried or self.now - self.arrived[file] >= 60)}
+        self.assertEqual({file for file, _ in self.given[before:]}, due)
+        for file, samples in self.given[before:]:
+            self.assertEqual(samples, (waiting[file].samples if file in waiting else []) + held.get(file, []))
+        if self.hurried:  # what could not be written yet stays due
+            self.arrived = dict.fromkeys(self.arrived, self.now - 60)
+        self.hurried = False
+
+    def end_one(self) -> None:
+        if not self.given:
+            return
+        file, samples = self.given.pop(self.chance.randrange(len(self.given)))
+        some = tuple(samples[:self.chance.randrange(len(samples) + 1)])
+        outcome = self.chance.choice((Outcome(), Outcome(again="no"), Outcome(lost="no"), Outcome(refused=tuple((one, "bad") for one in some)), Outcome(again="no", left=some), Outcome(lost="no", left=some)))
+        left = samples if outcome.left is None else list(some)
+        self.settled += [one for one in samples if one not in left] if outcome.again or outcome.lost else samples
+        with contextlib.redirect_stderr(io.StringIO()):
+            self.feeder.end_batch(file, samples, outcome)
+        self.assertEqual(file in self.feeder.waiting, bool(outcome.again))
+        pause = self.pauses.pop(file, FIRST_PAUSE)
+        if outcome.again:
+            self.pauses[file] = min(2 * pause, LONGEST_PAUSE)
+            self.assertEqual(self.feeder.waiting[file], feeders.Waiting(left, "no", pause, self.now + pause))
+
+    def hurry(self) -> None:
+        self.feeder.hurry()
+        self.hurried = True
+
+    def wait(self) -> None:
+        self.now += self.chance.choice((0.05, 0.1, 1, 20, 60))
+
+    def test_random_feeds(self) -> None:
+        for seed in range(300):
+            self.begin(seed)
+            for _ in range(60):
+                self.chance.choice((self.take, self.take, self.take, self.pass_on, self.pass_on, self.end_one, self.end_one, self.wait, self.hurry if self.chance.random() < 0.2 else self.wait))()
+                feeder = self.feeder
+                places = [*(one for samples in feeder.held.values() for one in samples), *(one for waits in feeder.waiting.values() for one in waits.samples)]
+                self.assertEqual(feeder.count, len(places), seed)
+                self.assertEqual(sorted([*places, *self.settled, *(one for _, samples in self.given for one in samples)]), sorted(b"%d:1" % at for at in range(self.count)), seed)
+                self.assertEqual((list(feeder.since), set(feeder.running)), (list(feeder.held), {file for file, _ in self.given}), seed)
+
+    def test_how_long_the_input_is_waited_for(self) -> None:
+        """Shortly if a file waits for its next try, else for as long as samples are held, up to half a second."""
+        for seconds, waits, wanted in ((60, False, 0.5), (1, False, 0.5), (0, False, 0), (60, True, 0.1), (0, True, 0.1)):
+            feeder, asked = Feeder(FeedOptions(seconds=seconds), Stub()), []  # type: Feeder, List[float]
+            if waits:
+                feeder.end_batch(b"a", [b"10:1"], Outcome(again="no"))
+                feeder.waiting[b"a"].due = 1e9
+
+            def select(timeout: float) -> List[int]:
+                asked.append(timeout)
+                feeder.is_ending = len(asked) == 2
+                return []
+            self.now = 1_000.0
+            with mock.patch("sys.stdin", mock.Mock(fileno=lambda: 0)), mock.patch.object(feeders, "selector_of", return_value=mock.Mock(select=select)), mock.patch("os.read", side_effect=AssertionError):
+                feeder.read()
+            self.assertEqual(asked, [wanted] * 2, (seconds, waits))
 
 
 class FakeLibrary:

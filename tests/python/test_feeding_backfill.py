@@ -51,7 +51,7 @@ class Ordering(unittest.TestCase):
         """Numbers of any length are in their order; those of one time stay as they came."""
         lists: List[List[bytes]] = [
             [b"9:1", b"10:2", b"100:1"], [b"1700000000:5", b"1700000000:3", b"1700000001:1"], [b"3:1"], [],
-            [b"999999999:1", b"1000000000:1"], [b"007:1", b"8:1"]]
+            [b"999999999:1", b"1000000000:1"], [b"007:1", b"8:1"], [b"9" * 19 + b":1", b"1" + b"0" * 19 + b":1"]]
         for samples in lists:
             self.assertIs(in_order(samples), samples)
             for seed in range(20):
@@ -68,7 +68,7 @@ class Ordering(unittest.TestCase):
             found = in_order([b"1700000020:1", odd, b"1700000010:1"])
             self.assertEqual(sorted(found), sorted([b"1700000020:1", odd, b"1700000010:1"]))
             self.assertLess(found.index(b"1700000010:1"), found.index(b"1700000020:1"))
-        self.assertEqual([seconds_of(one) for one in (b"10:1", b"x:1", b"", b"1" * 5_000, b"-1:2")], [10, -1, -1, -1, -1])
+        self.assertEqual([seconds_of(one) for one in (b"10:1", b"x:1", b"", b"1" * 5_000, b"-1:2", b"1" * 20, b"1" * 21)], [10, -1, -1, -1, -1, int("1" * 20), -1])
 
 
 class LeftSamples(unittest.TestCase):

@@ -203,6 +203,22 @@ class NoMemory(FaultCase):
         self.assertEqual(self.said, "rrdi-feed: cannot read the input any further: out of memory\n"
                                     "rrdi-feed: a line may be lost, got: 2.rrdi 2:2\nrrdi-feed: a line may be lost, got: 3.rrdi 3:3\n")
 
+    def test_lines_that_cannot_be_shown(self) -> None:
+        with mock.patch.object(self.feeder, "take", side_effect=MemoryError), mock.patch("rrdi.feeding.feeder.text_of", side_effect=MemoryError):
+            self.assertEqual(self.fed(b"1.rrdi 1:1\n", b""), 1)
+        self.assertEqual(self.said, "rrdi-feed: cannot read the input any further: out of memory\nrrdi-feed: lines may be lost that there is no memory to show\n")
+
+    def test_one_file_at_a_time(self) -> None:
+        """The first one that can be started: no other batch of it runs, and it does not wait for its next try."""
+        self.feeder.take_all([b"1 1:1", b"2 1:1", b"3 1:1", b"4 1:1"])
+        self.feeder.running.add(b"1")
+        self.feeder.waiting[b"2"] = feeders.Waiting([], "no", 1, 1e9)
+        with mock.patch.object(self.feeder, "start") as start:
+            self.assertTrue(self.feeder.start_one())
+            self.feeder.running.update((b"3", b"4"))
+            self.assertFalse(self.feeder.start_one())
+        self.assertEqual(start.mock_calls, [mock.call(b"3")])
+
     def test_batches_that_cannot_be_started(self) -> None:
         """After the patience they are named, and feed ends."""
         with mock.patch.object(self.feeder, "start", side_effect=MemoryError):

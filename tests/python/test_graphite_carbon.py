@@ -165,8 +165,14 @@ class Asked(CarbonCase):
             with self.assertRaises(SystemExit) as ended:
                 self.database(graphite.KeepingLibrary(), **{name: value})
             self.assertIn(name, str(ended.exception))
-        database = self.database(graphite.KeepingLibrary(), RRDI_JOURNAL=100, RRDI_OPEN_FILES=0, RRDI_OPEN_MEMORY=5)
-        self.assertEqual((database.journal, database.store.options.open), (100, (0, 2, 5)))
+        for name, least, most in (("RRDI_JOURNAL", 1, 100_000), ("RRDI_MAX_FUTURE", 1, 10**9), ("RRDI_OPEN_FILES", 0, 10**6), ("RRDI_OPEN_SECONDS", 1, 10**9), ("RRDI_OPEN_MEMORY", 1, 10**9)):
+            for value in (least - 1, most + 1, str(least), None):
+                with self.assertRaisesRegex(SystemExit, f"^{name} must be a whole number from {least} to {most}, not {value}$"):
+                    self.database(graphite.KeepingLibrary(), **{name: value})
+            for value in (least, most):
+                options = self.database(graphite.KeepingLibrary(), **{name: value}).store.options
+                found = dict(zip(("RRDI_JOURNAL", "RRDI_MAX_FUTURE", "RRDI_OPEN_FILES", "RRDI_OPEN_SECONDS", "RRDI_OPEN_MEMORY"), (options.journal, options.most_future, *options.open)))
+                self.assertEqual(found, {"RRDI_JOURNAL": 16, "RRDI_MAX_FUTURE": 600, "RRDI_OPEN_FILES": 256, "RRDI_OPEN_SECONDS": 2, "RRDI_OPEN_MEMORY": 64, name: value})
 
     def test_no_library(self) -> None:
         with self.assertRaises(SystemExit) as ended:

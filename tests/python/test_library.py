@@ -224,9 +224,11 @@ class Places(unittest.TestCase):
                                  ("usr/share/rrdi/python/rrdi", "usr/lib")):
                 (folder / place).mkdir(parents=True)
                 (folder / found).mkdir(exist_ok=True, parents=True)
-                (folder / found / "librrdi.so.0").touch()
+                for name in ("librrdi.so", "librrdi.so.0"):  # which is taken before the other one
+                    (folder / found / name).touch()
+                    with mock.patch.object(places, "__file__", str(folder / place / "places.py")):
+                        self.assertEqual(rrdi.library_path(), str(folder.resolve() / found / name))
                 with mock.patch.object(places, "__file__", str(folder / place / "places.py")):
-                    self.assertEqual(rrdi.library_path(), str(folder.resolve() / found / "librrdi.so.0"))
                     os.environ["RRDI_LIBRARY"] = "/x/librrdi.so"
                     self.assertEqual(rrdi.library_path(), "/x/librrdi.so")
                     os.environ.pop("RRDI_LIBRARY")

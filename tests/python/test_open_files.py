@@ -114,6 +114,13 @@ class Stays(OpenCase):
         self.assertFalse(is_locked(self.path))
         self.assertEqual(self.run_on(self.path), ["open", OPEN])
 
+    def test_how_often_old_files_are_looked_for(self) -> None:
+        """A file stays open for an eighth of its time too long at most, and for five seconds at most."""
+        for seconds, pause in ((2, 0.25), (8, 1), (40, 5), (41, 5), (10**9, 5)):
+            with mock.patch.object(time, "sleep") as sleep:
+                self.new(OpenBounds(1, seconds))._close_old()
+            self.assertEqual(sleep.mock_calls, [mock.call(pause)])
+
     def test_its_time_is_over_and_nothing_comes(self) -> None:
         for _ in range(2):  # the thread begins again
             self.run_on(self.path, self.path)

@@ -90,6 +90,23 @@ class Values(unittest.TestCase):
             text = str(raised.exception)
             self.assertRegex(text, "^.{1,40}; a (GAUGE takes numbers|number with a fraction must be) below")
 
+    def test_limits_of_each_type(self) -> None:
+        """The least and the greatest number are taken in each type, and the next ones are not."""
+        types: List[Any] = [int, Fraction, Decimal, lambda number: type("Whole", (), {"__index__": lambda self: number})()]
+        for of in types:
+            self.check([(of(2**64 - 1), "18446744073709551615"), (of(-2**63), "-9223372036854775808"), (of(10**18), "1" + "0" * 18)])
+            for wrong in (2**64, -2**63 - 1, -2**64):
+                with self.assertRaisesRegex(ValueError, f"^{wrong}; a GAUGE takes numbers below 10\\^18, a COUNTER whole numbers up to 2\\^64 - 1, a DERIVE whole numbers from -2\\^63 on$"):
+                    value_text(of(wrong))
+        most = "999999999999999999.999999"
+        self.check([(Decimal(most), most), (Decimal("-" + most), "-" + most), (Fraction(most), most), (Millionths(10**24 - 1), most), (Millionths(1 - 10**24), "-" + most), (Millionths(10**24), "1" + "0" * 18)])
+        for value in (Decimal("1000000000000000000.000001"), Fraction(10**24 + 1, 10**6), Millionths(10**24 + 1), Millionths(-10**24 - 1)):
+            with self.assertRaisesRegex(ValueError, r"^-?1000000000000000000\.000001; a number with a fraction must be below 10\^18$"):
+                value_text(value)
+        for number, shown in ((10**40, "a number of more than 40 digits"), (-10**40, "a number of more than 40 digits"), (10**40 - 1, "9" * 40), (-10**40 + 1, "-" + "9" * 39)):
+            with self.assertRaisesRegex(ValueError, f"^{shown}; "):
+                value_text(number)
+
     def test_other_types(self) -> None:
         wrong: List[Any] = [True, False, b"1", {"g": 1}, [1], 1j, datetime.datetime.now(), Index()]
         for value in wrong:
@@ -185,6 +202,30 @@ class Forms(unittest.TestCase):
                 sample_words([(10, {name: 1})])
         with self.assertRaisesRegex(rrdi.BadSample, "bad value: value g of sample 1 is inf"):
             sample_words([(10, {"g": math.inf})])
+
+    def test_which_sample_is_wrong(self) -> None:
+        """An error has the number of the sample in its call, whatever forms the others have, the file, and what is wrong."""
+        zoned = datetime.datetime(2020, 1, 1)
+        wrong: List[Tuple[Any, str, str]] = [
+            ((30, 1, math.inf), "bad value", "value 2 of sample 3 is inf, which is no number; None is unknown"), ((-5, 1), "bad time", "sample 3 has the time -5, which is before 1970"), ((math.nan, 1), "bad time", "sample 3: nan is no time"),
+            ((zoned, 1), "bad time", "sample 3: the datetime 2020-01-01 00:00:00 has no zone; write datetime.now(timezone.utc), or time.astimezone() for a local time"),
+            *(((10**10 * part + more, 1), "bad time", f"sample 3 has the time {10**10 * part + more}; if these are {name}, write {(10**10 * part + more) // of}") for part, more, name, of in (
+                (1, 0, "milliseconds", 10**3), (10**3, -1, "milliseconds", 10**3), (10**3, 0, "microseconds", 10**6), (10**6, -1, "microseconds", 10**6), (10**6, 0, "nanoseconds", 10**9), (10**9, -1, "nanoseconds", 10**9))),
+            ((10**19, 1), "bad time", "sample 3 has the time 10000000000000000000, which is over 9999999999")]
+        for sample, reason, detail in wrong:
+            for samples in (["10:1", (20, 1), sample], [["10:1", (20, 1)], sample], [[(10, 1), [20, 1]], [sample]]):
+                for path, name in ((None, None), ("f", "f"), (b"f\xff", "f\udcff")):
+                    with self.assertRaises(rrdi.BadSample) as raised:
+                        sample_words(samples, path)
+                    self.assertEqual((raised.exception.reason, raised.exception.path, raised.exception.detail), (reason, name, detail))
+        for sample, text in (((20, {"g": True}), "value g of sample 2 is True, which is no number; write 1 or 0"), ((20, {5: 1}), "the names of sample 2 must be text, not int")):
+            with self.assertRaisesRegex(TypeError, f"^{text}$"):
+                sample_words([(10, {"g": 1}), sample])
+        for sample, text in (((20, {"g": math.inf}), "value g of sample 2 is inf, which is no number; None is unknown"), ((20, {"a b": 1}), "sample 2 has the name 'a b'"), ((-1, {"g": 1}), "sample 2 has the time -1, which is before 1970")):
+            with self.assertRaises(rrdi.BadSample) as raised:
+                sample_words([(10, {"g": 1}), sample], "f")
+            self.assertEqual((raised.exception.path, raised.exception.detail), ("f", text))
+        self.assertEqual(sample_words([(9_999_999_999, 1), (0, 1)]), ["9999999999:1", "0:1"])
 
     def test_what_has_no_order(self) -> None:
         unordered: List[Any] = [{10, 5}, frozenset((10, 5)), b"10", bytearray(b"10")]

@@ -2,6 +2,7 @@
 """Tests of what all tools share: the exit status and the message for each way in which a tool can end."""
 from __future__ import annotations
 
+import contextlib
 import errno
 import importlib
 import io
@@ -12,6 +13,7 @@ import subprocess
 import sys
 import time
 import unittest
+from typing import List, Optional, Tuple
 from unittest import mock
 
 from cases import HANG
@@ -19,7 +21,7 @@ from doubles import TOP
 from tool_case import Ran, ToolCase
 
 from rrdi.tools import command_line
-from rrdi.tools.command_line import complain, give_up_output
+from rrdi.tools.command_line import Failure, WrongArguments, complain, give_up_output
 
 TOOL = """import errno, sys
 sys.path.insert(0, {python!r})
@@ -93,6 +95,25 @@ class Unheard(unittest.TestCase):
         with mock.patch("os.open", return_value=7), mock.patch("os.dup2") as dup2:
             give_up_output(2)
         self.assertEqual(dup2.mock_calls, [mock.call(7, 2)])
+
+
+class Hints(ToolCase):
+    def test_a_further_line(self) -> None:
+        """After wrong arguments without a text it says which option was meant; of files that are not ours, whose they are; else
+        what the failure knows. A tool without help has no options to name."""
+        old = self.write("old.rrd", b"RRD\x000003" + bytes(100))
+        known, of_rrdtool = Failure("why"), f"{old} is a file of RRDtool; convert it: rrdi-import {old} NEW.rrdi"
+        known.detail = "more\n"
+        usage, meant = "usage: rrdi-try FILE", "rrdi-try: there is no option --stat; did you mean --start?"
+        cases: List[Tuple[Exception, Optional[str], List[str], List[str], int]] = [
+                (WrongArguments(), "--start", ["--stat"], [usage, meant], 4), (WrongArguments(), None, ["--stat"], [usage], 4), (WrongArguments(), "--start", ["f"], [usage], 4), (WrongArguments("a\tb"), "--start", ["--stat"], ["rrdi-try: a\\tb"], 4),
+                (Failure("why"), "", [], ["rrdi-try: why"], 3), (known, "", [old], ["rrdi-try: why", "rrdi-try: more\\n"], 3), (Failure("x: file: not ours"), "", ["a", old], ["rrdi-try: x: file: not ours", f"rrdi-try: {of_rrdtool}"], 3),
+                (Failure("x: file: not ours"), "", ["a"], ["rrdi-try: x: file: not ours"], 3), (Failure("x: file: version"), "", [old], ["rrdi-try: x: file: version"], 3)]
+        for error, help_text, words, lines, status in cases:
+            tool = command_line.Tool("rrdi-try", "FILE", help_text, mock.Mock(side_effect=error), failed=3, misused=4)
+            with mock.patch.object(sys, "argv", ["rrdi-try"]), contextlib.redirect_stderr(io.StringIO()) as said:
+                self.assertEqual(command_line.run(tool, words), status)
+            self.assertEqual(said.getvalue().splitlines(), lines)
 
 
 class Ends(ToolCase):

@@ -589,6 +589,12 @@ class Programs(ToolCase):
     def test_more_lines_than_a_pipe_takes(self) -> None:
         """None is sent, since a part of them must not be stored."""
         session = self.session("exec cat")
+        with mock.patch("fcntl.fcntl", side_effect=PermissionError):
+            self.assertEqual([holding.has_room(0, size) for size in (0, 4_096, 4_097)], [True, True, False])  # any pipe takes a page
+        for has, gets in ((5_000, 5_000), (5_000, 8_192), (5_000, 5_001), (4_096, 4_096), (8_192, 0)):
+            with mock.patch("fcntl.fcntl", side_effect=[has, gets]) as asked:
+                self.assertEqual(holding.has_room(7, 5_001), max(has, gets) >= 5_001)
+            self.assertEqual(asked.mock_calls, [mock.call(7, 1032), mock.call(7, 1031, 5_001)][:1 + (has < 5_001)])
         with mock.patch("fcntl.fcntl", side_effect=PermissionError), mock.patch("os.write") as written, \
                 self.assertRaisesRegex(Failure, "cannot take so many lines at once"):
             session.store(["update 10:1"] * 1_000)

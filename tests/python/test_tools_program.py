@@ -1,12 +1,14 @@
 # SPDX-License-Identifier: MIT OR Apache-2.0
-"""Tests of rrdi.tools.program: the C library in the process gives what the program gives."""
+"""Tests of rrdi.tools.program: what becomes of an answer, and the C library in the process gives what the program gives."""
 from __future__ import annotations
 
+import errno
 import os
 import subprocess
 import sys
+import time
 import unittest
-from typing import List, Optional
+from typing import Any, Callable, List, Optional, Tuple
 from unittest import mock
 
 from cases import NO_LIBRARY, needs_program
@@ -14,7 +16,8 @@ from doubles import PROGRAM, TOP
 from tool_case import ToolCase
 
 from rrdi import choice
-from rrdi.by_program import ByProgram
+from rrdi.by_program import ByProgram, NoAnswer
+from rrdi.errors import CANNOT_OPEN, OK, REFUSED, TRUNCATED
 from rrdi.library import Library, library_path, load_library
 from rrdi.protocol import Answer, OnFiles
 from rrdi.tools import program
@@ -83,6 +86,65 @@ class Words(ToolCase):
 
 @needs_program
 @unittest.skipUnless(LIBRARY, NO_LIBRARY)
+class Answers(unittest.TestCase):
+    """What becomes of an answer of the library, or of the program in its place."""
+
+    def answering(self, answer: "Answer | Exception") -> Any:
+        call = mock.Mock(side_effect=answer) if isinstance(answer, Exception) else mock.Mock(return_value=answer)
+        patch = mock.patch.object(program, "chosen", return_value=mock.Mock(run_file=call, batch_file=call))
+        patch.start()
+        self.addCleanup(patch.stop)
+        return call
+
+    def refused(self, act: Callable[[], object]) -> Tuple[str, int, str]:
+        with self.assertRaises(CommandFailed) as raised:
+            act()
+        return str(raised.exception), raised.exception.system_error, raised.exception.detail
+
+    def test_calls(self) -> None:
+        with mock.patch.object(time, "time", lambda: 70.9), mock.patch.multiple(program, milliseconds=lambda none: 250, sync_of_environment=lambda: True):
+            call = self.answering(Answer(OK, 0, 0, b"a\nb\xff\n"))
+            self.assertEqual(program.ask(["fetch", "f\udcff", "MAX", "\u00e4"]), "a\nb\udcff\n")
+            self.assertEqual(program.batch("f", ["last", "", "a\tb"]), ["a", "b\udcff"])
+        self.assertEqual(call.mock_calls, [mock.call(b"f\xff", b"fetch\0MAX\0\xc3\xa4", 70, 250, True), mock.call(b"f", b"last\n\na\tb\n", 70, 250, True)])
+
+    def test_faults(self) -> None:
+        for answer, found in ((Answer(REFUSED, 0, 0, b"not later than 5\nmore", explanation=b"why\xff"), ("not later than 5", 0, "why\ufffd")), (Answer(CANNOT_OPEN, errno.ENOENT, 0, b"cannot open", explanation=b"no"), ("cannot open", errno.ENOENT, "")),
+                              (Answer(TRUNCATED, 0, 7, b"file: truncated at 7"), ("file: truncated at 7", 0, ""))):
+            self.answering(answer)
+            self.assertEqual(self.refused(lambda: program.ask(["last", "f"])), found)
+            self.assertEqual(self.refused(lambda: program.batch("f", ["last"])), found)
+            with program.naming("f"):
+                pass
+            with mock.patch.object(program, "why_not_opened", return_value=""):
+                text = f"f: {found[0]}: No such file or directory" if found[1] else f"f: {found[0]}"
+                self.assertEqual(self.refused(lambda: self.named("f")), (text, 0, found[2]))
+        self.answering(NoAnswer("/x/rrdi", "ended", 3))
+        self.assertEqual(self.refused(lambda: program.ask(["last", "f"])), ("/x/rrdi ended with status 3", 0, ""))
+        self.answering(NoAnswer("/x/rrdi", "Permission denied"))
+        with self.assertRaisesRegex(Failure, "^cannot run /x/rrdi: Permission denied$"):
+            program.ask(["last", "f"])
+
+    def named(self, file: str) -> None:
+        with program.naming(file):
+            program.ask(["last", file])
+
+    def test_refused_lines(self) -> None:
+        """The first one counts, with its own explanation."""
+        for explanation, detail in ((b"line 2: why\nline 4: other", "why"), (b"line 4: other", ""), (b"", "")):
+            self.answering(Answer(OK, 0, 0, b"5\nERROR: a\n5\nERROR: b\n", (2, 4), explanation=explanation))
+            self.assertEqual(self.refused(lambda: program.batch("f", ["last"] * 4)), ("a", 0, detail))
+
+    def test_lines_that_are_none(self) -> None:
+        call = self.answering(Answer(OK, 0, 0, b""))
+        for line in ("a\nb", "\u00e4", "a\0", "x" * 65_537, "\x7f"):
+            with self.assertRaisesRegex(Failure, "^a line of a batch has a character that it cannot have, or is too long: "):
+                program.batch("f", ["last", line])
+        with self.assertRaisesRegex(Failure, "^an argument has a zero byte$"):
+            program.ask(["last", "f", "\0"])
+        self.assertEqual((program.batch("f", ["x" * 65_536]), call.call_count), ([], 1))
+
+
 class InProcess(ToolCase):
     COMMANDS = ["create {} --step 10 --start 1000000000 DS:g:GAUGE:60:-5:U DS:c:COUNTER:60:0:U RRA:AVERAGE:0.5:1:900 RRA:MAX:0.5:3:4",
                 "update {} 1000000010:1.5:100 1000000025:-2:175", "last {}", "info {}", "lastupdate {}", "first {} --rraindex 1",

@@ -14,7 +14,7 @@ import sys
 import time
 import unittest
 from pathlib import Path
-from typing import Any, Dict, List, Optional
+from typing import Any, Callable, Dict, List, Optional, Tuple
 from unittest import mock
 
 from cases import HANG, child_status, needs_program, new_folder, sleeping_child
@@ -342,6 +342,80 @@ class Disks(unittest.TestCase):
         with mock.patch("os.statvfs", return_value=system):
             self.assertEqual([(number.name, number.value) for number in machine.disk("/")],
                              [("disk_used", str(600 * 4_096)), ("disk_free", str(350 * 4_096))])
+
+
+class Copies(ToolCase):
+    """Which file a damaged one is restored from, and when the next copy is made. The answers of rrdi are given."""
+
+    def setUp(self) -> None:
+        super().setUp()
+        self.file, self.answers = self.write("f", b"RRDI\0\2"), {}  # type: str, Dict[str, int | str]
+        patch = mock.patch.object(program, "last", self.last)
+        patch.start()
+        self.addCleanup(patch.stop)
+
+    def last(self, path: str) -> int:
+        answer = self.answers.get(path.replace(self.file, ""), "cannot open")
+        if isinstance(answer, str):
+            raise program.CommandFailed(answer)
+        return answer
+
+    def refusal(self, act: Callable[[str], object]) -> str:
+        with self.assertRaises(Failure) as failed:
+            act(self.file)
+        return str(failed.exception).replace(self.file, "f")
+
+    def test_conditions(self) -> None:
+        """A damaged database begins as one does, as far as there is something left of it; anything else stays as it is."""
+        for answer, found in ((0, (0, "")), (5, (5, "")), ("file: truncated at 6", (0, "truncated at 6")), ("file: bad block at 7", (0, "bad block at 7")), ("file: bad entry 1", (0, "bad entry 1")), ("file: trailing at 9", (0, "trailing at 9"))):
+            self.answers[""] = answer  # type: ignore[assignment]
+            self.assertEqual(record.look(self.file), found)
+        for reason in ("file: not ours", "file: version", "file: read failed", "out of memory", "cannot write"):
+            self.answers[""] = reason
+            self.assertEqual(self.refusal(record.look), f"f: {reason}")
+        self.answers[""] = "file: truncated at 0"
+        for data, age, refusal in ((b"", 0, "f: file: truncated at 0; another program may be making the file"), (b"", 3_600, ""), (b"RRD", 3_600, "f: file: truncated at 0; another program may be making the file"), (b"x", 3_600, "f: file: truncated at 0"),
+                                   (b"RRDX", 3_600, "f: file: truncated at 0")):
+            self.write("f", data)
+            os.utime(self.file, (time.time() - age,) * 2)
+            if refusal:
+                self.assertEqual(self.refusal(record.look), refusal, data)
+            else:
+                self.assertEqual(record.look(self.file), (0, "truncated at 0"))
+
+    def test_the_newest_readable_copy(self) -> None:
+        """One that cannot be read now ends the search only if no other one can. A time of 0 is one."""
+        cases: List[Tuple[List["int | str"], str]] = [
+            ([5, 7, 9], ".1"), ([0, 7, 9], ".1"), (["file: truncated at 5", 0, 9], ".2"), (["file: not ours", "file: version", 1], ".3"), (["file: bad block at 5", "file: bad entry 1", "file: trailing at 5"], ""), (["file: read failed", 3, 9], ".2"),
+            (["file: read failed", "file: version", 9], ".3"), (["file: truncated at 5", "file: read failed", "file: version"], "f.2: file: read failed"), (["out of memory", "file: read failed", "file: version"], "f.2: file: read failed"),
+            (["file: version", "file: version", "cannot open"], "f.3: cannot open: it may not"), ([], "")]
+        for answers, found in cases:
+            for number in (1, 2, 3):
+                (self.folder / f"f.{number}").unlink(missing_ok=True)
+            for number, answer in enumerate(answers, 1):
+                self.write(f"f.{number}", b"")
+                self.answers[f".{number}"] = answer
+            with mock.patch.object(program, "why_not_opened", return_value="it may not"):
+                if found.startswith("f"):
+                    self.assertEqual(self.refusal(record.newest_copy), found)
+                else:
+                    self.assertEqual(record.newest_copy(self.file), f"{self.file}{found}" if found else "", answers)
+
+    def test_when_a_copy_is_made(self) -> None:
+        """An hour after the newest one, or at once without one; the older ones move on, and the third goes."""
+        for first, last, is_made in ((10_000, 13_599, False), (10_000, 13_600, True), (0, 3_599, False), (0, 3_600, True), ("file: truncated at 5", 3_599, False), ("file: truncated at 5", 3_600, True), (20_000, 13_600, False)):
+            for there in ((1, 2, 3), (1, 2), (1,), (1, 3)):
+                for number in (1, 2, 3):
+                    (self.folder / f"f.{number}").unlink(missing_ok=True)
+                for number in there:
+                    self.write(f"f.{number}", f"{number}")
+                self.answers[".1"] = first  # type: ignore[assignment]
+                record.keep_copies(self.file, last)
+                found = {number: (self.folder / f"f.{number}").read_bytes() for number in (1, 2, 3) if (self.folder / f"f.{number}").exists()}
+                moved = {1: b"RRDI\0\2", 2: b"1", **({3: b"2"} if 2 in there else {3: b"3"} if 3 in there else {})}
+                self.assertEqual(found, moved if is_made else {number: b"%d" % number for number in there}, (first, last, there))
+        self.answers[".1"] = "file: read failed"
+        self.assertRaises(program.CommandFailed, record.keep_copies, self.file, 10**9)
 
 
 @needs_program

@@ -38,7 +38,7 @@ class Words(unittest.TestCase):
                             ('last "a b"\n', ["last", "a b"]), ("last 'a \"b'\n", ["last", 'a "b']),
                             ('last x.r"rd"\n', ["last", "x.rrd"]), ('last ""\n', ["last", ""]), ("", []), (" \t\r\n", []),
                             ("last\tx.rrd\n", ["last\tx.rrd"]), ("last x\\ y\n", ["last", "x\\", "y"]),
-                            ("a '' b\n", ["a", "", "b"]), ('"a"\'b\'c', ["abc"])):
+                            ("a '' b\n", ["a", "", "b"]), (" \t last x \r\t\n", ["last", "x"]), ('"a"\'b\'c', ["abc"])):
             with self.subTest(line=line):
                 self.assertEqual(split(line), words)
         for line in ('last "x', "last 'x", "it's"):

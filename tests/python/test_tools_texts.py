@@ -84,6 +84,11 @@ class Choices(unittest.TestCase):
             found = rows_of("f", settings(("MAX", 3, 3), last=1_000), 0, 845, 1_030)
         self.assertEqual((found.start, found.end, found.cells, asking.call_args[0][0][-3:]), (840, 1_050, [[None] * 2, [None] * 2, [None] * 2, [1.0, 2.0], [None] * 2, [None] * 2, [None] * 2], ["900", "--end", "989"]))
 
+    def test_rows_of_one_second(self) -> None:
+        with mock.patch.object(program, "ask", return_value="".join(["time: a b\n", *(f"{LAST - at}: {at} {at}\n" for at in (2, 1, 0))])) as asking:
+            found = rows_of("f", settings(("MAX", 1, 9), step=1), 0, LAST - 3, LAST - 1)
+        self.assertEqual((found.start, found.end, found.cells, asking.call_args[0][0][-3:]), (LAST - 3, LAST, [[2.0] * 2, [1.0] * 2, [0.0] * 2], [str(LAST - 3), "--end", str(LAST - 1)]))
+
     def test_no_rows_before_1970(self) -> None:
         with mock.patch.object(program, "ask", return_value="time: a b\n60: 1 2\n") as ask:
             found = rows_of("f", settings(("MAX", 6, 6), last=60), 0, 0, 59)
