@@ -192,27 +192,32 @@ class Commands(OfFiles):
             call(self.file)
         self.assertEqual((type(raised.exception), str(raised.exception)), (kind, f"{self.file}: {reason}"))
 
-    def test_each_function_passes_on_now_and_how_long_to_wait(self: Any) -> None:
-        """Also where a creation looks at the file that is there."""
+    def test_each_function_passes_on_what_it_is_given(self: Any) -> None:
+        """The time, how long to wait, and whether to flush, also where a creation looks at the file that is there; what only
+        reads flushes as the environment says."""
         own: Any = {"now": LAST + 60, "busy_timeout": 7.5}
+        both: Any = {**own, "sync": True}
         file, library = self.fill(), mock.Mock(update_file=None)
         library.run_file.return_value = library.batch_file.return_value = Answer(REFUSED, 0, 0, b"refused")
-        one, other = rrdi.Database(file, **own), rrdi.Database(file, collect=True, **own)
-        functions: List[Any] = [
+        one, other = rrdi.Database(file, **both), rrdi.Database(file, collect=True, **both)
+        reads: List[Any] = [
             lambda: rrdi.last(file, **own), lambda: rrdi.first(file, **own), lambda: rrdi.info(file, **own),
             lambda: rrdi.lastupdate(file, **own), lambda: rrdi.fetch(file, "AVERAGE", **own),
-            lambda: rrdi.update(file, "N:1:2", **own), lambda: rrdi.tune(file, "--heartbeat", "g:9", **own),
-            lambda: rrdi.resize(file, "0", "GROW", "1", **own), lambda: rrdi.revert(file, **own),
-            lambda: rrdi.create(file, *BOTH, overwrite=True, **own), lambda: rrdi.create(file, *BOTH, exist_ok=True, **own),
-            lambda: rrdi.create(self.folder / "new.rrdi", *BOTH, **own), lambda: rrdi.batch(file, ["last"], **own),
-            lambda: one.create(*BOTH, exist_ok=True), lambda: other.create(*BOTH, exist_ok=True), one.last, other.last,
-            lambda: one.batch(["last"]), lambda: other.batch(["last"])]
-        for number, function in enumerate(functions):
+            lambda: rrdi.create(file, *BOTH, exist_ok=True, **both), lambda: one.create(*BOTH, exist_ok=True),
+            lambda: other.create(*BOTH, exist_ok=True), other.last]
+        changes: List[Any] = [
+            lambda: rrdi.update(file, "N:1:2", **both), lambda: rrdi.tune(file, "--heartbeat", "g:9", **both),
+            lambda: rrdi.resize(file, "0", "GROW", "1", **both), lambda: rrdi.revert(file, **both),
+            lambda: rrdi.create(file, *BOTH, overwrite=True, **both),
+            lambda: rrdi.create(self.folder / "new.rrdi", *BOTH, **both), lambda: rrdi.batch(file, ["last"], **both),
+            one.last, lambda: one.create(*BOTH, overwrite=True), lambda: one.batch(["last"]), lambda: other.batch(["last"])]
+        for number, (function, syncs) in enumerate([*((read, False) for read in reads), *((change, True) for change in changes)]):
             library.reset_mock()
-            with mock.patch("rrdi.commands.the_library", lambda: library), self.assertRaises(rrdi.Refused):
+            with mock.patch("rrdi.commands.the_library", lambda: library), mock.patch.object(environment, "SYNC", False), \
+                    self.assertRaises(rrdi.Refused):
                 function()
             calls = library.run_file.call_args_list + library.batch_file.call_args_list
-            self.assertEqual([call[0][2:4] for call in calls], [(LAST + 60, 7_500)], number)
+            self.assertEqual([call[0][2:] for call in calls], [(LAST + 60, 7_500, syncs)], number)
 
     def test_damaged_files(self: Any) -> None:
         whole = self.fill().read_bytes()
