@@ -10,15 +10,19 @@ import pty
 import random
 import sys
 import unittest
-from typing import List
+from typing import List, Tuple
 from unittest import mock
 
 from cases import needs_program
 from doubles import PROGRAM, TOP
 from tool_case import NO_RRDTOOL, RRDTOOL, Ran, ToolCase
 
-from rrdi.tools import importer
+from rrdi.printed import Settings, Source
+from rrdi.tools import compare, importer
 from rrdi.tools.command_line import Progress
+from rrdi.tools.program import CommandFailed
+
+NAN = float("nan")
 
 DUMP = """<rrd><version>0003</version><step>10</step><lastupdate>1600000030</lastupdate>
 <ds><name> g </name><type> GAUGE </type><minimal_heartbeat>60</minimal_heartbeat><min>-5</min><max>NaN</max>
@@ -271,6 +275,64 @@ class Export(ToolCase):
 
     def python(self) -> str:
         return f"{TOP}/tools/rrdi-export"
+
+
+class Comparing(unittest.TestCase):
+    """The parts of rrdi-compare, without a program."""
+
+    def test_counts(self) -> None:
+        """Cells agree if they are a millionth and a unit of the eleventh digit apart, or both are unknown."""
+        cases: List[Tuple[List[Tuple[int, float, float]], str, bool]] = [
+            ([], "0 cells, 0 agree", False), ([(10, 1, 1), (20, NAN, NAN)], "2 cells, 2 agree", True), ([(10, 1, 1.000001), (20, 1e12, 1e12 + 100), (30, -1e12, -1e12 - 100)], "3 cells, 3 agree", True),
+            ([(10, 1, 1.0000021)], "1 cells, 0 agree, 1 apart by up to 0.000002, the newest at 10", False), ([(10, 1e12, 1e12 + 101)], "1 cells, 0 agree, 1 apart by up to 101.000000, the newest at 10", False),
+            ([(10, -5, -7)], "1 cells, 0 agree, 1 apart by up to 2.000000, the newest at 10", False), ([(10, 0, NAN)], "1 cells, 0 agree, 1 only in the old file, the newest at 10", False), ([(0, NAN, 0)], "1 cells, 0 agree, 1 only in the new, the newest at 0", False),
+            ([(30, NAN, 5), (20, 5, NAN), (40, 1, 1), (10, 1, 2), (5, 1, 9), (7, 1, 3)], "6 cells, 1 agree, 1 only in the old file, 1 only in the new, 3 apart by up to 8.000000, the newest at 30", False)]
+        for cells, text, is_equal in cases:
+            counts = compare.Counts()
+            for cell in cells:
+                counts.add(*cell)
+            self.assertEqual((counts.text(), counts.is_equal()), (text, is_equal))
+
+    def test_archives(self) -> None:
+        """Of the functions that rrdi has, from the oldest row to the last whole one, and not before 1970."""
+        def info(*archives: Tuple[str, int, int]) -> str:
+            return "step = 10\nlast_update = 1005\n" + "".join(f'rra[{at}].cf = "{function}"\nrra[{at}].rows = {rows}\nrra[{at}].pdp_per_row = {steps}\n' for at, (function, rows, steps) in enumerate(archives))
+        self.assertEqual(list(compare.spans(info(("AVERAGE", 5, 1), ("HWPREDICT", 5, 1), ("MAX", 7, 3), ("LAST", 999, 6), ("MIN", 33, 3)))),
+                         [("AVERAGE", 10, 950, 999), ("MAX", 30, 780, 989), ("LAST", 60, 0, 959), ("MIN", 30, 0, 989)])
+        self.assertEqual((list(compare.spans("")), list(compare.spans(info()))), ([], []))
+        first = compare.ArchiveSpan("MAX", 30, 600, 989)
+        for other, is_like in ((first, True), (first._replace(begin=601), True), (first._replace(begin=599), False), (first._replace(function="MIN"), False), (first._replace(seconds=60), False), (first._replace(end=5), True)):
+            self.assertEqual(compare.is_like(first, other), is_like, other)
+
+    def test_cells(self) -> None:
+        found = compare.old_cells("            a    b\n\n10: 1.5000000000e+00 nan\n\n20: -nan -2.0000000000e+00\nno time\n")
+        self.assertEqual(repr(found), "{10: {'a': 1.5, 'b': nan}, 20: {'a': nan, 'b': -2.0}}")
+        self.assertEqual((compare.old_cells(""), compare.old_cells(" a\n")), ({}, {}))
+        with mock.patch("rrdi.tools.rrdtool_program.ask", return_value=" a b\n\n10: 1 2\n20: 3 4\n") as old, mock.patch("rrdi.tools.program.ask", return_value="time: a c\n20: 3 5\n30: 1 nan\n") as new:
+            counts = compare.compare_archive("o", "n", compare.ArchiveSpan("MAX", 10, 5, 29))
+        self.assertEqual(counts.text(), "4 cells, 2 agree, 2 only in the new, the newest at 30")
+        self.assertEqual([asked.call_args[0][0] for asked in (old, new)], [["fetch", name, "MAX", "-r", "10", "-s", "5", "-e", "29"] for name in ("o", "n")])
+
+    def test_both_files(self) -> None:
+        info = 'step = 10\nlast_update = 1005\nds[a].type = "GAUGE"\nds[b-c].type = "COMPUTE"\nds[d].type = "DERIVE"\n' + "".join(f'rra[{at}].cf = "MAX"\nrra[{at}].rows = {rows}\nrra[{at}].pdp_per_row = 1\n' for at, rows in enumerate((5, 5, 6)))
+        counts = [compare.Counts(), compare.Counts()]
+        for one in counts:
+            one.add(10, 1, 1)
+        counts[1].add(20, 1, NAN)
+        for order, status in ((counts, 1), (counts[::-1], 1), (counts[:1] * 2, 1)):
+            with mock.patch("rrdi.tools.rrdtool_program.ask", return_value=info), mock.patch.object(compare, "compare_archive", side_effect=order) as each, mock.patch.object(compare, "missing_sources", return_value=["b-c (COMPUTE)", "d\t (X)"]), \
+                    contextlib.redirect_stdout(io.StringIO()) as said:
+                self.assertEqual(compare.compare(["o", "n"]), status)
+            self.assertEqual(said.getvalue(), f"MAX 10 s: {order[0].text()}\nMAX 10 s: not compared, since fetch reads an archive before it\nMAX 10 s: {order[1].text()}\nonly in the old file: b-c (COMPUTE), d\\t (X)\n")
+            self.assertEqual([call[0] for call in each.call_args_list], [("o", "n", compare.ArchiveSpan("MAX", 10, begin, 999)) for begin in (950, 940)])
+        with mock.patch("rrdi.tools.rrdtool_program.ask", return_value=info.replace("rra[1].cf", "x")), mock.patch.object(compare, "compare_archive", return_value=counts[0]), mock.patch.object(compare, "missing_sources", return_value=[]), \
+                contextlib.redirect_stdout(io.StringIO()) as said:
+            self.assertEqual((compare.compare(["o", "n"]), said.getvalue()), (0, "MAX 10 s: 1 cells, 1 agree\n"))
+        there = Settings(10, 0, 0, 0, [Source("a", "GAUGE", 1, "U", "U", "U")], [])
+        with mock.patch("rrdi.tools.program.settings", return_value=there):
+            self.assertEqual(compare.missing_sources(info, "n"), ["b-c (COMPUTE)", "d (DERIVE)"])
+        with mock.patch("rrdi.tools.program.settings", side_effect=CommandFailed("file: version")), self.assertRaisesRegex(CommandFailed, "^n: file: version$"):
+            compare.missing_sources(info, "n")
 
 
 @needs_program
