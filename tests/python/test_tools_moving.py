@@ -10,17 +10,22 @@ import pty
 import random
 import sys
 import unittest
-from typing import List, Tuple
+from array import array
+from typing import Any, Callable, Dict, List, Tuple
 from unittest import mock
 
 from cases import needs_program
 from doubles import PROGRAM, TOP
 from tool_case import NO_RRDTOOL, RRDTOOL, Ran, ToolCase
 
+from rrdi.amounts import Millionths
+from rrdi.importing.dump import Refusal, RrdArchive, RrdFile, RrdSource
 from rrdi.printed import Settings, Source
-from rrdi.tools import compare, importer
-from rrdi.tools.command_line import Progress
+from rrdi.tools import compare, importer, restoring
+from rrdi.tools.command_line import Failure, Progress
 from rrdi.tools.program import CommandFailed
+from rrdi.tools.restoring import are_close, difference
+from rrdi.tools.rrdtool_xml import as_xml
 
 NAN = float("nan")
 
@@ -275,6 +280,67 @@ class Export(ToolCase):
 
     def python(self) -> str:
         return f"{TOP}/tools/rrdi-export"
+
+
+class ReadBack(unittest.TestCase):
+    """What rrdtool has restored is compared with the database, part by part."""
+
+    def both(self) -> Tuple[Any, RrdFile]:
+        """A database five seconds after its last step, and six steps after its last row of nine; and the same as a file of RRDtool."""
+        sources = [{"name": "g", "type": "GAUGE", "heartbeat": 60, "last_raw": Millionths(2_500_000), "known_seconds": 5, "min": Millionths(-1_500_000), "max": None, "sum": Millionths(12_500_000)},
+                   {"name": "c", "type": "COUNTER", "heartbeat": 70, "last_raw": 7, "known_seconds": 2, "min": None, "max": Millionths(10**15), "sum": Millionths(0)}]
+        archives = [{"function": "AVERAGE", "steps": 9, "xff": Millionths(500_000), "preparations": [{"value": Millionths(3_000_000), "known_steps": 4}, {"value": Millionths(0), "known_steps": 0}],
+                     "rows": [{"cells": [Millionths(1_000_000), None]}, {"cells": [None, Millionths(-2_000_000)]}]}]
+        step, last = 10, 9 * 10 * 11_111_111 + 65
+        found = RrdFile(step, last, [RrdSource(0, "g", "GAUGE", 60, -1.5, NAN, "2.500000", 12.5, 0), RrdSource(1, "c", "COUNTER", 70, NAN, 1e9, "7", 0.0, 3)],
+                        [RrdArchive(0, "AVERAGE", 9, 0.5, [3.0, NAN], [2, 6], array("d", [1.0, NAN, NAN, -2.0]), 2)])
+        return {"step": step, "last_time": last, "sources": sources, "archives": archives}, found
+
+    def test_each_part(self) -> None:
+        database, found = self.both()
+        self.assertEqual(difference(database, found), "")
+        changes: List[Tuple[str, Callable[[RrdFile], Any], Dict[str, Any]]] = [
+            ("the step or the last time", lambda file: file, {"step": 11, "last": 5}), ("the number of data sources or archives", lambda file: file, {"sources": found.sources[:1], "archives": []}),
+            *((f"the data source {name}", lambda file, at=at: file.sources[at], {"name": "x", "kind": "DERIVE", "heartbeat": 9, "minimum": 5.0, "maximum": 5.0, "last_raw": "5", "partial_sum": 5.0, "unknown_seconds": 1}) for at, name in enumerate("gc")),
+            ("archive 0", lambda file: file.archives[0], {"function": "MAX", "steps": 8, "share": 0.25, "columns": 1, "partial": [3.0, 5.0], "unknown_steps": [2, 5], "cells": array("d", [1.0, NAN, 5.0, -2.0])})]
+        for text, part, values in changes:
+            for name, value in values.items():
+                found = self.both()[1]
+                setattr(part(found), name, value)
+                self.assertEqual(difference(database, found), text, name)
+        for cells in ([NAN, NAN, NAN, -2.0], [1.0, NAN, NAN, 2.0], [1.0, NAN, NAN, NAN], [1.0, NAN, 0.0, -2.0]):
+            found = self.both()[1]
+            found.archives[0].cells = array("d", cells)
+            self.assertEqual(difference(database, found), "archive 0")
+
+    def test_digits(self) -> None:
+        """rrdtool prints eleven digits: a number may differ by a unit of the tenth behind the first."""
+        for wanted, read, is_close in ((10**6, 1 + 0.9e-10, True), (10**6, 1 - 0.9e-10, True), (10**6, 1 + 1.1e-10, False), (-10**6, -1 - 0.9e-10, True), (-10**6, -1 - 1.1e-10, False), (0, 0.0, True), (0, 1e-300, False), (10**18, 1e12 + 99, True),
+                                       (10**18, 1e12 + 101, False), (None, NAN, True), (None, 0.0, False), (0, NAN, False)):
+            self.assertEqual(are_close([(wanted, read)]), is_close, (wanted, read))
+            self.assertEqual(are_close([(0, 0.0), (wanted, read)]), is_close)
+
+    def test_the_xml(self) -> None:
+        self.assertEqual(list(as_xml(self.both()[0])), [
+            '<?xml version="1.0" encoding="utf-8"?>', f"<rrd><version>0003</version><step>10</step><lastupdate>{9 * 10 * 11_111_111 + 65}</lastupdate>",
+            "<ds><name>g</name><type>GAUGE</type>", "<minimal_heartbeat>60</minimal_heartbeat>", "<min>-1.500000</min><max>NaN</max>", "<last_ds>2.500000</last_ds><value>12.500000</value>", "<unknown_sec>0</unknown_sec></ds>",
+            "<ds><name>c</name><type>COUNTER</type>", "<minimal_heartbeat>70</minimal_heartbeat>", "<min>NaN</min><max>1000000000.000000</max>", "<last_ds>7</last_ds><value>0.000000</value>", "<unknown_sec>3</unknown_sec></ds>",
+            "<rra><cf>AVERAGE</cf><pdp_per_row>9</pdp_per_row>", "<params><xff>0.500000</xff></params><cdp_prep>",
+            "<ds><primary_value>NaN</primary_value><secondary_value>NaN</secondary_value>", "<value>3.000000</value>", "<unknown_datapoints>2</unknown_datapoints></ds>",
+            "<ds><primary_value>-2.000000</primary_value><secondary_value>NaN</secondary_value>", "<value>NaN</value>", "<unknown_datapoints>6</unknown_datapoints></ds>",
+            "</cdp_prep><database>", "<row><v>1.000000</v><v>NaN</v></row>", "<row><v>NaN</v><v>-2.000000</v></row>", "</database></rra>", "</rrd>"])
+
+    def test_what_goes_wrong(self) -> None:
+        database, found = self.both()
+        for read, text in ((found, ""), (RrdFile(9, 5, [], []), "what rrdtool restored is not equal: the step or the last time"), (Refusal("odd"), "what rrdtool restored cannot be read back: odd")):
+            lines: List[int] = []
+            with mock.patch.object(restoring, "restore") as made, mock.patch.object(restoring, "read_old", side_effect=[read]) as back:
+                if text:
+                    with self.assertRaisesRegex(Failure, f"^{text}$"):
+                        restoring.restore_equal(database, "new", lines.append)
+                else:
+                    restoring.restore_equal(database, "new", lines.append)
+            self.assertEqual((list(made.call_args[0][0]), made.call_args[0][1:], back.call_args[0][0]), (list(as_xml(database)), ("new", lines.append), "new"))
 
 
 class Comparing(unittest.TestCase):
