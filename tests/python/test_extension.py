@@ -7,9 +7,9 @@ from __future__ import annotations
 
 import contextlib
 import ctypes
+import gc
 import os
 import random
-import resource
 import sys
 import time
 import unittest
@@ -65,6 +65,15 @@ def text_of(value: _Value) -> str:
         return "U"
     fraction = f".{value.millionths:06}".rstrip("0") if value.kind == DECIMAL else ""
     return f"{'-' * value.is_negative}{value.units}{fraction}"
+
+
+def in_use() -> int:
+    """Returns how many bytes malloc has given and not got back: `hblkhd` and `uordblks` of malloc.h's struct mallinfo2."""
+    gc.collect()
+    info = ctypes.CDLL(None).mallinfo2
+    info.restype = type("Numbers", (ctypes.Structure,), {"_fields_": [(name, ctypes.c_size_t) for name in "abcdefghij"]})
+    found: Any = info()
+    return int(found.e + found.h)
 
 
 class Fast:
@@ -172,17 +181,6 @@ class Rooms(ByExtension, unittest.TestCase):
         self.assertEqual((answer.data, answer.output, len(called.given)), (data, long, 2))
         many = tuple(range(1, 20_001))
         self.assertEqual(test_library.Called(refused=many).library.batch_file(b"f", b"\n" * 19_999, 0, 0, False).refused, many)
-
-    def test_rooms_that_have_grown_are_freed(self) -> None:
-        called = test_library.Called(b"o" * 100_000)
-
-        def most_after(count: int) -> int:
-            for _ in range(count):
-                called.library.run_file(b"f", b"info", 0, 0, False)
-                called.given.clear()
-            return resource.getrusage(resource.RUSAGE_SELF).ru_maxrss
-        before = most_after(50)
-        self.assertLess(most_after(1_000) - before, 20_000)  # kilobytes
 
     def test_more_refused_lines_than_there_are(self) -> None:
         answer = test_library.Called(refused=(1, 2, 3)).library.batch_file(b"f", b"1", 0, 0, False)
@@ -488,16 +486,6 @@ class ManySamples(FastCase):
         self.assertIsNone(opened.update_many(((10, 1.5), (20, 2.5)), 0, 5))
         self.assertEqual(self.said(), ["close"])
 
-    def test_memory(self) -> None:
-        """What is no sample leaves nothing behind of those before it."""
-        opened, samples, sizes = self.opened(), (*((10 + at, 1.5) for at in range(1_000)), object()), []  # type: Any, Any, List[int]
-        for _ in range(3):
-            for _ in range(300):
-                opened.update_many(samples, 0, 5)
-            with open("/proc/self/statm", encoding="ascii") as file:
-                sizes.append(int(file.read().split()[5]) * os.sysconf("SC_PAGE_SIZE"))
-        self.assertLess(sizes[2] - sizes[0], 2_000_000)
-
 
 class Fetches(FastCase):
     def rows(self, values: List[Optional[float]], sources: int = 1) -> None:
@@ -748,8 +736,13 @@ class Costs(FastCase):
 
         table = of_tree.table
         self.fast.at_call = of_tree.running  # as a fork asks during a call
+        grown = test_library.Called(b"o" * 20_000, b"f" * 200_000, (1,))
 
         def work() -> None:
+            grown.library.run(b"data", b"info", 0)
+            grown.library.batch(None, b"1\n2", 0)
+            grown.library.batch_file(b"f", b"1\n2", 0, 0, False)
+            grown.given.clear()
             of_tree.stop(True)
             of_tree.stop(False)
             of_tree.files()
@@ -762,6 +755,9 @@ class Costs(FastCase):
                 opened.update(samples[:1], None)
                 opened.update(samples, 5)
                 opened.update(((10, True),), None)
+                opened.update_many(samples, 0, None)
+                opened.update_many(((10, 1), (20, 2), object()), 0, None)
+                opened.batch(b"last\nlast", 0)
                 opened.fetch(0, 1, 0, 10)
                 opened.run(b"last", 0)
                 for text in ("time: a\n10: 1.000000\n", "time: a\n10: 1.000000\n20: x\n", "x"):
@@ -770,15 +766,15 @@ class Costs(FastCase):
                 self.opened().run(b"last", 0)
             self.fast.said.clear()
         watched = [DONE, Answer, refused, samples, samples[1], calls.wait, opened, self.fast.library, None, True, type(opened)]
-        for _ in range(200):
+        for _ in range(100):
             work()
-        before = [sys.getrefcount(one) for one in watched]
-        memory = resource.getrusage(resource.RUSAGE_SELF).ru_maxrss
-        for _ in range(3_000):
+        memory, before = in_use(), [sys.getrefcount(one) for one in watched]  # garbage has references too
+        for _ in range(300):
             work()
+        lost = in_use() - memory
         for one, count in zip(watched, before):
             self.assertLess(abs(sys.getrefcount(one) - count), 100, one)
-        self.assertLess(resource.getrusage(resource.RUSAGE_SELF).ru_maxrss - memory, 2_000)  # kilobytes
+        self.assertLess(lost, 300 * 16)  # bytes: no block is so small
 
     def test_threads(self) -> None:
         """One call at a time uses an open file, by whatever way, while another thread closes it."""
