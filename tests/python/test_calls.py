@@ -454,6 +454,16 @@ class Bookkeeping(unittest.TestCase):
         self.assertEqual((self.calls.running_elsewhere(), self.calls.are_stopped()), ([], False))
         self.assertEqual(self.elsewhere.mock_calls, [mock.call.stop(False), mock.call.forget_calls()])
 
+    def test_each_other_interpreter_is_told(self) -> None:
+        others = [self.elsewhere, mock.Mock(running=lambda: [], files=lambda: [])]
+        self.calls.elsewhere.append(others[1])
+        for act, told in ((self.calls.stop, [mock.call.stop(True)]), (self.calls.after_fork, [mock.call.stop(False)]), (self.calls.wait, [mock.call.stop(False)]),
+                          (self.calls.after_fork_in_child, [mock.call.stop(False), mock.call.forget_calls()])):
+            for one in others:
+                one.reset_mock()
+            act()
+            self.assertEqual([one.mock_calls for one in others], [told, told])
+
     def test_when_a_call_may_begin(self) -> None:
         """Not while another thread forks, but for two seconds at most; then it goes on without asking again."""
         now = time.monotonic()

@@ -490,6 +490,13 @@ class Collecting(OfFiles):
         with rrdi.Database(self.file, collect=True) as database:
             database.create(*BOTH, step=10, start=50, journal=5)
             database.update("60:1:2")
+            for _ in range(2):  # it waits, and then it is there: by the same words too
+                with self.assertRaises(rrdi.Exists) as raised:
+                    database.create(*BOTH, step=10, start=50, journal=5)
+                self.assertIs(type(raised.exception), rrdi.Exists)
+                database.create(*BOTH, step=10, start=50, exist_ok=True)
+                database.flush()
+            self.assertEqual(rrdi.info(self.file).undoable, 1)
         self.assertEqual((rrdi.last(self.file), rrdi.info(self.file).journal), (60, 5))
 
 

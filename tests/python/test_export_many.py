@@ -12,13 +12,15 @@ import sys
 import time
 import unittest
 from pathlib import Path
-from typing import Callable, List, Set, Tuple
+from typing import Any, Callable, Dict, List, Set, Tuple
 from unittest import mock
 
-from cases import HANG, needs_program
+import graphite_doubles as graphite
+from cases import HANG, DataCase, needs_program
 from doubles import PROGRAM, TOP
 from tool_case import NO_RRDTOOL, RRDTOOL, Ran, ToolCase
 
+from rrdi.tools import export_many
 from rrdi.tools.children import ChildAnswer, answers
 from rrdi.tools.command_line import Failure
 from rrdi.tools.export_many import make_new, swap_in_place
@@ -62,6 +64,59 @@ class NewFiles(ToolCase):
         with self.assertRaisesRegex(Failure, f"^{path} already exists$"):
             make_new(str(path), fill)
         self.assertEqual((path.read_text(), sorted(os.listdir(self.folder))), ("another's", sorted([*before, "new.rrd"])))
+
+
+class InPlace(DataCase):
+    """What becomes of one database; RRDtool's file is given."""
+
+    def setUp(self) -> None:
+        super().setUp()
+        self.path = self.folder / "f.rrd"
+        self.path.write_bytes(graphite.file_bytes(1_000_000_000, ("a", "b"), [(1, 6, {}), (6, 5, {}), (12, 4, {})]))
+        self.path.chmod(0o640)
+        self.data = self.path.read_bytes()
+
+    def swap(self, fill: Callable[[], object] = lambda: None) -> str:
+        def restore(database: Dict[str, Any], new: str) -> None:
+            self.assertEqual((len(database["sources"]), Path(new).parent, os.umask(0o022)), (2, self.folder, 0o077))
+            os.umask(0o077)
+            Path(new).write_text("RRD")
+            fill()
+        before, mask = sorted(os.listdir("/proc/self/fd")), os.umask(0o022)
+        try:
+            with mock.patch.object(export_many, "restore_equal", restore):
+                return export_many.swap_in_place(str(self.path))
+        finally:
+            self.assertEqual((sorted(os.listdir("/proc/self/fd")), os.umask(mask)), (before, 0o022))
+
+    def test_the_new_file(self) -> None:
+        """It has the mode of the database, which has its other name; what is written is on the disk; and nothing stays open."""
+        flushed: List[str] = []
+        with mock.patch.object(os, "fsync", lambda file: flushed.append(os.readlink(f"/proc/self/fd/{file}"))):
+            self.assertEqual(self.swap(), f"converted, the database is {self.path}.rrdi (2 data sources, 3 archives)")
+        self.assertEqual((self.path.read_text(), self.path.stat().st_mode & 0o777, Path(f"{self.path}.rrdi").read_bytes()), ("RRD", 0o640, self.data))
+        self.assertEqual((flushed[0].startswith(f"{self.folder}/.rrdi-"), flushed[1:], self.files()), (True, [str(self.folder)], ["data/f.rrd", "data/f.rrd.rrdi"]))
+
+    def test_other_names(self) -> None:
+        for count, text in ((1, "1 other name of the database still has it"), (2, "2 other names of the database still have it")):
+            self.path.unlink()
+            self.path.write_bytes(self.data)
+            for number in range(count):
+                os.link(self.path, f"{self.path}.{count}{number}")
+            self.assertTrue(self.swap().endswith(f"; {text}"))
+            Path(f"{self.path}.rrdi").unlink()
+
+    def test_what_is_refused(self) -> None:
+        """The database stays as it is."""
+        def taken() -> None:
+            Path(f"{self.path}.rrdi").write_text("another's")
+        for act, text in ((lambda: os.utime(self.path, (1, 1)), "it changed while it was converted; first stop what records into it"), (taken, f"{self.path}.rrdi already exists")):
+            with self.assertRaisesRegex(Failure, f"^{text}$"):
+                self.swap(act)
+            self.assertEqual(self.path.read_bytes(), self.data)
+        self.assertEqual((self.files(), Path(f"{self.path}.rrdi").read_text()), (["data/f.rrd", "data/f.rrd.rrdi"], "another's"))
+        with self.assertRaisesRegex(Failure, "^a file whose name ends in .rrdi is converted with --into$"):
+            export_many.swap_in_place(f"{self.path}.rrdi")
 
 
 class Children(unittest.TestCase):

@@ -219,6 +219,20 @@ class NoMemory(FaultCase):
             self.assertFalse(self.feeder.start_one())
         self.assertEqual(start.mock_calls, [mock.call(b"3")])
 
+    def test_what_is_lost_without_memory(self) -> None:
+        """A batch of this thread whose end has no room; and all that is held or waits, once the patience is over."""
+        with contextlib.redirect_stderr(io.StringIO()) as said:
+            with mock.patch.object(self.feeder, "end_batch", side_effect=MemoryError):
+                self.feeder.running.add(b"a")
+                self.feeder.run_here(b"a", [b"20:1", b"10:1"])
+            self.assertEqual(self.feeder.running, set())
+            self.feeder.take_all([b"b 10:1 20:2", b"c 10:1"])
+            self.feeder.waiting[b"d"] = feeders.Waiting([b"5:1"], "no", 1, 1e9)
+            self.feeder.give_up_all()
+        self.assertEqual((self.feeder.held, self.feeder.since, self.feeder.waiting), ({}, {}, {}))
+        lost = (("a", "10:1 20:1"), ("b", "10:1 20:2"), ("c", "10:1"), ("d", "5:1"))
+        self.assertEqual(said.getvalue(), "".join(f"rrdi-feed: {file}: out of memory; {len(samples.split())} samples may be lost\nrrdi-feed: may be lost: {file} {samples}\n" for file, samples in lost))
+
     def test_batches_that_cannot_be_started(self) -> None:
         """After the patience they are named, and feed ends."""
         with mock.patch.object(self.feeder, "start", side_effect=MemoryError):

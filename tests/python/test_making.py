@@ -238,7 +238,8 @@ class WithoutLinks(DataCase):
         def lock() -> None:
             opened.append(self.path.open())
             fcntl.flock(opened[0], fcntl.LOCK_EX)
-        self.not_made(lock)
+        with mock.patch("time.sleep", side_effect=AssertionError("it waits")):
+            self.not_made(lock)
         opened[0].close()
         self.assertEqual(self.files(), ["data/f.rrdi"])
 

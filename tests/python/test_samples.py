@@ -238,6 +238,11 @@ class Forms(unittest.TestCase):
     def test_numbers_of_other_libraries(self) -> None:
         self.assertEqual([value_text(value) for value in (Number(1.5), Number(1 / 3), Number(math.nan), Whole())],
                          ["1.5", "0.333333", "U", str(2**63 + 1)])
+        for name, text in (("NAType", "U"), ("NaTType", "U")):  # of pandas
+            self.assertEqual(value_text(type(name, (), {})()), text)
+        for name in ("bool_", "bool"):
+            with self.assertRaisesRegex(TypeError, ", which is no number; write 1 or 0$"):
+                value_text(type(name, (float,), {})(1))
         for wrong, kind in ((Number(math.inf), ValueError), (object(), TypeError), ([1], TypeError), (1j, TypeError)):
             with self.assertRaises(kind):
                 value_text(wrong)

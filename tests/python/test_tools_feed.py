@@ -65,13 +65,16 @@ class WrongOnes(ToolCase):
 
     def test_what_is_wrong_with_a_rule(self) -> None:
         """The failure has the explanation of rrdi, which the tool prints as a second line."""
-        rules = self.write("rules", f"** ** {CREATE}\n")
-        for reason, detail in ((Reason("bad step", "its step is 0"), "its step is 0"), ("no room", "")):
-            writer = mock.Mock()
-            writer.create.return_value = reason
-            with self.assertRaises(Failure) as raised:
-                rules_of(rules, writer)
-            self.assertEqual((str(raised.exception), raised.exception.detail), (f"{rules}: create {CREATE}: {reason}", detail))
+        rules = self.write("rules", f"a a {CREATE} A\n** ** {CREATE}\nb b {CREATE} B\nc c {CREATE} A\nd d\n")
+        for number, more in enumerate(("", " A", " B")):
+            for reason, detail in ((Reason("bad step", "its step is 0"), "its step is 0"), ("no room", "")):
+                writer = mock.Mock()
+                writer.create.side_effect = [*[""] * number, reason]
+                with self.assertRaises(Failure) as raised:
+                    rules_of(rules, writer)
+                self.assertEqual((str(raised.exception), raised.exception.detail), (f"{rules}: create {CREATE}{more}: {reason}", detail))
+        writer.create.side_effect = [""] * 3
+        self.assertEqual([rule.arguments for rule in rules_of(rules, writer)], [(*CREATE.split(), *more.split()) for more in ("A", "", "B", "A")] + [()])
 
 
 class Feed(ToolCase):

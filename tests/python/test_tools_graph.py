@@ -219,6 +219,16 @@ class Pictures(ToolCase):
         self.assertLess(sizes[-1] - sizes[5], 2_000_000)
 
 
+class Values(unittest.TestCase):
+    def test_kinds(self) -> None:
+        """Of each type of rrd_info_t: a number, a count, a text, a whole number below 0 too, and bytes."""
+        blob = ctypes.create_string_buffer(b"\x89P\0G")
+        for kind, field, value, found in ((0, "value", 1.5, 1.5), (1, "count", 2**40, 2**40), (2, "text", b"a\xff", "a\udcff"), (2, "text", None, ""), (3, "number", -7, -7), (4, "blob", librrd._Blob(4, ctypes.addressof(blob)), b"\x89P\0G")):
+            info = librrd._Info(type=kind)
+            setattr(info.value, field, value)
+            self.assertEqual((type(librrd.value_of(info)), librrd.value_of(info)), (type(found), found))
+
+
 class NoLibrary(unittest.TestCase):
     def test_it_says_what_to_install(self) -> None:
         from unittest import mock

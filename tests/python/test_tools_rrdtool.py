@@ -2,17 +2,22 @@
 """Tests of rrdi-rrdtool: its output compared with rrdtool's, its errors, and its pipe mode."""
 from __future__ import annotations
 
+import contextlib
+import errno
+import io
 import os
 import re
 import sys
 import unittest
-from typing import List
+from typing import Any, List, Tuple
 from unittest import mock
 
 from cases import needs_program
 from doubles import TOP
 from tool_case import NO_RRDTOOL, RRDTOOL, Ran, ToolCase
 
+from rrdi.tools import rrdtool
+from rrdi.tools.rows import Rows
 from rrdi.tools.rrdtool_output import Printed
 from rrdi.tools.command_line import Failure
 from rrdi.printed import Archive, Settings, Source
@@ -54,6 +59,37 @@ class Words(unittest.TestCase):
                                       ("--data-source-rename", "g:h", True), ("--maximum", "none:5.5", True)):
             with self.subTest(option=option, value=value):
                 self.assertEqual(needed(now, option, value), wanted)
+
+
+class NewRows(unittest.TestCase):
+    def test_each_row(self) -> None:
+        """Those that end after the time before and up to the time after, of each archive: as many as it has, and none before 1970."""
+        def rows_of(file: str, now: Settings, number: int, start: int, end: int) -> Rows:
+            asked.append((file, number, start, end))
+            seconds = now.resolution(number)
+            last = end - end % seconds + seconds
+            return Rows(start, last, seconds, ["g", "h"], [[float(at), None] for at in range(start + seconds, last + 1, seconds)])
+        cases: List[Tuple[int, int, int, List[Tuple[int, int, int, Tuple[int, ...]]]]] = [
+                (1, 998, 1_000, [(0, 998, 999, (999, 1_000)), (1, 996, 998, (999,))]), (1, 999, 1_000, [(0, 999, 999, (1_000,))]), (1, 5, 1_000, [(0, 995, 999, (996, 997, 998, 999, 1_000)), (1, 990, 998, (993, 996, 999))]),
+                (10, 989, 1_000, [(0, 980, 999, (990, 1_000)), (1, 960, 989, (990,))]), (10, 990, 999, []), (10, 0, 30, [(0, 0, 29, (10, 20, 30)), (1, 0, 29, (30,))])]
+        for step, before, after, wanted in cases:
+            asked: List[Any] = []
+            now = settings(Archive("AVERAGE", "0.5", 1, 5), Archive("MAX", "0.5", 3, 3), last=after, step=step)
+            with mock.patch("rrdi.tools.rrdtool.running.rows_of", rows_of):
+                found = Commands.new_cells("f", now, before, after)
+            self.assertEqual(asked, [("f", number, start, end) for number, start, end, _ in wanted], (step, before, after))
+            self.assertEqual(found, [(at, *(("AVERAGE", 1) if number == 0 else ("MAX", 3)), name, float(at) if name == "g" else None) for number, _, _, times in wanted for at in times for name in ("g", "h")])
+
+
+class Ends(unittest.TestCase):
+    def test_how_a_command_ends(self) -> None:
+        """A refusal, and an output that nobody reads or that is full, are 1; of the latter the rest is given up."""
+        full = OSError(errno.ENOSPC, "No space left on device")
+        for error, said, given_up in ((None, "", False), (Failure("a\tb"), "ERROR: a\\tb\n", False), (BrokenPipeError(), "", True), (full, "ERROR: No space left on device\n", True)):
+            with mock.patch.object(rrdtool, "run_command", return_value=["a"] if not isinstance(error, Failure) else None, side_effect=error if isinstance(error, Failure) else None), mock.patch.object(rrdtool, "give_up_output") as gives_up, \
+                    mock.patch("sys.stdout", mock.Mock(flush=mock.Mock(side_effect=None if isinstance(error, Failure) else error))) as out, contextlib.redirect_stderr(io.StringIO()) as err:
+                self.assertEqual(rrdtool.run_words(["last", "f"]), 0 if error is None else 1)
+            self.assertEqual((err.getvalue(), gives_up.called, out.buffer.write.mock_calls), (said, given_up, [] if isinstance(error, Failure) else [mock.call(b"a\n")]))
 
 
 class Spans(unittest.TestCase):
