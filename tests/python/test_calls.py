@@ -29,6 +29,7 @@ from rrdi import by_ctypes
 from rrdi.errors import REFUSED
 from rrdi.kept import KeptFile
 from rrdi.locks import keepers
+from rrdi.open_files import OpenFiles
 from rrdi.protocol import Answer
 
 Call = Callable[[bytes], Answer]
@@ -435,6 +436,19 @@ class Begun:
     path: Optional[bytes] = b"/nowhere/f"
     opened = None
     thread = -1
+
+
+class Registered(unittest.TestCase):
+    def test_a_fork(self) -> None:
+        """It is known beforehand, and in both processes afterwards; the child has locks of its own."""
+        kept, files = KeptFile("f"), OpenFiles()
+        before = kept.guard, files._guard
+        with mock.patch.object(running.calls, "stop") as stop, mock.patch.object(running.calls, "_set_stopped") as set_stopped:
+            child = os.fork()
+            if child == 0:
+                os._exit(7 * (stop.called and set_stopped.called and kept.guard is not before[0] and files._guard is not before[1]))
+            self.assertEqual(os.waitpid(child, 0)[1], 7 << 8)
+        self.assertEqual((stop.call_count, set_stopped.mock_calls, (kept.guard, files._guard)), (1, [mock.call(0.0, 0)], before))
 
 
 class Bookkeeping(unittest.TestCase):

@@ -378,6 +378,14 @@ class Threads(FaultCase):
         for timer in late:
             timer.join(HANG)
 
+    def test_a_batch_that_a_late_thread_has_taken(self) -> None:
+        """It is not run here too."""
+        found = workers.Workers(1, lambda file, samples: None)
+        with mock.patch.object(found, "begin", lambda wanted: found.batches.get()):
+            self.assertIsNone(found.give((b"a", [b"10:1"]), 1))
+        with mock.patch.object(found, "begin"):
+            self.assertEqual(found.give((b"a", [b"10:1"]), 1), (b"a", [b"10:1"]))
+
     def test_as_many_as_jobs(self) -> None:
         found = workers.Workers(3, lambda file, samples: None)
         found.begin(10)

@@ -244,8 +244,8 @@ class Counting(unittest.TestCase):
         losses = Losses(lines.append, 60, lambda: now[0])
         for number in range(1_000):
             losses.add(f"m{number}", {"late": 1})
-        self.assertEqual(len(lines), LINES)
-        now[0] = 61
-        losses.add("m", {"late": 1})
-        self.assertEqual(lines[-2:], ["rrdi: 900 more lines were left out", "rrdi: m: points lost: 1 late"])
-        self.assertEqual(losses.take()["late"], 1_001)
+        for seconds, new in ((59.9, []), (60, ["rrdi: 901 more lines were left out", "rrdi: m: points lost: 1 late"]), (61, ["rrdi: m: points lost: 1 late"])):
+            before, now[0] = len(lines), seconds
+            losses.add("m", {"late": 1})
+            self.assertEqual(lines[before:], new)
+        self.assertEqual(losses.take()["late"], 1_003)

@@ -136,9 +136,15 @@ class Rooms(unittest.TestCase):
         self.assertEqual(Called(refused=many).library.batch_file(b"f", b"\n" * 19_999, 0, 0, False).refused, many)
 
     def test_rooms_that_shrink(self) -> None:
-        called = Called(b"o" * (17 * FIRST_ROOM))
-        called.library.run_file(b"f", b"fetch", 0, 0, False)
-        self.assertEqual(called.library.take_rooms().output.length, FIRST_ROOM)
+        long = 17 * FIRST_ROOM
+        cases: List[Tuple[Called, Any, Tuple[int, int, int]]] = [
+            (Called(b"o" * long), lambda of: of.run_file(b"f", b"fetch", 0, 0, False), (FIRST_ROOM, 1, 8)), (Called(b"o" * long), lambda of: of.batch_file(b"f", b"fetch", 0, 0, False), (FIRST_ROOM, 1, 8)),
+            (Called(b"o", b"f" * long), lambda of: of.run(None, b"create", 0), (FIRST_ROOM, FIRST_ROOM, 8)), (Called(b"o", b"", (1,)), lambda of: of.batch_file(b"f", b"\n" * long, 0, 0, False), (FIRST_ROOM, 1, FIRST_ROOM)),
+            (Called(b"o", b"f" * long), lambda of: of.batch(b"f", b"\n" * long, 0), (FIRST_ROOM, FIRST_ROOM, FIRST_ROOM))]
+        for called, act, lengths in cases:
+            act(called.library)
+            rooms = called.library.take_rooms()
+            self.assertEqual((rooms.output.length, rooms.file.length, rooms.refused.length), lengths)
 
     def test_rooms_that_are_taken(self) -> None:
         """Each call has rooms of its own, and gives them back."""

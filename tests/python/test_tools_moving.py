@@ -282,6 +282,22 @@ class Export(ToolCase):
         return f"{TOP}/tools/rrdi-export"
 
 
+class Lines(unittest.TestCase):
+    def test_when_the_line_of_progress_goes(self) -> None:
+        """Before each line is passed on, the first of which comes when the old file is read; and at the end, however that is."""
+        progress = mock.Mock()
+        lines = importer.ended(iter("ab"), progress)
+        for count, line in enumerate("ab", 1):
+            self.assertEqual((next(lines), progress.end.call_count), (line, count))
+        self.assertEqual((list(lines), progress.end.call_count), ([], 3))
+        with self.assertRaises(ZeroDivisionError):
+            list(importer.ended((1 // 0 for _ in "a"), progress))  # type: ignore[misc]
+        self.assertEqual(progress.end.call_count, 4)
+        with mock.patch.object(importer, "Progress") as made:
+            self.assertEqual(list(importer.counted(iter("abc"))), ["a", "b", "c"])
+        self.assertEqual(made.mock_calls, [mock.call("converting"), *(mock.call().show(count) for count in (1, 2, 3)), mock.call().end()])
+
+
 class ReadBack(unittest.TestCase):
     """What rrdtool has restored is compared with the database, part by part."""
 
