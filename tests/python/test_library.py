@@ -203,6 +203,11 @@ class Opened(unittest.TestCase):
         answer, opened = called.library.open(b"f", 0, False)
         self.assertEqual((answer.fault, answer.system_error, answer.output, opened), (14, 11, b"cannot open", None))
 
+    def test_refused_lines(self) -> None:
+        for count in (1, 2, 3, 40):
+            refused = tuple(range(1, count + 1))
+            self.assertEqual(self.opened(Called(refused=refused)).batch(b"\n".join([b"x"] * count), 0).refused, refused)
+
     def test_what_nobody_uses_is_closed(self) -> None:
         called = Called()
         opened = self.opened(called)
@@ -247,3 +252,5 @@ class Places(unittest.TestCase):
             self.assertIsInstance(raised.exception, OSError)
         if has_library():
             self.assertIs(load_library(), library.the_library())
+            with mock.patch.object(library, "the_extension", return_value=None):
+                self.assertIsInstance(load_library(), by_ctypes.CLibrary)

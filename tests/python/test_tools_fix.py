@@ -586,6 +586,15 @@ class Programs(ToolCase):
             with self.assertRaisesRegex(NotOpened, "^cannot run /nowhere/rrdi: No such file or directory$"):
                 holding.ProgramSession("f.rrdi")
 
+    def test_how_the_program_is_started(self) -> None:
+        """With the wait in seconds, and in a session of its own; a path that begins as an option does does not."""
+        for wait, seconds in ((0, "0"), (5_000, "5"), (3_600_000, "3600")):
+            with mock.patch.object(holding, "milliseconds", return_value=wait), mock.patch.object(subprocess, "Popen") as started, mock.patch.dict(os.environ, {"RRDI": "/x/rrdi", "OTHER": "o"}):
+                holding.ProgramSession("-f")
+            self.assertEqual(started.call_args[0][0], ["/x/rrdi", "batch", b"./-f"])
+            given = started.call_args[1]
+            self.assertEqual((given["env"]["RRDI_WAIT"], given["env"]["OTHER"], given["start_new_session"], given["bufsize"]), (seconds, "o", True, 0))
+
     def test_more_lines_than_a_pipe_takes(self) -> None:
         """None is sent, since a part of them must not be stored."""
         session = self.session("exec cat")
