@@ -7,12 +7,10 @@ import re
 import signal
 import subprocess
 import sys
-import tempfile
 import unittest
 from contextlib import redirect_stderr, redirect_stdout, suppress
 from io import StringIO
-from pathlib import Path
-from typing import Iterator, List, Tuple
+from typing import Iterator, Tuple
 from unittest.mock import patch
 
 from cases import needs_program
@@ -25,7 +23,7 @@ from rrdi.tools import importer
 from rrdi.tools.children import ChildAnswer
 from rrdi.tools.command_line import Failure, Progress
 from rrdi.tools.conversion import Reading
-from rrdi.tools.many_files import Bar, Conversions, OldFile
+from rrdi.tools.many_files import Conversions, OldFile
 
 WHOLE = DUMP.replace("COMPUTE", "GAUGE")
 SKIPPED = "skipped data source double: type COMPUTE is not supported; its formula is g,2,*"
@@ -34,20 +32,6 @@ OLD_FORM = b"RRD\0"
 
 
 class Bars(unittest.TestCase):
-    def test_the_next_file_goes_on(self) -> None:
-        """The bar of a file begins where the last file ended, and no file takes more than its share."""
-        shown: List[Tuple[int, int]] = []
-        with tempfile.TemporaryDirectory() as folder:
-            for name, size in (("a", 100), ("b", 300)):
-                Path(folder, name).write_bytes(bytes(size))
-            bar = Bar([OldFile(f"{folder}/{name}", name) for name in "ab"])
-        with patch.object(bar.progress, "show", lambda done, total: shown.append((done, total))):
-            bar.reading(50, 100)
-            bar.end_file(100)
-            bar.reading(150, 300)
-            bar.reading(900, 300)
-        self.assertEqual(shown, [(50, 400), (250, 400), (400, 400)])
-
     def test_why_a_file_is_not_converted(self) -> None:
         for fault, text in ((OSError(5, "Input/output error"), "Input/output error"), (MemoryError(), "out of memory"),
                             (Failure("it changed"), "it changed"), (Refusal("no file of whisper"), "no file of whisper")):

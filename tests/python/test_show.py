@@ -11,9 +11,7 @@ from unittest import mock
 from cases import needs_program, use_zone
 from tool_case import Ran, ToolCase
 
-from rrdi.amounts import Millionths
 from rrdi.tools.command_line import Failure, WrongArguments
-from rrdi.tools.show import shown_cells
 from rrdi.tools.spans import length_text, span_of
 
 USAGE = ("[--csv|--json|--openmetrics] FILE [FUNCTION] [-s START] [-e END] [-r SECONDS] [-a ARCHIVE]\n"
@@ -61,15 +59,6 @@ class Texts(unittest.TestCase):
         for seconds, text in ((1, "1 s"), (60, "1 min"), (90, "90 s"), (300, "5 min"), (3_600, "1 h"), (DAY, "1 day"),
                               (2 * DAY, "2 days"), (7 * DAY, "1 week"), (5_400, "90 min")):
             self.assertEqual(length_text(seconds), text)
-
-    def test_columns(self) -> None:
-        """As many decimals as the column needs, and the same number in each row."""
-        def texts(*values: "int | None") -> "list[str]":
-            return shown_cells([None if value is None else Millionths(value) for value in values])
-        self.assertEqual(texts(1_500_000, None, 2_250_000), ["1.50", "-", "2.25"])
-        self.assertEqual(texts(1_000_000, -20_000_000), ["1", "-20"])
-        self.assertEqual(texts(100_000_000, 1), ["100.000000", "0.000001"])
-        self.assertEqual(texts(None, None), ["-", "-"])
 
 
 @needs_program

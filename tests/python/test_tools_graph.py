@@ -16,7 +16,6 @@ from tool_case import NO_RRDTOOL, RRDTOOL, Ran, ToolCase
 
 from rrdi.tools import graphing, librrd
 from rrdi.tools.command_line import Failure
-from rrdi.tools.librrd import Exported
 from rrdi.tools.rows import Rows
 
 
@@ -56,14 +55,6 @@ class Words(ToolCase):
                              (f"CDEF:x={broken}:g:MAX", f"CDEF:x={broken}:g:MAX"), (broken, broken)):
             with self.subTest(word=word):
                 self.assertEqual(graphing.rewrite(word), wanted)
-
-    def test_exported_texts(self) -> None:
-        found = Exported(0, 20, 10, ["a", 'q"'], [(1.0, float("nan")), (2.5, -3.0)])
-        self.assertIn("    <row><t>10</t><v0>1.0000000000e+00</v0><v1>NaN</v1></row>\n", graphing.as_xml(found, True, True))
-        self.assertIn("    <row><v>2.5000000000e+00</v><v>-3.0000000000e+00</v></row>\n", graphing.as_xml(found, False, False))
-        self.assertIn('    [ "10",1.0000000000e+00, null ],\n', graphing.as_json(found, True))
-        import json
-        self.assertEqual(json.loads(graphing.as_json(found, False))["meta"]["legend"], ["a", 'q"'])
 
     def test_usage(self) -> None:
         self.check_usage("rrdi-graph", "PICTURE ARGUMENTS OF RRDTOOL GRAPH..", [[], ["a.png"], ["--start", "5"], ["", "a"]])

@@ -5,6 +5,7 @@ from __future__ import annotations
 
 import contextlib
 import io
+import json
 import os
 import struct
 import unittest
@@ -104,7 +105,7 @@ class Choices(unittest.TestCase):
 class Shown(InUtc):
     def test_cells(self) -> None:
         """As many decimals as the numbers of a column need, and no point without one."""
-        cases: List[Tuple[List[Optional[int]], List[str]]] = [([1_000_000, None, 2_500_000], ["1.0", "-", "2.5"]), ([1_000_000, 20_000_000], ["1", "20"]), ([None, None], ["-", "-"]), ([], []), ([1], ["0.000001"]), ([100_000_000], ["100"]),
+        cases: List[Tuple[List[Optional[int]], List[str]]] = [([1_000_000, None, 2_500_000], ["1.0", "-", "2.5"]), ([1_000_000, 20_000_000], ["1", "20"]), ([None, None], ["-", "-"]), ([], []), ([1], ["0.000001"]), ([100_000_000], ["100"]), ([100_000_000, 1], ["100.000000", "0.000001"]),
                              ([0, 10], ["0.00000", "0.00001"]), ([-1_500_000, 1_000_000], ["-1.5", "1.0"]), ([120_000_000, 1_100_000], ["120.0", "1.1"])]
         for cells, shown in cases:
             self.assertEqual(show.shown_cells([None if cell is None else Millionths(cell) for cell in cells]), shown, cells)
@@ -209,6 +210,7 @@ class OfRrdtool(unittest.TestCase):
             self.assertEqual(lines[15:], [*(f"    <row>{f'<t>{at}</t>' if has_times else ''}<{tags[0]}>{one}</{tags[0]}><{tags[1]}>{other}</{tags[1]}></row>" for at, one, other in (
                 (1_010, "1.5000000000e+00", "NaN"), (1_020, "2.0000000000e+00", "-3.0000000000e+00"))), "  </data>", "</xport>", ""])
             text = as_json(found, has_times)
+            self.assertEqual(json.loads(text)["meta"]["legend"], ["a", 'b"c'])
             first = ['"1010",', '"1020",'] if has_times else ["", ""]
             self.assertTrue(text.endswith(f'  "data": [\n    [ {first[0]}1.5000000000e+00, null ],\n    [ {first[1]}2.0000000000e+00, -3.0000000000e+00 ]\n  ]\n}}\n'), text)
             self.assertIn('    "start": 1010,\n    "end": 1020,\n    "step": 10,\n    "legend": [\n      "a",\n      "b\\"c"\n          ]', text)
