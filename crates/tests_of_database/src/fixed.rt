@@ -2,8 +2,8 @@
 ghost use Rattle.rrd_fixed.specs.Rate.{IsAccepted};
 
 use rrd_fixed::{
-    Cell, Kind, Meter, Name, Number, Raw, admit, cell_string, near, numbered_message, rate,
-    raw_string, read_number, read_whole, time_string, write_bytes,
+    Cell, Kind, Meter, Name, Number, Raw, StoredCell, admit, cell_string, near, numbered_message,
+    rate, raw_string, read_number, read_whole, time_string, write_bytes,
 };
 use std::io::ErrorKind;
 use std::test::Fail;
@@ -250,6 +250,27 @@ fn cells(rt: HostRuntime) {
     for (cell, wanted) in CELLS {
         assert_eq!(rt; cell_string(*cell).as_str(), *wanted, "{cell:?}");
     }
+}
+
+// The number of a stored cell, and the cell.
+const STORED: &[(i128, Cell)] = &[
+    (i128::MIN, Cell::Unknown),
+    (-TOP, Cell::Known(-TOP)),
+    (0, Cell::Known(0)),
+    (TOP, Cell::Known(TOP)),
+];
+
+#[test]
+fn stored_cells(rt: HostRuntime) {
+    for (number, cell) in STORED {
+        let stored = StoredCell::of_number(*number);
+        assert_eq!(rt; stored.cell(), *cell, "{number}");
+        assert_eq!(rt; stored.number(), *number);
+        assert_eq!(rt; stored.is_unknown(), *cell == Cell::Unknown, "{number}");
+    }
+    assert_eq!(rt; StoredCell::new(Cell::Known(5)).number(), 5);
+    assert_eq!(rt; StoredCell::default(), StoredCell::new(Cell::Unknown));
+    assert_eq!(rt; StoredCell::default(), StoredCell::unknown());
 }
 
 // A kind, a raw value, and its text.
