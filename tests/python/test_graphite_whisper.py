@@ -129,15 +129,46 @@ class Written(FolderCase):
                 self.assertEqual(found[-1].split(":")[0], "110")
 
     def test_which_archive_gives_which_time(self) -> None:
-        """The finest one that has the time, from a whole point of the next one on; between them may be a time that none has."""
+        """The finest one that has the time; between them may be a time that none has."""
         coarse = WhisperArchive(60, 10, {0: 3.0, 60: 4.0})
-        for at, begin in ((110, 60), (150, 120), (170, 120), (1_000, 960)):
+        for at, begin in ((110, 60), (150, 100), (170, 120), (1_000, 950)):
             fine = WhisperArchive(10, 6, {at: 1.0})
             self.assertEqual(whisper_spans([fine, coarse]), [(coarse, 0, min(begin, 120)), (fine, begin, at + 10)])
-            known = [(60, "3.000000"), (120, "4.000000")][:1 + (begin > 60)]
+            known = [(60, "3.000000"), (min(begin, 120), "4.000000")][:1 + (begin > 60)]
             self.assertEqual(stretches(WhisperFile("average", 0.5, [fine, coarse]), print), [*known, (at, None), (at + 10, "1.000000")])
         self.assertEqual(whisper_spans([WhisperArchive(10, 6, {}), coarse]), [(coarse, 0, 120)])
+        late = WhisperArchive(60, 1, {60: 4.0})  # no longer ago than the finer one
+        self.assertEqual(whisper_spans([WhisperArchive(10, 6, {110: 1.0}), late]), [(WhisperArchive(10, 6, {110: 1.0}), 60, 120)])
         self.assertEqual(whisper_spans([WhisperArchive(10, 6, {})]), [])
+
+    def test_where_a_finer_archive_begins(self) -> None:
+        """Within a point of the next one: its points are kept, and the beginning of that point gets what makes it right. The six
+        steps of the point from 60 on are then: four of the beginning, 5 at 100, and an unknown one."""
+        fine = WhisperArchive(10, 6, {100: 5.0, 150: 1.0})
+        for method, value, beginning in (("average", 4.0, "3.750000"), ("sum", 25.0, "5.000000"), ("avg_zero", 4.0, "4.750000"),
+                                         ("last", 5.0, "5.000000"), ("max", 7.0, "7.000000"), ("min", -1.0, "-1.000000"),
+                                         ("average", math.nan, None), ("average", None, None)):
+            coarse = WhisperArchive(60, 10, {0: 12.0, **({} if value is None else {60: value})})
+            notes: List[str] = []
+            found = stretches(WhisperFile(method, 0.5, [fine, coarse]), notes.append)
+            whole = "2.000000" if method == "sum" else "12.000000"
+            wanted = [(60, whole), (100, beginning), (110, "5.000000"), (150, None), (160, "1.000000")]
+            if beginning == "5.000000":
+                wanted.remove((100, beginning))
+            self.assertEqual((found, notes), (wanted, []), (method, value))
+
+    def test_points_that_give_way(self) -> None:
+        """If the file asks for more known steps than a coarse point would have, that point counts for all its time, and the
+        points of the finer archive that are lost are counted. So it is if no step can have the number that is left."""
+        fine = WhisperArchive(10, 6, {100: 5.0, 150: 1.0})
+        low: Dict[int, float] = {100: -2.0**59, 110: -2.0**59}
+        for xff, value, finer in ((0.9, 4.0, fine), (0.5, 2.0**59, fine._replace(values={**fine.values, **low}))):
+            coarse = WhisperArchive(60, 10, {0: 3.0, 60: value})
+            notes: List[str] = []
+            found = stretches(WhisperFile("average", xff, [finer, coarse]), notes.append)
+            self.assertEqual(found, [(60, "3.000000"), (120, f"{value:.6f}"), (150, None), (160, "1.000000")])
+            count = 1 + (xff == 0.5)
+            self.assertEqual(notes, [f"{count} of the oldest points of 10 s gave way to one of 60 s"])
 
     def test_many_retentions(self) -> None:
         """Each archive is read where the header says that it is."""
@@ -191,7 +222,8 @@ class Moving(FolderCase):
         coarse = {NOW - 600 - 60 * n: 12.0 for n in range(3)}
         lines = self.lines(whisper_bytes([(10, 60, fine), (60, 60, coarse)], 2))
         self.assertTrue(lines[0].startswith(f"create --start {NOW - 720} "), lines[0])
-        self.assertEqual(lines[1], f"update {NOW - 540}:2.000000:2.000000 {NOW}:U:0 {NOW + 30}:1.000000:1.000000")
+        self.assertEqual(lines[1], f"update {NOW - 600}:2.000000:2.000000 {NOW - 570}:4.000000:4.000000 {NOW}:U:0 "
+                                   f"{NOW + 30}:1.000000:1.000000")
 
     def test_values_that_rrdi_does_not_take(self) -> None:
         lines = self.lines(whisper_bytes([(10, 60, {NOW: math.inf, NOW + 10: 1e18, NOW + 20: math.nan, NOW + 30: 1.0})]))
@@ -243,6 +275,32 @@ class Moving(FolderCase):
             (start, _, step), values = self.values(NOW - 3_000, NOW - 60, now)
             self.assertEqual(step, 60)
             self.assert_close(values, [coarse.get(start + 60 * at, fine.get(NOW)) for at in range(len(values))], method)
+
+    @unittest.skipUnless(HAS_WHISPER, "whisper is not installed for this Python")
+    def test_no_point_of_random_files_is_lost(self) -> None:
+        """Of the finest archive and of the next one, wherever they begin and end, and without a note."""
+        import whisper
+        use_any_library(self)
+        for seed in range(24):
+            chance, method = random.Random(seed), list(METHODS)[seed % len(METHODS)]
+            for path in (self.old, self.new):
+                Path(path).unlink(missing_ok=True)
+            whisper.create(self.old, RETENTIONS, chance.choice((0.0, 0.1, 0.5, 1.0)), method)
+            when, share = NOW + 10 * chance.randrange(12), chance.choice((0.3, 0.6, 1.0))
+            for _ in range(chance.randint(40, 200)):
+                when += 10
+                if chance.random() < share:
+                    whisper.update(self.old, round(chance.uniform(-9, 9), 3), when, now=when)
+            old = read_whisper(self.old)
+            notes: List[str] = []
+            self.assertEqual(batch(self.new, list(whisper_batch(old, None, notes.append))).refused, ())
+            self.assertEqual(notes, [])
+            with OpenFile(self.new) as file:
+                last, made = file.front.last, whisper_file.copy_of(file).file
+            for before, after in zip(old.archives, made.archives):
+                whole = {slot: value for slot, value in before.values.items() if slot + before.seconds <= last}
+                self.assert_close([after.values.get(slot) for slot in sorted(whole)],
+                                  [whole[slot] for slot in sorted(whole)], (seed, method, before.seconds))
 
     @unittest.skipUnless(HAS_WHISPER, "whisper is not installed for this Python")
     def test_files_of_whisper_itself(self) -> None:

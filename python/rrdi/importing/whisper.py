@@ -1,7 +1,7 @@
 # SPDX-License-Identifier: MIT OR Apache-2.0
 """Writes the batch that makes a database out of a file of whisper, with the layout that Graphite's storage over rrdi has.
 
-Each time takes its value from the finest archive that has the time; a coarse point counts for all its steps. rrdi
+Each time takes its value from the finest archive that has the time; a coarse point counts for all its other steps. rrdi
 computes the rows of all archives again from these.
 """
 from __future__ import annotations
@@ -10,11 +10,13 @@ import math
 import struct
 from typing import BinaryIO, Callable, Dict, Iterator, List, NamedTuple, Optional, Tuple
 
-from ..amounts import gauge_text
-from ..graphite.layout import METHODS, WITH_ZEROS, check_retentions, template
+from ..amounts import LARGEST, MILLION, Millionths, gauge_text
+from ..graphite.layout import METHODS, WITH_ZEROS, check_retentions, template, unknown_share
 from ..limits import LATEST, MOST_ARCHIVES
 from .batch import updates
 from .dump import Refusal
+from .rounding import millionths
+from .steps import Rest, Stretches, sum_of_rest
 
 # The numbers of whisper's aggregation methods.
 NUMBERS = {1: "average", 2: "sum", 3: "last", 4: "max", 5: "min", 6: "avg_zero", 7: "absmax", 8: "absmin"}
@@ -93,44 +95,102 @@ def read_open(file: BinaryIO) -> WhisperFile:
 Stretch = Tuple[int, Optional[str]]  # its end, and the value of each step up to there; None is unknown
 
 
-def spans(archives: List[WhisperArchive]) -> List[Tuple[WhisperArchive, int, int]]:
-    """The archives that have points, the finest last, each with the time that it gives. A finer archive begins with a
-    whole point of the coarser one. Between two archives may be a time of which none has points: long after a point with
-    a wrong time, for example."""
-    having = [archive for archive in archives if archive.values]
-    found: List[Tuple[WhisperArchive, int, int]] = []
-    end = having[0].end if having else 0
-    for archive, coarser in zip(having, [*having[1:], None]):
-        begin = archive.begin if coarser is None else -(-archive.begin // coarser.seconds) * coarser.seconds
+class Span(NamedTuple):
+    """A time that an archive gives."""
+
+    archive: WhisperArchive
+    begin: int
+    end: int
+
+
+def spans(archives: List[WhisperArchive]) -> List[Span]:
+    """The archives that have points, the finest last, each with the time that it gives: all that it has, but of a coarser
+    archive what a finer one has not. So a finer archive may begin within a point of the coarser one. Between two archives
+    may be a time of which none has points: long after a point with a wrong time, for example."""
+    found: List[Span] = []
+    for archive in (archive for archive in archives if archive.values):
+        begin, end = max(archive.begin, 0), min([archive.end, *(span.begin for span in found)])
         if begin < end:
-            found.insert(0, (archive, max(begin, 0), min(end, archive.end)))
-            end = begin
+            found.insert(0, Span(archive, begin, end))
     return found
 
 
 def stretches(old: WhisperFile, note: Callable[[str], None]) -> List[Stretch]:
     """The values of all times from the first known one on; equal neighbours come as one stretch."""
-    found: List[Stretch] = []
-    lost, step = 0, old.archives[0].seconds
-    for archive, begin, end in spans(old.archives):
-        if found and found[-1][0] < begin:
-            add(found, begin, None)
-        for slot in range(begin, end, archive.seconds):
-            value = archive.values.get(slot, math.nan)
-            text = gauge_text(value * step / archive.seconds if old.method == "sum" else value)
-            lost += text is None and not math.isnan(value)
-            add(found, slot + archive.seconds, text)
-    if lost:
-        note(f"{lost} values that are too large for rrdi became unknown")
-    return found
+    found = Values(old, note).all()
+    return [(end, None if amount is None else str(Millionths(amount))) for end, amount in found]
 
 
-def add(found: List[Stretch], end: int, text: Optional[str]) -> None:
-    """Adds a stretch, or lengthens the last one if it has the same value."""
-    if found and found[-1][1] == text:
-        found[-1] = (end, text)
-    else:
-        found.append((end, text))
+class Values:
+    """Lays the values of the archives one after the other, in millionths for each step. Begins with the newest ones,
+    because a finer archive may begin within a point of a coarser one."""
+
+    def __init__(self, old: WhisperFile, note: Callable[[str], None]):
+        self.old, self.note, self.step, self.too_large = old, note, old.archives[0].seconds, 0
+        self.share = unknown_share(old.xff)
+
+    def all(self) -> Stretches:
+        later: Stretches = []
+        finer: Optional[Span] = None
+        for span in reversed(spans(self.old.archives)):
+            own = [(slot + span.archive.seconds, self.amount(span.archive, slot))
+                   for slot in range(span.begin, span.end, span.archive.seconds)]
+            if finer is not None and own[-1][0] > finer.begin:
+                later = self.cut(own, later, span, finer)
+            elif finer is not None and own[-1][0] < finer.begin:
+                own.append((finer.begin, None))
+            later, finer = joined(own + later), span
+        if self.too_large:
+            self.note(f"{self.too_large} values that are too large for rrdi became unknown")
+        return later
+
+    def amount(self, archive: WhisperArchive, slot: int) -> Optional[int]:
+        """The value of each step of a slot."""
+        value = archive.values.get(slot, math.nan)
+        if math.isnan(value):
+            return None
+        value = value * self.step / archive.seconds if self.old.method == "sum" else value
+        if gauge_text(value) is None:
+            self.too_large += 1
+            return None
+        return millionths(value)
+
+    def cut(self, own: Stretches, later: Stretches, span: Span, finer: Span) -> Stretches:
+        """Ends the newest point of a coarser archive where a finer one begins, so that both have what they had. If that
+        cannot be, the coarser point counts for all its time. Returns what follows."""
+        (end, amount), steps = own[-1], span.archive.seconds // self.step
+        before = steps - (end - finer.begin) // self.step
+        rest = sum_of_rest(later, finer.begin, end, self.step)
+        first = None if amount is None else self.beginning(amount, steps, before, rest)
+        if first is not None or amount is None:
+            own[-1] = finer.begin, first
+            return later
+        lost = sum(not math.isnan(value) for slot, value in finer.archive.values.items() if finer.begin <= slot < end)
+        if lost:
+            self.note(f"{lost} of the oldest points of {finer.archive.seconds} s gave way to one of {span.archive.seconds} s")
+        return [stretch for stretch in later if stretch[0] > end]
+
+    def beginning(self, amount: int, steps: int, before: int, rest: Rest) -> Optional[int]:
+        """The value of the first `before` steps of a point, if the point has this value and then come finer ones. None if
+        fewer of its steps would be known than the file asks for, or rrdi has no such value."""
+        if (steps - before - rest.known) * MILLION > self.share * steps:
+            return None
+        if self.old.method not in (*WITH_ZEROS, "average"):
+            return amount
+        counted = steps if self.old.method in WITH_ZEROS else before + rest.known
+        found = round((amount * counted - rest.total) / before)
+        return found if abs(found) < LARGEST * MILLION else None
+
+
+def joined(found: Stretches) -> Stretches:
+    """Makes one stretch of equal neighbours."""
+    kept: Stretches = []
+    for end, amount in found:
+        if kept and kept[-1][1] == amount:
+            kept[-1] = end, amount
+        else:
+            kept.append((end, amount))
+    return kept
 
 
 def first_time(old: WhisperFile) -> int:
