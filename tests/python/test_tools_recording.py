@@ -8,6 +8,7 @@ import fcntl
 import io
 import math
 import os
+import resource
 import shutil
 import subprocess
 import sys
@@ -22,7 +23,7 @@ from doubles import PROGRAM, TOP
 from tool_case import Ran, ToolCase
 
 from rrdi.tools import machine, program, record
-from rrdi.tools.command_line import Failure
+from rrdi.tools.command_line import Failure, error_text
 from rrdi.tools.plotting import labels, numbers
 from rrdi.tools.plotting.columns import chosen, columns_of, limits, segments, series_of, since_known
 
@@ -694,6 +695,33 @@ class CannotLook(unittest.TestCase):
         record.keep_copies(self.file, 10**9)
         self.assertEqual(self.copies(), "new12")
 
+    def test_which_file_cannot_be_made(self) -> None:
+        """An error names the copy that cannot be made, not the file that is copied, unless that cannot be read."""
+        Path(self.file).write_bytes(bytes(10_000))
+        self.last = {1: 0}
+        limits = resource.getrlimit(resource.RLIMIT_FSIZE)
+        resource.setrlimit(resource.RLIMIT_FSIZE, (1_000, limits[1]))
+        try:
+            with self.assertRaises(OSError) as raised:
+                record.keep_copies(self.file, 10**9)
+            self.assertEqual(error_text(raised.exception), f"{self.file}.1: File too large")
+            with self.assertRaises(OSError) as raised:
+                record.copy(self.file, f"{self.file}.refused")
+            self.assertEqual(error_text(raised.exception), f"{self.file}.refused: File too large")
+        finally:
+            resource.setrlimit(resource.RLIMIT_FSIZE, limits)
+        self.assertEqual((self.copies(), Path(self.file).read_bytes()), ("123", bytes(10_000)))
+        os.unlink(f"{self.file}.3")
+        os.mkdir(f"{self.file}.3")
+        with self.assertRaises(OSError) as raised:
+            record.keep_copies(self.file, 10**9)
+        self.assertEqual(error_text(raised.exception), f"{self.file}.2 as {self.file}.3: Is a directory")
+        os.unlink(self.file)
+        with self.assertRaises(OSError) as raised:
+            record.keep_copies(self.file, 10**9)
+        self.assertEqual(error_text(raised.exception), f"{self.file}: No such file or directory")
+        self.assertEqual(sorted(path.name for path in Path(self.file).parent.iterdir()), ["f.rrdi.1", "f.rrdi.2", "f.rrdi.3"])
+
     def test_the_sample_is_recorded(self) -> None:
         for failed, text in ((OSError(errno.ENOSPC, "No space left on device", "f.1"), "f.1: No space left on device"),
                              (program.CommandFailed("f.1: cannot open"), "f.1: cannot open")):
@@ -702,4 +730,5 @@ class CannotLook(unittest.TestCase):
                     mock.patch.dict(os.environ), mock.patch.object(sys, "argv", ["/bin/rrdi-record"]), \
                     contextlib.redirect_stderr(io.StringIO()) as said:
                 self.assertEqual(record.record(["--disk", "/", self.file]), 0)
-            self.assertEqual((mocks["update"].call_count, said.getvalue()), (1, f"rrdi-record: no copy was made: {text}\n"))
+            self.assertEqual((mocks["update"].call_count, said.getvalue()), (
+                1, f"rrdi-record: no copy was made: {text}; {self.file} is as it was\n"))

@@ -93,8 +93,21 @@ def take_turn(file: FileIO, path: str) -> None:
 def copy(old: str, new: str) -> None:
     """Copies a file. The copy gets its name only when it is complete."""
     with NewFile(new) as made:
-        shutil.copy(old, made.unfinished)
+        fill_copy(old, new, made.unfinished)
         made.replace()
+
+
+def fill_copy(old: str, new: str, unfinished: str) -> None:
+    """Copies a file to the name under which `new` is being made.
+
+    # Errors
+    `OSError` with the name of the file that cannot be read or made: Python's own names the old one if the disk is full, too.
+    """
+    try:
+        shutil.copy(old, unfinished)
+    except OSError as error:
+        is_unread = error.filename == old and error.filename2 is None  # it could not be opened
+        raise OSError(error.errno, error.strerror or str(error), old if is_unread else new) from None
 
 
 Fill = Callable[[str], object]  # creates an empty database
@@ -191,7 +204,7 @@ def restore(file: str, damage: str, fill: Fill) -> None:
         chosen = newest_copy(file)
         with NewFile(file) as made:
             if chosen:
-                shutil.copy(chosen, made.unfinished)
+                fill_copy(chosen, file, made.unfinished)
             else:
                 fill(made.unfinished)
             made.replace()
@@ -224,10 +237,17 @@ def keep_copies(file: str, last: int) -> None:
     if last - max(last_of_copy(f"{file}.1"), 0) < HOUR:
         return
     with NewFile(f"{file}.1") as made:
-        shutil.copy(file, made.unfinished)
+        fill_copy(file, f"{file}.1", made.unfinished)
         for number in [number for number in range(COPIES, 1, -1) if is_there(f"{file}.{number - 1}")]:
-            os.rename(f"{file}.{number - 1}", f"{file}.{number}")
+            rename_copy(f"{file}.{number - 1}", f"{file}.{number}")
         made.replace()
+
+
+def rename_copy(before: str, after: str) -> None:
+    try:
+        os.rename(before, after)
+    except OSError as error:
+        raise OSError(error.errno, error.strerror, f"{before} as {after}") from None
 
 
 class RecordArguments(NamedTuple):
@@ -282,7 +302,8 @@ def record(words: List[str]) -> int:
         try:
             keep_copies(file, last)
         except (program.CommandFailed, OSError) as failed:  # the sample is recorded all the same
-            say(called_name(TOOL), f"no copy was made: {error_text(failed) if isinstance(failed, OSError) else failed}")
+            why = error_text(failed) if isinstance(failed, OSError) else str(failed)
+            say(called_name(TOOL), f"no copy was made: {why}; {file} is as it was")
         update(file, numbers)
     return 0
 
