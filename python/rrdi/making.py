@@ -148,6 +148,18 @@ class NewFile:
         return True
 
 
+def take_owner(new: str, before: os.stat_result) -> None:
+    """Gives a file the owner and the mode of another one.
+
+    # Errors
+    `OSError` if the system refuses them.
+    """
+    found = os.stat(new)
+    if (found.st_uid, found.st_gid) != (before.st_uid, before.st_gid):
+        os.chown(new, before.st_uid, before.st_gid)
+    os.chmod(new, before.st_mode & 0o7777)
+
+
 def remove_empty(file: FileIO, path: str) -> None:
     """Removes an empty file that is open, unless another program has filled, replaced or locked it meanwhile."""
     with suppress(OSError):

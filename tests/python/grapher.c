@@ -54,6 +54,11 @@ struct info *rrd_graph_v(int count, char **words) {
         snprintf(key, sizeof key, "print[%d]", number++);
         add(&last, key, 2)->value.text = printed(words[at] + 8);
     }
+    FILE *file = count > 1 && strcmp(words[1], "-") != 0 ? fopen(words[1], "w") : NULL;
+    if (file != NULL) {
+        fputs("a picture\n", file);
+        fclose(file);
+    }
     if (count > 1 && strcmp(words[1], "-") == 0) {
         made = add(&last, "image", 4);
         made->value.bytes.data = (unsigned char *)strdup("\nERROR: a picture\nOK\n");

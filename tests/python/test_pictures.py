@@ -3,10 +3,12 @@
 from __future__ import annotations
 
 import contextlib
+import errno
 import io
 import math
 import os
 import re
+import tempfile
 import time
 import unittest
 from typing import Any, Callable, Dict, List, Optional, Tuple
@@ -17,7 +19,7 @@ import cases
 from rrdi.printed import Archive, Settings, Source
 from rrdi.tools import plot_folder, program
 from rrdi.tools.command_line import Failure
-from rrdi.tools.plotting import composing
+from rrdi.tools.plotting import composing, gnuplot
 from rrdi.tools.plotting.asked import PlotOptions
 from rrdi.tools.plotting.columns import Columns, NothingToDraw
 from rrdi.tools.plotting.gnuplot import Picture, commands, draw, points
@@ -506,6 +508,9 @@ class Commands(FileCase):
         self.assertEqual(lines, [f"# in{head}", *first, "", *last, "", "", "", f"# out{head}", *other, "", "", ""])
 
 
+DRAWN = "printf 'drawn IEND\\256B`\\202'"  # as a PNG ends
+
+
 class Drawing(FileCase):
     """How gnuplot is run: here a script in its place."""
 
@@ -530,8 +535,8 @@ class Drawing(FileCase):
 
     def test_the_picture(self) -> None:
         """The script gets the commands beside the points, and what it draws gets its name."""
-        said = self.draw(f'own=${{1%/*}}; cp "$1" "$own/points" {self.folder}; echo drawn >"$own/picture"; echo unseen')
-        self.assertEqual((said, self.path.read_text()), ("", "drawn\n"))
+        said = self.draw(f'own=${{1%/*}}; cp "$1" "$own/points" {self.folder}; {DRAWN} >"$own/picture"; echo unseen')
+        self.assertEqual((said, self.path.read_bytes()), ("", b"drawn IEND\xaeB`\x82"))
         told = (self.folder / "commands").read_text()
         self.assertIn("set terminal pngcairo size 900,", told)
         output = re.findall("set output '(.*)/picture'", told)[0]
@@ -546,6 +551,18 @@ class Drawing(FileCase):
                             ("echo part >${1%/*}/picture; exit 3", "")):
             self.assertEqual(self.draw(script), f"{why}gnuplot did not draw room.rrdi")
             self.assertEqual(self.path.read_text(), "before")
+        for path in (self.path, self.folder / "x.svg"):  # the disk was full, and gnuplot did not say so
+            path.write_text("before")
+            self.path = path
+            self.assertEqual(self.draw("echo part >${1%/*}/picture"),
+                             f"gnuplot did not draw room.rrdi to its end; is there space in {tempfile.gettempdir()}?")
+            self.assertEqual(path.read_text(), "before")
+        self.assertEqual(self.draw("printf '</g>\n</svg>\n\n' >${1%/*}/picture"), "")
+        self.assertEqual(self.path.read_text(), "</g>\n</svg>\n\n")
+
+    def test_no_space_for_what_gnuplot_needs(self) -> None:
+        with mock.patch.object(gnuplot, "points", side_effect=OSError(errno.ENOSPC, "No space left on device")):
+            self.assertRegex(self.draw("exit 1"), rf"^{tempfile.gettempdir()}/rrdi-plot\w+: No space left on device$")
 
 
 class Folders(FileCase):

@@ -183,9 +183,21 @@ class Pictures(ToolCase):
         self.assertFalse((self.folder / "p.png").exists())
         self.assertEqual(self.tool("rrdi-graph", "-", *words, stdout="/dev/full"),
                          Ran(1, "", "rrdi-graph: No space left on device\n"))
-        for picture in ("none/p.png", "/dev/full"):
-            self.assertEqual(self.tool("rrdi-graph", picture, *words),
-                             Ran(1, "", f"rrdi-graph: Could not save png to '{picture}'\n"))
+        self.assertEqual(self.tool("rrdi-graph", "/dev/full", *words),
+                         Ran(1, "", "rrdi-graph: Could not save png to '/dev/full'\n"))
+        self.assertEqual(self.tool("rrdi-graph", "none/p.png", *words),
+                         Ran(1, "", "rrdi-graph: none/p.png: No such file or directory\n"))
+
+    def test_a_full_disk(self) -> None:
+        """The picture from before stays, of every format: RRDtool itself cuts some and says nothing."""
+        words = ["-s", str(self.START), "-e", str(self.end), "DEF:a=f.rrdi:g:AVERAGE", "LINE1:a#ff0000"]
+        for kind in ("PNG", "SVG", "PDF", "EPS"):
+            self.write("p", "before")
+            ran = self.tool("rrdi-graph", "p", "-a", kind, *words, size=1_000)
+            self.assertEqual((ran.status, ran.out, self.read("p")), (1, "", b"before"), kind)
+            self.assertRegex(ran.err, "rrdi-graph: (RRDtool did not draw p to its end; is there space in .*|Could not save png to 'p')\n")
+            self.assertEqual(self.tool("rrdi-graph", "p", "-a", kind, *words).status, 0)
+            self.assertGreater(len(self.read("p")), 1_000)
 
     def test_faults_of_the_callback_go_through(self) -> None:
         def wrong(*_words: object) -> Rows:

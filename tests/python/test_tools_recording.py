@@ -180,7 +180,8 @@ class Plot(ToolCase):
         super().setUp()
         self.stub("gnuplot", f'cp "$(dirname "$1")/points" "$1" {self.folder} || exit 3\n'
                              'case ${FAIL-} in 1) echo "no font" >&2; exit 1 ;; 2) exit 0 ;; esac\n'
-                             'echo picture >"$(dirname "$1")/picture"')
+                             'if grep -q pngcairo "$1"; then printf "picture IEND\\256B\\140\\202"; else echo "</svg>"; fi '
+                             '>"$(dirname "$1")/picture"')
         self.create("f.rrdi", "DS:g:GAUGE:10:U:U", "DS:h:GAUGE:10:U:U", "RRA:AVERAGE:0.5:1:90", start=self.START)
         self.rrdi("update", "f.rrdi", *[f"{self.START + 10 * at}:{'U' if at == 2 else at}:{-at}" for at in range(1, 61)])
 
@@ -196,7 +197,7 @@ class Plot(ToolCase):
 
     def test_a_picture(self) -> None:
         self.assertEqual(self.draw(0, 39, env={"RRDI_PLOT_SETUP": "set title 'x'"}), Ran(0, "", ""))
-        self.assertEqual(self.read("p.png"), b"picture\n")
+        self.assertEqual(self.read("p.png"), b"picture IEND\xaeB`\x82")
         points = [line.split() for line in self.read("points").decode().splitlines() if line and not line.startswith("#")]
         wanted = [(10 * at + end, value) for value, ats in ((1, (0,)), (3, (2,)), (4, (3,)), (-1, (0,)), (-2, (1,)), (-3, (2,)),
                                                             (-4, (3,))) for at in ats for end in (0, 10)]

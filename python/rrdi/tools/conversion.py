@@ -12,7 +12,7 @@ from ..importing.native import read_old
 from ..importing.whisper import read_whisper, whisper_batch
 from ..kinds import WHISPER_END
 from ..locks import open_regular, state_of
-from ..making import NewFile
+from ..making import NewFile, take_owner
 from ..reader.selected import OpenFile
 from . import program, rrdtool_program
 from .command_line import Failure
@@ -155,18 +155,6 @@ def is_left_over(path: str, kept: str) -> bool:
     if not os.path.samestat(os.stat(path), os.lstat(kept)):  # a link to it would soon lead to the new file
         raise Failure(f"{kept} already exists")
     return True
-
-
-def take_owner(new: str, before: os.stat_result) -> None:
-    """Gives a file the owner and the mode of another one.
-
-    # Errors
-    `OSError` if the system refuses them.
-    """
-    found = os.stat(new)
-    if (found.st_uid, found.st_gid) != (before.st_uid, before.st_gid):
-        os.chown(new, before.st_uid, before.st_gid)
-    os.chmod(new, before.st_mode & 0o7777)
 
 
 def swap_in(old: str, kept: str, lines: Iterable[str], look: Callable[[str], None], before: os.stat_result) -> None:

@@ -9,7 +9,7 @@ from ..importing.dump import Refusal
 from ..importing.native import read_old
 from ..kinds import RRDTOOL_MARK, WHISPER_END, first_bytes
 from ..locks import EXCLUSIVE, SHARED, close, lock, open_locked, open_regular, state_of
-from ..making import NewFile
+from ..making import NewFile, take_owner
 from ..reader import Reader, opened
 from ..reader.files import patience
 from ..reader.pieces import Parts
@@ -17,7 +17,7 @@ from ..reader.selected import OpenFile
 from ..reader.stored import Stored
 from . import rrdtool_program
 from .command_line import Failure
-from .conversion import Reading, is_left_over, take_owner
+from .conversion import Reading, is_left_over
 from .import_many import NEW_END, RRDTOOL_END
 from .many_files import IS_THERE, PASSED_OVER, THERE, WHOLE, Conversions, OldFile, counted, files_of, has, links_below, tidy
 from .restoring import difference, restore_equal

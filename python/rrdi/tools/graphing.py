@@ -11,6 +11,7 @@ from ..kinds import is_of_rrdi
 from .command_line import Failure
 from .exponents import exponent
 from .librrd import PREFIX, Exported, GraphInfo, Librrd
+from .pictures import drawn
 from .rows import Rows, fetch
 from .rrdtool_output import Printed, lines_of
 
@@ -52,7 +53,10 @@ class Grapher:
             pass
 
     def draw(self, words: List[str]) -> List[GraphInfo]:
-        return self.library.graph([rewrite(word) for word in words], rows_for)
+        with drawn(words) as canvas:
+            found = self.library.graph([rewrite(word) for word in canvas.words], rows_for)
+            canvas.has_size = any(info.key == "image_width" and info.value for info in found)
+            return found
 
     def graph(self, words: List[str]) -> Printed:
         """Draws a picture. Returns its size and the texts of PRINT, or the picture itself if the file is `-`."""

@@ -3,13 +3,13 @@
 from __future__ import annotations
 
 import os
-import shutil
 import subprocess
 import sys
 import tempfile
 from typing import Iterator, List, NamedTuple, Optional
 
 from ..command_line import Failure
+from ..pictures import put_picture
 from .labels import labels
 from .legend import AFTER_SWATCH, SWATCH, Legend
 from .look import EDGE, LINE_HEIGHT, ROW_HEIGHT, Look, Size
@@ -19,6 +19,7 @@ from .spikes import CutMark
 
 TERMINALS = {".png": "pngcairo size {size} font 'sans,10' background rgb '{background}'",
              ".svg": "svg size {size} font 'sans-serif,12' background rgb '{background}'"}
+ENDS = {".png": b"IEND\xaeB`\x82", ".svg": b"</svg>"}  # of a whole picture
 # The sizes of the title and of the line below it.
 FONTS = {".png": (13, 9), ".svg": (17, 12)}
 
@@ -148,20 +149,26 @@ def draw(file: str, path: str, picture: Picture) -> None:
     """Draws the points by gnuplot, and then writes the picture.
 
     # Errors
-    `Failure` if gnuplot drew nothing, where its message is on standard error, or if the picture cannot be written.
+    `Failure` if gnuplot drew nothing, where its message is on standard error, or only a part, or if the picture or what
+    gnuplot needs cannot be written.
     """
+    end = os.path.splitext(path)[1]
     with tempfile.TemporaryDirectory(prefix="rrdi-plot") as folder:
-        with open(f"{folder}/points", "w", encoding="utf-8") as written:
-            written.write("\n".join(points(picture)) + "\n")
-        with open(f"{folder}/commands", "w", encoding="utf-8", errors="surrogateescape") as written:
-            written.write(commands(folder, os.path.splitext(path)[1], picture))
+        try:
+            with open(f"{folder}/points", "w", encoding="utf-8") as written:
+                written.write("\n".join(points(picture)) + "\n")
+            with open(f"{folder}/commands", "w", encoding="utf-8", errors="surrogateescape") as written:
+                written.write(commands(folder, end, picture))
+        except OSError as error:
+            raise Failure(f"{folder}: {error.strerror or error}") from None
         ran = subprocess.run(["gnuplot", f"{folder}/commands"], capture_output=True)
         if ran.returncode != 0:
             sys.stderr.write(ran.stderr.decode(errors="replace"))
             raise Failure(f"gnuplot did not draw {file}")
         if not os.path.exists(f"{folder}/picture"):
             raise Failure(f"gnuplot did not draw {file}")
-        try:
-            shutil.copyfile(f"{folder}/picture", path)
-        except OSError as error:
-            raise Failure(f"{path}: {error.strerror}") from None
+        with open(f"{folder}/picture", "rb") as drawn:
+            data = drawn.read()
+    if not data.rstrip(b"\n").endswith(ENDS[end]):  # gnuplot itself does not notice it
+        raise Failure(f"gnuplot did not draw {file} to its end; is there space in {os.path.dirname(folder)}?")
+    put_picture(path, data)
