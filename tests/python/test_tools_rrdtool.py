@@ -116,6 +116,33 @@ class Spans(unittest.TestCase):
         self.assertEqual(self.asked("-r", "5m", "-a", "-s", "end-1h"), [1_699_996_200, 1_699_999_800, 300])
 
 
+class FullDisks(ToolCase):
+    """What cannot be written is named, and so is the reason of the system. A script is the program."""
+
+    def setUp(self) -> None:
+        super().setUp()
+        self.env.pop("RRDI_LIBRARY", None)
+        self.env["RRDI"] = self.stub("full", 'case $1 in last) echo 5; exit ;; esac\necho "ERROR: cannot write" >&2\n'
+                                             'echo "rrdi: $2: no space left on device" >&2\nexit 1')
+        self.write("x.rrd", "old")
+
+    def test_each_command(self) -> None:
+        why = "cannot write: No space left on device"
+        for words, said in ((["create", "new.rrd", *DEFINITIONS], f"creating 'new.rrd': {why}"),
+                            (["update", "x.rrd", "10:1"], f"x.rrd: {why}"), (["resize", "x.rrd", "0", "GROW", "5"], f"resize.rrd: {why}"),
+                            (["tune", "x.rrd", "DELRRA:1"], f"x.rrd: {why}"),
+                            (["--rrdi", "create", "new.rrd", *DEFINITIONS], f"new.rrd: {why}")):
+            self.assertEqual(self.tool(TOOL, *words), Ran(1, "", f"ERROR: {said}\n"), words)
+        ran = self.tool(TOOL, "-", given=f"create new.rrd {' '.join(DEFINITIONS)}\n")
+        self.assertEqual(ran, Ran(0, f"ERROR: creating 'new.rrd': {why}\n", ""))
+
+    def test_a_copy(self) -> None:
+        self.write("x.rrd", bytes(2_000))
+        self.assertEqual(self.tool(TOOL, "resize", "x.rrd", "0", "GROW", "5", size=1_000),
+                         Ran(1, "", "ERROR: opening 'resize.rrd': File too large\n"))
+        self.assertEqual(sorted(path.name for path in self.folder.iterdir()), ["bin", "x.rrd"])
+
+
 @needs_program
 class RRDtoolOutput(ToolCase):
     def make(self) -> None:
@@ -185,7 +212,9 @@ class RRDtoolOutput(ToolCase):
             self.assertEqual(self.tool(TOOL, mode, "resize", "x.rrdi", "0", "GROW", "5"), Ran(
                 1, "", "ERROR: resize writes resize.rrd; use it without --rrdi and --show, or rrdi resize\n"))
         self.assertEqual(self.read("x.rrdi"), before)
-        self.assertEqual(self.tool(TOOL, "--rrdi", "info", "none.rrdi").err, "ERROR: cannot open\n")
+        self.assertEqual(self.tool(TOOL, "--rrdi", "info", "none.rrdi").err,
+                         "ERROR: none.rrdi: cannot open: No such file or directory\n")
+        self.assertEqual(self.tool(TOOL, "--rrdi", "update", "x.rrdi", "1000000000:1:2").err, "ERROR: not later than 1000000025\n")
         self.assertEqual(self.tool(TOOL, "--show", "fetch", "x.rrdi", "MAX", "-s", "32:00"),
                          Ran(1, "", "ERROR: cannot parse time: 32:00\n"))
 

@@ -25,13 +25,20 @@ def resize_copy(file: str, resize: Callable[[str], object]) -> None:
         raise OSError(error.errno, error.strerror, file) from None
     copy = f"{RESIZED}.{os.getpid()}-{time.monotonic_ns()}"
     try:
-        with open(copy, "xb") as opened:
-            opened.write(data)
+        write(copy, data)
         resize(copy)
         os.replace(copy, RESIZED)
     except BaseException:
         remove([copy, RESIZED])
         raise
+
+
+def write(copy: str, data: bytes) -> None:
+    try:
+        with open(copy, "xb") as opened:
+            opened.write(data)
+    except OSError as error:  # it names no file if the disk is full
+        raise OSError(error.errno, error.strerror, RESIZED) from None
 
 
 def remove(files: List[str]) -> None:

@@ -36,12 +36,16 @@ class CommandFailed(Failure):
     def of_file(self, file: str, opened: Optional[str] = None) -> str:
         """Returns the reason with the file, and why the system did not open or write it. If the library does not tell, the
         system is asked for the path `opened`, by default that of the file."""
+        return f"{file}: {self.with_system(file if opened is None else opened)}"
+
+    def with_system(self, opened: str) -> str:
+        """Returns the reason, and why the system did not open or write a file, as `of_file`."""
         why = ""
         if self.system_error:
             why = of_system(self.system_error)
         elif str(self) == "cannot open":
-            why = why_not_opened(file if opened is None else opened)
-        return f"{file}: {self}{': ' if why else ''}{why}"
+            why = why_not_opened(opened)
+        return f"{self}{': ' if why else ''}{why}"
 
 
 def why_not_opened(path: str) -> str:

@@ -42,6 +42,7 @@ import sys
 from functools import lru_cache
 from typing import TYPE_CHECKING, List
 
+from ...errors import CANNOT_OPEN, CANNOT_WRITE, READ_FAILED, fault_of
 from ...escaping import escaped
 from .. import program
 from ..command_line import Failure, Tool, WrongArguments, complain, error_text, give_up_output
@@ -111,9 +112,22 @@ def run_as_rrdi(name: str, words: List[str], is_shown: bool) -> int:
         if is_shown:
             print(shlex.join(["rrdi", *command]))
         else:
-            sys.stdout.write(program.ask(command))
+            sys.stdout.write(asked(command))
             sys.stdout.flush()
     return 0
+
+
+def asked(command: List[str]) -> str:
+    """Runs a command of rrdi, and returns its output.
+
+    # Errors
+    `Failure` with rrdi's reason; if that is the system's, with the file and what the system says.
+    """
+    try:
+        return program.ask(command)
+    except program.CommandFailed as failed:
+        of_the_system = fault_of(str(failed))[0] in (CANNOT_OPEN, CANNOT_WRITE, READ_FAILED)
+        raise Failure(failed.of_file(command[1]) if of_the_system else str(failed)) from None
 
 
 def run_words(words: List[str]) -> int:

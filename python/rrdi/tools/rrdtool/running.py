@@ -9,7 +9,7 @@ from contextlib import contextmanager
 from typing import Callable, Dict, Iterator, List, Optional, Tuple
 
 from ...compat.at_style import span
-from ...compat.resizing import resize_copy
+from ...compat.resizing import RESIZED, resize_copy
 from ...compat.syntax import Untranslatable, read_length, read_options
 from ...compat.translate import Command, translate
 from ...kinds import owner_of
@@ -54,12 +54,12 @@ def explaining(file: str) -> Iterator[None]:
     try:
         yield
     except CommandFailed as failed:
-        raise Failure(explain(file, with_detail(failed))) from None
+        raise Failure(explain(file, with_detail(file, failed))) from None
 
 
-def with_detail(failed: CommandFailed) -> str:
-    """Returns the reason of rrdi and what was wrong, if that is known."""
-    return f"{failed}: {failed.detail}" if failed.detail else str(failed)
+def with_detail(file: str, failed: CommandFailed) -> str:
+    """Returns the reason of rrdi and what was wrong, if that is known: with a file, what the system says."""
+    return f"{failed}: {failed.detail}" if failed.detail else failed.with_system(file)
 
 
 def explain_update(command: Command, failed: CommandFailed, now: int) -> str:
@@ -67,7 +67,7 @@ def explain_update(command: Command, failed: CommandFailed, now: int) -> str:
     file, reason = command[1], str(failed)
     found = re.fullmatch(r"not later than (\d+)", reason)
     if found is None:
-        return explain(file, with_detail(failed))
+        return explain(file, with_detail(file, failed))
     before = program.last(file)
     for sample in command[2:]:
         text = sample.split(":")[0]
@@ -133,7 +133,7 @@ class Commands:
             try:
                 program.ask(command)
             except CommandFailed as failed:
-                raise Failure(f"creating '{command[1]}': {with_detail(failed)}") from None
+                raise Failure(f"creating '{command[1]}': {with_detail(command[1], failed)}") from None
         return ""
 
     def update(self, words: List[str]) -> str:
@@ -202,7 +202,8 @@ class Commands:
         except OSError as error:
             raise Failure(f"opening '{error.filename}': {error.strerror}") from None
         except CommandFailed as failed:
-            raise Failure(explain(file, with_detail(failed))) from None
+            reason = with_detail(file, failed)
+            raise Failure(f"{RESIZED}: {reason}" if failed.system_error else explain(file, reason)) from None
         return ""
 
     # ---- Reading
