@@ -1,5 +1,5 @@
 # SPDX-License-Identifier: MIT OR Apache-2.0
-"""Where the compiled parts of the package are: the C library, and the extension of Python that calls it."""
+"""Where the compiled parts of the package are, the C library and the extension of Python that calls it, and its pages."""
 from __future__ import annotations
 
 import os
@@ -25,3 +25,10 @@ def _folders() -> List[str]:
         lib = os.path.join(os.path.dirname(os.path.dirname(above)), "lib")
         folders += [lib, os.path.join(lib, "rrdi")]
     return folders
+
+
+def page(name: str) -> str:
+    """Returns the path of a page of the documentation in a repository or an installation; without one, as the pages name it."""
+    package = os.path.dirname(os.path.realpath(__file__))
+    path = os.path.join(os.path.dirname(os.path.dirname(package)), "docs", name)
+    return path if os.path.isfile(path) else f"docs/{name}"

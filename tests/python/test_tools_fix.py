@@ -20,13 +20,14 @@ from doubles import PROGRAM, TOP
 from process_case import ProcessCase, locked
 from tool_case import Ran, ToolCase
 
+from rrdi import places
 from rrdi.errors import CANNOT_OPEN
 from rrdi.protocol import DONE, Answer
 from rrdi.tools.command_line import Failure, WrongArguments
-from rrdi.tools.fix import times_of
+from rrdi.tools.fix import OLDER, found_sample, times_of
 from rrdi.tools.fixing import held as holding
 from rrdi.tools.fixing.held import NotOpened, NotStored, PartlyStored
-from rrdi.tools.fixing.history import SentUpdate, OneSample, given_samples, with_given
+from rrdi.tools.fixing.history import History, SentUpdate, OneSample, given_samples, with_given
 from rrdi.tools.program import CommandFailed
 
 COUNT = slice(26, 30)  # the bytes with the number of a journal's entries
@@ -37,6 +38,25 @@ GAUGE = ("DS:g:GAUGE:100:U:U", "RRA:AVERAGE:0.5:1:40", "RRA:MAX:0.5:4:10")
 class Words(ToolCase):
     def test_usage(self) -> None:
         self.check_usage("rrdi-fix", USAGE, [[], ["f", "1", "-2", "-3"]])
+
+
+class OutOfReach(unittest.TestCase):
+    """An older sample than those of the journal."""
+
+    def test_what_is_left(self) -> None:
+        """A further line names the page with the way that is left, as it is installed."""
+        history = History(["g"], [OneSample(40, ("1",)), OneSample(31, ("2",))], 1)
+        for time in (30, 31):
+            with self.assertRaisesRegex(Failure, "^f: .* is out of reach: .* with 1 change$") as raised:
+                found_sample(mock.Mock(path="f"), history, time, [])
+            self.assertEqual(raised.exception.detail, f'what else there is, {TOP}/docs/cookbook.md says under "{OLDER}"')
+
+    def test_pages(self) -> None:
+        folder = new_folder(self)
+        (folder / "share/rrdi/docs").mkdir(parents=True)
+        (folder / "share/rrdi/docs/a.md").touch()
+        with mock.patch.object(places, "__file__", str(folder / "share/rrdi/python/rrdi/places.py")):
+            self.assertEqual((places.page("a.md"), places.page("b.md")), (f"{folder}/share/rrdi/docs/a.md", "docs/b.md"))
 
 
 class Times(unittest.TestCase):
@@ -107,6 +127,12 @@ class FixCase(ToolCase):
         self.assertEqual((ran.status, ran.out, self.read("f.rrdi")), (1, "", before), words)
         self.assertEqual(ran.err, f"rrdi-fix: {why}\n")
 
+    def out_of_reach(self, why: str, *words: str) -> None:
+        """The tool refuses a sample, and says where the way is that is left."""
+        page = TOP / "docs/cookbook.md"
+        self.stays(f'f.rrdi: {why}\nrrdi-fix: what else there is, {page} says under "{OLDER}"', *words)
+        self.assertIn(f"\n## {OLDER}\n", page.read_text())
+
 
 @needs_program
 class Files(FixCase):
@@ -145,7 +171,7 @@ class Files(FixCase):
         at = "{0} (1970-01-01 00:00:{0})".format
         self.stays(f"f.rrdi: there is no sample between {at(23)} and {at(31)}", "24")
         self.stays(f"f.rrdi: there is no sample after {at(55)}", "56")
-        self.stays("f.rrdi: 0 (1970-01-01 00:00:00) is out of reach: the journal begins after 0 (1970-01-01 00:00:00), with 5 changes", "0")
+        self.out_of_reach("0 (1970-01-01 00:00:00) is out of reach: the journal begins after 0 (1970-01-01 00:00:00), with 5 changes", "0")
         self.stays("f.rrdi: give 1 value, for the source g, not 2", "23", "1:2")
         self.stays("f.rrdi: there is no source h, only g", "23", "1", "--source", "h")
         self.stays("f.rrdi: 23:1000000000000000000: bad value", "23", "1" + 18 * "0")
@@ -161,7 +187,7 @@ class Files(FixCase):
 
     def test_a_short_journal(self) -> None:
         self.filled("f.rrdi", self.CHANGES, depth=2)
-        self.stays("f.rrdi: 23 (1970-01-01 00:00:23) is out of reach: the journal begins after 31 (1970-01-01 00:00:31), with 2 changes", "23")
+        self.out_of_reach("23 (1970-01-01 00:00:23) is out of reach: the journal begins after 31 (1970-01-01 00:00:31), with 2 changes", "23")
         self.assertEqual(self.fix("f.rrdi", "40", "3").status, 0)
 
     def test_the_first_layout(self) -> None:

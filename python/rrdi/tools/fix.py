@@ -43,6 +43,7 @@ import re
 import sys
 from typing import Dict, List, NamedTuple, Optional, Set, Tuple
 
+from ..places import page
 from .command_line import Failure, Tool, WrongArguments, error_text
 from .fixing.held import HeldFile, held
 from .fixing.history import History, OneSample, SentUpdate, given_samples, history_of, with_given, wrong_change
@@ -50,6 +51,7 @@ from .options import given_words
 from .spans import PRINTED, exact_seconds, local_times, time_text
 
 WITH_VALUE = {"--source": "source", "--samples": "samples"}
+OLDER = "A spike that is older than the journal"  # a heading of docs/cookbook.md
 NEGATIVE = re.compile(r"-[0-9][0-9.]*(:.*)?")
 VALUE = re.compile(r"U|-?[0-9]{1,20}(\.[0-9]{1,6})?")
 
@@ -113,8 +115,10 @@ def found_sample(file: HeldFile, history: History, time: int, given: List[OneSam
     if time > newest:
         raise Failure(f"{file.path}: there is no sample after {shown(newest)}")
     if time <= oldest:
-        raise Failure(f"{file.path}: {shown(time)} is out of reach: the journal begins after {shown(oldest)}, with "
-                      f"{history.reach} change{'s' * (history.reach != 1)}")
+        failure = Failure(f"{file.path}: {shown(time)} is out of reach: the journal begins after {shown(oldest)}, with "
+                          f"{history.reach} change{'s' * (history.reach != 1)}")
+        failure.detail = f"what else there is, {page('cookbook.md')} says under \"{OLDER}\""
+        raise failure
     count = next(number for number in range(1, history.reach + 1) if history.last[number].time < time)
     check_updates(file, history, count)
     changes = [with_given(history.change(number), given) for number in range(1, count + 1)]
