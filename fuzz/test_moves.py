@@ -3,7 +3,7 @@
 
 Each cell must agree to a millionth and a ten-billionth of its value: in the new file, in the file that `rrdtool restore`
 creates from it, and, of gauges, in both after more samples. Of files of every kind, `rrdi-import` must name each archive
-that differs, and no other. --seeds=FIRST:COUNT tries other files."""
+of which a cell or the unfinished row differs, and no other. --seeds=FIRST:COUNT tries other files."""
 from __future__ import annotations
 
 import math
@@ -25,8 +25,9 @@ from support.check import Check
 from support.program import TOP, Program, environment
 
 FILES, CELLS, ODD_FILES, ODD_ARCHIVES = "files", "cells", "files of every kind", "archives that differ"
-LEAST = {FILES: 40, CELLS: 100_000, ODD_FILES: 40, ODD_ARCHIVES: 10}
-LEAST_LONG = {FILES: 400, CELLS: 2_000_000, ODD_FILES: 400, ODD_ARCHIVES: 100}
+ODD_ROWS = "unfinished rows that differ"
+LEAST = {FILES: 40, CELLS: 100_000, ODD_FILES: 40, ODD_ARCHIVES: 10, ODD_ROWS: 2}
+LEAST_LONG = {FILES: 400, CELLS: 2_000_000, ODD_FILES: 400, ODD_ARCHIVES: 100, ODD_ROWS: 20}
 # The files of one test.
 PART = 10
 
@@ -166,17 +167,38 @@ def move_files(numbers: range, program: Program, folder: Path, check: Check, spo
 # ---- what rrdi-import says of files of every kind
 
 SAID = re.compile(r"archive (\d+), [A-Z]+ of \d+ s: \d+ of \d+ cells differ, the newest at \d+: \w")
+SAID_OF_UNFINISHED = re.compile(r"archive (\d+), [A-Z]+ of \d+ s: [^;]*(?:; )?its unfinished row differs(?:: \w|, too)")
 
 
-def differing_archives(old: RrdFile, database: dict[str, Any]) -> set[int]:
-    """Returns the numbers of the archives of which a cell differs."""
+def pairs(old: RrdFile, database: dict[str, Any]) -> Iterator[tuple[Any, dict[str, Any], list[int]]]:
+    """Yields the archives that both files have, with the columns of the sources that both have."""
     there = [source["name"] for source in database["sources"]]
     columns = [source.column for source in old.sources if source.name in there]
     kept = [archive for archive in old.archives if archive.function in ("AVERAGE", "MIN", "MAX", "LAST")]
     assert len(kept) == len(database["archives"])
-    return {archive.number for archive, new in zip(kept, database["archives"]) for row in new["rows"] if row["time"] > 0
+    for archive, new in zip(kept, database["archives"]):
+        yield archive, new, columns
+
+
+def differing_archives(old: RrdFile, database: dict[str, Any]) -> set[int]:
+    """Returns the numbers of the archives of which a cell differs."""
+    return {archive.number for archive, new, columns in pairs(old, database) for row in new["rows"] if row["time"] > 0
             for column, cell in zip(columns, row["cells"])
             if not agrees(archive.cell(row["time"], column), None if cell is None else int(cell) / 1e6)}
+
+
+def differing_unfinished(old: RrdFile, database: dict[str, Any]) -> set[int]:
+    """Returns the numbers of the archives of which the unfinished row differs."""
+    found = set()
+    for archive, new, columns in pairs(old, database):
+        passed = old.last // old.step % archive.steps
+        for column, part in zip(columns, new["preparations"]):
+            known = passed - archive.unknown_steps[column]
+            parts = known if archive.function == "AVERAGE" else 1
+            if known != part["known_steps"] or known and not agrees(archive.partial[column] / parts,
+                                                                    int(part["value"]) / 1e6 / parts):
+                found.add(archive.number)
+    return found
 
 
 def imported(files: Sequence[Path], into: Path, program: Program) -> dict[str, str]:
@@ -191,11 +213,15 @@ def faults_of(old: RrdFile, said: str, new: Path) -> list[str]:
     """Returns what is wrong in the line of a file."""
     if not new.exists():
         return [] if re.match("not converted: .+", said) else ["there is no file, and no reason"]
-    wanted, noted = differing_archives(old, read(new.read_bytes())), set(map(int, SAID.findall(said)))
+    database = read(new.read_bytes())
+    wanted, noted = differing_archives(old, database), set(map(int, SAID.findall(said)))
+    wanted_unfinished, noted_unfinished = differing_unfinished(old, database), set(map(int, SAID_OF_UNFINISHED.findall(said)))
     kinds = {"COMPUTE": "skipped data source {}: type COMPUTE is not supported; its formula is ",
              **{kind: f"source {{}}: its type {kind} becomes DERIVE" for kind in ("DCOUNTER", "DDERIVE")}}
     lacking = [source.name for source in old.sources if kinds.get(source.kind, "").format(source.name) not in said]
     return [*([f"it names the archives {noted}, not {wanted}"] if noted != wanted else []),
+            *([f"it names the unfinished rows of {noted_unfinished}, not of {wanted_unfinished}"]
+              if noted_unfinished != wanted_unfinished else []),
             *([f"it does not tell about {lacking}"] if lacking else [])]
 
 
@@ -217,4 +243,5 @@ def note_files(numbers: range, program: Program, folder: Path, check: Check, spo
         found = faults_of(old, said, folder / "new" / f"{name}i")
         check.count(ODD_FILES)
         check.count(ODD_ARCHIVES, len(SAID.findall(said)))
+        check.count(ODD_ROWS, len(SAID_OF_UNFINISHED.findall(said)))
         check(not found, f"{name}: {'; '.join(found)}: {said}")

@@ -17,7 +17,7 @@ from rrdi.importing.rounding import Converter, as_text, millionths, raw_value
 from rrdi.importing.batch import RrdBatch, batch_of, merge, share_of
 from rrdi.amounts import Millionths
 from rrdi.limits import LONGEST_LINE
-from rrdi.importing.differing import DifferingCell, differing_archives, differing_cells, reason
+from rrdi.importing.differing import DifferingCell, NewArchive, differing_archives, differing_cells, differing_unfinished, reason
 from rrdi.importing.dump import RrdArchive, RrdFile, Refusal, RrdSource, read_dump
 from rrdi.importing.plan import Span, note_made_up_rows, plan
 from rrdi.importing.rates import SourceRates
@@ -617,8 +617,54 @@ class DifferingRows(unittest.TestCase):
 
     def test_a_line_for_each_archive(self) -> None:
         rows = [new_rows({1110: 2.0, 1140: 3.0, 1170: 5.0}), new_rows({1140: 5.0, 1200: 6.0})]
-        self.assertEqual(list(differing_archives([self.fine, self.coarse], self.spans, [0], rows.__getitem__)), [
+
+        def lines() -> List[str]:
+            return list(differing_archives([self.fine, self.coarse], self.spans, [0], 1200, lambda place: NewArchive(rows[place], [(0, Millionths())])))
+        self.assertEqual(lines(), [
             "archive 0, AVERAGE of 30 s: 2 of 4 cells differ, the newest at 1170: how many steps of the rows beside a gap were unknown is a guess"])
         rows[1] = new_rows({1140: 5.0, 1200: 7.0})
-        self.assertEqual(list(differing_archives([self.fine, self.coarse], self.spans, [0], rows.__getitem__))[1:], [
+        self.assertEqual(lines()[1:], [
             "archive 1, MAX of 60 s: 1 of 2 cells differ, the newest at 1200: the row comes from rows of AVERAGE of 30 s"])
+
+
+class DifferingUnfinishedRows(unittest.TestCase):
+    """Rows of 60 s, of which the last one began at 1200, and three of its six steps have passed. In the old file one is unknown,
+    and the others are 2 and 4, or their sum is 6."""
+
+    def notes(self, function: str, old: float, new: "Tuple[int, float]", unknown: int = 1, cells: "Tuple[float, float]" = (5.0, 6.0)) -> List[str]:
+        rows = archive(4, function, 6, [5.0, 6.0], partial=old, unknown=unknown)
+        rows.place(10, 1235)
+        finer = archive(5, "AVERAGE", 3, [1.0] * 9)
+        finer.place(10, 1235)
+        made = NewArchive(new_rows({1140: cells[0], 1200: cells[1]}), [(new[0], Millionths(round(new[1] * 10**6)))])
+        return list(differing_archives([rows], plan([finer], 1230), [0], 1230, lambda place: made))
+
+    def test_equal_ones(self) -> None:
+        for function, value in (("AVERAGE", 6.0), ("MIN", 2.0), ("MAX", 4.0), ("LAST", 4.0)):
+            self.assertEqual(self.notes(function, value, (2, value)), [])
+            self.assertEqual(self.notes(function, value, (2, value + 1e-6)), [])
+        for old in (NAN, math.inf, 0.0):  # whatever RRDtool has there if no step is known
+            self.assertEqual(self.notes("MAX", old, (0, 0.0), 3), [])
+        # A sum of two millionths more is an average that RRDtool prints in the same digits.
+        self.assertEqual(self.notes("AVERAGE", 6.0, (2, 6.000002)), [])
+
+    def test_differing_ones(self) -> None:
+        why = "archive 4, {} of 60 s: its unfinished row differs: the row comes from rows of AVERAGE of 30 s"
+        for function, old, new in (("MAX", 4.0, (2, 5.0)), ("MIN", 2.0, (2, 3.0)), ("LAST", 4.0, (2, 4.1)), ("MAX", 4.0, (3, 4.0)), ("MAX", 4.0, (1, 4.0))):
+            self.assertEqual(self.notes(function, old, new), [why.format(function)])
+        guess = "how many steps of the rows beside a gap were unknown is a guess"
+        for sum_of_steps, known in ((6.000003, 2), (6.0, 3), (9.0, 3)):
+            self.assertEqual(self.notes("AVERAGE", 6.0, (known, sum_of_steps)), [f"archive 4, AVERAGE of 60 s: its unfinished row differs: {guess}"])
+        self.assertEqual(self.notes("AVERAGE", 2e12, (2, 2e12 + 1e4)), [
+            "archive 4, AVERAGE of 60 s: its unfinished row differs: large numbers that nearly cancel out lose digits"])
+
+    def test_one_line_an_archive(self) -> None:
+        self.assertEqual(self.notes("MAX", 4.0, (2, 5.0), cells=(5.0, 7.0)), [
+            "archive 4, MAX of 60 s: 1 of 2 cells differ, the newest at 1200: the row comes from rows of AVERAGE of 30 s; its unfinished row differs, too"])
+
+    def test_each_source_by_its_column(self) -> None:
+        rows = RrdArchive(0, "MAX", 6, 0.5, [1.0, 2.0, 3.0], [1, 1, 2], array("d", [1.0] * 3), 3)
+        rows.place(10, 1235)
+        for columns, unfinished, count in (([0, 2], [(2, 1.0), (1, 3.0)], 0), ([0, 1], [(2, 1.0), (1, 3.0)], 1), ([1, 0], [(2, 1.0), (2, 1.5)], 2)):
+            new = [(known, Millionths(round(value * 10**6))) for known, value in unfinished]
+            self.assertEqual(len(differing_unfinished(rows, columns, 1230, new)), count)

@@ -10,7 +10,7 @@ from typing import Callable, Iterable, Iterator, Optional, Tuple
 from ..amounts import MILLION
 from ..limits import (FUNCTIONS, LATEST, LONGEST_STEP, MOST_ARCHIVES, MOST_CELLS, MOST_ROWS, MOST_SOURCES, MOST_STEPS,
                       NAME_OF_SOURCE, OF_A_NAME, TYPES)
-from .differing import NewRows, differing_archives
+from .differing import NewArchive, differing_archives
 from .dump import RrdArchive, RrdFile, Refusal, RrdSource
 from .rounding import BOUND_LIMIT, Converter, as_text, raw_value
 from .plan import Span, note_made_up_rows, plan
@@ -163,10 +163,15 @@ class RrdBatch:
         """How many sources get another type."""
         return sum(source.kind != self.old.sources[source.column].kind for source in self.sources)
 
-    def note_differences(self, rows_of: Callable[[int], NewRows]) -> None:
+    @property
+    def whole(self) -> int:
+        """The end of the last whole step."""
+        return self.old.last - self.old.last % self.old.step
+
+    def note_differences(self, new_of: Callable[[int], NewArchive]) -> None:
         """Notes the archives of the new database that differ from the old ones."""
         columns = [source.column for source in self.sources]
-        for text in differing_archives(self.archives, self.spans, columns, rows_of):
+        for text in differing_archives(self.archives, self.spans, columns, self.whole, new_of):
             self.note(text)
 
     def raw_of(self, source: RrdSource) -> str | None:
@@ -187,7 +192,7 @@ class RrdBatch:
         return (self.converter.amount(source.minimum, BOUND_LIMIT), self.converter.amount(source.maximum, BOUND_LIMIT))
 
     def rates(self) -> Iterator[tuple[int, Rates]]:
-        old, whole = self.old, self.old.last - self.old.last % self.old.step
+        old, whole = self.old, self.whole
         self.spans = spans = plan(self.archives, whole)
         note_made_up_rows(self.archives, spans, self.note)
         columns = [SourceRates(source.column, old.step, whole, self.converter, self.bounds(source)).all_rates(spans)

@@ -3,7 +3,7 @@
 from __future__ import annotations
 
 import math
-from typing import Callable, Dict, Iterator, List, NamedTuple, Optional, Sequence
+from typing import Callable, Dict, Iterator, List, NamedTuple, Optional, Sequence, Tuple
 
 from ..amounts import MILLION, Millionths
 from .dump import RrdArchive
@@ -14,6 +14,14 @@ MOST_APART, SHARE_APART = 0.0000010001, 1e-10
 FEW_DIGITS = 1e-7  # of the largest number nearby: what is apart by less has lost digits
 
 NewRows = Dict[int, List[Optional[Millionths]]]
+
+
+class NewArchive(NamedTuple):
+    """What an archive has in the new file: its rows, and of its unfinished row for each source the number of known steps,
+    and their sum, minimum, maximum or last one."""
+
+    rows: NewRows
+    unfinished: Sequence[Tuple[int, Millionths]]
 
 
 class DifferingCell(NamedTuple):
@@ -48,6 +56,24 @@ def differing_cells(archive: RrdArchive, columns: Sequence[int], rows: NewRows) 
     return found
 
 
+def differing_unfinished(archive: RrdArchive, columns: Sequence[int], whole: int,
+                         unfinished: Sequence[Tuple[int, Millionths]]) -> List[DifferingCell]:
+    """Returns the cells of the unfinished row that differ, up to `whole`, the end of the last whole step: by how many steps
+    are known, which is not shown, or by the average, minimum, maximum or last of these."""
+    found, time, step = [], archive.end + archive.seconds, archive.seconds // archive.steps
+    is_average = archive.function == "AVERAGE"
+    for column, (known, amount) in zip(columns, unfinished):
+        known_before = (whole - archive.end) // step - archive.unknown_steps[column]
+        if known_before != known:
+            found.append(DifferingCell(time, math.nan, math.nan))
+        elif known:
+            parts = known if is_average else 1
+            before, after = archive.partial[column] / parts, amount / MILLION / parts
+            if not agree(before, after):
+                found.append(DifferingCell(time, before, after))
+    return found
+
+
 def reason(archive: RrdArchive, spans: Sequence[Span], cell: DifferingCell) -> str:
     """Returns why a row may not be the same: by what it was made of."""
     span = next((span for span in spans if span.begin <= cell.time - archive.seconds < span.end), None)
@@ -67,12 +93,18 @@ def reason(archive: RrdArchive, spans: Sequence[Span], cell: DifferingCell) -> s
     return "how many steps of the rows beside a gap were unknown is a guess"
 
 
-def differing_archives(archives: Sequence[RrdArchive], spans: Sequence[Span], columns: Sequence[int],
-                       rows_of: Callable[[int], NewRows]) -> Iterator[str]:
-    """Yields a line for each archive that differs. `rows_of` returns the new rows of an archive, by its place."""
+def differing_archives(archives: Sequence[RrdArchive], spans: Sequence[Span], columns: Sequence[int], whole: int,
+                       new_of: Callable[[int], NewArchive]) -> Iterator[str]:
+    """Yields a line for each archive that differs. `new_of` returns an archive of the new file, by its place."""
     for place, archive in enumerate(archives):
-        found = differing_cells(archive, columns, rows_of(place))
+        new = new_of(place)
+        found = differing_cells(archive, columns, new.rows)
+        unfinished = differing_unfinished(archive, columns, whole, new.unfinished)
+        name = f"archive {archive.number}, {archive.function} of {archive.seconds} s"
         if found:
             newest, count = found[-1], len(columns) * archive.row_count
-            yield (f"archive {archive.number}, {archive.function} of {archive.seconds} s: {len(found)} of {count} cells "
-                   f"differ, the newest at {newest.time}: {reason(archive, spans, newest)}")
+            also = "; its unfinished row differs, too" if unfinished else ""
+            yield (f"{name}: {len(found)} of {count} cells differ, the newest at {newest.time}: "
+                   f"{reason(archive, spans, newest)}{also}")
+        elif unfinished:
+            yield f"{name}: its unfinished row differs: {reason(archive, spans, unfinished[-1])}"

@@ -8,6 +8,7 @@ from typing import Callable, Iterable, Iterator, List, Optional
 from ..errors import Damaged
 from ..escaping import escaped
 from ..importing.batch import RrdBatch
+from ..importing.differing import NewArchive
 from ..importing.native import read_old
 from ..importing.whisper import read_whisper, whisper_batch
 from ..kinds import WHISPER_END
@@ -83,7 +84,8 @@ class Conversion:
             return
         with reporting(new), OpenFile(new) as opened:
             archives, last = opened.outline().archives, opened.front.last
-            self._batch.note_differences(lambda place: opened.rows(archives[place], 1, last))
+            self._batch.note_differences(lambda place: NewArchive(
+                opened.rows(archives[place], 1, last), archives[place].partial))
 
 
 def make(new: str, lines: Iterable[str], look: Callable[[str], None]) -> None:
