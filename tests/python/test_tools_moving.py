@@ -31,7 +31,7 @@ NAN = float("nan")
 
 DUMP = """<rrd><version>0003</version><step>10</step><lastupdate>1600000030</lastupdate>
 <ds><name> g </name><type> GAUGE </type><minimal_heartbeat>60</minimal_heartbeat><min>-5</min><max>NaN</max>
-<last_ds>3</last_ds><value>0</value><unknown_sec> 0 </unknown_sec></ds>
+<last_ds>3.5</last_ds><value>0</value><unknown_sec> 0 </unknown_sec></ds>
 <ds><name> double </name><type> COMPUTE </type><cdef> g,2,* </cdef>
 <last_ds>U</last_ds><value>NaN</value><unknown_sec> 0 </unknown_sec></ds>
 <rra><cf>AVERAGE</cf><pdp_per_row>1</pdp_per_row><params><xff>5e-1</xff></params><cdp_prep>

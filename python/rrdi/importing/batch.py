@@ -12,6 +12,7 @@ from ..limits import (FUNCTIONS, LATEST, LONGEST_STEP, MOST_ARCHIVES, MOST_CELLS
                       NAME_OF_SOURCE, OF_A_NAME, TYPES)
 from .differing import NewArchive, differing_archives
 from .dump import RrdArchive, RrdFile, Refusal, RrdSource
+from .lasts import is_within, last_value, with_last
 from .rounding import BOUND_LIMIT, Converter, as_text, raw_value
 from .plan import Span, note_made_up_rows, plan
 from .rates import SourceRates, unfinished_step
@@ -198,7 +199,20 @@ class RrdBatch:
         columns = [SourceRates(source.column, old.step, whole, self.converter, self.bounds(source)).all_rates(spans)
                    + unfinished_step(source, whole, old.last, self.converter) for source in self.sources]
         self.start = spans[0].begin if spans else whole
-        return merge(columns)
+        return merge([self.with_last_value(*each) for each in zip(self.sources, columns)])
+
+    def with_last_value(self, source: RrdSource, rates: Stretches) -> Stretches:
+        """Returns the rates of a source so that the last second of a gauge has its last value, if that can be."""
+        value, whole = last_value(source), self.whole
+        if value is None or not rates or rates[-1][1] == value:
+            return rates
+        begin = whole - self.old.step if whole == self.old.last else whole
+        found = with_last(rates, self.start, begin, whole, value, is_within(value, self.bounds(source)))
+        if found is None or any(raw is None for one, raw in zip(self.sources, self.raw) if one.kind in ("COUNTER", "DERIVE")):
+            self.note(f"source {source.name}: its last value {source.last_raw} is not kept")
+            return rates
+        self.last_given = self.old.last - 1
+        return found
 
     def lines(self) -> Iterator[str]:
         stretches = list(self.rates())
