@@ -83,7 +83,7 @@ class Lines(unittest.TestCase):
         self.assertEqual((feeder.has_failed, feeder.bad_lines), (True, 4))
 
     def test_how_a_bad_line_is_shown(self) -> None:
-        for line, text in ((b"a\r", "a"), (b"\x1b[2Ja", "\\u{1b}[2Ja"), (b"a\0b", "a\\u{0}b"), (b"\xff", "\ufffd"),
+        for line, text in ((b"a\r", "a"), (b"\x1b[2Ja", "\\u{1b}[2Ja"), (b"a\0b", "a\\u{0}b"), (b"\xff", "\\xff"),
                            ("\u202eü".encode(), "\\u{202e}ü"), (b"a" * 4_096, "a" * 4_096), (b"a" * 4_097, "a" * 4_096 + "..")):
             self.assertEqual(line_text(line), text)
 

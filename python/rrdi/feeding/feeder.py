@@ -109,9 +109,10 @@ class Feeder:
     # ---- Messages
 
     def say(self, text: str) -> None:
+        """Prints a line, whatever words of others it has."""
         self.has_failed = True
         try:
-            print(f"{self.name}: {text}", file=sys.stderr, flush=True)
+            print(f"{self.name}: {escaped(text)}", file=sys.stderr, flush=True)
         except (OSError, MemoryError):  # nobody reads the messages, but the samples go on
             pass
 

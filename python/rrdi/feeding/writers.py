@@ -46,7 +46,8 @@ TOO_OLD = "too old"  # begins the reason of a sample that is too late to be put 
 
 
 def text_of(data: "bytes | bytearray") -> str:
-    return data.decode(errors="replace")
+    """Returns bytes of others for a message, where each byte that is no UTF-8 gets its code."""
+    return data.decode(errors="surrogateescape")
 
 
 def may_be_made(file: bytes) -> bool:

@@ -41,7 +41,7 @@ class Tool(NamedTuple):
 def called_name(tool: Tool) -> str:
     """Returns the name by which a tool was started, so that messages have the name of a link or an old name."""
     name = os.path.basename(sys.argv[0])
-    return tool.name if name.endswith(".py") or name in ("", "-c", "-m", "__main__") else name
+    return tool.name if name.endswith(".py") or name in ("", "-c", "-m", "__main__") else escaped(name)
 
 
 def give_up_output(stream: int = 1) -> None:
@@ -167,7 +167,7 @@ class Progress:
         share = min(100 * done // total, 100) if total else 0
         count = f"{share} %" if total else f"{done:,}"
         bar = f"[{'#' * (share * self.BAR // 100):<{self.BAR}}] " if total and self.has_bar else ""
-        print(f"\r{self.what}: {bar}{count}\x1b[K", end="", file=sys.stderr, flush=True)
+        print(f"\r{escaped(self.what)}: {bar}{count}\x1b[K", end="", file=sys.stderr, flush=True)
         self.is_shown = True
 
     def end(self) -> None:

@@ -25,6 +25,7 @@ compared, or if a program failed; 2 after wrong arguments.
 from __future__ import annotations
 
 import math
+import os
 import re
 from typing import Dict, Iterator, List, NamedTuple, Optional
 
@@ -87,6 +88,13 @@ class Counts:
 
     def is_equal(self) -> bool:
         return self.cells > 0 and self.agree == self.cells
+
+
+def without_name(info: str, old: str) -> str:
+    """Returns the output of `rrdtool info` without the line that names the file: a name may have lines in it that look like
+    others."""
+    first = f'filename = "{os.fsencode(old).decode(errors="replace")}"\n'
+    return info[len(first):] if info.startswith(first) else info
 
 
 def spans(info: str) -> Iterator[ArchiveSpan]:
@@ -155,6 +163,7 @@ def compare(words: List[str]) -> int:
         if str(failure) == rrdtool_program.NOT_INSTALLED:
             raise
         raise Failure(f"rrdtool does not read {old}: {failure}") from None
+    info = without_name(info, old)
     archives = list(spans(info))
     if not archives:
         raise Failure(f"{old} has no archive that rrdi can have")

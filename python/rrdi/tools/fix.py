@@ -43,6 +43,7 @@ import re
 import sys
 from typing import Dict, List, NamedTuple, Optional, Set, Tuple
 
+from ..escaping import escaped
 from ..places import page
 from .command_line import Failure, Tool, WrongArguments, error_text
 from .fixing.held import HeldFile, held
@@ -272,7 +273,7 @@ def fix(words: List[str]) -> int:
     later = len(found.changes) - 1
     after = f"; {later} later change{'s were' if later > 1 else ' was'} sent again" if later and is_changed else ""
     what = "is taken out" if new is None else f"is now {new.word}" if is_changed else "is in the file already"
-    tell(f"{options.file}: {found.sample.word} ({time_text(found.sample.time)}) {what}{after}")
+    tell(f"{escaped(options.file)}: {found.sample.word} ({time_text(found.sample.time)}) {what}{after}")
     return 0
 
 

@@ -4,11 +4,11 @@ from __future__ import annotations
 
 import os
 import subprocess
-import sys
 import tempfile
 from typing import Iterator, List, NamedTuple, Optional
 
-from ..command_line import Failure
+from ...escaping import escaped
+from ..command_line import Failure, complain
 from ..pictures import put_picture
 from .labels import labels
 from .legend import AFTER_SWATCH, SWATCH, Legend
@@ -89,17 +89,17 @@ def columns(picture: Picture, legend: Legend, left: int, up: float, given: List[
 
 def plots(picture: Picture, folder: str) -> Iterator[str]:
     """Yields what is plotted: bands below areas below lines. The titles are those of an SVG's parts: nothing draws them."""
-    look, stack = picture.look, picture.style == "stack"
+    look, stack, given = picture.look, picture.style == "stack", quoted(f"{folder}/points")
     for number, one in enumerate(picture.series):
         if picture.has_band:
-            yield (f"'{folder}/points' index {number} using 1:4:5 with filledcurves fillcolor rgb '{picture.color(number)}' "
+            yield (f"{given} index {number} using 1:4:5 with filledcurves fillcolor rgb '{picture.color(number)}' "
                    f"fillstyle transparent solid {look.band} noborder title {quoted(one.name)}")
     for number, one in enumerate(picture.series):
         if picture.style != "lines":
-            yield (f"'{folder}/points' index {number} using 1:2:3 with filledcurves fillcolor rgb '{picture.color(number)}' "
+            yield (f"{given} index {number} using 1:2:3 with filledcurves fillcolor rgb '{picture.color(number)}' "
                    f"fillstyle transparent solid {0.75 if stack else look.fill} noborder title {quoted(one.name)}")
     for number, one in enumerate(picture.series):
-        yield (f"'{folder}/points' index {number} using 1:3 with lines linewidth 1.5 linecolor rgb '{picture.color(number)}' "
+        yield (f"{given} index {number} using 1:3 with lines linewidth 1.5 linecolor rgb '{picture.color(number)}' "
                f"title {quoted(one.name)}")
 
 
@@ -122,7 +122,8 @@ def commands(folder: str, end: str, picture: Picture) -> str:
     setup = os.environ.get("RRDI_PLOT_SETUP") or os.environ.get("LOOK") or ""
     titled = picture._replace(title="", subtitle=[]) if "set title" in setup else picture
     return "\n".join([
-        "set encoding utf8", f"set terminal {terminal} noenhanced", f"set output '{folder}/picture'", "set xdata time",
+        "set encoding utf8", f"set terminal {terminal} noenhanced", f"set output {quoted(f'{folder}/picture')}",
+        "set xdata time",
         "set timefmt '%s'", "# The format says that a label has two lines.", 'set format x "\\n"', f"set xtics ({times})",
         f"set ytics ({marks})", f"set tics textcolor rgb '{look.faint}' scale 0", f"set title textcolor rgb '{look.text}'",
         f"set ylabel textcolor rgb '{look.faint}'", f"set border 1 back linecolor rgb '{look.grid}' linewidth 1.5", "unset key",
@@ -163,7 +164,8 @@ def draw(file: str, path: str, picture: Picture) -> None:
             raise Failure(f"{folder}: {error.strerror or error}") from None
         ran = subprocess.run(["gnuplot", f"{folder}/commands"], capture_output=True)
         if ran.returncode != 0:
-            sys.stderr.write(ran.stderr.decode(errors="replace"))
+            for line in ran.stderr.decode(errors="replace").splitlines():
+                complain(escaped(line))
             raise Failure(f"gnuplot did not draw {file}")
         if not os.path.exists(f"{folder}/picture"):
             raise Failure(f"gnuplot did not draw {file}")
