@@ -132,20 +132,31 @@ class NewFile:
         return OSError(error.errno, error.strerror, self.path)
 
     def _take_name(self) -> bool:
-        """Gives the file its name where there are no links: takes the name by an empty file, and replaces that one."""
+        """Gives the file its name where there are no links: takes the name by an empty file, and replaces that one, unless
+        another program has begun to fill or has replaced it meanwhile."""
         try:
             empty = open_file(self.path, os.O_RDWR | os.O_CREAT | os.O_EXCL)
         except FileExistsError:
             return False
         try:
-            os.rename(self.unfinished, self.path)
+            with suppress(BlockingIOError):
+                lock(empty, EXCLUSIVE, 0)
+                if is_empty_at(empty, self.path):
+                    os.rename(self.unfinished, self.path)
+                    return True
+            return False
         except BaseException:
             remove_empty(empty, self.path)
             raise
         finally:
             with suppress(OSError):
                 close(empty)
-        return True
+
+
+def is_empty_at(file: FileIO, path: str) -> bool:
+    """Checks whether an open file is empty, and still has its name."""
+    found = os.fstat(file.fileno())
+    return found.st_size == 0 and os.path.samestat(found, os.lstat(path))
 
 
 def take_owner(new: str, before: os.stat_result) -> None:
@@ -164,8 +175,7 @@ def remove_empty(file: FileIO, path: str) -> None:
     """Removes an empty file that is open, unless another program has filled, replaced or locked it meanwhile."""
     with suppress(OSError):
         lock(file, EXCLUSIVE, 0)
-        found = os.fstat(file.fileno())
-        if found.st_size == 0 and os.path.samestat(found, os.lstat(path)):
+        if is_empty_at(file, path):
             os.unlink(path)
 
 

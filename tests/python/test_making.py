@@ -12,7 +12,7 @@ from typing import Any, Callable, Dict, List
 from unittest import mock
 
 from cases import DataCase, WithLibrary, WithProgram, use_library
-from rrdi import commands, damaged, errors
+from rrdi import commands, damaged, errors, locks, making
 from rrdi.making import NewFile, end_of_links, is_there, make, remove_left_over
 from rrdi.tools import record
 
@@ -73,6 +73,30 @@ class Making(DataCase):
         self.assertEqual((self.files(), self.path.read_text()), (["data/f.rrdi"], "new"))
         with mock.patch("os.link", side_effect=OSError(errno.ENOSPC, "No space left")), self.assertRaises(OSError):
             self.made()
+
+    def test_a_name_that_another_program_uses(self) -> None:
+        """Where there are no links, an empty file takes the name. Another program may find it, and lock, fill or replace it, before
+        the new file takes its place: then its file stays."""
+        others: List[Any] = []
+
+        def lock_it() -> None:
+            others.append(open(self.path, "rb"))
+            fcntl.flock(others[-1], fcntl.LOCK_EX | fcntl.LOCK_NB)
+
+        def replace_it() -> None:
+            (self.folder / "other").write_text("other")
+            (self.folder / "other").rename(self.path)
+        for act, wanted in ((lock_it, ""), (lambda: self.path.write_text("other"), "other"), (replace_it, "other")):
+            def open_file(path: str, flags: int) -> Any:
+                file = locks.open_file(path, flags)
+                act()
+                return file
+            with mock.patch("os.link", side_effect=OSError(errno.EPERM, "Operation not permitted")), \
+                    mock.patch.object(making, "open_file", open_file):
+                self.assertFalse(self.made())
+            self.assertEqual((self.files(), self.path.read_text()), (["data/f.rrdi"], wanted))
+            self.path.unlink()
+        others[0].close()
 
     def test_a_link_to_a_missing_file(self) -> None:
         self.path.symlink_to(self.folder / "there.rrdi")
@@ -232,16 +256,12 @@ class WithoutLinks(DataCase):
             self.assertEqual((self.files(), self.path.read_text()), (["data/f.rrdi"], text))
             self.path.unlink()
 
-    def test_a_file_that_another_program_locks_stays(self) -> None:
-        opened: List[Any] = []
-
+    def test_nobody_else_locks_it(self) -> None:
         def lock() -> None:
-            opened.append(self.path.open())
-            fcntl.flock(opened[0], fcntl.LOCK_EX)
-        with mock.patch("time.sleep", side_effect=AssertionError("it waits")):
-            self.not_made(lock)
-        opened[0].close()
-        self.assertEqual(self.files(), ["data/f.rrdi"])
+            with self.path.open() as file, self.assertRaises(BlockingIOError):
+                fcntl.flock(file, fcntl.LOCK_EX | fcntl.LOCK_NB)
+        self.not_made(lock)
+        self.assertEqual(self.files(), [])
 
 
 class Modes(DataCase):
