@@ -69,14 +69,15 @@ class NewFile:
             rrdi.create(new.unfinished, ..)
             is_made = new.appear()
 
-    If `path` is a link to a file that does not exist, that file is made. `makes_folder` makes the folder too.
+    If `path` is a link to a file that does not exist, that file is made, unless `follows` is false. `makes_folder` makes the
+    folder too.
 
     # Errors
     `OSError` if the folder can't be made, or the system can't look at the path.
     """
 
-    def __init__(self, path: FilePath, makes_folder: bool = False):
-        self.path = end_of_links(os.fsdecode(path))
+    def __init__(self, path: FilePath, makes_folder: bool = False, follows: bool = True):
+        self.path = end_of_links(os.fsdecode(path)) if follows else os.fsdecode(path)
         folder = os.path.dirname(self.path)
         self.unfinished = os.path.join(folder, f".rrdi-{secrets.token_hex(8)}.new")
         if makes_folder and folder:

@@ -104,6 +104,13 @@ class Making(DataCase):
         self.assertTrue(self.path.is_symlink())
         self.assertEqual((self.folder / "there.rrdi").read_text(), "new")
 
+    def test_a_link_that_is_not_followed(self) -> None:
+        self.path.symlink_to(self.folder / "there.rrdi")
+        with NewFile(str(self.path), follows=False) as new:
+            Path(new.unfinished).write_text("new")
+            new.replace()
+        self.assertEqual((self.files(), self.path.is_symlink(), self.path.read_text()), (["data/f.rrdi"], False, "new"))
+
     def test_nothing_is_left(self) -> None:
         with self.assertRaises(ValueError), NewFile(str(self.path)) as new:
             with open(new.unfinished, "w", encoding="ascii"):

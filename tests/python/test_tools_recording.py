@@ -696,6 +696,16 @@ class CannotLook(unittest.TestCase):
         record.keep_copies(self.file, 10**9)
         self.assertEqual(self.copies(), "new12")
 
+    def test_a_copy_that_is_a_link(self) -> None:
+        """A link to a copy elsewhere becomes the next older one, and what it leads to stays."""
+        elsewhere = Path(self.file).parent / "elsewhere"
+        os.rename(f"{self.file}.1", elsewhere)
+        os.symlink(elsewhere, f"{self.file}.1")
+        Path(self.file).write_text("new")
+        self.last = {1: 0}
+        record.keep_copies(self.file, 10**9)
+        self.assertEqual((self.copies(), elsewhere.read_text(), os.readlink(f"{self.file}.2")), ("new12", "1", str(elsewhere)))
+
     def test_which_file_cannot_be_made(self) -> None:
         """An error names the copy that cannot be made, not the file that is copied, unless that cannot be read."""
         Path(self.file).write_bytes(bytes(10_000))

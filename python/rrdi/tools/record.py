@@ -236,7 +236,7 @@ def keep_copies(file: str, last: int) -> None:
     """
     if last - max(last_of_copy(f"{file}.1"), 0) < HOUR:
         return
-    with NewFile(f"{file}.1") as made:
+    with NewFile(f"{file}.1", follows=False) as made:  # a link of this name goes on with what it leads to
         fill_copy(file, f"{file}.1", made.unfinished)
         for number in [number for number in range(COPIES, 1, -1) if is_there(f"{file}.{number - 1}")]:
             rename_copy(f"{file}.{number - 1}", f"{file}.{number}")
