@@ -438,13 +438,12 @@ class Updates(FastCase):
     def test_the_memory_of_files(self) -> None:
         """A file that nobody uses leaves nothing behind."""
         path, sizes = os.fsencode(self.path), []  # type: bytes, List[int]
-        for _ in range(3):
-            for _ in range(40_000):
+        for _ in range(2):
+            for _ in range(300):
                 self.fast.library.open(path, 0, False)
                 self.said()
-            with open("/proc/self/statm", encoding="ascii") as file:
-                sizes.append(int(file.read().split()[5]) * os.sysconf("SC_PAGE_SIZE"))
-        self.assertLess(sizes[2] - sizes[0], 2_000_000)
+            sizes.append(in_use())
+        self.assertLess(sizes[1] - sizes[0], 300 * 16)  # bytes
 
     def test_another_file_of_the_name(self) -> None:
         kept = KeptFile(self.path)
