@@ -39,6 +39,7 @@ import rrdi
 
 UNKNOWN, WHOLE, DECIMAL = 0, 1, 2
 MANY = 100_000
+LOST = 300 * 16  # bytes: no block is so small
 
 
 class _Value(ctypes.Structure):
@@ -67,13 +68,16 @@ def text_of(value: _Value) -> str:
     return f"{'-' * value.is_negative}{value.units}{fraction}"
 
 
-def in_use() -> int:
-    """Returns how many bytes malloc has given and not got back: `hblkhd` and `uordblks` of malloc.h's struct mallinfo2."""
-    gc.collect()
-    info = ctypes.CDLL(None).mallinfo2
+def lost_by(act: Callable[[], object]) -> int:
+    """Returns how many bytes 300 calls lose, as malloc counts them: the least of three tries, since another thread may take some."""
+    info, sizes = ctypes.CDLL(None).mallinfo2, []  # type: Any, List[int]
     info.restype = type("Numbers", (ctypes.Structure,), {"_fields_": [(name, ctypes.c_size_t) for name in "abcdefghij"]})
-    found: Any = info()
-    return int(found.e + found.h)
+    for _ in range(4):
+        for _ in range(300):
+            act()
+        gc.collect()
+        sizes.append(info().e + info().h)  # hblkhd and uordblks
+    return min(after - before for before, after in zip(sizes, sizes[1:]))
 
 
 class Fast:
@@ -437,13 +441,8 @@ class Updates(FastCase):
 
     def test_the_memory_of_files(self) -> None:
         """A file that nobody uses leaves nothing behind."""
-        path, sizes = os.fsencode(self.path), []  # type: bytes, List[int]
-        for _ in range(2):
-            for _ in range(300):
-                self.fast.library.open(path, 0, False)
-                self.said()
-            sizes.append(in_use())
-        self.assertLess(sizes[1] - sizes[0], 300 * 16)  # bytes
+        path = os.fsencode(self.path)
+        self.assertLess(lost_by(lambda: (self.fast.library.open(path, 0, False), self.said())), LOST)
 
     def test_another_file_of_the_name(self) -> None:
         kept = KeptFile(self.path)
@@ -767,13 +766,12 @@ class Costs(FastCase):
         watched = [DONE, Answer, refused, samples, samples[1], calls.wait, opened, self.fast.library, None, True, type(opened)]
         for _ in range(100):
             work()
-        memory, before = in_use(), [sys.getrefcount(one) for one in watched]  # garbage has references too
-        for _ in range(300):
-            work()
-        lost = in_use() - memory
+        gc.collect()  # what it frees has references too
+        before = [sys.getrefcount(one) for one in watched]
+        lost = lost_by(work)
         for one, count in zip(watched, before):
             self.assertLess(abs(sys.getrefcount(one) - count), 100, one)
-        self.assertLess(lost, 300 * 16)  # bytes: no block is so small
+        self.assertLess(lost, LOST)
 
     def test_threads(self) -> None:
         """One call at a time uses an open file, by whatever way, while another thread closes it."""
