@@ -349,6 +349,15 @@ class Writing(WriterCase):
             self.writer.end()
         self.assertEqual(self.collectd.lines[-1], "rrdi: 0 samples taken in, 3 lost")
 
+    def test_another_thread_writes(self) -> None:
+        """A value does not wait for it, but a flush does."""
+        self.use(Making())
+        self.writer.options.cachetimeout = 0.0
+        with mock.patch.object(self.writer, "_turn", mock.Mock(acquire=mock.Mock(return_value=False))) as turn:
+            self.writer.write(values(NOW, 1.0))
+            self.writer.flush(0)
+        self.assertEqual(turn.mock_calls, [mock.call.acquire(blocking=False), mock.call.acquire(blocking=True)])
+
     def test_many_threads(self) -> None:
         """A file is created once, and each sample is given once and in order."""
         making = self.use(Making())

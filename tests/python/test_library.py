@@ -135,6 +135,16 @@ class Rooms(unittest.TestCase):
         many = tuple(range(1, 20_001))
         self.assertEqual(Called(refused=many).library.batch_file(b"f", b"\n" * 19_999, 0, 0, False).refused, many)
 
+    def test_room_for_refused_lines(self) -> None:
+        """For as many numbers as there are lines."""
+        acts: List[Any] = [lambda of, lines: of.batch_file(b"f", lines, 0, 0, False), lambda of, lines: of.batch(None, lines, 0), lambda of, lines: of.open(b"f", 0, False)[1].batch(lines, 0)]
+        for act in acts:
+            for count in (1, 2, 7, 8, 100):
+                called: Any = Called()
+                with mock.patch.object(called, "answer", wraps=called.answer) as told:
+                    act(called.library, b"\n" * (count - 1))
+                self.assertEqual([call[0][-1][-2] for call in told.call_args_list], [count])
+
     def test_rooms_that_shrink(self) -> None:
         long = 17 * FIRST_ROOM
         cases: List[Tuple[Called, Any, Tuple[int, int, int]]] = [
