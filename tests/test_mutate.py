@@ -70,9 +70,10 @@ def test_the_list_of_survivors() -> None:
     """Each is a mutant that there is, with a reason."""
     rows = [line.split(" | ") for line in LISTED.read_text().splitlines() if not line.startswith("#")]
     assert rows == sorted(rows) and len({tuple(row[:3]) for row in rows}) == len(rows)
-    for file, *change, reason in rows:
-        data = (TOP / file).read_bytes()
-        assert (file, *change) in {mutant.row(data) for mutant in mutants_of(file, data)}, (file, change)
+    files = {file: (TOP / file).read_bytes() for file, *_ in rows}
+    there = {mutant.row(data) for file, data in files.items() for mutant in mutants_of(file, data)}
+    for *change, reason in rows:
+        assert tuple(change) in there, change
         assert len(reason) > 10
 
 
