@@ -1,5 +1,5 @@
 -- The names that the proofs of functions import, passed on from one place. Declares nothing.
-pub use Rattle.rrd_change.proofs.Names.{◌≡◌, ℕ, ◌+◌, ◌^◌, ◌<◌, ◌≤◌, List, [], ◌∷◌, ◌++◌, length, take, get_or, refl, sym, ◌∙◌, ap, subst, arith, inl, inr, ◌⊎◌, cases_lt, length_push, take_all, length-take, get_or-take, take-append-le, StandsAt, AreAny, ArePut, IsCut, Change, IsRight, change_bytes, change_size, changes_in, last_size, Fill, HaveByte, IsLogged, Leads, Makes, TouchByte, chain_end, first_of, IsLogHeld, IsOnDisk, IsStopped, IsTornLog, Torn, AgreesOutside, AreSpans, IsIn, change_of, Follows, IsDatabase, IsOpen, All, Fails, World, Span, ◌-◌, max, true, append_assoc, replicate, nat_le, and_from, le-leb, append-nil, length-append, length-replicate, get_or_append_left, get_or-append-add, AreWholeOrNot, IsTorn, IsUnderCut, log_mark, Began, IsFirst, IsInPlace, IsReady, Represents, cut_of, Base, Log, zero, suc, ◌*◌, Some, None, change_at, changes_from, IsChain, Bool, false, drop, starts_is, false_from_ne_true, Decides-eqb, front_fits, begins_with, w64, from_be_bytes, flat_map, length-drop, take-append-drop, take_at, drop_at, from_be_bytes-to_be_bytes_8, are_within, body_bytes, head_bytes, piece_bytes, spelled_pieces, HasPieces, IsHeadOf, Result, Ok, Err, Does, Effect, IsHeld, Moves, Stores, View, ◌&&◌, ◌↔◌, IsPermutation, nat_lt, list_any, and_parts, leb-true, lt-ltb, ltb-true, or_cases, list_any-IsPermutation, or-true, true-or, AreAnyIn, ArePutIn, put_mid, get_or-drop, get_or-append_right, drop-drop, take_rest, drop-append-add, Piece, all_changed, laid, IsLaid, IsLogRead, spans_of, Head, cond, cases_Bool, get_or_past, ext_get_or, all_laid, changed, laid_over, AreSaid, HasByte, zero-add, lit<, front_from_reads, SameIn, IsSized, Cut, IsDelimited, cut_mark, database_mark, settled_by, spelled_tail, unmarked, HasLog, ChangesTell, IsPrepared, IsCutLeft, IsLoose, IsUncut, IsPlain, IsSizedOrNot, IsMadeTo, IsUnmade, StaysFirst, Option, IsSome, IsTrue, true≢false, is_some, IsOffset, Mark, IsAtRest, IsMarked, FailsToWriteWhole, WritesWhole, unwrap_or, AllStand, AllStandAsTold, IsEither, IsWhole, IsBroken, IsLogOf, RepresentsEither, Reads, Stays, Steps, seen, Syncs, Never, Ordered, set, drop_all, IsLogIn, IsLogMark, IsMarkOf, Whole, take-suc, flat_map-append, piece_of, pieces_of, min, to_be_bytes, slice_range, is_right, AreMixed, AreRestored, IsUnlogged, LogEnd, FailsToRestore, StoresAgain, IsFound, IsLeft, IsLogFound, IsLogLeft, IsMarkedFor, IsLogFor, take-add, IsFrontPut, AreAt, IsSynced, IsUnsynced, Restores, be_bytes_8, eqb, eqb-false, get_or_push, at_from_reads, front_reads, bytes_by, IsErr, Tells, ◌/◌, ◌%◌, add-one, sum_through, byte_worth, first_chunks, div-add-mod', div-mul-add, mod_below, mix_words, word, eqb-true, rules, IsEmpty, IfOk-weaker, database_of, IsKept, FailsToWrite, Writes}
+pub use Rattle.rrd_change.proofs.Names.{◌≡◌, ℕ, ◌+◌, ◌^◌, ◌<◌, ◌≤◌, List, [], ◌∷◌, ◌++◌, length, take, get_or, refl, sym, ◌∙◌, ap, subst, arith, inl, inr, ◌⊎◌, cases_lt, length_push, take_all, length-take, get_or-take, take-append-le, StandsAt, AreAny, ArePut, IsCut, Change, IsRight, change_bytes, change_size, changes_in, last_size, Fill, HaveByte, IsLogged, Leads, Makes, TouchByte, chain_end, first_of, IsLogHeld, IsOnDisk, IsStopped, IsTornLog, Torn, AgreesOutside, AreSpans, IsIn, change_of, Follows, IsDatabase, IsOpen, All, Fails, World, Span, ◌-◌, max, true, append_assoc, replicate, nat_le, and_from, le-leb, append-nil, length-append, length-replicate, get_or_append_left, get_or-append-add, AreWholeOrNot, IsTorn, IsUnderCut, log_mark, Began, IsFirst, IsInPlace, IsReady, Represents, cut_of, Base, Log, zero, suc, ◌*◌, Some, None, change_at, changes_from, IsChain, Bool, false, drop, starts_is, false_from_ne_true, Decides-eqb, front_fits, begins_with, w64, from_be_bytes, flat_map, length-drop, take-append-drop, take_at, drop_at, from_be_bytes-to_be_bytes_8, are_within, body_bytes, head_bytes, piece_bytes, spelled_pieces, HasPieces, IsHeadOf, Result, Ok, Err, Does, Effect, IsHeld, Moves, Stores, View, ◌&&◌, ◌↔◌, IsPermutation, nat_lt, list_any, and_parts, leb-true, lt-ltb, ltb-true, or_cases, list_any-IsPermutation, or-true, true-or, AreAnyIn, ArePutIn, put_mid, get_or-drop, get_or-append_right, drop-drop, take_rest, drop-append-add, Piece, all_changed, laid, IsLaid, IsLogRead, spans_of, Head, cond, cases_Bool, get_or_past, ext_get_or, all_laid, changed, laid_over, AreSaid, HasByte, zero-add, lit<, front_from_reads, SameIn, IsSized, Cut, IsDelimited, cut_mark, database_mark, settled_by, spelled_tail, unmarked, HasLog, ChangesTell, IsPrepared, IsCutLeft, IsLoose, IsUncut, IsPlain, IsSizedOrNot, IsMadeTo, IsUnmade, StaysFirst, Option, IsSome, IsTrue, true≢false, is_some, IsOffset, Mark, IsAtRest, IsMarked, FailsToWriteWhole, WritesWhole, unwrap_or, AllStand, AllStandAsTold, IsEither, IsWhole, IsBroken, IsLogOf, RepresentsEither, Reads, Stays, Steps, seen, Syncs, Never, Ordered, set, drop_all, IsLogIn, IsLogMark, IsMarkOf, Whole, take-suc, flat_map-append, piece_of, pieces_of, min, to_be_bytes, slice_range, is_right, AreMixed, AreRestored, IsUnlogged, LogEnd, FailsToRestore, StoresAgain, IsFound, IsLeft, IsLogFound, IsLogLeft, IsMarkedFor, IsLogFor, take-add, IsFrontPut, AreAt, IsSynced, IsUnsynced, Restores, be_bytes_8, eqb, eqb-false, get_or_push, at_from_reads, front_reads, bytes_by, IsErr, Tells, ◌/◌, ◌%◌, add-one, sum_through, byte_worth, first_chunks, div-add-mod', div-mul-add, mod_below, mix_words, word, eqb-true, rules, IsEmpty, IfOk-weaker, database_of, IsKept, FailsToWrite, Writes, common_steps}
 unfoldable pub use Rattle.rrd_change.proofs.Names.{change_head, read_change, mark_of, settled, spelled_change, mix, mix_bytes}
 pub use Rattle.rrd_change.proofs.Appending.{append_stopped, count_fits, fill_next, follows_more, next_made, whole_appended}
 pub use Rattle.rrd_change.proofs.Beginning.{fill_first, first_made, follows_first, leads_first, IsReadyOrOpen, behind_stands, open_marked, open_put, ready_put}

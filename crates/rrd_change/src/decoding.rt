@@ -79,6 +79,7 @@ pub(crate) fn read_head(bytes: &[u8], tail: usize, at: usize) -> Option<Head>
 }
 
 // Lays pieces over a database, and notes their spans.
+#[tactic(auto, using(crate::proofs::Spelling::left_head))]
 fn lay_pieces(
     database: &mut [u8],
     bytes: &[u8],

@@ -19,6 +19,7 @@ use std::alloc::Global;
 use std::io;
 
 /// Theorem: a file with a log stands for what the changes of the log make of the old database.
+#[tactic(auto, using(crate::proofs::Logs::log_stands))]
 pub fn logs_stand()
     ensures { (end_of : List ℕ → ℕ) (old new : List ℕ) (tail : ℕ) (changes : List Change) (file : List ℕ) → laws.LogStands end_of old new tail changes file }
 {}
@@ -30,6 +31,7 @@ pub fn appends_count_whole()
 {}
 
 /// Theorem: bytes that the changes of a log say may be written in place, whatever a write leaves of them.
+#[tactic(auto, using(crate::proofs::Laying::touched_said, crate::proofs::Logs::others_in_place))]
 pub fn places_are_free()
     ensures said { (changes : List Change) (k : ℕ) → laws.TouchedAreSaid changes k }
     ensures others { (old new : List ℕ) (tail : ℕ) (changes : List Change) (file : List ℕ) → laws.OthersAreInPlace old new tail changes file }
@@ -37,6 +39,7 @@ pub fn places_are_free()
 {}
 
 /// Theorem: a file with a cut mark stands for the database with which its bytes begin.
+#[tactic(auto, using(crate::proofs::Logs::cut_stands))]
 pub fn cuts_stand()
     ensures { (end_of : List ℕ → ℕ) (bytes file : List ℕ) → laws.CutStands end_of bytes file }
 {}
@@ -47,11 +50,13 @@ pub fn log_marks_begin()
 {}
 
 /// Theorem: whatever the power leaves of a change that is appended, the change is in the log or not.
+#[tactic(auto, using(crate::proofs::Logs::torn_counts))]
 pub fn torn_appends_count()
     ensures { (old : List ℕ) (tail : ℕ) (changes : List Change) (c : Change) (file torn : List ℕ) → laws.TornAppendIsWholeOrNone old tail changes c file torn }
 {}
 
 /// Theorem: a file that represents a database, as it is, or under a cut mark, or by a log, stands for it.
+#[tactic(auto, using(crate::proofs::Outcomes::stands))]
 pub fn represented_stand()
     ensures { (end_of : List ℕ → ℕ) (now file : List ℕ) → RepresentedStands end_of now file }
 {}

@@ -282,6 +282,7 @@ impl Log {
     ///
     /// A call of the file failed, memory ran out, `new` is no database or reaches into the log, or a span is not within
     /// `new`. The file stands for the database before the change or after it, and the log must not be used any more.
+    #[tactic(auto, using(crate::proofs::Stepping::nothing, crate::proofs::Stopping::log_left))]
     pub fn append<F: Bytes>(
         &mut self,
         alloc: Global,

@@ -1,5 +1,5 @@
 -- The names that the proofs of functions import, passed on from one place. Declares nothing.
-pub use Rattle.rrd_disk.proofs.Names.{AreMore, AreOf, ArePut, AreTorn, Base, Becomes, BecomesOrNot, Begins, Bool, Bytes, Counts, Decodes, Did, Does, DoesOr, Err, Event, Fails, FailsToSize, FailsToWrite, FailsToWritePage, FileSpan, Found, HasNoChange, Held, IsFile, IsFileBatchOn, IsOpen, IsPartPut, IsReload, IsRun, IsSingleOn, IsSized, IsSizedOrNot, IsSome, IsSound, IsTrue, Keeping, KeepsGuard, Kept, Laws, List, Make, MakesSafely, Measures, Moves, None, Ok, OnErr, Open, Option, Ordered, Pipe, PutsSafely, Read, Readies, Rests, RestsFor, RunsOn, ShowsBytes, Some, Span, Stays, StaysLeft, Steps, Stored, Stores, StoresMaking, StoresRun, SurvivesMaking, SurvivesMeanwhile, SurvivesRun, Syncs, TellsMark, Unopened, Unwritable, Whole, World, Write, Writes, WritesPage, [], all_runs, ap, arith, begins_with, bytes_after, bytes_of, cut_mark, database_of, does_then, eqb-true, failed, false, from_be_bytes, held_after, holds_state, inl, inr, interrupted, is_honest_after, last_of, length, max, min, moves_fail, option_map, plain_left, refl, represented, rules, seen, seen_moves, state_of, steps_as, subst, sym, take, take-put_mid, take_all, then_sync, true, view_of, w64, world_after, ℕ, ◌++◌, ◌+◌, ◌-◌, ◌<◌, ◌↔◌, ◌∙◌, ◌≡◌, ◌≤◌}
+pub use Rattle.rrd_disk.proofs.Names.{AreMore, AreOf, ArePut, AreTorn, Base, Becomes, BecomesOrNot, Begins, Bool, Bytes, Counts, Decodes, Did, Does, DoesOr, Err, Event, Fails, FailsToSize, FailsToWrite, FailsToWritePage, FileSpan, Found, HasNoChange, Held, IsFile, IsFileBatchOn, IsOpen, IsPartPut, IsReload, IsRun, IsSingleOn, IsSized, IsSizedOrNot, IsSome, IsSound, IsTrue, Keeping, KeepsGuard, Kept, Laws, List, Make, MakesSafely, Measures, Moves, None, Ok, OnErr, Open, Option, Ordered, Pipe, PutsSafely, Read, Readies, Rests, RestsFor, RunsOn, ShowsBytes, Some, Span, Stays, StaysLeft, Steps, Stored, Stores, StoresMaking, StoresRun, SurvivesMaking, SurvivesMeanwhile, SurvivesRun, Syncs, TellsMark, Unopened, Unwritable, Whole, World, Write, Writes, WritesPage, [], all_runs, ap, arith, batch_run, begins_with, bytes_after, bytes_of, command_run, common_steps, cut_mark, database_of, does_then, eqb-true, failed, false, from_be_bytes, held_after, holds_state, inl, inr, interrupted, is_honest_after, last_of, length, max, min, moves_fail, option_map, plain_left, refl, represented, request_run, rules, seen, seen_moves, state_of, steps_as, subst, sym, take, take-put_mid, take_all, then_sync, true, view_of, w64, world_after, ℕ, ◌++◌, ◌+◌, ◌-◌, ◌<◌, ◌↔◌, ◌∙◌, ◌≡◌, ◌≤◌}
 unfoldable pub use Rattle.rrd_disk.proofs.Names.{file_end, mark_of}
 pub use Rattle.rrd_disk.proofs.Calling.{IsGotSoFar, got_some, more_so_far}
 pub use Rattle.rrd_disk.proofs.Doing.{counts_steps, did_failed, did_put, did_size, lost_did, page_fails, page_unmade, page_writes, part_any, part_fails, put_ended, put_failed_again, put_more, put_none, put_not, put_short, put_short_of, put_whole, reads_does, rests_moves, rests_steps, size_ended, size_failed_again, size_fails, size_none, sync_did, sync_keeps, whole_does}

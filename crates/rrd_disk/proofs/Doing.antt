@@ -215,11 +215,6 @@ did_steps e forgets old new did = grind arith
 pub moves_forget : (call torn : List ℕ → List ℕ → Type 0) → Forgets (Moves call torn)
 moves_forget call torn u v m = record { held = m.held; leave = λ c may. absurd may; keep = λ c may. absurd may }
 
-module _ (call failed torn : List ℕ → List ℕ → Type 0) where
-  pub moves_does : {A E : Type 0} (r : Result A E) (old new : List Event) → DidOr (λ x. Moves call torn) (Moves failed torn) r old new → Does (λ x. Moves call torn) (Moves failed torn) r (view_of old) (view_of new)
-  moves_does (Ok x) old new did = did_steps (Moves call torn) (moves_forget call torn) old new did
-  moves_does (Err e) old new did = did_steps (Moves failed torn) (moves_forget failed torn) old new did
-
 -- ---- calls that change nothing
 
 pub rests_place : (old new : List Event) → Rests old new → PlaceStays old new
@@ -234,11 +229,6 @@ steps_each e old new steps d w honest = for_each (λ (v : World). e (world_after
 -- ---- what FileBytes says to rrd_change
 
 module _ (at : ℕ) (bytes : List ℕ) (old new : List Event) where
-  pub put_writes : 0 < length bytes → Did (Moves (ArePut at bytes) (AreTorn at bytes)) old new → Steps (Writes at bytes (length bytes)) (view_of old) (view_of new)
-  put_writes some did = did_steps (Writes at bytes (length bytes)) (moves_forget (IsFrontPut at (length bytes) bytes) (AreAny at (length bytes))) old new
-      (did_as (Moves (ArePut at bytes) (AreTorn at bytes)) (Writes at bytes (length bytes)) old new
-      (moves_as (ArePut at bytes) (IsFrontPut at (length bytes) bytes) (AreTorn at bytes) (AreAny at (length bytes)) (λ f g put. put_front at bytes f g some put) (λ f g torn. torn.any)) did)
-
   pub part_fails : Did (Part at bytes 0) old new → Steps (FailsToWrite at bytes) (view_of old) (view_of new)
   part_fails did = did_steps (FailsToWrite at bytes) (moves_forget (IsCut at bytes) (AreAny at (length bytes))) old new
       (did_as (Part at bytes 0) (FailsToWrite at bytes) old new

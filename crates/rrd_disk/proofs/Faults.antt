@@ -5,6 +5,4 @@ use Rattle.rrd_store.specs.declared.faults.TaskFault.TheVariants as task
 pub of_place : (fault : TaskFault) → FindsOne None (Err fault) → IsOfPlace fault
 of_place (task.File fault) f = tt
 of_place task.CannotOpen f = tt
-of_place task.CannotWrite f = absurd f
-of_place (task.Command fault) f = absurd f
-of_place (task.Stream fault) f = absurd f
+of_place _ f = absurd f

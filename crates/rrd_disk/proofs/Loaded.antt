@@ -12,16 +12,11 @@ module _ (law : (front rest : List ℕ) (fault : FileFault) → FrontHasTheFault
   fault_of_file front rest (BadBlock at) judged is = law front rest (BadBlock at) tt is
   fault_of_file front rest (BadEntry number) judged is = law front rest (BadEntry number) tt is
   fault_of_file front rest (Trailing at) judged is = law front rest (Trailing at) tt is
-  fault_of_file front rest Read judged is = tt
-  fault_of_file front rest OutOfMemory judged is = tt
+  fault_of_file front rest _ judged is = tt
 
   decodes_more : (front rest : List ℕ) (read : Result Stored TaskFault) → IsJudged read → Decodes (Some (Bytes front)) read → Decodes (Some (Bytes (front ++ rest))) read
-  decodes_more front rest (Ok database) judged known = absurd judged
   decodes_more front rest (Err (File fault)) judged known = fault_of_file front rest fault judged known
-  decodes_more front rest (Err CannotOpen) judged known = absurd judged
-  decodes_more front rest (Err CannotWrite) judged known = absurd judged
-  decodes_more front rest (Err (Command fault)) judged known = absurd judged
-  decodes_more front rest (Err (Stream fault)) judged known = absurd judged
+  decodes_more front rest _ judged known = absurd judged
 
   pub reads_judged : (file front : List ℕ) (read : Result Stored TaskFault) → Begins file front → IsJudged read → Decodes (Some (Bytes front)) read → Decodes (Some (Bytes file)) read
   reads_judged file front read begins judged known =
@@ -50,12 +45,9 @@ module _ (one : (bytes : List ℕ) → HasOneAnswer bytes) (bytes : List ℕ) wh
   no_file_fault (BadBlock at) of is = no_file_by (BadBlock at) tt is
   no_file_fault (BadEntry number) of is = no_file_by (BadEntry number) tt is
   no_file_fault (Trailing at) of is = no_file_by (Trailing at) tt is
-  no_file_fault Read of is = absurd cc
-  no_file_fault OutOfMemory of is = absurd cc
+  no_file_fault _ of is = absurd cc
 
   pub no_file : (fault : TaskFault) → Decodes (Some (Bytes bytes)) (Err fault) → is_of_bytes fault ≡ true → IsNoFile bytes
   no_file (File fault) known of = no_file_fault fault of known
   no_file CannotOpen known of = absurd cc
-  no_file CannotWrite known of = absurd known
-  no_file (Command fault) known of = absurd known
-  no_file (Stream fault) known of = absurd known
+  no_file _ known of = absurd known

@@ -196,11 +196,9 @@ found_making r was is left bytes syncs old new same makes = subst (λ (f : Found
 
 -- a file that was found open has a database
 pub open_making : {E : Type 0} (r : Result (Unit {0}) E) (found left : Found) (bytes : List ℕ) (syncs : Syncs) (old new : List Event) → IsOpen found → MakesSafely syncs found left bytes old new r
-open_making r Unopened left bytes syncs old new opened = absurd opened
-open_making r Missing left bytes syncs old new opened = absurd opened
-open_making r (Unwritable error) left bytes syncs old new opened = absurd opened
 open_making r (Open base) left bytes syncs old new opened = λ ordered d w honest lacks. absurd lacks
 open_making r (Kept base log) left bytes syncs old new opened = λ ordered d w honest lacks. absurd lacks
+open_making r _ left bytes syncs old new opened = absurd opened
 
 -- the file was closed then
 pub closed_making : {E : Type 0} (r : Result (Unit {0}) E) (found left : Found) (bytes : List ℕ) (syncs : Syncs) (old new : List Event) → MakesSafely syncs found left bytes old new r → MakesSafely syncs found Unopened bytes old new r

@@ -56,7 +56,7 @@ pub use Rattle.rrd_file.specs.declared.span.Span.{Span as FileSpan}
 pub use Rattle.rrd_spec.specs.Journal.Survivors.{Stored}
 pub use Rattle.rrd_store.proofs.Committed.{holds_state}
 pub use Rattle.rrd_store.specs.Commits.{state_of}
-pub use Rattle.rrd_store.specs.Runs.{IsOfPlace, Keeping}
+pub use Rattle.rrd_store.specs.Runs.{IsOfPlace, Keeping, batch_run, command_run, request_run}
 pub use Rattle.rrd_store.specs.Sessions.{IsFileBatchOn, IsInMemory, IsSingleOn, RunsOn}
 pub use Rattle.rrd_store.specs.Single.{FindsOne}
 pub use Rattle.rrd_store.specs.Storages.{Bytes, Decodes, DiffersWithin, Finds, HasNone, Held, IsAfterFailure, IsAnyFile, IsNoFile, Missing, Missing as NoFile}

@@ -24,9 +24,8 @@ or_failed well badly (Err e) syncs old new failed does = does
 -- ---- calls that rest
 
 opened_bytes : (opening : Opening) (old new : List Event) → KeepsHeldFor opening old new → (w : World) → bytes_after w new ≡ bytes_after w old
-opened_bytes Read old new keeps w = ap bytes_of (keeps w)
-opened_bytes Write old new keeps w = ap bytes_of (keeps w)
 opened_bytes Make old new keeps w = grind arith
+opened_bytes _ old new keeps w = ap bytes_of (keeps w)
 
 pub rests_stay : (opening : Opening) (old new : List Event) → RestsFor opening old new → (d : List ℕ) (w : World) → Stays (world_after d w old) (world_after d w new)
 rests_stay opening old new rests d w = grind (arith, held_is, opened_bytes)
@@ -131,8 +130,7 @@ module _ (laws : Laws) (old mid new : List Event) (first : Rests old mid) (secon
 -- calls that rest, before others
 pub rested_power : {E : Type 0} (r : Result (Option Base) E) (syncs : Syncs) (old mid new : List Event) → Rests old mid → DoesOr Readies StaysLeft r syncs mid new → DoesOr Readies StaysLeft r syncs old new
 rested_power (Ok None) syncs old mid new rests does = λ ordered d w honest end other now any left. does ordered d w honest end other now any (rests_left Read old mid rests d w end other now any left)
-rested_power (Ok (Some base)) syncs old mid new rests does = λ ordered d w honest end other now any left. does ordered d w honest end other now any (rests_left Read old mid rests d w end other now any left)
-rested_power (Err e) syncs old mid new rests does = λ ordered d w honest end other now any left. does ordered d w honest end other now any (rests_left Read old mid rests d w end other now any left)
+rested_power _ syncs old mid new rests does = λ ordered d w honest end other now any left. does ordered d w honest end other now any (rests_left Read old mid rests d w end other now any left)
 
 -- ---- the change
 

@@ -16,11 +16,10 @@ use Rattle.rrd_disk.specs.declared.storage.Found.TheVariants as found
 
 -- whatever was found, the file stands for the database
 pub as_left : (found : Found) (end : LogEnd) (other now : List ℕ) (w : views.World) → IsLeftAs found end other now w → IsLeft end other now w
-as_left Unopened end other now w left = left
 as_left found.Missing end other now w left = absurd left
-as_left (Unwritable error) end other now w left = left
 as_left (Open base) end other now w left = inl left.1
 as_left (Kept base log) end other now w left = kept_left end other now log w left.1
+as_left _ end other now w left = left
 
 pub reopens : (was left : Found) (w v : views.World) → Opens left w v → Reopens was left w v
 reopens was left w v opens end other now any is = opens end other now any (as_left was end other now w is)
@@ -41,10 +40,6 @@ module _ (old new : List Event) (rests : Rests old new) (d : List ℕ) (w : Worl
   pub rests_opens : Opens Unopened (world_after d w old) (world_after d w new)
   rests_opens end other now any left = stays_left (world_after d w old) (world_after d w new) (rests_stay Read old new rests d w) end other now left
 
-  -- and then others
-  pub rests_before : (left : Found) (v : views.World) → Opens left (world_after d w new) v → Opens left (world_after d w old) v
-  rests_before left v opens end other now any is = opens end other now any (rests_opens end other now any is)
-
 -- there is a file, if it stands for a database
 none_absurd : Laws → (events : List Event) → IsNone events → (d : List ℕ) (w : World) → IsTrue (is_honest_after w events) → (end : LogEnd) (other now : List ℕ) → IsAnyFile now
     → IsLeft end other now (world_after d w events) → ⊥
@@ -55,9 +50,7 @@ module _ (syncs : Syncs) (old new : List Event) (rests : Rests old new) where
   pub rests_closed : (left : Found) → IsClosedAs left → DoesSafely (Opens left) syncs old new
   rests_closed Unopened is = λ ordered d w honest. rests_opens old new rests d w
   rests_closed (Unwritable error) is = λ ordered d w honest. rests_opens old new rests d w
-  rests_closed found.Missing is = absurd is
-  rests_closed (Open base) is = absurd is
-  rests_closed (Kept base log) is = absurd is
+  rests_closed _ is = absurd is
 
 module _ (laws : Laws) (syncs : Syncs) (old new : List Event) (rests : Rests old new) where
   -- there is no file
@@ -113,33 +106,24 @@ module _ (laws : Laws) (standing : Standing) (old fixed : List Event) (stands : 
   pub unrepaired_opens : Steps (FailsToRepair standing.found) (seen one (view_of old)) (seen one (view_of fixed)) → (left : Found) → IsClosedAs left → DoesSafely (Opens left) syncs old fixed
   unrepaired_opens steps Unopened is = λ ordered d w honest. unrepaired_power laws standing old old fixed (rests_refl old) stands one falls steps (same ∙ ordered) d w honest
   unrepaired_opens steps (Unwritable error) is = λ ordered d w honest. unrepaired_power laws standing old old fixed (rests_refl old) stands one falls steps (same ∙ ordered) d w honest
-  unrepaired_opens steps found.Missing is = absurd is
-  unrepaired_opens steps (Open base) is = absurd is
-  unrepaired_opens steps (Kept base log) is = absurd is
+  unrepaired_opens steps _ is = absurd is
 
 -- ---- a change
 
 -- a database that was written to a file which is open then
 pub became_as : (left : Found) (bytes : List ℕ) (v : views.World) → BeganAs bytes left → IsAtRest bytes v → IsLeftAs left Whole bytes bytes v
-became_as Unopened bytes v began rest = absurd began
-became_as found.Missing bytes v began rest = absurd began
-became_as (Unwritable error) bytes v began rest = absurd began
 became_as (Open base) bytes v began rest = (began, rest)
-became_as (Kept base log) bytes v began rest = absurd began
+became_as _ bytes v began rest = absurd began
 
 found_left_as : (left : Found) (bytes : List ℕ) (v : views.World) → IsOpen left → IsFoundAs left bytes v → IsLeftAs left Whole bytes bytes v
-found_left_as Unopened bytes v opened is = absurd opened
-found_left_as found.Missing bytes v opened is = absurd opened
-found_left_as (Unwritable error) bytes v opened is = absurd opened
 found_left_as (Open base) bytes v opened is = is
 found_left_as (Kept base log) bytes v opened is = is
+found_left_as _ bytes v opened is = absurd opened
 
 left_found_as : (was : Found) (end : LogEnd) (other now : List ℕ) (w : views.World) → IsOpen was → IsLeftAs was end other now w → IsFoundAs was now w
-left_found_as Unopened end other now w opened is = absurd opened
-left_found_as found.Missing end other now w opened is = absurd opened
-left_found_as (Unwritable error) end other now w opened is = absurd opened
 left_found_as (Open base) end other now w opened is = is
 left_found_as (Kept base log) end other now w opened is = is
+left_found_as _ end other now w opened is = absurd opened
 
 -- a file that was not open
 pub became_safely : {E : Type 0} (r : Result (Unit {0}) E) (left : Found) (changed : List FileSpan) (bytes : List ℕ) (syncs : Syncs) (old new : List Event) → OnOk r (BeganAs bytes left)

@@ -21,11 +21,10 @@ stays_kept u v same now None is = grind arith
 stays_kept u v same now (Some log) is = grind arith
 
 stays_as : (f : Found) (u v : views.World) → Stays u v → (end : LogEnd) (other now : List ℕ) → IsLeftAs f end other now u → IsLeftAs f end other now v
-stays_as Unopened u v same end other now left = stays_left u v same end other now left
 stays_as found.Missing u v same end other now left = absurd left
-stays_as (Unwritable error) u v same end other now left = stays_left u v same end other now left
 stays_as (Open base) u v same end other now left = (left.0, stays_rest u v same now left.1)
 stays_as (Kept base log) u v same end other now left = (left.0, stays_kept u v same now log left.1)
+stays_as _ u v same end other now left = stays_left u v same end other now left
 
 module _ (y0 y1 : Syncs) (f0 f1 : Found) (old new : List Event) (rests : Rests old new) (syncs : y1 ≡ y0) where
   moved_as : (P : List ℕ → Type 0) (d : List ℕ) (w : World) (f : Found) → SurvivesAs P f (world_after d w old) → SurvivesAs P f (world_after d w new)

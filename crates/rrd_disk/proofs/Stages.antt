@@ -13,9 +13,7 @@ as_loaded_sound laws Unopened d old new s honest same there none is file = sound
 as_loaded_sound laws (Open base) d old new s honest same there none is file =
     let tells = is s honest in
     found_open laws base (held_after s new) (same ∙ there ∙ ap (λ (h : Held). Bytes (bytes_of h)) (sym same)) (d, file) tells.0 tells.1
-as_loaded_sound laws NotFound d old new s honest same there none is file = absurd is
-as_loaded_sound laws (Unwritable error) d old new s honest same there none is file = absurd is
-as_loaded_sound laws (Kept base log) d old new s honest same there none is file = absurd is
+as_loaded_sound laws _ d old new s honest same there none is file = absurd is
 
 finds_unmarked : (result : Result (Option Stored) TaskFault) (old new : List Event) (s : World) → held_after s new ≡ held_after s old
     → held_after s old ≡ Bytes (bytes_after s old) → mark_of (bytes_after s old) ≡ None → Finds (Some (Bytes (bytes_after s new))) result → Finds (Some (represented (held_after s old))) result
@@ -58,9 +56,6 @@ module _ (found : Found) (result : Result (Option Stored) TaskFault) (old mid ne
 
   pub loads_from : IsThere mid → LoadsOpen mid new found result → Loads old new found result
   loads_from there loads = λ s honest sound. onward s (loads s honest (sound_mid s sound) (there s (falls s honest)))
-
-  pub loads_again : Loads mid new found result → Loads old new found result
-  loads_again loads = λ s honest sound. onward s (loads s honest (sound_mid s sound))
 
 -- a file of which only the result of a load is kept
 pub loaded_as : (found left : Found) (result : Result (Option Stored) TaskFault) (old new : Held) → (IsSound new → IsSoundAs left new) → IsLoaded found result old new → IsLoaded left result old new

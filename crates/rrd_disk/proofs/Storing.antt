@@ -120,29 +120,26 @@ pub represents_left : (now bytes : List ℕ) → IsDatabase now → Represents n
 represents_left now bytes is represents = alone_left now (alone bytes) is represents (record { leave = λ c may. absurd may; keep = λ c may. absurd may })
 
 pub found_represents : (found : Found) (now bytes : List ℕ) → IsFoundAs found now (alone bytes) → Represents now bytes
-found_represents Unopened now bytes is = left_represents is.end is.other now (alone bytes) is.left
 found_represents NotFound now bytes is = absurd is
-found_represents (Unwritable error) now bytes is = left_represents is.end is.other now (alone bytes) is.left
 found_represents (Open base) now bytes is = inl is.1.world.held
 found_represents (Kept base log) now bytes is = kept_represents now bytes log is.1
+found_represents _ now bytes is = left_represents is.end is.other now (alone bytes) is.left
 
 stays_sound : (found : Found) (h : Held) → StaysAs found h → IsSound h
 stays_sound found h is = sound_standing h is.now is.file is.there (found_represents found is.now (bytes_of h) is.state)
 
 pub sound_as : (found : Found) (h : Held) → IsSoundAs found h → IsSound h
-sound_as Unopened h is = is
 sound_as NotFound h is = subst IsSound (sym is) tt
-sound_as (Unwritable error) h is = is
 sound_as (Open base) h is = stays_sound (Open base) h is
 sound_as (Kept base log) h is = stays_sound (Kept base log) h is
+sound_as _ h is = is
 
 -- a file of which all is known that is asked
 pub sound_found : (found : Found) (now : List ℕ) (h : Held) → IsAnyFile now → h ≡ Bytes (bytes_of h) → IsFoundAs found now (alone (bytes_of h)) → IsSoundAs found h
 sound_found Unopened now h any there is = sound_standing h now any there (found_represents Unopened now (bytes_of h) is)
 sound_found NotFound now h any there is = absurd is
 sound_found (Unwritable error) now h any there is = sound_standing h now any there (found_represents (Unwritable error) now (bytes_of h) is)
-sound_found (Open base) now h any there is = record { now = now; file = any; there = there; state = is }
-sound_found (Kept base log) now h any there is = record { now = now; file = any; there = there; state = is }
+sound_found _ now h any there is = record { now = now; file = any; there = there; state = is }
 
 -- a database in a file of which the disk is not asked for
 pub rests_alone : (bytes : List ℕ) → IsDatabase bytes → IsAtRest bytes (alone bytes)
@@ -245,8 +242,6 @@ whole_may_differ bytes h = λ now is any. all_agree now bytes
 
 -- a file that was found open is there
 pub found_there : (found : Found) (h : Held) → IsOpen found → IsSoundAs found h → h ≡ Bytes (bytes_of h)
-found_there Unopened h is sound = absurd is
-found_there NotFound h is sound = absurd is
-found_there (Unwritable error) h is sound = absurd is
 found_there (Open base) h is sound = sound.there
 found_there (Kept base log) h is sound = sound.there
+found_there _ h is sound = absurd is

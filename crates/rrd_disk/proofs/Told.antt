@@ -31,8 +31,7 @@ answer_honest file part Syncs = refl
 
 none_honest : (part : ℕ) (opening : Opening) → IsTrue (is_honest_of Missing part (opened_none opening))
 none_honest part Read = refl
-none_honest part Write = refl
-none_honest part Make = refl
+none_honest part _ = refl
 
 module _ (w : World) (events : List Event) (honest : IsTrue (is_honest_after w events)) where
   one_honest : (h : Held) → held_after w events ≡ h → (e : Event) → IsTrue (is_honest_of h (part_after w events) e) → IsTrue (is_honest_after w (e ∷ events))

@@ -32,7 +32,3 @@ contents_after (Some code) events = Some (represented (held_after (world_in code
 abbrev pub is_honest_by : Option Held → List Event → Type 0
 is_honest_by None events = Unit {0}
 is_honest_by (Some code) events = IsTrue (is_honest_after (world_in code) events)
-
-abbrev pub is_sound_after : Option Held → List Event → Type 0
-is_sound_after None events = Unit {0}
-is_sound_after (Some code) events = IsSound (held_after (world_in code) events)

@@ -15,10 +15,6 @@ IsNone events = (s : World) → IsTrue (is_honest_after s events) → held_after
 abbrev pub IsThere : List Event → Type 0
 IsThere events = (s : World) → IsTrue (is_honest_after s events) → held_after s events ≡ Bytes (bytes_after s events)
 
--- the file has no mark
-abbrev pub IsUnmarked : List Event → Type 0
-IsUnmarked events = (s : World) → IsTrue (is_honest_after s events) → mark_of (bytes_after s events) ≡ None
-
 -- the file has so many bytes
 abbrev pub HasLength : ℕ → List Event → Type 0
 HasLength count events = (s : World) → IsTrue (is_honest_after s events) → count ≡ length (bytes_after s events)

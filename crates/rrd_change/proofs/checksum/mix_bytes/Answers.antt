@@ -1,5 +1,4 @@
-use Rattle.std.proofs.lemmas.Grind.{common_steps}
-use Rattle.rrd_change.proofs.Common.{◌≡◌, ◌<◌, length, ◌/◌, ◌%◌, sym, ◌∙◌, ap, arith, eqb-true, eqb-false, mix, mix_words, word_more, words_whole, words_more}
+use Rattle.rrd_change.proofs.Common.{◌≡◌, ◌<◌, length, ◌/◌, ◌%◌, sym, ◌∙◌, ap, arith, eqb-true, eqb-false, mix, mix_words, word_more, words_whole, words_more, common_steps}
 use Rattle.rrd_change.proofs.checksum.mix_bytes.Goals as goal
 
 pub loop-word-preserved : goal.loop-word-preserved

@@ -1,6 +1,4 @@
-use Rattle.std.proofs.lemmas.Grind.{common_steps}
-use Rattle.rrd_change.proofs.Common.{◌≡◌, ◌-◌, ◌+◌, ◌≤◌, ◌<◌, ℕ, length, drop, arith, subst, eqb-false, length-drop, HasPieces, left_head, next_piece, none_from, piece_before}
-use Rattle.rrd_change.proofs.decoding.are_pieces.Goals.{then-bytes-at-via-then-bytes-at, then-bytes-at-via-else-bytes-at+then-end-size, then-bytes-at-via-else-bytes-at+else-end-size+then-end-size-2}
+use Rattle.rrd_change.proofs.Common.{◌≡◌, ◌-◌, ◌+◌, ◌≤◌, ◌<◌, ℕ, length, drop, arith, subst, eqb-false, length-drop, HasPieces, left_head, next_piece, none_from, piece_before, common_steps}
 use Rattle.rrd_change.proofs.decoding.are_pieces.Goals as goal
 
 pub returns-then-bytes-at-lt-PIECE_HEAD-clause-no : goal.returns-then-bytes-at-lt-PIECE_HEAD-clause-no

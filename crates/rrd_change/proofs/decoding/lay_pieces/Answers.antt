@@ -1,15 +1,6 @@
 use Rattle.rrd_change.proofs.Common.{◌≡◌, ◌-◌, ◌+◌, ◌++◌, ◌<◌, ℕ, List, [], ◌∷◌, length, drop, take, get_or, arith, subst, sym, ◌∙◌, ap, append_assoc, put_mid, length-take, length-drop, Piece, all_laid, spelled_pieces, HasPieces, spans_of, Span, laid_mid, left_head, left_more, next_piece}
 use Rattle.rrd_change.proofs.decoding.lay_pieces.Goals as goal
 
-pub number_at-start-requires : goal.number_at-start-requires
-number_at-start-requires c = let head = left_head c.args.bytes.now c.loop.at c.args.count c.loop.counter _ c.loop-test.true c.loop.invariant.has in omega (arith, head)
-
-pub overflow_add-at : goal.overflow_add-at
-overflow_add-at c = let head = left_head c.args.bytes.now c.loop.at c.args.count c.loop.counter _ c.loop-test.true c.loop.invariant.has in omega (arith, head)
-
-pub number_at-requires : goal.number_at-requires
-number_at-requires c = let head = left_head c.args.bytes.now c.loop.at c.args.count c.loop.counter _ c.loop-test.true c.loop.invariant.has in omega (arith, head)
-
 pub overflow_add-end : goal.overflow_add-end
 overflow_add-end c =
     let next = next_piece c.args.bytes.now c.loop.at c.args.count c.loop.counter _ c.number_at-start.result c.number_at.result c.loop-test.true c.number_at-start.ensures c.number_at.ensures c.number_at.type_inv c.loop.invariant.has in

@@ -1,6 +1,5 @@
 use Rattle.rrd_change.proofs.Common.{rules, arith, sym, ◌∙◌, ap, begins_with, found, read_none, tried}
 use Rattle.rrd_change.proofs.Heads.{seen}
-use Rattle.rrd_change.proofs.decoding.read_head.Goals.{then-bytes-length-via-then-bytes-length, then-bytes-length-via-else-bytes-length+then-size-lt16, then-bytes-length-via-else-bytes-length+else-size-lt16+then-tail-size, then-not-is_right-via-then-not-is_right, then-not-is_right-via-else-not-is_right+then-not-are_pieces}
 use Rattle.rrd_change.proofs.decoding.read_head.Goals as goal
 
 pub returns-then-bytes-lt-HEAD_SIZE : goal.returns-then-bytes-lt-HEAD_SIZE
@@ -20,10 +19,10 @@ returns-then-not-is_right c = read_none c.args.tail c.args.at c.args.bytes.now (
     let t = tried c.args.tail c.args.at c.number_at-pieces.result c.number_at-size.result c.number_at-length.result c.args.bytes.now x s
     c.number_at-length.ensures c.number_at-pieces.ensures c.number_at-size.ensures in
     elim c.then-not-is_right.branch [
-      | then-not-is_right-via-then-not-is_right w ↦
+      | goal.then-not-is_right-via-then-not-is_right w ↦
           let begins = c.starts_with-is_right.ensures.value ∙ ap (λ m. begins_with c.args.bytes.now m) c.head.ensures ∙ t.begins in
           cc (begins, w.if-not-is_right.true)
-      | then-not-is_right-via-else-not-is_right+then-not-are_pieces w ↦ w.are_pieces.ensures.no w.if-not-are_pieces.true t.has
+      | goal.then-not-is_right-via-else-not-is_right+then-not-are_pieces w ↦ w.are_pieces.ensures.no w.if-not-are_pieces.true t.has
     ])
 
 pub returns : goal.returns

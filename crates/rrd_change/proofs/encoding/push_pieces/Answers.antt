@@ -1,5 +1,4 @@
-use Rattle.std.proofs.lemmas.Grind.{common_steps}
-use Rattle.rrd_change.proofs.Common.{length, arith, pushed_more, within_more}
+use Rattle.rrd_change.proofs.Common.{length, arith, pushed_more, within_more, common_steps}
 use Rattle.rrd_change.proofs.encoding.push_pieces.Goals as goal
 
 pub loop-number-preserved : goal.loop-number-preserved

@@ -1,5 +1,4 @@
-use Rattle.std.proofs.lemmas.Grind.{common_steps}
-use Rattle.rrd_change.proofs.Common.{◌+◌, length, refl, arith, Log, all_laid_over, head_at, head_laid, none_at}
+use Rattle.rrd_change.proofs.Common.{◌+◌, length, refl, arith, Log, all_laid_over, head_at, head_laid, none_at, common_steps}
 use Rattle.rrd_change.proofs.finding.lay_log.Goals as goal
 
 pub lay_change-requires-clause-few : goal.lay_change-requires-clause-few

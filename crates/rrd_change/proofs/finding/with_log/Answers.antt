@@ -1,5 +1,4 @@
-use Rattle.std.proofs.lemmas.Grind.{common_steps}
-use Rattle.rrd_change.proofs.Common.{◌≡◌, ◌++◌, sym, subst, ◌∙◌, arith, IsLogMark, Mark, log_in, no_log, overlaid, past_log, past_unlaid, unlaid}
+use Rattle.rrd_change.proofs.Common.{◌≡◌, ◌++◌, sym, subst, ◌∙◌, arith, IsLogMark, Mark, log_in, no_log, overlaid, past_log, past_unlaid, unlaid, common_steps}
 use Rattle.rrd_change.proofs.finding.with_log.Goals as goal
 
 pub returns-then-len-tail : goal.returns-then-len-tail

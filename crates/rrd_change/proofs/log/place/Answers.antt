@@ -1,5 +1,4 @@
 use Rattle.rrd_change.proofs.Common.{◌≡◌, ◌≤◌, ◌<◌, ◌-◌, List, [], ◌∷◌, ◌++◌, length, take, drop, get_or, arith, sym, subst, take_all, AreAny, ArePut, IsCut, AreAnyIn, ArePutIn, Moves, Steps, seen, Span, spans_more, any_in_then, first_any, in_part, put_any_in, put_in_more, put_in_none, failed, moves_as, moves_fail, moves_then, steps_as, steps_then, then_sync}
-use Rattle.rrd_change.proofs.log.place.Goals.{then-start-end+in_ok-write_all, else-start-end}
 use Rattle.rrd_change.proofs.log.place.Goals as goal
 
 pub returns-in_err-write_all : goal.returns-in_err-write_all
@@ -36,7 +35,7 @@ loop-number-preserved g c =
     let span = get_or spans n none in
     let P : List Span → Type 0 = λ xs. Steps (Moves (ArePutIn xs new) (AreAnyIn spans new)) old (seen syncs (g.F.Bytes.view c.if-start-end.file)) in
     subst P (sym more) (elim c.if-start-end.branch [
-      | then-start-end+in_ok-write_all w ↦
+      | goal.then-start-end+in_ok-write_all w ↦
           let some : start < end = w.if-start-end.true in
           let Q : g.row.F.Denot → Type 0 = λ f. Steps (Moves (ArePutIn (take n spans ++ span ∷ []) new) (AreAnyIn spans new)) old (seen syncs (g.F.Bytes.view f)) in
           subst Q (sym w.file-is) (steps_then (Moves (ArePutIn (take n spans) new) (AreAnyIn spans new)) (Moves (ArePut start bytes) (AreAny start (length bytes)))
@@ -44,7 +43,7 @@ loop-number-preserved g c =
           (λ u v w m k. moves_then _ _ _ _ _ _ (λ x y z p put. put_in_more (take n spans) span new x y z start end c.max-start.ensures c.min-end.ensures some p put)
           (λ x y z a b. any_in_then spans new x y z a (in_part spans n none new start end low c.max-start.ensures c.min-end.ensures some y z b)) u v w m k)
           c.loop-number.invariant w.in_ok-write_all.ensures)
-      | else-start-end w ↦
+      | goal.else-start-end w ↦
           let few : end ≤ start = w.if-start-end.false in
           let Q : g.row.F.Denot → Type 0 = λ f. Steps (Moves (ArePutIn (take n spans ++ span ∷ []) new) (AreAnyIn spans new)) old (seen syncs (g.F.Bytes.view f)) in
           subst Q (sym w.file-is) (steps_as (Moves (ArePutIn (take n spans) new) (AreAnyIn spans new)) (Moves (ArePutIn (take n spans ++ span ∷ []) new) (AreAnyIn spans new)) old mid

@@ -1,5 +1,4 @@
-use Rattle.std.proofs.lemmas.Grind.{common_steps}
-use Rattle.rrd_change.proofs.Common.{◌≡◌, ℕ, List, subst, sym, ◌∙◌, changes_in, laid_over, IsLeft, IsLogOf, IsMarked, Reads, Stays, World, read_now, seen_reads, seen_stays, stays_log, does_then, failed, steps_as, log_left, arith}
+use Rattle.rrd_change.proofs.Common.{◌≡◌, ℕ, List, subst, sym, ◌∙◌, changes_in, laid_over, IsLeft, IsLogOf, IsMarked, Reads, Stays, World, read_now, seen_reads, seen_stays, stays_log, does_then, failed, steps_as, log_left, arith, common_steps}
 use Rattle.rrd_change.proofs.opened.make_room.Goals as goal
 
 pub returns-in_err-read : goal.returns-in_err-read

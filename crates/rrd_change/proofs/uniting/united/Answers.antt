@@ -1,5 +1,4 @@
 use Rattle.rrd_change.proofs.Common.{◌≡◌, ◌<◌, ◌+◌, ◌++◌, ◌∷◌, [], ◌∙◌, ap, ℕ, List, arith, length, subst, sym, take, IsPermutation, take_all, IsIn, Span, grown_in, in_grown, in_more, in_permuted, in_permuted_back, spans_more}
-use Rattle.rrd_change.proofs.uniting.united.Goals.{then-last-next+then-next-last, else-last-next+in_ok-push}
 use Rattle.rrd_change.proofs.uniting.united.Goals as goal
 
 pub loop-number-preserved : goal.loop-number-preserved
@@ -19,7 +18,7 @@ loop-number-preserved c =
     let Q : List Span → Type 0 = λ xs. (k : ℕ) → IsIn k (take (n + 1) sorted) → IsIn k xs in
     let R : List Span → Type 0 = λ xs. (k : ℕ) → IsIn k xs → IsIn k (take (n + 1) sorted) in
     elim c.if-last-next.branch [
-      | then-last-next+then-next-last w ↦
+      | goal.then-last-next+then-next-last w ↦
           let grown : Span = record { start = last.start; end = w.max.result } in
           let e : c.if-last-next.all.items ++ c.if-last-next.last ∷ [] ≡ all ++ grown ∷ [] =
           ap (λ (xs : List Span). xs ++ c.if-last-next.last ∷ []) (ap (λ v. v.items) w.all-is) ∙ ap (λ (s : Span). all ++ s ∷ []) w.last-is in
@@ -27,7 +26,7 @@ loop-number-preserved c =
             each = subst Q (sym e) (λ k h. grown_in k all last next w.max.result w.if-last-next.true w.max.ensures (each k h));
             only = subst R (sym e) (λ k h. only k (in_grown k all last next w.max.result w.if-last-next.true w.if-next-last.true w.max.ensures h));
           }
-      | else-last-next+in_ok-push w ↦
+      | goal.else-last-next+in_ok-push w ↦
           let e : c.if-last-next.all.items ++ c.if-last-next.last ∷ [] ≡ was ++ next ∷ [] =
           ap (λ (xs : List Span). xs ++ c.if-last-next.last ∷ []) (ap (λ v. v.items) w.all-is ∙ w.in_ok-push.ensures.items) ∙ ap (λ (s : Span). was ++ s ∷ []) w.last-is in
           record { each = subst Q (sym e) each; only = subst R (sym e) only }

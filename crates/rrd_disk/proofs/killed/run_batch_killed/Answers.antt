@@ -1,6 +1,4 @@
-use Rattle.std.proofs.lemmas.Grind.{common_steps}
-use Rattle.rrd_disk.proofs.Common.{interrupted_makes, interrupted_run, interrupted_survives, arith}
-use Rattle.rrd_store.specs.Runs as runs
+use Rattle.rrd_disk.proofs.Common.{interrupted_makes, interrupted_run, interrupted_survives, arith, common_steps, batch_run}
 use Rattle.rrd_disk.proofs.killed.run_batch_killed.Goals as goal
 
 pub run_batch_at-requires : goal.run_batch_at-requires
@@ -11,7 +9,7 @@ returns g c =
     let killed = c.run_batch_at.result.disk in
     let events = g.D.Disk.events killed.system in
     let missed = killed.missed.events in
-    let run = runs.batch_run c.args.now c.args.numbered (g.R.Read.remaining c.args.reader.now) (g.R.Read.remaining c.run_batch_at.new.reader)
+    let run = batch_run c.args.now c.args.numbered (g.R.Read.remaining c.args.reader.now) (g.R.Read.remaining c.run_batch_at.new.reader)
     (g.W.Write.contents c.args.out.now) (g.W.Write.contents c.run_batch_at.new.out) c.run_batch_at.result.end in
     record {
       killed = interrupted_run missed events run killed.failed c.run_batch_at.ensures.run;

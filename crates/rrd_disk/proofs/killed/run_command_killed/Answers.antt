@@ -1,6 +1,4 @@
-use Rattle.std.proofs.lemmas.Grind.{common_steps}
-use Rattle.rrd_disk.proofs.Common.{interrupted_makes, interrupted_run, interrupted_survives, arith}
-use Rattle.rrd_store.specs.Runs as runs
+use Rattle.rrd_disk.proofs.Common.{interrupted_makes, interrupted_run, interrupted_survives, arith, common_steps, command_run}
 use Rattle.rrd_disk.proofs.killed.run_command_killed.Goals as goal
 
 pub run_command_at-requires : goal.run_command_at-requires
@@ -11,7 +9,7 @@ returns g c =
     let killed = c.run_command_at.result.disk in
     let events = g.D.Disk.events killed.system in
     let missed = killed.missed.events in
-    let run = runs.command_run c.args.words.now c.args.now (g.W.Write.contents c.args.out.now) (g.W.Write.contents c.run_command_at.new.out) c.run_command_at.result.end in
+    let run = command_run c.args.words.now c.args.now (g.W.Write.contents c.args.out.now) (g.W.Write.contents c.run_command_at.new.out) c.run_command_at.result.end in
     record {
       killed = interrupted_run missed events run killed.failed c.run_command_at.ensures.run;
       power = λ ordered. interrupted_survives c.file_laws.ensures missed events run killed.failed (c.run_command_at.ensures.power ordered);

@@ -1,5 +1,4 @@
-use Rattle.rrd_disk.proofs.Common.{◌++◌, List, Event, alive_kept, alive_run, kept_sound, killed_open, power_in_run}
-use Rattle.rrd_store.specs.Runs as runs
+use Rattle.rrd_disk.proofs.Common.{◌++◌, List, Event, alive_kept, alive_run, kept_sound, killed_open, power_in_run, batch_run}
 use Rattle.rrd_disk.proofs.killed_open.run_lines_killed.Goals as goal
 
 pub returns : goal.returns
@@ -11,7 +10,7 @@ returns g c =
     let before : List Event = g.D.Disk.events old.system in
     let after : List Event = new.missed.events ++ g.D.Disk.events new.system in
     let kept = alive_kept old.missed.events before c.requires.alive was.storage.found was.database was.encoded c.requires.kept in
-    let run = runs.batch_run c.args.now c.args.numbered (g.R.Read.remaining c.args.reader.now) (g.R.Read.remaining c.run_batch.new.reader)
+    let run = batch_run c.args.now c.args.numbered (g.R.Read.remaining c.args.reader.now) (g.R.Read.remaining c.run_batch.new.reader)
     (g.W.Write.contents c.args.out.now) (g.W.Write.contents c.run_batch.new.out) c.run_batch.result in
     record {
       kept = c.run_batch.ensures.kept kept;

@@ -1,5 +1,4 @@
-use Rattle.std.proofs.lemmas.Grind.{common_steps}
-use Rattle.rrd_disk.proofs.Common.{reads_judged, arith}
+use Rattle.rrd_disk.proofs.Common.{reads_judged, arith, common_steps}
 use Rattle.rrd_disk.proofs.loading.judged.Goals as goal
 
 pub returns-then-is_whole-clause-reads : goal.returns-then-is_whole-clause-reads

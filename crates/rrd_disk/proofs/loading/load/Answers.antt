@@ -1,5 +1,4 @@
-use Rattle.std.proofs.lemmas.Grind.{common_steps}
-use Rattle.rrd_disk.proofs.Common.{refl, begins_itself, decodes_front, arith}
+use Rattle.rrd_disk.proofs.Common.{refl, begins_itself, decodes_front, arith, common_steps}
 use Rattle.rrd_disk.proofs.loading.load.Goals as goal
 
 pub returns-in-Some-clause-reads : goal.returns-in-Some-clause-reads

@@ -1,5 +1,4 @@
-use Rattle.std.proofs.lemmas.Grind.{common_steps}
-use Rattle.rrd_disk.proofs.Common.{◌≡◌, Bool, false, rules, subst, TellsMark, prepared_unmarked, mark_of, bytes_after, Readies, StaysLeft, Read, or_failed, rested_power, rests_left, unmarked_power, told_unmarked, marked_never, rests_unmarked, unmarked_twice, arith}
+use Rattle.rrd_disk.proofs.Common.{◌≡◌, Bool, false, rules, subst, TellsMark, prepared_unmarked, mark_of, bytes_after, Readies, StaysLeft, Read, or_failed, rested_power, rests_left, unmarked_power, told_unmarked, marked_never, rests_unmarked, unmarked_twice, arith, common_steps}
 use Rattle.rrd_disk.proofs.preparing.prepare.Goals as goal
 
 pub returns-else-branch-clause-prepares : goal.returns-else-branch-clause-prepares

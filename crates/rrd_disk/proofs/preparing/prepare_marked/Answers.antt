@@ -1,5 +1,4 @@
-use Rattle.std.proofs.lemmas.Grind.{common_steps}
-use Rattle.rrd_disk.proofs.Common.{◌≤◌, ◌∙◌, ℕ, List, length, take, ap, subst, sym, database_of, Base, Laws, no_fault, prepared_broken, prepared_repaired, does_falls, Readies, StaysLeft, Read, fault_power, or_failed, repaired_power, rests_left, unrepaired_power, arith}
+use Rattle.rrd_disk.proofs.Common.{◌≤◌, ◌∙◌, ℕ, List, length, take, ap, subst, sym, database_of, Base, Laws, no_fault, prepared_broken, prepared_repaired, does_falls, Readies, StaysLeft, Read, fault_power, or_failed, repaired_power, rests_left, unrepaired_power, arith, common_steps}
 use Rattle.rrd_disk.proofs.preparing.prepare_marked.Goals as goal
 
 pub base_of-requires : goal.base_of-requires

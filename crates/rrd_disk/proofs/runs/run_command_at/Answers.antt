@@ -1,5 +1,4 @@
-use Rattle.rrd_disk.proofs.Common.{◌≡◌, ◌∙◌, List, [], ap, sym, subst, Event, IsRun, StoresMaking, StoresRun, SurvivesMaking, SurvivesRun, run_from, run_makes, run_makes_stored, run_stored, run_survives}
-use Rattle.rrd_store.specs.Runs as runs
+use Rattle.rrd_disk.proofs.Common.{◌≡◌, ◌∙◌, List, [], ap, sym, subst, Event, IsRun, StoresMaking, StoresRun, SurvivesMaking, SurvivesRun, run_from, run_makes, run_makes_stored, run_stored, run_survives, command_run}
 use Rattle.rrd_disk.proofs.runs.run_command_at.Goals as goal
 
 pub returns : goal.returns
@@ -8,7 +7,7 @@ returns g c =
     let is = c.run_file_command-end.new.storage in
     let before : List Event = g.D.Disk.events was.bytes.disk in
     let after : List Event = g.D.Disk.events is.bytes.disk in
-    let run = runs.command_run c.args.words.now c.args.now (g.W.Write.contents c.args.out.now) (g.W.Write.contents c.run_file_command-end.new.out) c.run_file_command-end.result in
+    let run = command_run c.args.words.now c.args.now (g.W.Write.contents c.args.out.now) (g.W.Write.contents c.run_file_command-end.new.out) c.run_file_command-end.result in
     let begun : before ≡ [] = ap g.D.Disk.events c.new-storage.ensures.disk ∙ c.requires in
     let ended : after ≡ g.D.Disk.events c.into_disk.result = sym (ap g.D.Disk.events c.into_disk.ensures) in
     let closed = c.new-storage.ensures.found in

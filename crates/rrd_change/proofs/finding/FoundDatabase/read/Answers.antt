@@ -1,5 +1,4 @@
-use Rattle.std.proofs.lemmas.Grind.{common_steps}
-use Rattle.rrd_change.proofs.Common.{◌≡◌, List, ℕ, false, sym, ◌∙◌, ap, subst, inl, IfOk-weaker, begins_with, IsMarkOf, Mark, cut_mark, log_mark, spelled_tail, by_log_mark, settled_cut, settled_log, settled_plain, arith}
+use Rattle.rrd_change.proofs.Common.{◌≡◌, List, ℕ, false, sym, ◌∙◌, ap, subst, inl, IfOk-weaker, begins_with, IsMarkOf, Mark, cut_mark, log_mark, spelled_tail, by_log_mark, settled_cut, settled_log, settled_plain, arith, common_steps}
 use Rattle.rrd_change.proofs.finding.FoundDatabase.read.Goals as goal
 
 pub returns-then-starts_with : goal.returns-then-starts_with

@@ -1,15 +1,5 @@
-use Rattle.std.proofs.lemmas.Grind.{common_steps}
-use Rattle.rrd_change.proofs.Common.{rules, ◌≡◌, ◌<◌, ◌≤◌, ◌+◌, ◌^◌, ◌++◌, ◌∙◌, ap, ℕ, List, [], ◌∷◌, length, arith, refl, inl, inr, AreAny, ArePut, IsCut, change_bytes, change_size, Torn, AreSpans, change_of, IsDatabase, Fails, Stores, Log, append_stopped, count_fits, fill_next, follows_more, next_made, whole_appended, stores_all, length-change, spans_make, failed, nothing, steps_as, log_left}
+use Rattle.rrd_change.proofs.Common.{rules, ◌≡◌, ◌<◌, ◌≤◌, ◌+◌, ◌^◌, ◌++◌, ◌∙◌, ap, ℕ, List, [], ◌∷◌, length, arith, refl, inl, inr, AreAny, ArePut, IsCut, change_bytes, change_size, Torn, AreSpans, change_of, IsDatabase, Fails, Stores, Log, append_stopped, count_fits, fill_next, follows_more, next_made, whole_appended, stores_all, length-change, spans_make, failed, nothing, steps_as, log_left, common_steps}
 use Rattle.rrd_change.proofs.log.Log.append.Goals as goal
-
-pub returns-then-not-is_database : goal.returns-then-not-is_database
-returns-then-not-is_database g c = nothing _ _ (λ w now is agrees. inl (inr (inr (log_left Torn c.args.new.now now c.args.self.now w is))))
-
-pub returns-then-self-new : goal.returns-then-self-new
-returns-then-self-new g c = nothing _ _ (λ w now is agrees. inl (inr (inr (log_left Torn c.args.new.now now c.args.self.now w is))))
-
-pub returns-in_default : goal.returns-in_default
-returns-in_default g c = nothing _ _ (λ w now is agrees. inl (inr (inr (log_left Torn c.args.new.now now c.args.self.now w is))))
 
 pub returns-in_err-write_and_sync : goal.returns-in_err-write_and_sync
 returns-in_err-write_and_sync g c =

@@ -1,5 +1,4 @@
-use Rattle.std.proofs.lemmas.Grind.{common_steps}
-use Rattle.rrd_disk.proofs.Common.{arith, mark_shown}
+use Rattle.rrd_disk.proofs.Common.{arith, mark_shown, common_steps}
 use Rattle.rrd_disk.proofs.file_bytes.FileBytes.is_marked.Goals as goal
 
 pub returns-clause-tells : goal.returns-clause-tells

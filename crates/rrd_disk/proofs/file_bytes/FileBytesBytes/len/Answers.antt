@@ -1,5 +1,4 @@
-use Rattle.std.proofs.lemmas.Grind.{common_steps}
-use Rattle.rrd_disk.proofs.Common.{failed, counts_steps, rests_steps, arith}
+use Rattle.rrd_disk.proofs.Common.{failed, counts_steps, rests_steps, arith, common_steps}
 use Rattle.rrd_disk.proofs.file_bytes.FileBytesBytes.len.Goals as goal
 
 pub returns-in_err-file_length : goal.returns-in_err-file_length

@@ -1,5 +1,4 @@
-use Rattle.std.proofs.lemmas.Grind.{common_steps}
-use Rattle.rrd_disk.proofs.Common.{reads_does, arith}
+use Rattle.rrd_disk.proofs.Common.{reads_does, arith, common_steps}
 use Rattle.rrd_disk.proofs.file_bytes.FileBytesBytes.read.Goals as goal
 
 pub returns : goal.returns

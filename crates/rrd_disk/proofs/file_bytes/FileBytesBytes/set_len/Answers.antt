@@ -1,5 +1,4 @@
-use Rattle.std.proofs.lemmas.Grind.{common_steps}
-use Rattle.rrd_disk.proofs.Common.{sym, ◌∙◌, bytes_after, failed, did_size, size_fails, guards_kept, some_is, arith}
+use Rattle.rrd_disk.proofs.Common.{sym, ◌∙◌, bytes_after, failed, did_size, size_fails, guards_kept, some_is, arith, common_steps}
 use Rattle.rrd_disk.proofs.file_bytes.FileBytesBytes.set_len.Goals as goal
 
 pub returns-in_err-set_length : goal.returns-in_err-set_length

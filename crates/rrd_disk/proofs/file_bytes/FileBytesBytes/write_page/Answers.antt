@@ -1,6 +1,4 @@
-use Rattle.std.proofs.lemmas.Grind.{common_steps}
-use Rattle.rrd_disk.proofs.Common.{◌<◌, ◌≤◌, List, length, sym, ap, subst, rules, ArePut, FailsToWritePage, Moves, Steps, WritesPage, failed, view_of, Did, IsPartPut, Rests, Event, AreTorn, lost_did, page_fails, page_unmade, page_writes, part_any, put_whole, rests_moves, within_page, rests_trans, arith}
-use Rattle.rrd_disk.proofs.file_bytes.FileBytesBytes.write_page.Goals.{then-count-gt0, else-count-gt0}
+use Rattle.rrd_disk.proofs.Common.{◌<◌, ◌≤◌, List, length, sym, ap, subst, rules, ArePut, FailsToWritePage, Moves, Steps, WritesPage, failed, view_of, Did, IsPartPut, Rests, Event, AreTorn, lost_did, page_fails, page_unmade, page_writes, part_any, put_whole, rests_moves, within_page, rests_trans, arith, common_steps}
 use Rattle.rrd_disk.proofs.file_bytes.FileBytesBytes.write_page.Goals as goal
 
 pub returns-in_err-length : goal.returns-in_err-length
@@ -55,13 +53,13 @@ returns g c =
     let few : count < length bytes = search rules in
     let Fails : List Event → Type 0 = λ events. Steps (FailsToWritePage bytes) (view_of old) (view_of events) in
     elim c.if-count-gt0.branch [
-      | then-count-gt0 w ↦
+      | goal.then-count-gt0 w ↦
           let new = g.D.Disk.events w.take_back.new.self.disk in
           let is = ap (λ f. g.D.Disk.events f.disk) w.self-is in
           subst Fails (sym is) (page_fails bytes old new c.requires
           (lost_did (Moves (IsPartPut 0 0 bytes) (AreTorn 0 bytes)) (Moves (IsPartPut 0 0 bytes) (AreTorn 0 bytes)) old put new part
           (c.in_ok-count.ensures.short (within_page (length bytes) c.requires) w.if-count-gt0.true few) w.take_back.ensures.falls w.take_back.ensures.place))
-      | else-count-gt0 w ↦
+      | goal.else-count-gt0 w ↦
           let is = ap (λ f. g.D.Disk.events f.disk) w.self-is in
           subst Fails (sym is) (page_fails bytes old put c.requires part)
     ]

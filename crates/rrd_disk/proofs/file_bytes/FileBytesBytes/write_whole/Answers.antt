@@ -1,5 +1,4 @@
-use Rattle.std.proofs.lemmas.Grind.{common_steps}
-use Rattle.rrd_disk.proofs.Common.{whole_does, arith}
+use Rattle.rrd_disk.proofs.Common.{whole_does, arith, common_steps}
 use Rattle.rrd_disk.proofs.file_bytes.FileBytesBytes.write_whole.Goals as goal
 
 pub returns-then-not-is_empty : goal.returns-then-not-is_empty

@@ -1,5 +1,4 @@
-use Rattle.std.proofs.lemmas.Grind.{common_steps}
-use Rattle.rrd_disk.proofs.Common.{finished_sound, reloaded, reopened_safe, arith}
+use Rattle.rrd_disk.proofs.Common.{finished_sound, reloaded, reopened_safe, arith, common_steps}
 use Rattle.rrd_disk.proofs.open_file.OpenFile.close.Goals as goal
 
 pub returns-clause-stays : goal.returns-clause-stays

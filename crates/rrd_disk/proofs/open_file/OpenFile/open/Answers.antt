@@ -1,5 +1,4 @@
-use Rattle.std.proofs.lemmas.Grind.{common_steps}
-use Rattle.rrd_disk.proofs.Common.{◌∙◌, ap, IsTrue, unopened_as, arith}
+use Rattle.rrd_disk.proofs.Common.{◌∙◌, ap, IsTrue, unopened_as, arith, common_steps}
 use Rattle.rrd_disk.proofs.open_file.OpenFile.open.Goals as goal
 
 pub returns-in-Ok-clause-opened : goal.returns-in-Ok-clause-opened

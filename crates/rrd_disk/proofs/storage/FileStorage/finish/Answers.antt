@@ -1,5 +1,4 @@
-use Rattle.std.proofs.lemmas.Grind.{common_steps}
-use Rattle.rrd_disk.proofs.Common.{finished, as_left, arith}
+use Rattle.rrd_disk.proofs.Common.{finished, as_left, arith, common_steps}
 use Rattle.rrd_disk.proofs.storage.FileStorage.finish.Goals as goal
 
 pub returns-in-Kept-clause-same : goal.returns-in-Kept-clause-same

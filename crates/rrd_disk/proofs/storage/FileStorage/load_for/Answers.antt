@@ -1,5 +1,4 @@
-use Rattle.std.proofs.lemmas.Grind.{common_steps}
-use Rattle.rrd_disk.proofs.Common.{found_there, sound_as, world_after, reopens, Read, rests_unmarked, arith}
+use Rattle.rrd_disk.proofs.Common.{found_there, sound_as, world_after, reopens, Read, rests_unmarked, arith, common_steps}
 use Rattle.rrd_disk.proofs.storage.FileStorage.load_for.Goals as goal
 
 pub returns-in-Read-clause-loads : goal.returns-in-Read-clause-loads

@@ -1,5 +1,4 @@
-use Rattle.std.proofs.lemmas.Grind.{common_steps}
-use Rattle.rrd_disk.proofs.Common.{marked_from, fault_loaded, refl, Unopened, rests_closed, rests_then, arith}
+use Rattle.rrd_disk.proofs.Common.{marked_from, fault_loaded, refl, Unopened, rests_closed, rests_then, arith, common_steps}
 use Rattle.rrd_disk.proofs.storage.FileStorage.load_marked.Goals as goal
 
 pub returns-in-Ok-clause-loads : goal.returns-in-Ok-clause-loads

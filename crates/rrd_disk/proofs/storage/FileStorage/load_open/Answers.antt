@@ -1,5 +1,4 @@
-use Rattle.std.proofs.lemmas.Grind.{common_steps}
-use Rattle.rrd_disk.proofs.Common.{◌≡◌, Bool, true, false, Ok, None, TellsMark, closed_loaded, open_from_marked, open_from_unmarked, finds_closed, if_ok_at, ap, rests_closed, rests_then, rests_then_unmarked, tells_unmarked, Unopened, Read, marked_never, rests_unmarked, unmarked_twice, arith}
+use Rattle.rrd_disk.proofs.Common.{◌≡◌, Bool, true, false, Ok, None, TellsMark, closed_loaded, open_from_marked, open_from_unmarked, finds_closed, if_ok_at, ap, rests_closed, rests_then, rests_then_unmarked, tells_unmarked, Unopened, Read, marked_never, rests_unmarked, unmarked_twice, arith, common_steps}
 use Rattle.rrd_disk.proofs.storage.FileStorage.load_open.Goals as goal
 
 pub returns-in-Ok-true-clause-loads : goal.returns-in-Ok-true-clause-loads

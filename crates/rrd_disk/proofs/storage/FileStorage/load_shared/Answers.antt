@@ -1,5 +1,4 @@
-use Rattle.std.proofs.lemmas.Grind.{common_steps}
-use Rattle.rrd_disk.proofs.Common.{◌≡◌, Bool, true, Ok, None, TellsMark, closed_loaded, open_from_marked, open_from_unmarked, finds_closed, if_ok_at, arith}
+use Rattle.rrd_disk.proofs.Common.{◌≡◌, Bool, true, Ok, None, TellsMark, closed_loaded, open_from_marked, open_from_unmarked, finds_closed, if_ok_at, arith, common_steps}
 use Rattle.rrd_disk.proofs.storage.FileStorage.load_shared.Goals as goal
 
 pub returns-in-Ok-true-clause-loads : goal.returns-in-Ok-true-clause-loads

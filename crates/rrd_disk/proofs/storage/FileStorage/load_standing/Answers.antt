@@ -1,5 +1,4 @@
-use Rattle.std.proofs.lemmas.Grind.{common_steps}
-use Rattle.rrd_disk.proofs.Common.{Unwritable, closed_unrepaired, loaded_repaired, loaded_unrepaired, does_falls, ◌≡◌, refl, Syncs, repaired_opens, unrepaired_opens, Unopened, arith}
+use Rattle.rrd_disk.proofs.Common.{Unwritable, closed_unrepaired, loaded_repaired, loaded_unrepaired, does_falls, ◌≡◌, refl, Syncs, repaired_opens, unrepaired_opens, Unopened, arith, common_steps}
 use Rattle.rrd_disk.proofs.storage.FileStorage.load_standing.Goals as goal
 
 pub returns-in-Ok-clause-falls : goal.returns-in-Ok-clause-falls

@@ -1,5 +1,4 @@
-use Rattle.std.proofs.lemmas.Grind.{common_steps}
-use Rattle.rrd_disk.proofs.Common.{◌≡◌, ◌∙◌, Ok, subst, sym, IsSound, held_after, Pipe, Unwritable, loaded_as, loads_from, open_kept, finds_there, loaded_same, says_at, Unopened, rests_trans, rests_closed, rests_missing, arith}
+use Rattle.rrd_disk.proofs.Common.{◌≡◌, ◌∙◌, Ok, subst, sym, IsSound, held_after, Pipe, Unwritable, loaded_as, loads_from, open_kept, finds_there, loaded_same, says_at, Unopened, rests_trans, rests_closed, rests_missing, arith, common_steps}
 use Rattle.rrd_disk.proofs.storage.FileStorage.load_to_read.Goals as goal
 
 pub returns-in-Ok-Open-clause-loads : goal.returns-in-Ok-Open-clause-loads

@@ -1,5 +1,4 @@
-use Rattle.std.proofs.lemmas.Grind.{common_steps}
-use Rattle.rrd_disk.proofs.Common.{fault_unmarked, loaded_unmarked, Unopened, unmarked_opens, arith}
+use Rattle.rrd_disk.proofs.Common.{fault_unmarked, loaded_unmarked, Unopened, unmarked_opens, arith, common_steps}
 use Rattle.rrd_disk.proofs.storage.FileStorage.load_unmarked.Goals as goal
 
 pub returns-in-Ok-clause-loads : goal.returns-in-Ok-clause-loads

@@ -1,5 +1,4 @@
-use Rattle.std.proofs.lemmas.Grind.{common_steps}
-use Rattle.rrd_disk.proofs.Common.{◌≡◌, ◌∙◌, List, OnErr, length, sym, refl, subst, inl, Span, held_after, AreOf, Found, Unopened, Open, Kept, does_falls, sound_at, written_from, unwritten, Becomes, BecomesOrNot, or_failed, as_left, became_safely, changed_safely, found_safely, missing_safely, unchanged_safely, Err, found_making, made_safely, open_making, unmade_safely, arith}
+use Rattle.rrd_disk.proofs.Common.{◌≡◌, ◌∙◌, List, OnErr, length, sym, refl, subst, inl, Span, held_after, AreOf, Found, Unopened, Open, Kept, does_falls, sound_at, written_from, unwritten, Becomes, BecomesOrNot, or_failed, as_left, became_safely, changed_safely, found_safely, missing_safely, unchanged_safely, Err, found_making, made_safely, open_making, unmade_safely, arith, common_steps}
 use Rattle.rrd_disk.proofs.storage.FileStorage.put.Goals as goal
 
 pub returns-in_err-spans-clause-writes : goal.returns-in_err-spans-clause-writes

@@ -1,5 +1,4 @@
-use Rattle.std.proofs.lemmas.Grind.{common_steps}
-use Rattle.rrd_disk.proofs.Common.{ap, Base, held_after, any_enough, does_falls, after_near, closed_sound, created, failed_written, truncated, uncreated, untruncated, began_at, created_making, uncreated_making, untruncated_making, arith}
+use Rattle.rrd_disk.proofs.Common.{ap, Base, held_after, any_enough, does_falls, after_near, closed_sound, created, failed_written, truncated, uncreated, untruncated, began_at, created_making, uncreated_making, untruncated_making, arith, common_steps}
 use Rattle.rrd_disk.proofs.storage.FileStorage.put_first.Goals as goal
 
 pub base_of-requires : goal.base_of-requires

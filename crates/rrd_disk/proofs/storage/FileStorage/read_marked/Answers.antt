@@ -1,5 +1,4 @@
-use Rattle.std.proofs.lemmas.Grind.{common_steps}
-use Rattle.rrd_disk.proofs.Common.{standing_loaded, fault_loaded, arith}
+use Rattle.rrd_disk.proofs.Common.{standing_loaded, fault_loaded, arith, common_steps}
 use Rattle.rrd_disk.proofs.storage.FileStorage.read_marked.Goals as goal
 
 pub returns-in-Ok-clause-loads : goal.returns-in-Ok-clause-loads

@@ -1,5 +1,4 @@
-use Rattle.std.proofs.lemmas.Grind.{common_steps}
-use Rattle.rrd_disk.proofs.Common.{prepared_settles, rests_settles, ◌∙◌, ap, rules, DoesOr, Readies, StaysLeft, Read, rests_left, settled_power, arith}
+use Rattle.rrd_disk.proofs.Common.{prepared_settles, rests_settles, ◌∙◌, ap, rules, DoesOr, Readies, StaysLeft, Read, rests_left, settled_power, arith, common_steps}
 use Rattle.rrd_disk.proofs.storage.FileStorage.settle.Goals as goal
 
 pub returns-then-not-turn_lock-clause-prepares : goal.returns-then-not-turn_lock-clause-prepares

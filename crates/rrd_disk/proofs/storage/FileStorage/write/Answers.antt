@@ -1,5 +1,4 @@
-use Rattle.std.proofs.lemmas.Grind.{common_steps}
-use Rattle.rrd_disk.proofs.Common.{sound_as, closed_making, closed_safely, failed_making, failed_safely, arith}
+use Rattle.rrd_disk.proofs.Common.{sound_as, closed_making, closed_safely, failed_making, failed_safely, arith, common_steps}
 use Rattle.rrd_disk.proofs.storage.FileStorage.write.Goals as goal
 
 pub returns-in-Ok-Closed-clause-writes : goal.returns-in-Ok-Closed-clause-writes

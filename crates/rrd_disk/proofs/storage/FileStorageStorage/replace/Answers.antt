@@ -1,5 +1,4 @@
-use Rattle.std.proofs.lemmas.Grind.{common_steps}
-use Rattle.rrd_disk.proofs.Common.{written_err, written_ok, written_sound, whole_may_differ, ap, whole_differs_by, safe_put, safe_stored, arith}
+use Rattle.rrd_disk.proofs.Common.{written_err, written_ok, written_sound, whole_may_differ, ap, whole_differs_by, safe_put, safe_stored, arith, common_steps}
 use Rattle.rrd_disk.proofs.storage.FileStorageStorage.replace.Goals as goal
 
 pub returns-clause-sound : goal.returns-clause-sound

@@ -1,5 +1,4 @@
-use Rattle.std.proofs.lemmas.Grind.{common_steps}
-use Rattle.rrd_disk.proofs.Common.{ap, rules, PutsSafely, differs_by, safe_put, safe_stored, arith}
+use Rattle.rrd_disk.proofs.Common.{ap, rules, PutsSafely, differs_by, safe_put, safe_stored, arith, common_steps}
 use Rattle.rrd_disk.proofs.storage.FileStorageStorage.replace_where.Goals as goal
 
 pub returns-clause-safe : goal.returns-clause-safe
