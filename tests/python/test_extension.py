@@ -20,7 +20,7 @@ from typing import Any, Callable, Iterator, List, Optional, Tuple
 from unittest import mock
 
 import test_library
-from building import ByExtension, extension_path, the_extension
+from building import ByExtension, extension_path, stub_of, the_extension
 from cases import DataCase, needs_library, new_folder, run_in_threads, use_library
 from locking import c_library, put
 from rrdi import by_ctypes, extension, fetching, library
@@ -734,7 +734,7 @@ class Costs(FastCase):
 
         table = of_tree.table
         self.fast.at_call = of_tree.running  # as a fork asks during a call
-        grown = test_library.Called(b"o" * 20_000, b"f" * 200_000, (1,))
+        grown, path = test_library.Called(b"o" * 20_000, b"f" * 200_000, (1,)), stub_of({})
 
         def work() -> None:
             grown.library.run(b"data", b"info", 0)
@@ -745,6 +745,7 @@ class Costs(FastCase):
             of_tree.stop(False)
             of_tree.files()
             of_tree.forget_calls()
+            of_tree.load(path, Answer, DONE, calls.wait)
             for answer in (DONE, refused):
                 self.fast.answer = answer
                 self.update_file(b"f", samples, 0, 0, False)
@@ -763,7 +764,7 @@ class Costs(FastCase):
             for _ in range(2):
                 self.opened().run(b"last", 0)
             self.fast.said.clear()
-        watched = [DONE, Answer, refused, samples, samples[1], calls.wait, opened, self.fast.library, None, True, type(opened)]
+        watched = [DONE, Answer, refused, samples, samples[1], calls.wait, opened, self.fast.library, None, True, type(opened), type(self.fast.library)]
         for _ in range(100):
             work()
         gc.collect()  # what it frees has references too
