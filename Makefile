@@ -139,7 +139,7 @@ UPDATE_LIBRARIES = $(if $(DESTDIR),,if [ "$$(id -u)" = 0 ]; then $(LDCONFIG); fi
 LDCONFIG = ldconfig
 
 # $(call manual,PAGE): a manual page as it is installed, where docs and examples are in other directories.
-manual = sed 's,\(^\|[ <]\)\(docs\|examples\)/,\1$(PREFIX)/share/rrdi/\2/,g' $(1) | gzip -9n
+manual = sed 's,\(^\|[ <(]\)\(docs\|examples\)/,\1$(PREFIX)/share/rrdi/\2/,g' $(1) | gzip -9n
 
 # What those have who have the repository: the installed pages name it without a link.
 OF_REPOSITORY = ARCHITECTURE|CONTRIBUTING|DECISIONS|proofs|results|library/c|tests/README

@@ -17,6 +17,12 @@ settings of carbon.conf, beside carbon's own:
   RRDI_JOURNAL         how many slots of a metric can come late (default: 16)
   RRDI_MAX_FUTURE      how many seconds a point may be ahead of the clock
                        (default: 600)
+  RRDI_OPEN_FILES      how many files stay open between writes (default: 256)
+  RRDI_OPEN_SECONDS    for how many seconds (default: 2)
+  RRDI_OPEN_MEMORY     with how many megabytes of memory (default: 64)
+
+environment:
+  RRDI_SYNC            1: flush each change to the disk
 
 docs/graphite.md has more.
 

@@ -17,7 +17,7 @@ options, anywhere on the line:
   --above N            CRITICAL above N
   --below N            CRITICAL below N
   -c, --critical RANGE
-                       CRITICAL outside RANGE, in place of both; a RANGE is
+                       CRITICAL outside RANGE, instead of these; a RANGE is
                        5:10, 10: (or more), '~:10' (or less), 10 (from 0 on), or
                        @5:10, which alarms inside
   -w, --warning RANGE  WARNING outside RANGE
@@ -27,9 +27,9 @@ options, anywhere on the line:
   --stale SPAN         CRITICAL if the newest known row is older than SPAN, or
                        is that far in the future (default: the source's
                        heartbeat and one row)
-  --changes STATE      print the line only if the status is another one than
-                       that in the file STATE, and keep it there: for cron;
-                       any other file of this name stays as it is
+  --changes STATE      for cron: print the line only if the status differs from
+                       the last one, which the file STATE keeps; a file with
+                       other contents stays as it is
   -h, --help           show this help and exit
   --version            show the version and exit
 

@@ -12,9 +12,9 @@ options:
 
 For each archive you get a line with the cells that agree, those known in only
 one of the files, those that differ, and the time of the newest row that does
-not agree. Cells differ if they are more than a millionth and a unit of the
-eleventh digit apart, the last that rrdtool prints. A last line names the data
-sources that only the old file has. rrdtool must be installed.
+not agree. Cells differ if they are farther apart than a millionth plus a
+ten-billionth of the value (rrdtool prints eleven digits). A last line names the
+data sources that only the old file has. rrdtool must be installed.
 
 environment:
   RRDI                 the program to run instead of the C library

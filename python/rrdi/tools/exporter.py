@@ -12,10 +12,10 @@ examples:
   rrdi-export --in-place /var/lib/munin
 
 The first form makes NEW.rrd, which must not exist, with `rrdtool restore`. The
-second prints the XML for it, and needs no RRDtool. A new file gets its name
-when it is on the disk, was read back, and is equal. The last two forms convert
-many files: those named, and all below the directories TREE whose names end in
-.rrdi or .rrd. First stop the programs that record into the files.
+second prints the XML for it, without RRDtool. A new file gets its name when it
+is on the disk, was read back, and is equal. The last two forms convert many
+files: those named, and all below the directories TREE whose names end in .rrdi
+or .rrd. First stop the programs that record into the files.
 
 options, anywhere on the line:
   --into DIRECTORY     make DIRECTORY/NAME.rrd (or NAME.wsp) of NAME.rrdi, and
@@ -24,7 +24,7 @@ options, anywhere on the line:
                        database NAME.rrd, which becomes NAME.rrd.rrdi
   --whisper            make files of whisper: for a metric of Graphite, or for
                        any database with one data source
-  --jobs N             convert N files at a time (default: one for each
+  --jobs N             convert N files at a time (default: one per
                        processor)
   -h, --help           show this help and exit
   --version            show the version and exit
@@ -39,8 +39,8 @@ environment:
 
 docs/moving-files.md says what cannot be converted.
 
-Exit status: 0; 1 and one line on standard error if a file cannot be read, is
-not a database, or cannot be converted; 2 after wrong arguments.
+Exit status: 0; 1 and a line on standard error if a file cannot be read or
+converted; 2 after wrong arguments.
 """
 from __future__ import annotations
 

@@ -7,45 +7,47 @@ examples:
   echo 'load.rrdi N:0.42' | rrdi-feed
   socat -u UDP4-RECV:2003 STDOUT | rrdi-feed --graphite data --rules feed.rules
 
-A line is FILE TIME:VALUE[:VALUE..].., and UPDATE may precede FILE. A TIME N is
-the time at which the line arrived.
+A line is FILE TIME:VALUE[:VALUE..].., and UPDATE may precede FILE. TIME N is
+when it arrives.
 
 options:
   --seconds SECONDS    hold the samples of a FILE this long (default: 60)
   --jobs JOBS          write this many files at a time (default: 4)
-  --held SAMPLES       while this many samples are held, read no more lines
+  --held SAMPLES       while this many samples are held, read no more lines;
+                       if no file can be opened, drop the fullest one's
                        (default: 1000000)
   --patience SECONDS   at the end, go on trying files that cannot be opened
                        for this long (default: 30)
-  --open-files FILES   keep up to this many files open, of those that get
-                       samples all the time (default: 256; 0: none)
+  --open-files FILES   keep up to this many busy files open (default: 256; 0:
+                       none)
   --open-seconds SECONDS
-                       for this long; others can read an open file, but not
+                       keep each open this long; others can read it, but not
                        change it (default: 2)
   --open-memory MEGABYTES
-                       with no more memory than this (default: 64)
-  --backfill           put samples in that are earlier than the last one of
-                       FILE, as far back as its journal reaches
+                       use at most this much memory for them (default: 64)
+  --backfill           put in samples earlier than the last one of FILE, as far
+                       back as its journal reaches
   --graphite DIRECTORY
-                       read Graphite's lines, NAME VALUE TIME, and write the
-                       file NAME.rrdi in DIRECTORY
-  --rules RULES        with --graphite: a file that maps names to other files,
-                       and creates files that do not exist
+                       read Graphite's lines, NAME VALUE TIME, for the file
+                       DIRECTORY/NAME.rrdi
+  --rules RULES        with --graphite: a file that maps names to files, and
+                       creates these
   -h, --help           show this help and exit
   --version            show the version and exit
 
 At the end of the input, and after SIGTERM, SIGINT and SIGHUP, all samples are
-written; after SIGUSR1 too, for which it closes all files, and then it goes on.
+written; after SIGUSR1 too, then all files are closed, and it goes on.
 
 environment:
-  RRDI                 a program to run instead of the C library: a process for
-                       each file, which is three to five times as slow
+  RRDI                 a program to run instead of the C library, four to five
+                       times as slow
+  RRDI_SYNC            1: flush each change to the disk
+  RRDI_WAIT            seconds to wait for FILE's lock (default: 5)
 
 docs/feeding.md has more, and the form of RULES.
 
-Exit status: 0; 1 if a line was bad, a sample was refused or may be lost (each
-is reported on standard error), or DIRECTORY or RULES cannot be used; 2 after
-wrong arguments.
+Exit status: 0; 1 if a line was bad, a sample was refused or may be lost (all on
+standard error), or DIRECTORY or RULES cannot be used; 2 after wrong arguments.
 """
 from __future__ import annotations
 

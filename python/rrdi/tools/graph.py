@@ -4,8 +4,7 @@
 usage: rrdi-graph PICTURE [OPTION..] DEF:x=FILE:SOURCE:FUNCTION.. LINE1:x#RGB..
 
 example:
-  rrdi-graph load.png --start end-1d --end now \\
-      DEF:a=load.rrdi:load1:AVERAGE AREA:a#88aa00:load
+  rrdi-graph load.png DEF:a=load.rrdi:load1:AVERAGE AREA:a#88aa00:load
 
 The arguments are those of `rrdtool graph`, as rrdgraph(1) describes them. A DEF
 with a file of rrdi gets its rows from rrdi, with step, start, end and reduce.

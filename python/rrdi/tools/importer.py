@@ -12,8 +12,8 @@ examples:
 
 The first form creates NEW.rrdi, which must not exist. The second prints the
 batch that does, for `rrdi batch NEW.rrdi`. The other forms convert many files:
-those that are named, and all below the directories TREE whose names end in .rrd
-or .wsp. First stop the programs that record into the old files.
+those named, and all below the directories TREE whose names end in .rrd or .wsp.
+First stop the programs that record into the old files.
 
 options:
   --journal DEPTH      how many changes the new database can revert
@@ -23,20 +23,19 @@ options:
   --in-place           give the new database the name, owner and mode of the
                        old file, which becomes NAME.rrd.old; a file stays as
                        it is if it cannot be converted whole
-  --jobs N             convert N files at a time (default: one for each
+  --jobs N             convert N files at a time (default: one per
                        processor)
   -h, --help           show this help and exit
   --version            show the version and exit
 
-No existing file is replaced by another one's database; repeat a run that was
-stopped, and what is there already stays. rrdtool must be installed only for an
-OLD.rrd with a COMPUTE source, a forecast, or another layout. A file whose name
-ends in .wsp gets the layout of Graphite's storage over rrdi (docs/graphite.md).
-What cannot be converted is listed on standard error; docs/moving-files.md says
-why.
+No existing file is replaced by another one's database; a stopped run can be
+repeated: what is there stays. rrdtool must be installed only for an OLD.rrd
+with a COMPUTE source, a forecast, or another layout. A file whose name ends in
+.wsp gets the layout of Graphite's storage over rrdi (docs/graphite.md). What
+cannot be converted is listed on standard error; docs/moving-files.md says why.
 
-Exit status: 0 if all files are there with all their data sources; 1 if not,
-and a line on standard error says why; 2 after wrong arguments.
+Exit status: 0 if all files are there with all their data sources; 1 and a
+reason on standard error if not; 2 after wrong arguments.
 """
 from __future__ import annotations
 

@@ -29,7 +29,7 @@ options:
   -e, --end END        end there (default: now, or the last update if that is
                        over a day ago)
   -r, --resolution N   choose the archive whose rows cover about N seconds
-                       (default: as the picture has points)
+                       (default: to suit the picture's width)
   --source NAME,..     draw these sources, in this order (default: all)
   --area               fill the area under each line
   --stack              draw the areas on top of each other

@@ -21,7 +21,7 @@ options, of which the first four say what is recorded (default: --load):
 
 files:
   FILE                 the database, which the first run creates, with a year
-                       of what its options name
+                       of what its options record
   FILE.1, .2, .3       copies, an hour apart, the newest first
   FILE.refused         a damaged database, which the newest readable copy
                        has replaced

@@ -13,9 +13,9 @@ lastupdate, info, graph, graphv or xport, with RRDtool's options, times such as
 now-1h, durations such as 5m, and exponents. graph, graphv and xport need
 RRDtool's library (rrdi-graph --help).
 
-With - you get RRDtool's pipe mode: a command per line on standard input, and
-after each its output and OK, or ERROR and the reason. It also has cd, mkdir,
-ls, pwd and quit.
+With - you get RRDtool's pipe mode, in DIRECTORY: a command per line on standard
+input, and after each its output and OK, or ERROR and the reason. It also has
+cd, mkdir, ls, pwd and quit.
 
 options:
   --exact              print 17 digits instead of RRDtool's 11
