@@ -6,6 +6,7 @@ session of plotting.md draws them, but for one pixel in a thousand; only Debian 
 from __future__ import annotations
 
 import difflib
+import re
 import shutil
 import subprocess
 from pathlib import Path
@@ -19,6 +20,9 @@ from support.sessions import Command, sessions
 
 LEAST = {"commands": 115, "plots": 3}
 SESSIONS = sessions(TOP)
+# A date, and a time zone. Which pages have one, and a mark of their sessions in another zone, five hours away.
+DATE, ELSEWHERE = re.compile(r"\d{4}-\d\d-\d\d( \d\d:\d\d:\d\d)?|\b(UTC|EST)\b"), " in another zone"
+DATED = ["docs/cookbook.md", "docs/export.md", "docs/plotting.md"]
 # The pages whose sessions need the C library: installed, or for the Python package.
 OF_C, OF_PYTHON = ("docs/embedding.md", "docs/rrdi.3"), "docs/python.md"
 # The page whose session draws plots of docs. Another test draws that of Graphite.
@@ -42,9 +46,10 @@ def printed_by(command: Command, place: Path, environment: dict[str, str], secon
 
 
 def judge(page: str, command: Command, printed: str, check: Check) -> bool:
-    """Compares what a command prints with the page."""
-    lines = difflib.unified_diff(command.shown.splitlines(), printed.splitlines(), "shown", "printed", lineterm="")
-    return check(printed == command.shown, f"{page}:{command.line}: {command.text}" + "\n".join(lines))
+    """Compares what a command prints with the page, in another time zone but for dates."""
+    shown, printed = (DATE.sub("DATE", text) if ELSEWHERE in page else text for text in (command.shown, printed))
+    lines = difflib.unified_diff(shown.splitlines(), printed.splitlines(), "shown", "printed", lineterm="")
+    return check(printed == shown, f"{page}:{command.line}: {command.text}" + "\n".join(lines))
 
 
 def run_session(page: str, commands: list[Command], place: Path, environment: dict[str, str], check: Check) -> str:
@@ -70,6 +75,15 @@ def test_session(page: str, place: Path, environment: dict[str, str], check: Che
     elif page == OF_PYTHON:
         more.update(PYTHONPATH=str(TOP / "python"), RRDI_LIBRARY=str(request.getfixturevalue("library")))
     left_out = run_session(page, SESSIONS[page], place, {**environment, **more}, check)
+    if left_out:
+        check.end()
+        pytest.skip(left_out)
+
+
+@pytest.mark.parametrize("page", DATED)
+def test_session_elsewhere(page: str, place: Path, environment: dict[str, str], check: Check) -> None:
+    """In another time zone a session prints the same, but for dates."""
+    left_out = run_session(page + ELSEWHERE, SESSIONS[page], place, {**environment, "TZ": "EST5"}, check)
     if left_out:
         check.end()
         pytest.skip(left_out)
