@@ -173,3 +173,14 @@ def test_definitions() -> None:
     assert {path.split("/")[1] for path in defining} <= set(re.findall(r"`(\w+)(?:/\w+)*`", page))
     kinds = re.compile(r"-- (Definition|Glue|Laws?|Example)\b")
     assert all(kinds.match(head) or head.startswith("pub mod ") for head in heads.values())
+
+
+def test_modules_without_counts() -> None:
+    """docs/results.md names the modules that count, and of which it has no line."""
+    before, _, lines = (TOP / "docs/results.md").read_text(encoding="utf-8").partition("## Counts")
+    counting = {str(path.relative_to(TOP)) for folder in ("fuzz", "tests") for path in TOP.glob(f"{folder}/**/test_*.py")
+                if re.search("^LEAST", path.read_text(encoding="utf-8"), re.MULTILINE)}
+    named = {name if name.startswith("fuzz/") else f"tests/{name}" for name in re.findall(r"`(\w+/test_\w+\.py)`", before)}
+    if "`surroundings`" in before:
+        named |= {name for name in counting if name.startswith("tests/surroundings/")}
+    assert named == counting - set(re.findall("^- `([^` ]+)", lines, re.MULTILINE)) and len(counting) > 30
