@@ -192,8 +192,8 @@ uint32_t rrdi_db_update(struct rrdi_db *db, uint64_t time, const struct rrdi_val
 uint32_t rrdi_db_update_many(struct rrdi_db *db, const uint64_t *times, const struct rrdi_value *values, size_t count,
                              size_t sources, size_t *stored);
 
-/* Gives the rows whose time is from start to end, as `rrdi fetch` does. If there is no room for rows->count * rows->sources values,
- * the fault is RRDI_NO_ROOM: rows says how many there are.
+/* Gives the rows that `rrdi fetch` prints: from the first that ends after start to the first that ends after end. If there is no
+ * room for rows->count * rows->sources values, the fault is RRDI_NO_ROOM: rows says how many there are.
  *
  * function         enum rrdi_function.
  * resolution       the requested seconds from row to row: 1 for the finest rows.
