@@ -134,7 +134,7 @@ SHORT = ("every command over a file", "road_counter over", "shrink_and_grow over
 ALL, SOME = 3_000, 20
 # The bytes of memory that the manual says of a cell and of a journal entry; then the bytes that the rest of a run may
 # use in addition if there are more cells or entries.
-CELL, PLACE, SLACK = 32, 832, 4_096
+CELL, PLACE, SLACK = 16, 832, 4_096
 
 
 def worked(name: str) -> Task:

@@ -35,8 +35,7 @@ class Pages(unittest.TestCase):
         self.assertEqual(self.number("files.md", r"pauses that grow from \d+ to (\d+) milliseconds"), 1_000 * locks.LONGEST_PAUSE)
 
     def test_values(self) -> None:
-        for page, pattern in (("concepts.md", r"absolute value below (10\^\d+)"), ("definitions.md", r"absolute value below (10\^\d+)"),
-                              ("commands.md", r"\| a number below (10\^\d+) \|"),
+        for page, pattern in (("definitions.md", r"absolute value below (10\^\d+)"), ("commands.md", r"\| a number below (10\^\d+) \|"),
                               ("graphite.md", r"infinities, (10\^\d+) and more")):
             self.assertEqual(self.number(page, pattern), amounts.LARGEST, page)
         reading = pieces.Reader(b"")

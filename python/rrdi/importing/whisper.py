@@ -95,7 +95,7 @@ def read_open(file: BinaryIO) -> WhisperFile:
 Stretch = Tuple[int, Optional[str]]  # its end, and the value of each step up to there; None is unknown
 
 
-class Span(NamedTuple):
+class ArchiveTime(NamedTuple):
     """A time that an archive gives."""
 
     archive: WhisperArchive
@@ -103,25 +103,25 @@ class Span(NamedTuple):
     end: int
 
 
-def spans(archives: List[WhisperArchive]) -> List[Span]:
+def spans(archives: List[WhisperArchive]) -> List[ArchiveTime]:
     """The archives that have points, the finest last, each with the time that it gives: all that it has, but of a coarser
     archive what a finer one has not. So a finer archive may begin within a point of the coarser one. Between two archives
     may be a time of which none has points: long after a point with a wrong time, for example."""
-    found: List[Span] = []
+    found: List[ArchiveTime] = []
     for archive in (archive for archive in archives if archive.values):
         begin, end = max(archive.begin, 0), min([archive.end, *(span.begin for span in found)])
         if begin < end:
-            found.insert(0, Span(archive, begin, end))
+            found.insert(0, ArchiveTime(archive, begin, end))
     return found
 
 
 def stretches(old: WhisperFile, note: Callable[[str], None]) -> List[Stretch]:
     """The values of all times from the first known one on; equal neighbours come as one stretch."""
-    found = Values(old, note).all()
+    found = PointValues(old, note).all()
     return [(end, None if amount is None else str(Millionths(amount))) for end, amount in found]
 
 
-class Values:
+class PointValues:
     """Lays the values of the archives one after the other, in millionths for each step. Begins with the newest ones,
     because a finer archive may begin within a point of a coarser one."""
 
@@ -131,7 +131,7 @@ class Values:
 
     def all(self) -> Stretches:
         later: Stretches = []
-        finer: Optional[Span] = None
+        finer: Optional[ArchiveTime] = None
         for span in reversed(spans(self.old.archives)):
             own = [(slot + span.archive.seconds, self.amount(span.archive, slot))
                    for slot in range(span.begin, span.end, span.archive.seconds)]
@@ -155,7 +155,7 @@ class Values:
             return None
         return millionths(value)
 
-    def cut(self, own: Stretches, later: Stretches, span: Span, finer: Span) -> Stretches:
+    def cut(self, own: Stretches, later: Stretches, span: ArchiveTime, finer: ArchiveTime) -> Stretches:
         """Ends the newest point of a coarser archive where a finer one begins, so that both have what they had. If that
         cannot be, the coarser point counts for all its time. Returns what follows."""
         (end, amount), steps = own[-1], span.archive.seconds // self.step
