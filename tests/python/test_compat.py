@@ -217,6 +217,13 @@ class Module:
         rrdtool.update("f.rrd", "-t", "c", "1600000050:30")
         self.assertEqual(rrdtool.lastupdate("f.rrd")["ds"], {"g": None, "c": 30.0})
 
+    def test_the_present_second(self: Any) -> None:
+        """A fraction of it is dropped, as rrdi drops it: no sample is later than the clock."""
+        self.fill()
+        with mock.patch("time.time", lambda: 1_600_000_040.9):
+            rrdtool.update("f.rrd", "-s", "N:1:20")
+        self.assertEqual(rrdtool.last("f.rrd"), 1_600_000_040)
+
     def test_resize(self: Any) -> None:
         self.fill()
         before = Path("f.rrd").read_bytes()
