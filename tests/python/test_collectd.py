@@ -278,6 +278,7 @@ class Writing(WriterCase):
         for at in (0, 10):
             writer.write(values(NOW + at, 1 + at // 10, type="derive"))
         writer.flush(0)
+        self.assertRegex(self.collectd.lines[0], "; 3 samples wait$")
         writer.end()
         self.assertEqual(making.lines[-1][1:], [f"update {NOW + 10 * at}:{1 + at}" for at in range(3)])
 
