@@ -65,6 +65,20 @@ class NewFiles(ToolCase):
             make_new(str(path), fill)
         self.assertEqual((path.read_text(), sorted(os.listdir(self.folder))), ("another's", sorted([*before, "new.rrd"])))
 
+    def test_what_is_on_the_disk_and_when(self) -> None:
+        """The new file, before it has its name, and then the name in its folder."""
+        path = self.folder / "new.rrd"
+        flushed: List[Tuple[str, bool]] = []
+
+        def fill(unfinished: str) -> None:
+            Path(unfinished).write_text("mine")
+
+        def fsync(number: int) -> None:
+            flushed.append(("folder" if os.path.isdir(number) else os.pread(number, 9, 0).decode(), path.exists()))
+        with mock.patch("os.fsync", fsync):
+            make_new(str(path), fill)
+        self.assertEqual(flushed, [("mine", False), ("folder", True)])
+
 
 class InPlace(DataCase):
     """What becomes of one database; RRDtool's file is given."""
