@@ -181,6 +181,17 @@ def loaded() -> Any:
     return module
 
 
+def test_the_status_of_a_run(capsys: pytest.CaptureFixture[str]) -> None:
+    """A run that has tried no bug is as wrong as one with a bug that was not refused."""
+    script = loaded()
+    tally = script.Tally()
+    assert tally.end() == 1
+    tally.count(script.BUGS)
+    assert tally.end() == 0
+    tally.say("c/a was not refused", False)
+    assert (tally.end(), capsys.readouterr().out.splitlines()[-1]) == (1, f"1 {script.BUGS}: 1 wrong")
+
+
 def test_each_bug_names_its_goal() -> None:
     edits = sorted(TOP.glob("crates/*/must-fail/*.edit")) + sorted(TOP.glob("library/*/must-fail/*.edit"))
     assert len(edits) >= 100
