@@ -4,6 +4,7 @@ from __future__ import annotations
 
 import os
 import re
+import shutil
 import subprocess
 from pathlib import Path
 from typing import Callable
@@ -34,6 +35,18 @@ PROMISED = {
 def test_versions() -> None:
     ran = subprocess.run([TOP / "scripts/set-version", "--check"], capture_output=True, text=True)
     assert (ran.returncode, ran.stdout) == (0, "")
+
+
+def test_another_version(folder: Path) -> None:
+    """A file with another one is named, until the script has written the version into it."""
+    (folder / "scripts").mkdir()
+    script = shutil.copy(TOP / "scripts/set-version", folder / "scripts")
+    for name, text in (("VERSION", "1.2.3\n"), ("README.md", "Version 1.2.2 (changes)\n"), ("CHANGELOG.md", "## 1.2.3 - today\n")):
+        (folder / name).write_text(text)
+    for words, status, printed in ((["--check"], 1, "README.md\n"), ([], 0, "README.md\n"), (["--check"], 0, "")):
+        ran = subprocess.run([script, *words], capture_output=True, text=True)
+        assert (ran.returncode, ran.stdout) == (status, printed), words
+    assert (folder / "README.md").read_text() == "Version 1.2.3 (changes)\n"
 
 
 def test_tools() -> None:
