@@ -103,6 +103,32 @@ def test_a_plot(day: Path, environment: Mapping[str, str], needs: Callable[..., 
         assert told.returncode == 1 and text in told.stderr and not (day / "none.svg").exists()
 
 
+def block(page: str, begin: str) -> str:
+    """Returns the indented lines of a page that begin so, up to the next line that is not indented."""
+    text = (TOP / page).read_text(encoding="utf-8")
+    found, = re.findall(f"^    {re.escape(begin)}.*\\n(?:(?:    .*)?\\n)*", text, re.MULTILINE)
+    return "".join(line[4:] for line in found.splitlines(True))
+
+
+def test_a_copy_under_the_lock(environment: Mapping[str, str], folder: Path) -> None:
+    out(environment, folder, "rrdi", "create", "load.rrdi", "--start", 1700000000, "DS:l:GAUGE:60:U:U", "RRA:LAST:0:1:9")
+    (folder / "load.copy").write_text("an older copy")
+    before = (folder / "load.rrdi").read_bytes()
+    assert "ds[0].name = l" in out(environment, folder, "sh", "-e", "-c", block("docs/files.md", "flock -s load.rrdi"))
+    assert (folder / "load.rrdi").read_bytes() == before == (folder / "load.copy").read_bytes()
+
+
+def test_a_call_in_words(library: Path, environment: Mapping[str, str], folder: Path, needs: Callable[..., None]) -> None:
+    needs("cc")
+    out(environment, folder, "rrdi", "create", "temp.rrdi", "--start", 1700000000, "DS:t:GAUGE:600:U:U", "RRA:LAST:0:1:9")
+    body = block("docs/embedding.md", "static const char words[]")
+    (folder / "call.c").write_text(f"#include <rrdi.h>\n#include <stdio.h>\n#include <time.h>\nint main(void) {{\n{body}\n"
+                                   "    return (int)answer.fault;\n}\n")
+    out(environment, folder, "cc", "-Wall", "-Wextra", "-Werror", f"-I{TOP}/include", "-o", "call", "call.c", library,
+        f"-Wl,-rpath,{library.parent}")
+    assert (out(environment, folder, "./call"), out(environment, folder, "rrdi", "last", "temp.rrdi")) == ("", "1700000300\n")
+
+
 @pytest.mark.long
 @pytest.mark.parametrize("name", MANUALS)
 def test_a_manual_page_is_well_formed(name: str, needs: Callable[..., None]) -> None:
