@@ -99,12 +99,14 @@ static void test_start(void) {
     rrdi_db_close(&other);
 }
 
-/* Only a database that was opened so flushes each of its changes. */
+/* Only a database that was opened so flushes its creation and each of its changes. */
 static void test_flushes(void) {
     struct rrdi_value values[] = {rrdi_double(1.5), rrdi_count(9)};
     const uint32_t options[] = {0, RRDI_SYNCS};
+    const char *const paths[] = {"not-flushed.rrdi", "flushed.rrdi"};
     for (size_t at = 0; at < 2; at++) {
-        want(!rrdi_db_open(&other, "flushed.rrdi", DEFINITION, options[at]), "a database that flushes or not");
+        int first = flushes;
+        want(!rrdi_db_open(&other, paths[at], DEFINITION, options[at]) && (flushes > first) == (at == 1), "the flushes of a creation");
         for (uint64_t number = 1; number < 4; number++) {
             int before = flushes;
             want(!rrdi_db_update(&other, 100 * (at + 1) + number, values, 2) && (flushes > before) == (at == 1), "the flushes of an update");
