@@ -18,6 +18,7 @@
 #define LINES "last\nupdate 20:1\nupdate 5:1\nlast\n"
 #define PRINTED "10\nERROR: not later than 20\n20\n"
 #define MOST 64
+#define MANY_LINES 100000
 
 /* ---- calls of the system that go wrong, or that somebody else comes before */
 
@@ -215,6 +216,22 @@ static void test_nulls(void) {
     want(answer.fault == RRDI_OK, "no samples of none");
     rrdi_fetch_open(&opened, RRDI_LAST, 1, 0, 19, &rows, NULL, much, NULL, much, &answer);
     want(answer.fault == RRDI_NO_ROOM && rows.count * rows.sources == 2, "a fetch without room");
+    rrdi_close(&opened);
+}
+
+/* Without room for their numbers no number of a refused line is written: so many would reach behind all that the library has. */
+static void test_refused_without_room(void) {
+    static uint8_t lines[2 * MANY_LINES], printed[64 * MANY_LINES];
+    for (size_t at = 0; at < MANY_LINES; at++)
+        memcpy(lines + 2 * at, "x\n", 2);
+    put_file();
+    rrdi_batch(true, file, file_length, lines, sizeof lines, 0, NULL, 0, printed, sizeof printed, NULL, MANY_LINES, &answer);
+    want(answer.refused == MANY_LINES, "refused lines in memory");
+    rrdi_batch_file(NAME(PATH), lines, sizeof lines, 0, 0, false, printed, sizeof printed, NULL, MANY_LINES, &answer);
+    want(answer.fault == RRDI_OK && answer.refused == MANY_LINES, "refused lines at a path");
+    open_file(PATH);
+    rrdi_batch_open(&opened, lines, sizeof lines, 0, printed, sizeof printed, NULL, MANY_LINES, &answer);
+    want(answer.fault == RRDI_OK && answer.refused == MANY_LINES, "refused lines on an open file");
     rrdi_close(&opened);
 }
 
@@ -417,6 +434,7 @@ int main(void) {
     make_file();
     test_all_rooms();
     test_nulls();
+    test_refused_without_room();
     test_structs();
     test_fork();
     test_create_over_open();
