@@ -9,6 +9,7 @@
 #include <sys/file.h>
 #include <sys/resource.h>
 #include <sys/syscall.h>
+#include <sys/wait.h>
 #include <time.h>
 #include <unistd.h>
 
@@ -406,6 +407,31 @@ static void test_pages(void) {
     want(gave(RRDI_OK, true, "") && pages() - before < 200, "calls keep the pages of their memory");
 }
 
+static void batch_often(long from) {
+    char line[40];
+    for (long time = from; time < from + 100; time++) {
+        size_t length = (size_t)sprintf(line, "update %ld:3\n", time);
+        rrdi_batch_file(NAME(PATH), (const uint8_t *)line, length, 0, 0, false, output, sizeof output, NULL, 0, &answer);
+    }
+}
+
+/* A process that runs nothing but batches keeps them too. */
+static void test_pages_of_batches(void) {
+    int status = -1;
+    pid_t child = fork();
+    if (!child) {
+        const char *create = "create --step 10 --start 0 DS:g:GAUGE:100:U:U RRA:LAST:0.5:1:4000\n";
+        rrdi_batch_file(NAME(PATH), (const uint8_t *)create, strlen(create), 0, 0, false, output, sizeof output, NULL, 0, &answer);
+        batch_often(1);
+        long before = pages();
+        batch_often(101);
+        bool is_right = gave(RRDI_OK, true, "") && held(PATH) > 60000 && pages() - before < 200;
+        unlink(PATH);
+        _exit(is_right ? 0 : 1);
+    }
+    want(child > 0 && waitpid(child, &status, 0) == child && !status, "batches keep the pages of their memory");
+}
+
 /* ---- all */
 
 /* The number of descriptors of the process. */
@@ -418,6 +444,7 @@ static int open_files(void) {
 
 int main(void) {
     int before = open_files();
+    test_pages_of_batches();
     make();
     test_waits();
     test_signals();
