@@ -111,6 +111,21 @@ def test_links_of_pages(make: Callable[..., None], folder: Path) -> None:
     assert dead_links(folder / "new") == {"README.md: LICENSE"}
 
 
+def missing_paths(place: Path) -> set[str]:
+    """Returns the paths below /usr/local that pages of the repository name, and an installation in this place lacks."""
+    pages = [TOP / "README.md", *(path for path in (TOP / "docs").iterdir() if path.suffix in (".md", ".1", ".3"))]
+    named = {path for page in pages for path in re.findall(r"/usr/local/[\w./-]*\w", page.read_text(encoding="utf-8"))}
+    assert len(named) > 10
+    return {path for path in named if not (place / path.lstrip("/")).exists()}
+
+
+def test_paths_in_pages(make: Callable[..., None], stand_in: list[str], folder: Path) -> None:
+    make("install", f"DESTDIR={folder}/new", *stand_in)
+    assert missing_paths(folder / "new") == set()
+    (folder / "new/usr/local/share/rrdi/perl/RRDs.pm").unlink()
+    assert missing_paths(folder / "new") == {"/usr/local/share/rrdi/perl/RRDs.pm"}
+
+
 # ---- packages of Debian
 
 
