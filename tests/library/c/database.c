@@ -145,8 +145,8 @@ static void test_fetch(void) {
 static void test_each_call(struct rrdi_db *one, const char *what) {
     struct rrdi_value values[2] = {{0, 0, 0, false}, {0, 0, 0, false}};
     struct rrdi_rows rows;
-    uint64_t time = 50, last;
-    size_t stored;
+    uint64_t time = 50, last = 7;
+    size_t stored = 7;
     want(is_not_open(one, rrdi_db_update(one, time, values, 2)), what);
     want(is_not_open(one, rrdi_db_update_many(one, &time, values, 1, 2, &stored)) && stored == 0, what);
     want(is_not_open(one, rrdi_db_fetch(one, RRDI_LAST, 1, 0, 39, &rows, values, 2)) && rows.count == 0, what);
@@ -159,7 +159,7 @@ static void test_each_call(struct rrdi_db *one, const char *what) {
 static void test_wrong_structs(void) {
     struct rrdi_value value = rrdi_whole(1);
     uint64_t time = 60, last;
-    size_t stored;
+    size_t stored = 7;
     memset(&other, 0, sizeof other);
     test_each_call(&other, "a struct of zeros");
     memset(&other, 0xa5, sizeof other);
