@@ -292,6 +292,24 @@ class Many(ToolCase):
         self.assertEqual({name: self.read(name) for name in files}, files)
         self.assertEqual(len(list((self.folder / "tree").iterdir())), 6)
 
+    def test_in_place_leaves_what_would_lose_an_archive(self) -> None:
+        """An archive of forecasts, and one that has rows of too many steps; into a directory both files come without it."""
+        begin, end = WHOLE.split("</rra>")
+        archive = begin[begin.index("<rra>"):] + "</rra>"
+        files, notes = {}, {"forecast": "skipped archive 1, HWPREDICT: this function is not supported",
+                            "long": "skipped archive 1, AVERAGE: a row in rrdi has at most 1,000,000 steps"}
+        for name, before, after in (("forecast", "AVERAGE", "HWPREDICT"), ("long", "<pdp_per_row>1<", "<pdp_per_row>1000001<")):
+            path = f"tree/{name}.rrd"
+            files[path] = self.old(path, f"{begin}</rra>{archive.replace(before, after)}{end}")
+        said = "".join(f"rrdi-import: tree/{name}.rrd: not converted: {note}\n" for name, note in notes.items())
+        self.assertEqual(self.run_import("--in-place", "tree"), (1, "2 files: 0 converted; 2 not converted\n", said))
+        self.assertEqual({name: self.read(name) for name in files}, files)
+        self.assertEqual(len(list((self.folder / "tree").glob("*.*"))), 2)
+        status, out, err = self.run_import("--into", "new", "tree")
+        self.assertEqual((status, err), (0, ""))
+        self.assertEqual(out.splitlines()[:2], [f"tree/{name}.rrd: new/{name}.rrdi (2 data sources, 1 archive); {note}"
+                                                for name, note in notes.items()])
+
     def test_a_file_that_changes_meanwhile(self) -> None:
         """A sample that the old file got during the conversion would be lost, so the old file stays."""
         self.old("a.rrd")

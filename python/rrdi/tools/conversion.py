@@ -35,13 +35,13 @@ def size_of(file: str) -> int:
 
 class Conversion:
     """The conversion of one file. `notes` has what was left out or changed, each in one line; `skipped` is the number of
-    data sources that were left out, `changed` that of those with another type, `sources` and `archives` are the numbers of
-    those that the new database has."""
+    data sources that were left out, `changed` that of those with another type, `skipped_archives` that of the archives that
+    were left out; `sources` and `archives` are the numbers of those that the new database has."""
 
     def __init__(self, old: str, journal: Optional[str], note: Callable[[str], None] = lambda text: None):
         self.old, self.journal, self._note = old, journal, note
         self.notes: List[str] = []
-        self.sources = self.archives = self.skipped = self.changed = 0
+        self.sources = self.archives = self.skipped = self.skipped_archives = self.changed = 0
         self._batch: Optional[RrdBatch] = None
 
     def note(self, text: str) -> None:
@@ -65,6 +65,7 @@ class Conversion:
             old = read_old(self.old, rrdtool_program.found, lambda cells: reading(8 * cells, size))
             self._batch = RrdBatch(old, self.journal, self.note)
             lines, there, self.changed = self._batch.noted_lines(), len(old.sources), self._batch.changed
+            self.skipped_archives = len(old.archives) - len(self._batch.archives)
         for line in lines:
             if line.startswith("create "):
                 words = line.split(" ")
@@ -73,6 +74,10 @@ class Conversion:
                 self.skipped = max(there - self.sources, 0)
             yield line
 
+    @property
+    def is_whole(self) -> bool:
+        """Whether the new database has all data sources, with their types, and all archives."""
+        return not (self.skipped or self.skipped_archives or self.changed)
 
     def compare(self, new: str) -> None:
         """Notes the archives of the new database that differ from those of the old file, if that is one of RRDtool.

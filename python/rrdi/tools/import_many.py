@@ -59,7 +59,7 @@ class Importer(Conversions):
         before, kept = os.stat(path), f"{path}.old"
         is_left_over(path, kept)
         lines = list(conversion.lines(reading))
-        if conversion.skipped or conversion.changed:
+        if not conversion.is_whole:
             raise Failure("; ".join(conversion.notes))
         swap_in(path, kept, lines, conversion.compare, before)
         return f"{WHOLE}\nconverted, the old file is {kept}{described(conversion)}"
