@@ -120,6 +120,16 @@ class Many(ToolCase):
             1, f"tree/a.rrd: new/a.rrdi (1 data source, 1 archive); {SKIPPED}\ntree/b.rrd: new/b.rrdi (2 data sources, 1 archive)\n"
             "2 files: 2 converted, 1 of them without all data sources\n", ""))
 
+    def test_nothing_is_left(self) -> None:
+        """The line says why not even one source, or archive, is left."""
+        self.old("tree/a.rrd", DUMP.replace(" g ", " g-0 "))
+        self.old("tree/b.rrd", WHOLE.replace("AVERAGE", "HWPREDICT"))
+        begin = "rrdi-import: tree/{}.rrd: not converted: no {} can be converted; {}\n"
+        said = begin.format("a", "data source", "skipped data source g-0: a name in rrdi has 1 to 19 characters of a-z A-Z 0-9 _; "
+                            + SKIPPED) + begin.format("b", "archive", "skipped archive 0, HWPREDICT: this function is not supported")
+        for words in (("--in-place",), ("--into", "new"), ("--jobs", "1", "--in-place")):
+            self.assertEqual(self.run_import(*words, "tree"), (1, "2 files: 0 converted; 2 not converted\n", said))
+
     def test_no_file_is_replaced(self) -> None:
         self.old("tree/a.rrd")
         self.old("tree/b.rrd")

@@ -6,6 +6,7 @@ import os
 from typing import Iterator, List, Optional, Tuple
 
 from ..choice import chosen
+from ..importing.dump import Refusal
 from ..kinds import WHISPER_END, is_of_rrdi
 from .children import ChildAnswer
 from .command_line import Failure
@@ -39,23 +40,25 @@ class Importer(Conversions):
         return super().answers(jobs)
 
     def converted(self, file: OldFile, reading: Reading) -> str:
-        if self.into is not None:
-            return self.into_new(file, reading)
-        if is_of_rrdi(file.path):
+        if self.into is None and is_of_rrdi(file.path):
             return f"{PASSED_OVER}\nis a database of rrdi already"
-        return self.in_place(file, reading)
+        conversion = Conversion(file.path, self.journal)
+        try:
+            return (self.in_place if self.into is None else self.into_new)(file, conversion, reading)
+        except Refusal as refusal:
+            raise Refusal("; ".join([str(refusal), *conversion.notes])) from None
 
-    def into_new(self, file: OldFile, reading: Reading) -> str:
-        conversion, new = Conversion(file.path, self.journal), self.names.new(file)
+    def into_new(self, file: OldFile, conversion: Conversion, reading: Reading) -> str:
+        new = self.names.new(file)
         is_new = make_or_find(new, conversion.lines(reading), conversion.compare)
         outcomes = (WHOLE, INCOMPLETE) if is_new else (THERE, PARTLY_THERE)
         said = "" if is_new else f" {IS_THERE}"
         return f"{outcomes[conversion.skipped > 0]}\n{new}{said}{described(conversion)}"
 
-    def in_place(self, file: OldFile, reading: Reading) -> str:
+    def in_place(self, file: OldFile, conversion: Conversion, reading: Reading) -> str:
         if file.path.endswith(WHISPER_END):
             raise Failure("a file of whisper is converted with --into")
-        conversion, path = Conversion(file.path, self.journal), os.path.realpath(file.path)
+        path = os.path.realpath(file.path)
         before, kept = os.stat(path), f"{path}.old"
         is_left_over(path, kept)
         lines = list(conversion.lines(reading))
