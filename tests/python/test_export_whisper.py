@@ -135,6 +135,9 @@ class BesideWhisper(ToolCase):
         self.assertEqual(self.tool("rrdi-export", "--whisper", "f.rrdi", "new.wsp"), Ran(0, "", notes))
         self.assertEqual(self.tool("rrdi-export", "--whisper", "f.rrdi", "new.wsp"),
                          Ran(1, "", notes + "rrdi-export: new.wsp already exists\n"))
+        for counts in ("1 converted", "0 converted; 1 there already"):
+            self.assertEqual(self.tool("rrdi-export", "--whisper", "--into", "new", "f.rrdi").out.splitlines()[-1],
+                             f"1 file: {counts}, 1 of them with notes")
         fine, coarse = self.shown("new.wsp", NOW + 130)
         self.assertEqual([fine[NOW], fine[NOW + 120], fine[NOW + 130]], [1.5, 13.5, None])
         self.assertEqual([coarse[NOW], coarse[NOW + 60]], [4, 10])

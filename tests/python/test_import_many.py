@@ -317,8 +317,18 @@ class Many(ToolCase):
         self.assertEqual(len(list((self.folder / "tree").glob("*.*"))), 2)
         status, out, err = self.run_import("--into", "new", "tree")
         self.assertEqual((status, err), (0, ""))
-        self.assertEqual(out.splitlines()[:2], [f"tree/{name}.rrd: new/{name}.rrdi (2 data sources, 1 archive); {note}"
-                                                for name, note in notes.items()])
+        self.assertEqual(out.splitlines(), [*(f"tree/{name}.rrd: new/{name}.rrdi (2 data sources, 1 archive); {note}"
+                                              for name, note in notes.items()), "2 files: 2 converted, 2 of them with notes"])
+        self.assertEqual(self.run_import("--into", "new", "tree")[1].splitlines()[-1],
+                         "2 files: 0 converted; 2 there already, 2 of them with notes")
+
+    def test_a_note_in_place(self) -> None:
+        """The last line counts it: a heartbeat is too long for rrdi."""
+        self.old("tree/a.rrd", WHOLE.replace(">60<", ">10000000000<", 1))
+        self.old("tree/b.rrd")
+        status, out, err = self.run_import("--in-place", "tree")
+        self.assertEqual((status, err, out.splitlines()[-1]), (0, "", "2 files: 2 converted, 1 of them with notes"))
+        self.assertIn("; source g: its heartbeat becomes 9999999999, the longest in rrdi", out.splitlines()[0])
 
     def test_a_file_that_changes_meanwhile(self) -> None:
         """A sample that the old file got during the conversion would be lost, so the old file stays."""

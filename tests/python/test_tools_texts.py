@@ -292,6 +292,8 @@ class Trees(unittest.TestCase):
         cases: List[Tuple[Dict[str, int], int, int, str, int]] = [
                 ({"whole": 1}, 0, 0, "1 file: 1 converted", 0), ({"whole": 2, "incomplete": 1}, 0, 0, "3 files: 3 converted, 1 of them without all data sources", 1), ({}, 0, 0, "0 files: 0 converted", 0),
                 ({"there": 1, "partly there": 2}, 0, 1, "3 files: 0 converted; 3 there already, 2 of them without all data sources; 1 link passed over", 1), ({"there": 1}, 0, 0, "1 file: 0 converted; 1 there already", 0),
+                ({"whole": 4, "noted": 14}, 0, 0, "18 files: 18 converted, 14 of them with notes", 0), ({"noted there": 1}, 0, 0, "1 file: 0 converted; 1 there already, 1 of them with notes", 0),
+                ({"noted": 1, "incomplete": 2, "noted there": 2, "partly there": 1}, 0, 0, "6 files: 3 converted, 2 of them without all data sources, 1 other with notes; 3 there already, 1 of them without all data sources, 2 others with notes", 1),
                 ({"passed over": 2}, 3, 2, "5 files: 0 converted; 2 already of rrdi; 3 not converted; 2 links passed over", 1), ({"passed over": 1}, 0, 0, "1 file: 0 converted; 1 already of rrdi", 0)]
         for counts, refused, links, text, status in cases:
             made.counts, made.refused = Counter(counts), refused

@@ -19,7 +19,8 @@ from . import rrdtool_program
 from .command_line import Failure
 from .conversion import Reading, is_left_over
 from .import_many import NEW_END, RRDTOOL_END
-from .many_files import IS_THERE, PASSED_OVER, THERE, WHOLE, Conversions, OldFile, counted, files_of, has, links_below, tidy
+from .many_files import (IS_THERE, NOTED, NOTED_THERE, PASSED_OVER, THERE, WHOLE, Conversions, OldFile, counted, files_of, has,
+                         links_below, tidy)
 from .restoring import difference, restore_equal
 from .whisper_file import bytes_of, copy_of, write_equal
 
@@ -132,11 +133,11 @@ def into_whisper(path: str, new: str) -> str:
     text = "; ".join([has(1, len(copy.file.archives)), *copy.notes])
     if not os.path.lexists(new):
         make_new(new, lambda unfinished: write_equal(copy, unfinished), makes_folder=True)
-        return f"{WHOLE}\n{new}{text}"
+        return f"{NOTED if copy.notes else WHOLE}\n{new}{text}"
     with open_regular(new) as there:
         if there.readall() != bytes_of(copy.file):
             raise Failure(f"{new} already exists, and is not equal")
-    return f"{THERE}\n{new} {IS_THERE}{text}"
+    return f"{NOTED_THERE if copy.notes else THERE}\n{new} {IS_THERE}{text}"
 
 
 # ---- Many files

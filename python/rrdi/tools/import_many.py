@@ -11,8 +11,8 @@ from ..kinds import WHISPER_END, is_of_rrdi
 from .children import ChildAnswer
 from .command_line import Failure
 from .conversion import Conversion, Reading, is_left_over, make_or_find, swap_in
-from .many_files import (INCOMPLETE, IS_THERE, PARTLY_THERE, PASSED_OVER, THERE, WHOLE, Conversions, OldFile, files_of, has,
-                         links_below, tidy)
+from .many_files import (INCOMPLETE, IS_THERE, NOTED, NOTED_THERE, PARTLY_THERE, PASSED_OVER, THERE, WHOLE, Conversions,
+                         OldFile, files_of, has, links_below, tidy)
 
 RRDTOOL_END, NEW_END = ".rrd", ".rrdi"
 OLD_ENDS = (RRDTOOL_END, WHISPER_END)
@@ -51,9 +51,10 @@ class Importer(Conversions):
     def into_new(self, file: OldFile, conversion: Conversion, reading: Reading) -> str:
         new = self.names.new(file)
         is_new = make_or_find(new, conversion.lines(reading), conversion.compare)
-        outcomes = (WHOLE, INCOMPLETE) if is_new else (THERE, PARTLY_THERE)
+        whole, noted, incomplete = (WHOLE, NOTED, INCOMPLETE) if is_new else (THERE, NOTED_THERE, PARTLY_THERE)
         said = "" if is_new else f" {IS_THERE}"
-        return f"{outcomes[conversion.skipped > 0]}\n{new}{said}{described(conversion)}"
+        outcome = incomplete if conversion.skipped else noted if conversion.notes else whole
+        return f"{outcome}\n{new}{said}{described(conversion)}"
 
     def in_place(self, file: OldFile, conversion: Conversion, reading: Reading) -> str:
         if file.path.endswith(WHISPER_END):
@@ -65,7 +66,7 @@ class Importer(Conversions):
         if not conversion.is_whole:
             raise Failure("; ".join(conversion.notes))
         swap_in(path, kept, lines, conversion.compare, before)
-        return f"{WHOLE}\nconverted, the old file is {kept}{described(conversion)}"
+        return f"{NOTED if conversion.notes else WHOLE}\nconverted, the old file is {kept}{described(conversion)}"
 
 
 def described(conversion: Conversion) -> str:

@@ -16,9 +16,11 @@ from .command_line import Failure, Progress, error_text, say
 from .conversion import Reading, size_of
 
 Ends = Tuple[str, ...]  # of names
-# What became of a file: converted with all its data sources, or without some; the same file was there, with all or without
-# some; or the file is one of the other program before.
-WHOLE, INCOMPLETE, THERE, PARTLY_THERE, PASSED_OVER = "whole", "incomplete", "there", "partly there", "passed over"
+# What became of a file: converted with all its data sources, the same but with notes, or without some; the same file was
+# there, with all, the same but with notes, or without some; or the file is one of the other program before.
+WHOLE, NOTED, INCOMPLETE = "whole", "noted", "incomplete"
+THERE, NOTED_THERE, PARTLY_THERE = "there", "noted there", "partly there"
+PASSED_OVER = "passed over"
 IS_THERE = "is there already"
 
 
@@ -184,9 +186,11 @@ class Conversions:
     def summary(self, links: int) -> str:
         """Returns the last line. So many links below directories were passed over."""
         counts, total = self.counts, sum(self.counts.values()) + self.refused
-        parts = [f"{counts[WHOLE] + counts[INCOMPLETE]} converted{without_some(counts[INCOMPLETE])}"]
-        if counts[THERE] + counts[PARTLY_THERE]:
-            parts.append(f"{counts[THERE] + counts[PARTLY_THERE]} there already{without_some(counts[PARTLY_THERE])}")
+        made = counts[WHOLE] + counts[NOTED] + counts[INCOMPLETE]
+        parts = [f"{made} converted{of_them(counts[INCOMPLETE], counts[NOTED])}"]
+        there = counts[THERE] + counts[NOTED_THERE] + counts[PARTLY_THERE]
+        if there:
+            parts.append(f"{there} there already{of_them(counts[PARTLY_THERE], counts[NOTED_THERE])}")
         if counts[PASSED_OVER]:
             parts.append(f"{counts[PASSED_OVER]} already of {self.other}")
         if self.refused:
@@ -201,8 +205,12 @@ class Conversions:
         return 1 if self.refused or self.counts[INCOMPLETE] or self.counts[PARTLY_THERE] else 0
 
 
-def without_some(number: int) -> str:
-    return f", {number} of them without all data sources" if number else ""
+def of_them(incomplete: int, noted: int) -> str:
+    """Returns how many files have not all data sources, and how many others have notes."""
+    parts = [f", {incomplete} of them without all data sources"] if incomplete else []
+    if noted:
+        parts.append(f", {noted} {'others' if incomplete and noted > 1 else 'other' if incomplete else 'of them'} with notes")
+    return "".join(parts)
 
 
 def has(sources: int, archives: int) -> str:
