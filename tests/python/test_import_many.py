@@ -361,6 +361,17 @@ class Many(ToolCase):
         self.assertEqual(out, "tree/a\\nb\\u{1b}[2J\\xff.rrd: new/a\\nb\\u{1b}[2J\\xff.rrdi (2 data sources, 1 archive)\n"
                               "1 file: 1 converted\n")
 
+    def test_folders_of_others(self) -> None:
+        """rrdi opens no file in a folder whose name is not in UTF-8, and the line says so."""
+        (self.folder / "tree/d\udce4").mkdir()
+        before = self.old("tree/d\udce4/a.rrd")
+        for words, new in ((("--into", "new"), "new/d\\xe4/a.rrdi"),
+                           (("--in-place",), f"{os.path.realpath(self.folder)}/tree/d\\xe4/a.rrd")):
+            self.assertEqual(self.run_import(*words, "tree"), (
+                1, "1 file: 0 converted; 1 not converted\n", f"rrdi-import: tree/d\\xe4/a.rrd: not converted: {new}: "
+                "the path is not in UTF-8, as rrdi wants it\n"))
+        self.assertEqual(self.read("tree/d\udce4/a.rrd"), before)
+
     def test_the_bar(self) -> None:
         """The bar is of all files, and each line of a file replaces it."""
         rows = "<row><v>1</v><v>1</v></row>" * 2_000

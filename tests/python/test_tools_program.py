@@ -17,7 +17,7 @@ from tool_case import ToolCase
 
 from rrdi import choice
 from rrdi.by_program import ByProgram, NoAnswer
-from rrdi.errors import CANNOT_OPEN, OK, REFUSED, TRUNCATED
+from rrdi.errors import CANNOT_OPEN, OK, REFUSED, TRUNCATED, USAGE
 from rrdi.library import Library, library_path, load_library
 from rrdi.protocol import Answer, OnFiles
 from rrdi.tools import program
@@ -45,6 +45,18 @@ class Words(ToolCase):
     def test_millionths(self) -> None:
         for text, wanted in (("1.500000", 1_500_000), ("-0.5", -500_000), ("7", 7_000_000), ("-0.000001", -1), ("0", 0)):
             self.assertEqual(program.as_millionths(text), wanted)
+
+    def test_paths_of_others(self) -> None:
+        """The program takes no path that is not in UTF-8 for an argument, and the library does not open one."""
+        library = mock.Mock()
+        for file, fault, output, reason in (("d\udce4/f", USAGE, b"usage", "the path is not in UTF-8, as rrdi wants it"),
+                                            ("d\udce4/f", CANNOT_OPEN, b"", "the path is not in UTF-8, as rrdi wants it"),
+                                            ("d\xe4/f", USAGE, b"usage", "usage"), ("d\xe4/f", CANNOT_OPEN, b"", "cannot open"),
+                                            ("d\udce4/f", REFUSED, b"too large", "too large")):
+            library.run_file.return_value = Answer(fault, 0, 0, output)
+            with mock.patch("rrdi.tools.program.chosen", return_value=library), self.assertRaises(CommandFailed) as raised:
+                program.ask(["last", file])
+            self.assertEqual(str(raised.exception), reason)
 
     def test_the_environment(self) -> None:
         """The library waits and flushes as RRDI_WAIT and RRDI_SYNC tell the program to."""

@@ -12,7 +12,7 @@ from typing import TYPE_CHECKING, Callable, Iterable, Iterator, List, Optional
 from ..by_program import NoAnswer
 from ..choice import chosen, program_path
 from ..environment import milliseconds, sync_of_environment
-from ..errors import EXPLAINED, OK, details_in, of_system, reason_of, reasons_in
+from ..errors import CANNOT_OPEN, EXPLAINED, OK, USAGE, details_in, of_system, reason_of, reasons_in
 from ..limits import LONGEST_LINE
 from ..printed import Settings, settings_of
 from ..words import as_bytes, as_text
@@ -57,6 +57,14 @@ def why_not_opened(path: str) -> str:
     return os.strerror(errno.EISDIR) if os.path.isdir(path) else ""
 
 
+def is_utf_8(path: bytes) -> bool:
+    try:
+        path.decode()
+    except UnicodeDecodeError:
+        return False
+    return True
+
+
 def answered(call: Callable[..., Answer], file: str, given: bytes) -> Answer:
     """Calls a function of the library, or of the program in its place, for a file.
 
@@ -70,6 +78,8 @@ def answered(call: Callable[..., Answer], file: str, given: bytes) -> Answer:
         if none.status:
             raise CommandFailed(f"{none.program} ended with status {none.status}") from None
         raise Failure(f"cannot run {none.program}: {none.reason}") from None
+    if answer.fault in (USAGE, CANNOT_OPEN) and not is_utf_8(as_bytes(file)):
+        raise CommandFailed("the path is not in UTF-8, as rrdi wants it")
     if answer.fault != OK:
         detail = answer.explanation.decode(errors="replace") if answer.fault in EXPLAINED else ""
         raise CommandFailed(reason_of(answer.fault, answer.output).split("\n")[0], answer.system_error, detail)
