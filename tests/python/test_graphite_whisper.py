@@ -26,6 +26,7 @@ from rrdi.importing.whisper import NUMBERS, WhisperArchive, WhisperFile, read_wh
 from rrdi.reader.selected import OpenFile
 from rrdi.tools import whisper_file
 from rrdi.tools.command_line import Failure
+from rrdi.tools.conversion import Conversion, make
 from rrdi.tools.whisper_file import write_equal
 
 NOW = 1_700_000_400  # a multiple of 600
@@ -229,6 +230,36 @@ class Moving(FolderCase):
         lines = self.lines(whisper_bytes([(10, 60, {NOW: math.inf, NOW + 10: 1e18, NOW + 20: math.nan, NOW + 30: 1.0})]))
         self.assertEqual(lines[1], f"update {NOW + 30}:U {NOW + 40}:1.000000")
         self.assertEqual(self.notes, ["2 values that are too large for rrdi became unknown"])
+
+    def notes_of(self, *archives: Tuple[int, int, Mapping[int, float]], xff: float) -> List[str]:
+        """What is noted when a database is made of these archives."""
+        use_any_library(self)
+        Path(self.old).write_bytes(whisper_bytes(archives, 1, xff))
+        conversion = Conversion(self.old, None)
+        make(self.new, conversion.lines(), conversion.compare)
+        return conversion.notes
+
+    def test_coarse_points_in_a_gap_of_a_finer_archive(self) -> None:
+        """The finer archive has the time from 570 seconds ago on, and only three points. What is not a number is no point."""
+        coarse = {NOW - 60 * n: float(n) for n in (2, 3, 9, 10, 11)}
+        notes = self.notes_of((10, 60, {NOW + 10 * n: 1.0 for n in range(3)}), (60, 60, {**coarse, NOW - 240: math.nan}), xff=0.5)
+        self.assertEqual(notes, [f"3 of 5 points of 60 s differ, 3 of them lost, the newest at {NOW - 120}"])
+
+    def test_points_that_are_computed_again(self) -> None:
+        """Of 3 steps with 1 and 6 with 2 the average is 15 / 9; whisper has that of the averages of both minutes, 1 and 2."""
+        fine = {NOW + 10 * n: 1.0 if n < 6 else 2.0 for n in range(12) if n not in (3, 4, 5)}
+        for average, notes in ((1.5, [f"1 of 1 points of 600 s differ, the newest at {NOW}"]), (15 / 9, [])):
+            Path(self.new).unlink(missing_ok=True)
+            found = self.notes_of((10, 60, fine), (60, 60, {NOW: 1.0, NOW + 60: 2.0}), (600, 20, {NOW: average}), xff=0.1)
+            self.assertEqual(found, notes)
+
+    def test_how_far_equal_points_are_apart(self) -> None:
+        """By a millionth for each step of a sum and for the sum; of other methods one step counts. A double has few digits."""
+        for method, before, after, wanted in (
+                ("average", 1.0, 1.0000019, True), ("average", 1.0, 1.0000031, False), ("sum", 1.0, 1.0000069, True),
+                ("sum", 1.0, 0.9999929, False), ("last", 1e12, 1e12 + 50, True), ("last", 1e12, 1e12 - 200, False),
+                ("max", 1.0, None, False)):
+            self.assertEqual(whisper_file.agree(before, after, method, 6), wanted, (method, before, after))
 
     def test_refusals(self) -> None:
         whole = whisper_bytes([(10, 60, {NOW: 1.0})])

@@ -10,7 +10,7 @@ from ..escaping import escaped
 from ..importing.batch import RrdBatch
 from ..importing.differing import NewArchive
 from ..importing.native import read_old
-from ..importing.whisper import read_whisper, whisper_batch
+from ..importing.whisper import WhisperFile, read_whisper, whisper_batch
 from ..kinds import WHISPER_END
 from ..locks import open_regular, state_of
 from ..making import NewFile, take_owner
@@ -18,6 +18,7 @@ from ..reader.selected import OpenFile
 from . import program, rrdtool_program
 from .command_line import Failure
 from .reading import reporting
+from .whisper_file import differing_points
 
 LONGEST_NOTE = 1_000  # characters
 
@@ -43,6 +44,7 @@ class Conversion:
         self.notes: List[str] = []
         self.sources = self.archives = self.skipped = self.skipped_archives = self.changed = 0
         self._batch: Optional[RrdBatch] = None
+        self._whisper: Optional[WhisperFile] = None
 
     def note(self, text: str) -> None:
         """Keeps and passes on what cannot be converted, in one line, whatever the old file's texts have in them."""
@@ -59,7 +61,8 @@ class Conversion:
         - `Failure` if rrdtool is needed to read it and not installed.
         """
         if self.old.endswith(WHISPER_END):
-            lines, there = whisper_batch(read_whisper(self.old), self.journal, self.note), 0
+            self._whisper = read_whisper(self.old)
+            lines, there = whisper_batch(self._whisper, self.journal, self.note), 0
         else:
             size = size_of(self.old)
             old = read_old(self.old, rrdtool_program.found, lambda cells: reading(8 * cells, size))
@@ -80,17 +83,19 @@ class Conversion:
         return not (self.skipped or self.skipped_archives or self.changed)
 
     def compare(self, new: str) -> None:
-        """Notes the archives of the new database that differ from those of the old file, if that is one of RRDtool.
+        """Notes the archives of the new database that differ from those of the old file.
 
         # Errors
         `Failure` if the new database cannot be read.
         """
-        if self._batch is None:
-            return
         with reporting(new), OpenFile(new) as opened:
             archives, last = opened.outline().archives, opened.front.last
-            self._batch.note_differences(lambda place: NewArchive(
-                opened.rows(archives[place], 1, last), archives[place].partial))
+            if self._batch is not None:
+                self._batch.note_differences(lambda place: NewArchive(
+                    opened.rows(archives[place], 1, last), archives[place].partial))
+            if self._whisper is not None:
+                for text in differing_points(self._whisper, opened):
+                    self.note(text)
 
 
 def make(new: str, lines: Iterable[str], look: Callable[[str], None]) -> None:

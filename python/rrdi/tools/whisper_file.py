@@ -2,11 +2,13 @@
 """Makes a file of whisper of a database, with what Graphite shows of it, and reads it back."""
 from __future__ import annotations
 
-from typing import Dict, List, NamedTuple
+import math
+from typing import Dict, Iterator, List, NamedTuple, Optional
 
 from ..amounts import MILLION
 from ..graphite.layout import WITH_ZEROS, ZERO, archives_of, check_retentions, method_of, unknown_share
 from ..graphite.series import unfinished_value, value_of
+from ..importing.differing import MOST_APART, SHARE_APART
 from ..importing.dump import Refusal
 from ..importing.whisper import ARCHIVE, HEAD, NUMBERS, POINT, WhisperArchive, WhisperFile, read_whisper
 from ..reader.selected import OpenFile, Outline, StoredArchive
@@ -75,6 +77,24 @@ def copy_of(file: OpenFile) -> WhisperCopy:
         notes.append(f"all archives get the xff of the one of {archives[0].seconds} s")
     copied = [WhisperArchive(archive.seconds, archive.rows, points_of(file, archive, method)) for archive in archives]
     return WhisperCopy(WhisperFile(method, known_share(archives[0].xff), copied), notes)
+
+
+def differing_points(old: WhisperFile, file: OpenFile) -> Iterator[str]:
+    """Yields a line for each archive of which a known point is another one in the database that was made of it, or none."""
+    for before, archive in zip(old.archives, archives_of(file.outline(), old.method)):
+        after = points_of(file, archive, old.method)
+        known = {when: value for when, value in before.values.items() if not math.isnan(value)}
+        found = [when for when, value in known.items() if not agree(value, after.get(when), old.method, archive.steps)]
+        if found:
+            lost = sum(when not in after for when in found)
+            of_them = f", {lost} of them lost" if lost else ""
+            yield f"{len(found)} of {len(known)} points of {before.seconds} s differ{of_them}, the newest at {max(found)}"
+
+
+def agree(before: float, after: Optional[float], method: str, steps: int) -> bool:
+    """Checks whether a point of so many steps is what it was: each step, and the row, is rounded to a millionth."""
+    rounded = steps + 1 if method == "sum" else 2
+    return after is not None and abs(after - before) <= rounded * MOST_APART + abs(after) * SHARE_APART
 
 
 # ---- Bytes
