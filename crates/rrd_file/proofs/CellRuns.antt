@@ -44,12 +44,12 @@ unknown_read count bytes rest is =
     ap (take (16 * count)) is ∙ take_at front rest (16 * count) (bytes_count (replicate count Unknown) ∙ ap (λ (k : ℕ). 16 * k) (length-replicate count Unknown))
 
 -- a block of unknown ones behind them
-pub unknown_block_read : (count : ℕ) (bytes rest block : List ℕ) → bytes ≡ cells_bytes (replicate count Unknown) ++ rest → block ≡ cells_bytes (replicate 64 Unknown) → take (length block) rest ≡ block → bytes ≡ cells_bytes (replicate (count + 64) Unknown) ++ drop (length block) rest
-unknown_block_read count bytes rest block is block_is same =
+pub unknown_block_read : (count size : ℕ) (bytes rest block : List ℕ) → bytes ≡ cells_bytes (replicate count Unknown) ++ rest → block ≡ cells_bytes (replicate size Unknown) → take (length block) rest ≡ block → bytes ≡ cells_bytes (replicate (count + size) Unknown) ++ drop (length block) rest
+unknown_block_read count size bytes rest block is block_is same =
     let front = cells_bytes (replicate count Unknown) in
     let more = drop (length block) rest in
-    let split : rest ≡ cells_bytes (replicate 64 Unknown) ++ more = sym (take-append-drop (length block) rest) ∙ ap (λ (xs : List ℕ). xs ++ more) (same ∙ block_is) in
-    is ∙ ap (λ (xs : List ℕ). front ++ xs) split ∙ sym (append_assoc front (cells_bytes (replicate 64 Unknown)) more) ∙ ap (λ (xs : List ℕ). xs ++ more) (unknown_bytes_on count 64)
+    let split : rest ≡ cells_bytes (replicate size Unknown) ++ more = sym (take-append-drop (length block) rest) ∙ ap (λ (xs : List ℕ). xs ++ more) (same ∙ block_is) in
+    is ∙ ap (λ (xs : List ℕ). front ++ xs) split ∙ sym (append_assoc front (cells_bytes (replicate size Unknown)) more) ∙ ap (λ (xs : List ℕ). xs ++ more) (unknown_bytes_on count size)
 
 -- ---- cells as pieces
 

@@ -9,7 +9,7 @@ use crate::FileFault;
 use crate::fault::block_fault;
 use crate::layout::{CELL_SIZE, MAX_ROW_CELLS, unknown_bytes};
 use crate::reader::PieceReader;
-use crate::values::{Halves, eight_of, halves_of, signed_of};
+use crate::values::signed_of;
 use crate::writer::{BLOCK_SIZE, Block, PieceWriter};
 use rrd_base::{Database, Due, Rebuild, database_is_valid, is_bounded};
 use rrd_fixed::{StoredCell, WriteFault};
@@ -21,12 +21,8 @@ use std::io::{Read, Write};
 /// The maximum number of cells that are read at once: as many as wait, which are enough for the widest row.
 const MAX_CELLS_AT_ONCE: usize = 128;
 
-/// Returns the halves of the number that is written for a cell.
-pub(crate) fn cell_halves(cell: StoredCell) -> Halves
-    ensures { spelling.eight_bytes result.high ++ spelling.eight_bytes result.low ≡ spelling.cell_bytes cell }
-{
-    halves_of(cell.number())
-}
+/// The number of unknown cells that are compared at once, which is faster than one after another.
+const CELLS_IN_BLOCK: usize = 8;
 
 impl Block {
     /// Adds unknown cells, at most 64.
@@ -206,21 +202,6 @@ fn cells_of(bytes: &[u8], cells: &mut [StoredCell]) -> usize
     cells.len()
 }
 
-// Returns the bytes behind the first cell, if it is unknown.
-fn behind_unknown(bytes: &[u8]) -> Option<&[u8]>
-    requires { CELL_SIZE ≤ length bytes.now }
-    ensures spelled { IfSome result (λ rest. bytes.now ≡ spelling.cell_bytes Unknown ++ rest.now) }
-    ensures room { IfSome result (λ rest. length rest.now + CELL_SIZE ≡ length bytes.now) }
-{
-    let (high, rest) = eight_of(bytes);
-    let (low, rest) = eight_of(rest);
-    let unknown = cell_halves(StoredCell::unknown());
-    if high != unknown.high || low != unknown.low {
-        return None;
-    }
-    Some(rest)
-}
-
 // Returns whether these bytes are the same. Looking at all of them is faster than ending at the first that differs.
 fn are_same(bytes: &[u8], others: &[u8]) -> bool
     requires { length bytes.now ≡ length others.now }
@@ -233,16 +214,18 @@ fn are_same(bytes: &[u8], others: &[u8]) -> bool
     same
 }
 
-// Returns how many of the first cells are unknown, in blocks of 64, and the bytes behind them.
-fn unknown_blocks(bytes: &[u8]) -> (usize, &[u8])
+// Returns how many of the first cells are unknown, in blocks of `size`, and the bytes behind them.
+fn unknown_blocks(bytes: &[u8], size: usize) -> (usize, &[u8])
+    requires some { 0 < size }
+    requires few { size ≤ MAX_ROW_CELLS }
     ensures spelled { bytes.now ≡ flat_map spelling.cell_bytes (replicate result.0 Unknown) ++ result.1.now }
     ensures room { length result.1.now + CELL_SIZE * result.0 ≡ length bytes.now }
 {
-    let block = unknown_bytes(MAX_ROW_CELLS);
+    let block = unknown_bytes(size);
     let mut count = 0;
     let mut rest = bytes;
     while rest.len() >= block.len() && are_same(&rest[..block.len()], block) {
-        count += MAX_ROW_CELLS;
+        count += size;
         rest = &rest[block.len()..];
     }
     (count, rest)
@@ -253,15 +236,9 @@ fn unknown_front(bytes: &[u8]) -> usize
     ensures few { CELL_SIZE * result ≤ length bytes.now }
     ensures spelled { take (CELL_SIZE * result) bytes.now ≡ flat_map spelling.cell_bytes (replicate result Unknown) }
 {
-    let (mut count, mut rest) = unknown_blocks(bytes);
-    while rest.len() >= CELL_SIZE {
-        let Some(more) = behind_unknown(rest) else {
-            return count;
-        };
-        count += 1;
-        rest = more;
-    }
-    count
+    let (many, rest) = unknown_blocks(bytes, CELLS_IN_BLOCK);
+    let (more, _) = unknown_blocks(rest, 1);
+    many + more
 }
 
 // Reads one waiting cell. The cell is checked in the buffer, and skipped after the database took it.

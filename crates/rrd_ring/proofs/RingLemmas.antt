@@ -282,9 +282,6 @@ written_from xs ds s f g hs sum hf hg which =
 pub rows_len : (rows w : ℕ) (xs : List Cell) (all : List (List Cell)) → rows_of rows w xs ≡ all → length all ≡ rows
 rows_len rows w xs all e = ap length (sym e) ∙ length-rows_of rows w xs
 
-pub rows_fit : (rows w k : ℕ) (xs : List Cell) → AreRows rows w xs → k < rows → k * w + w ≤ length xs
-rows_fit rows w k xs are h = omega (arith, are.whole, row_fits k w rows w h (omega arith))
-
 -- where the vector's first row is the oldest
 pub ring_at_front : (rows w : ℕ) (xs : List Cell) → 0 < rows → length xs ≡ rows * w → ring_rows rows w 0 xs ≡ rows_of rows w xs
 ring_at_front rows w xs some e = grind (arith, ring_rows-from_index, append-nil)

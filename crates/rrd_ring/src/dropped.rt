@@ -1,7 +1,7 @@
 //! Rows that an archive dropped.
 ghost use Rattle.std.specs.Prelude.{◌≡◌, ◌+◌, ◌*◌, ◌<◌, ◌≤◌, length, take, drop};
 ghost use Rattle.smallvec.specs.SmallVec.{small_vec_len};
-ghost use Rattle.rrd_ring.specs.Rows.{nth_row, row_cells, width, HasWidth, max_rows, max_sources};
+ghost use Rattle.rrd_ring.specs.Rows.{row_cells, width, HasWidth, max_rows, max_sources};
 
 use crate::ring::cells_of;
 use rrd_fixed::StoredCell;
@@ -68,15 +68,6 @@ impl Dropped {
         ensures few { result ≤ max_rows }
     {
         self.rows as u64
-    }
-
-    /// Returns the cells of row `i`. Row 0 is the oldest.
-    pub fn row(&self, i: u64) -> &[StoredCell]
-        requires { i < length self.now }
-        ensures { result.now ≡ nth_row self.now i }
-    {
-        let start = cells_of(i as usize, self.sources);
-        &self.cells.as_slice()[start..start + self.sources]
     }
 
     /// Returns `most` rows from row `first` on, which are all consecutive in memory.

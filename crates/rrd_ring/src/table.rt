@@ -9,7 +9,7 @@ use rrd_fixed::StoredCell;
 pub trait Table {
     ghost use Rattle.std.specs.Prelude.{◌≡◌, ◌+◌, ◌<◌, ◌≤◌, List, length, take, drop};
     ghost use Rattle.rrd_fixed.specs.declared.cell.Cell.{Cell};
-    ghost use Rattle.rrd_ring.specs.Rows.{nth_row, row_cells, max_rows};
+    ghost use Rattle.rrd_ring.specs.Rows.{row_cells, max_rows};
 
     // The rows that contracts see.
     ghost table: { Self → List (List Cell) };
@@ -18,11 +18,6 @@ pub trait Table {
     fn count(&self) -> u64
         ensures count { result ≡ length (table self.now) }
         ensures few { result ≤ max_rows };
-
-    /// Returns the cells of row `number`. Row 0 is the oldest.
-    fn at(&self, number: u64) -> &[StoredCell]
-        requires { number < length (table self.now) }
-        ensures { result.now ≡ nth_row (table self.now) number };
 
     /// Returns the first of `most` rows from row `first` on that are consecutive in memory.
     ///
@@ -42,10 +37,6 @@ impl Table for Archive {
         self.rows()
     }
 
-    fn at(&self, number: u64) -> &[StoredCell] {
-        self.row(number)
-    }
-
     fn together(&self, first: u64, most: u64) -> (u64, &[StoredCell]) {
         self.contiguous_rows(first, most)
     }
@@ -56,10 +47,6 @@ impl Table for Dropped {
 
     fn count(&self) -> u64 {
         self.len()
-    }
-
-    fn at(&self, number: u64) -> &[StoredCell] {
-        self.row(number)
     }
 
     fn together(&self, first: u64, most: u64) -> (u64, &[StoredCell]) {

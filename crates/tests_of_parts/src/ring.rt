@@ -70,7 +70,8 @@ fn assert_dropped(rt: &impl Abort, dropped: &Dropped, numbers: &[i128])
 {
     assert_eq!(rt; dropped.len(), numbers.len() as u64);
     for (i, number) in numbers.iter().enumerate() {
-        assert_cells(rt, dropped.row(i as u64), &[*number], i as u64);
+        let (_, row) = dropped.contiguous_rows(i as u64, 1);
+        assert_cells(rt, row, &[*number], i as u64);
     }
 }
 

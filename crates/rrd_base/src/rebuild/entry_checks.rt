@@ -15,7 +15,7 @@ use crate::{DsDef, RraDef, SavedSource};
 use arrayvec::ArrayVec;
 use rrd_fixed::{Name, StoredCell};
 use rrd_fold::RowPrep;
-use rrd_ring::{Archive, Table};
+use rrd_ring::Archive;
 use rrd_spec::limits::MAX_SOURCES;
 
 // ---- rows
@@ -29,12 +29,12 @@ fn is_row(cells: &[StoredCell], sources: usize) -> bool
 }
 
 // Returns whether all rows have one cell for each data source, none with an absolute value above the maximum rate.
-fn are_rows<T: Table>(rows: &T, sources: usize) -> bool
-    ensures good { result ≡ true → AllByRecursion (IsRow sources) (T.table rows.now) }
-    ensures bad { AllByRecursion (IsRow sources) (T.table rows.now) → result ≡ true }
+fn are_rows(rows: &Archive, sources: usize) -> bool
+    ensures good { result ≡ true → AllByRecursion (IsRow sources) rows.now }
+    ensures bad { AllByRecursion (IsRow sources) rows.now → result ≡ true }
 {
-    for number in 0..rows.count() {
-        if !is_row(rows.at(number), sources) {
+    for number in 0..rows.rows() {
+        if !is_row(rows.row(number), sources) {
             return false;
         }
     }

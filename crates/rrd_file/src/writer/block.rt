@@ -3,8 +3,8 @@ ghost use Rattle.std.specs.Prelude.{◌≡◌, ◌+◌, ◌*◌, ◌≤◌, [], 
 ghost use Rattle.rrd_file.specs.Names.{flat_map};
 ghost use Rattle.rrd_file.specs.Layout.Values as spelling;
 
-use crate::cells::cell_halves;
 use crate::layout::{CELL_SIZE, MAX_ROW_CELLS};
+use crate::values::halves_of;
 use rrd_fixed::StoredCell;
 use std::marker::Model;
 
@@ -91,7 +91,7 @@ fn put_cell(into: &mut [u8], cell: StoredCell)
     requires { length into.old ≡ CELL_SIZE }
     ensures { into.new ≡ spelling.cell_bytes cell }
 {
-    let halves = cell_halves(cell);
+    let halves = halves_of(cell.number());
     into[..8].copy_from_slice(&halves.high.to_be_bytes());
     into[8..].copy_from_slice(&halves.low.to_be_bytes());
 }

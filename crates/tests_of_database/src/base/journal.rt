@@ -62,7 +62,8 @@ fn assert_kept(rt: &impl Abort, kept: &SavedArchive, function: Function, count: 
     let rows = kept.rows();
     assert_eq!(rt; rows.len(), count);
     assert!(rt; 0 < rows.len());
-    assert_eq!(rt; rows.row(0), [StoredCell::unknown()].as_slice());
+    let (_, oldest) = rows.contiguous_rows(0, 1);
+    assert_eq!(rt; oldest, [StoredCell::unknown()].as_slice());
     let preps = kept.preps();
     assert!(rt; preps.len() == 1);
     let row = &preps[0];

@@ -7,8 +7,8 @@ loop-rest-preserved c =
     let block = c.unknown_bytes-block.result.now in
     let more = drop (length block) rest in
     let all : take (length rest - length block) more ≡ more = take_all _ _ (omega (arith, length-drop (length block) rest)) in
-    let read = unknown_block_read c.loop-rest.count c.args.bytes.now rest block c.loop-rest.invariant.spelled c.unknown_bytes-block.ensures.bytes (c.are_same.ensures c.if-are_same.true) in
+    let read = unknown_block_read c.loop-rest.count c.args.size c.args.bytes.now rest block c.loop-rest.invariant.spelled c.unknown_bytes-block.ensures.bytes (c.are_same.ensures c.if-are_same.true) in
     record {
-      spelled = read ∙ ap (λ xs. flat_map cell_bytes (replicate (c.loop-rest.count + 64) Unknown) ++ xs) (sym all);
+      spelled = read ∙ ap (λ xs. flat_map cell_bytes (replicate (c.loop-rest.count + c.args.size) Unknown) ++ xs) (sym all);
       room = omega (arith, ap length all, length-drop (length block) rest, c.loop-rest.invariant.room, c.unknown_bytes-block.ensures.size, c.loop-rest-test.true);
     }
