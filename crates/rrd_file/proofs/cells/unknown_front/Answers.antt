@@ -1,4 +1,4 @@
-use Rattle.rrd_file.proofs.Common.{◌∙◌, ◌≡◌, ◌++◌, ◌+◌, ap, sym, replicate, append_assoc, Unknown, cells_bytes, unknown_bytes_on, unknown_read}
+use Rattle.rrd_file.proofs.Common.{◌∙◌, ◌++◌, ◌+◌, ap, sym, replicate, append_assoc, Unknown, cells_bytes, unknown_bytes_on, unknown_read}
 use Rattle.rrd_file.proofs.cells.unknown_front.Goals as goal
 
 pub returns-clause-spelled : goal.returns-clause-spelled

@@ -1,4 +1,3 @@
-use Rattle.std.proofs.lemmas.Grind.{common_steps}
 use Rattle.rrd_ring.proofs.Common.{◌∙◌, ap, sym, ℕ, ◌≡◌, ◌++◌, List, [], take, length, replicate, arith, Unknown, Cell, clones_same, take_all}
 use Rattle.rrd_ring.proofs.unwritten.UnwrittenRow.new.Goals as goal
 
