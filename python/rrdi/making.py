@@ -168,7 +168,10 @@ def take_owner(new: str, before: os.stat_result) -> None:
     """
     found = os.stat(new)
     if (found.st_uid, found.st_gid) != (before.st_uid, before.st_gid):
-        os.chown(new, before.st_uid, before.st_gid)
+        try:
+            os.chown(new, before.st_uid, before.st_gid)
+        except OSError as error:
+            raise OSError(error.errno, f"the new file cannot get the owner of the old one: {error.strerror}") from None
     os.chmod(new, before.st_mode & 0o7777)
 
 

@@ -15,6 +15,7 @@ from cases import DataCase, WithLibrary, WithProgram, use_library
 from rrdi import commands, damaged, errors, locks, making
 from rrdi.making import NewFile, end_of_links, is_there, make, remove_left_over
 from rrdi.tools import record
+from rrdi.tools.command_line import error_text
 
 DEFINITIONS = ("DS:g:GAUGE:60:U:U", "RRA:LAST:0.5:1:4")
 
@@ -34,6 +35,15 @@ class Making(DataCase):
     def test_a_new_file(self) -> None:
         self.assertTrue(self.made())
         self.assertEqual((self.files(), self.path.read_text()), (["data/f.rrdi"], "new"))
+
+    def test_an_owner_that_is_refused(self) -> None:
+        """The message says what could not be done, since nobody knows the file's first name."""
+        self.path.write_text("new")
+        before = mock.Mock(st_uid=os.geteuid() + 1, st_gid=os.getegid(), st_mode=0o644)
+        with mock.patch.object(os, "chown", side_effect=PermissionError(errno.EPERM, "no", "x")), self.assertRaises(OSError) as raised:
+            making.take_owner(str(self.path), before)
+        self.assertEqual((raised.exception.errno, error_text(raised.exception)),
+                         (errno.EPERM, "the new file cannot get the owner of the old one: no"))
 
     def test_what_a_kill_has_left(self) -> None:
         """Files of such names that are older than a day go; no others, and no folder or link."""

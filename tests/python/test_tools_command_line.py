@@ -145,6 +145,8 @@ class Ends(ToolCase):
     def test_help(self) -> None:
         for option in ("-h", "--help"):
             self.assertEqual(self.end("raise Failure('not called')", option), Ran(0, "The help.\n", ""))
+            self.assertEqual(self.end("raise WrongArguments", "a", option), Ran(0, "The help.\n", ""))
+            self.assertEqual(self.end("raise WrongArguments('what is a')", "a", option), Ran(2, "", "rrdi-try: what is a\n"))
         self.assertEqual(self.end("print(words); return 0", "a", "--help"), Ran(0, "['a', '--help']\n", ""))
 
     def test_a_full_disk(self) -> None:

@@ -85,6 +85,22 @@ def complain(text: str) -> None:
         give_up_output(2)
 
 
+def print_help(tool: Tool) -> int:
+    """Prints the help of a tool, and returns 0."""
+    print((tool.help or f"usage: {called_name(tool)} {tool.usage}").strip())  # PYTHONOPTIMIZE=2 leaves no help
+    return 0
+
+
+def run_or_help(tool: Tool, words: List[str]) -> int:
+    """Runs a tool with these words, or prints its help if they ask for it and are nothing else that it can do."""
+    try:
+        return tool.run(words)
+    except WrongArguments as wrong:
+        if str(wrong) or not {"-h", "--help"}.intersection(words):
+            raise
+        return print_help(tool)
+
+
 def run(tool: Tool, words: Optional[List[str]] = None) -> int:
     """Runs a tool and returns its exit status.
 
@@ -95,13 +111,12 @@ def run(tool: Tool, words: Optional[List[str]] = None) -> int:
     name, ended = called_name(tool), tool.failed
     try:
         if words[:1] in (["-h"], ["--help"]):
-            print((tool.help or f"usage: {name} {tool.usage}").strip())  # PYTHONOPTIMIZE=2 leaves no help
-            status = 0
+            status = print_help(tool)
         elif words[:1] == ["--version"]:
             print(tool.version or f"{tool.name} {__version__}")
             status = 0
         else:
-            status = tool.run(words)
+            status = run_or_help(tool, words)
         flush_output()
         return status
     except WrongArguments as wrong:
