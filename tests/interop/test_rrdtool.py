@@ -229,13 +229,14 @@ def test_refused_lines(tools: Tools) -> None:
 
 
 def test_an_added_archive(tools: Tools, check: Check) -> None:
-    """RRDtool fills an added archive from another one of any function. In rrdi it has no known row from before, as the
-    manual says."""
-    definitions = "--step 10 --start 1000000020 DS:g:GAUGE:100:U:U RRA:LAST:0.5:1:20"
-    for name, known in (("rrdtool", 5), ("rrdi", 1)):
-        changes = [f"create a {definitions}", *(f"update a 10000000{at}:{at}" for at in (30, 40, 50, 60)),
-                   "tune a RRA:AVERAGE:0.5:1:8", "update a 1000000070:70"]
+    """RRDtool fills an added archive from one of its function or of AVERAGE. In rrdi it has no known row from before, as
+    the manual says."""
+    for name, old, known in (("rrdtool", "AVERAGE", 3), ("rrdtool", "LAST", 1), ("rrdi", "AVERAGE", 1)):
+        file = f"{old}.{name}"
+        changes = [f"create a --step 10 --start 1000000020 DS:g:GAUGE:100:U:U RRA:{old}:0.5:2:20",
+                   *(f"update a 10000000{at}:{at}" for at in (30, 40, 50, 60)), "tune a RRA:MAX:0.5:2:8",
+                   "update a 1000000080:80"]
         for change in changes:
-            tools.expect(0, "", name, *change.replace(" a ", f" a.{name} ").split())
-        said = tools.expect(0, "", name, *f"fetch a.{name} AVERAGE -r 10 -s 1000000020 -e 1000000069".split())
-        check.same(len(re.findall(r": \d", said)), known, f"{name}: the known rows of an added archive")
+            tools.expect(0, "", name, *change.replace(" a ", f" {file} ").split())
+        said = tools.expect(0, "", name, *f"fetch {file} MAX -r 20 -s 1000000020 -e 1000000079".split())
+        check.same(len(re.findall(r": \d", said)), known, f"{name}: the known rows of MAX, added to {old}")

@@ -10,8 +10,8 @@ examples:
   * * * * * /usr/local/bin/rrdi-check t.rrdi temp --above 30 --changes t.state
 
 It prints one line, and its status is 0 (OK), 1 (WARNING), 2 (CRITICAL) or 3
-(UNKNOWN). The value is the newest known row of the finest archive. A source
-without a new value is CRITICAL too.
+(UNKNOWN). The value is the newest known row of the finest archive that
+reaches back SPAN. A source without a new value is CRITICAL too.
 
 options, anywhere on the line:
   --above N            CRITICAL above N

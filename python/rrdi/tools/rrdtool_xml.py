@@ -6,7 +6,7 @@ from typing import Any, Dict, Iterator, Optional
 
 
 def number(value: Optional[int], unknown: str = "NaN") -> str:
-    """Returns a number with all its digits; rrdtool reads it as the nearest number that rrdtool can store."""
+    """Returns a number with all its digits; rrdtool reads it as a double close to it."""
     return unknown if value is None else str(value)
 
 

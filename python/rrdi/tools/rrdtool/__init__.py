@@ -6,7 +6,7 @@ usage: rrdi-rrdtool [--exact | --rrdi | --show] COMMAND ARGUMENT..
 
 examples:
   rrdi-rrdtool fetch room.rrdi AVERAGE -s now-1h
-  rrdi-rrdtool --show update room.rrdi 'now:2.05e1'
+  rrdi-rrdtool --show update room.rrdi 'now@2.05e1'
 
 COMMAND is create, update, updatev, tune, resize, fetch, first, last,
 lastupdate, info, graph, graphv or xport, with RRDtool's options, times such as
