@@ -125,6 +125,12 @@ class Dumps(unittest.TestCase):
             with self.assertRaises(ElementTree.ParseError):
                 read_dump(io.BytesIO(self.TEXT[:size]))
 
+    def test_a_tag_in_a_text_of_the_file(self) -> None:
+        """rrdtool prints the texts of a file as they are. Where a number should be, there may be none."""
+        for old, new in ((b"<name> b ", b"<name> <step/> "), (b"<last_ds>U", b"<last_ds></last_ds><step/><last_ds>"), (b"> 2 <", b">x<"), (b"1.5", b"1,5")):
+            with self.assertRaises(ValueError):
+                read_dump(io.BytesIO(self.TEXT.replace(old, new)))
+
     def test_a_row_of_another_width_is_refused(self) -> None:
         with self.assertRaisesRegex(Refusal, "a row of archive 0 has 1 cells"):
             read_dump(io.BytesIO(self.TEXT.replace(b"<v>4</v>", b"")))
@@ -322,10 +328,22 @@ class Batches(unittest.TestCase):
             RrdBatch(RrdFile(10, 1000, [source()], []), None, print)
         with self.assertRaisesRegex(Refusal, "at most 64"):
             RrdBatch(RrdFile(10, 1000, [source(column=at) for at in range(65)], []), None, print)
+        with self.assertRaisesRegex(Refusal, "a step of the file has no seconds"):
+            RrdBatch(RrdFile(0, 1000, [source()], [archive(0, "MAX", 1, [1.0])]), None, print)
         with self.assertRaisesRegex(Refusal, "a step of rrdi has at most 1,000,000 seconds"):
             RrdBatch(RrdFile(1_000_001, 1000, [source()], []), None, print)
         with self.assertRaisesRegex(Refusal, "the last time is after 9999999999"):
             RrdBatch(RrdFile(10, 10_000_000_000, [source()], []), None, print)
+
+    def test_numbers_that_no_archive_has(self) -> None:
+        """Those of a damaged file: rrdi's xff for one that is no share would be looked for without an end."""
+        rows = [1.0, 2.0]
+        for share in (NAN, math.inf, -math.inf, -0.1, -1.0, 1.0, 2.0, 1e18, 1e300):
+            lines, notes = self.lines(RrdFile(10, 1000, [source()], [archive(0, "MAX", 1, rows), archive(1, "AVERAGE", 6, rows, share)]))
+            self.assertEqual(notes, [f"skipped archive 1, AVERAGE: its xff is not from 0 to below 1, but {share}"])
+            self.assertEqual(lines[0].split(" ")[5:], ["DS:s0:GAUGE:9999999999:U:U", "RRA:MAX:0.5:1:2"])
+        _, notes = self.lines(RrdFile(10, 1000, [source()], [archive(0, "MAX", 1, rows), archive(1, "AVERAGE", 0, rows)]))
+        self.assertEqual(notes, ["skipped archive 1, AVERAGE: its rows have no steps"])
 
     def test_counters_of_fractions(self) -> None:
         """They become a DERIVE. The direction of a DCOUNTER, whose restarts are unknown, becomes a bound of 0."""

@@ -80,6 +80,10 @@ def choose_archives(old: RrdFile, sources: int, note: Callable[[str], None]) -> 
             why = "a row in rrdi has at most 1,000,000 steps"
         elif archive.row_count > MOST_ROWS:
             why = "an archive in rrdi has at most 1,000,000 rows"
+        elif archive.steps < 1:
+            why = "its rows have no steps"
+        elif not 0 <= archive.share < 1:  # nan is neither
+            why = f"its xff is not from 0 to below 1, but {archive.share}"
         else:
             archive.place(old.step, old.last)
             chosen.append(archive)
@@ -148,6 +152,8 @@ class RrdBatch:
     """Writes the lines of a batch."""
 
     def __init__(self, old: RrdFile, journal: str | None, note: Callable[[str], None]):
+        if old.step < 1:
+            raise Refusal("a step of the file has no seconds")
         if old.step > LONGEST_STEP:
             raise Refusal("a step of rrdi has at most 1,000,000 seconds")
         if old.last > LATEST:

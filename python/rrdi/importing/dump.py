@@ -104,6 +104,7 @@ def read_dump(stream: IO[bytes], progress: Callable[[int], None] = lambda cells:
 
     # Errors
     - `ElementTree.ParseError` if the text is not complete XML.
+    - `ValueError` if what should be a number is none.
     - `Refusal` if a row has another number of cells than the file has data sources.
     """
     step = last = -1
@@ -146,14 +147,17 @@ def read_rrd(rrdtool: str, file: str, progress: Callable[[int], None] = lambda c
     """
     with subprocess.Popen([rrdtool, "dump", file], stdout=subprocess.PIPE, stderr=subprocess.PIPE) as dump:
         assert dump.stdout and dump.stderr
+        fault = "rrdtool did not read the file to its end"
         try:
             old = read_dump(dump.stdout, progress)
         except ElementTree.ParseError:
             old = None
+        except ValueError:  # rrdtool prints the texts of the file as they are, even tags
+            old, fault = None, "what rrdtool prints of the file has something else than a number"
         dump.stdout.close()
         reason = dump.stderr.read().decode(errors="replace").strip()
     if dump.returncode or old is None:
-        raise Refusal(reason or "rrdtool did not read the file to its end")
+        raise Refusal(reason or fault)
     asked = subprocess.run([rrdtool, "last", file], capture_output=True, text=True)
     if asked.stdout.strip() != str(old.last):
         raise Refusal("the file changed while it was read")
