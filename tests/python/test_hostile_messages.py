@@ -103,6 +103,22 @@ class Parts(unittest.TestCase):
             self.assertEqual(compare.without_name(f'{shown}step = 10\n', name), "step = 10\n")
         self.assertEqual(compare.without_name("step = 10\n", "f"), "step = 10\n")
 
+    def test_names_of_sources_in_what_rrdtool_prints(self) -> None:
+        """They may have lines in them, which change neither the settings nor the archives. If rrdtool does not tell the rows of an
+        archive, the tool says so."""
+        text = ('step = 10\nlast_update = 33\nds[{}].index = 0\nds[{}].type = "GAUGE"\n'
+                'rra[0].cf = "MAX"\nrra[0].rows = 3\nrra[0].pdp_per_row = 1\n')
+        for name in ("a", "a\nstep = 1\nb", "a\nstep = x\nb", "a\nlast_update = 0\n", 'a\nrra[0].cf = "X"\n'):
+            self.assertEqual(list(compare.spans(text.format(name, name))), [("MAX", 10, 0, 29)], name)
+        for wrong in (text.format(*2 * ('\nrra[1].cf = "MAX"\n',)), text.replace("= 10", "= 0"), text.replace("= 10", "= x"), text.replace("step", "x")):
+            with mock.patch.object(compare.rrdtool_program, "ask", return_value=wrong), self.assertRaises(Failure) as failed:
+                compare.compare(["old", "new"])
+            self.assertEqual(str(failed.exception), "rrdtool does not tell which rows old has")
+        printed = [text, "    a\nx: 1\n\n10: 1\n"]
+        with mock.patch.object(compare.rrdtool_program, "ask", side_effect=printed), self.assertRaises(Failure) as failed:
+            compare.compare(["old", "new"])
+        self.assertEqual(str(failed.exception), "cannot read what rrdtool fetches of MAX from old")
+
 
 @needs_program
 class Tools(ToolCase):

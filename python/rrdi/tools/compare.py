@@ -97,9 +97,19 @@ def without_name(info: str, old: str) -> str:
     return info[len(first):] if info.startswith(first) else info
 
 
+def settings_in(text: str) -> Dict[str, str]:
+    """Returns the values of the lines KEY = VALUE."""
+    return dict(re.findall(r"^(\S+) = (.*)$", text, re.MULTILINE))
+
+
 def spans(info: str) -> Iterator[ArchiveSpan]:
-    """Yields the rows of each archive that rrdi can have, from the output of `rrdtool info`."""
-    found = dict(re.findall(r"^(\S+) = (.*)$", info, re.MULTILINE))
+    """Yields the rows of each archive that rrdi can have, from the output of `rrdtool info`. The names of sources, which stand
+    between the settings of the file and the archives, may have lines in them that look like others.
+
+    # Errors
+    `ValueError`, `KeyError` or `ZeroDivisionError` if the output does not tell the rows of an archive.
+    """
+    found = {**settings_in(info), **settings_in(info.partition("\nds[")[0])}
     for number in range(len(found)):
         function = found.get(f"rra[{number}].cf", "").strip('"')
         if not function:
@@ -124,7 +134,11 @@ def missing_sources(info: str, new: str) -> List[str]:
 
 
 def old_cells(text: str) -> OldCells:
-    """Reads the output of `rrdtool fetch`."""
+    """Reads the output of `rrdtool fetch`.
+
+    # Errors
+    `ValueError` if a line has something else than a time and numbers.
+    """
     lines = text.splitlines()
     names = lines[0].split() if lines else []
     rows = {}
@@ -141,6 +155,8 @@ def compare_archive(old: str, new: str, span: ArchiveSpan) -> Counts:
         cells = old_cells(rrdtool_program.ask(["fetch", old, *words]))
     except Failure as failure:
         raise Failure(f"rrdtool does not fetch {span.function} from {old}: {failure}") from None
+    except ValueError:  # a name of a source may have lines in it
+        raise Failure(f"cannot read what rrdtool fetches of {span.function} from {old}") from None
     try:
         text = program.ask(["fetch", new, *words])
     except program.CommandFailed as failed:
@@ -164,7 +180,10 @@ def compare(words: List[str]) -> int:
             raise
         raise Failure(f"rrdtool does not read {old}: {failure}") from None
     info = without_name(info, old)
-    archives = list(spans(info))
+    try:
+        archives = list(spans(info))
+    except (ValueError, KeyError, ZeroDivisionError):
+        raise Failure(f"rrdtool does not tell which rows {old} has") from None
     if not archives:
         raise Failure(f"{old} has no archive that rrdi can have")
     status = 0
