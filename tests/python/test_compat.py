@@ -50,7 +50,7 @@ class Translations(unittest.TestCase):
         for text, unit, wanted in (("5m", 1, "300"), ("1h", 300, "12"), ("1d", 1, "86400"), ("7", 300, "7"),
                                    ("1w", 1, "604800"), ("1M", 1, "2678400"), ("1y", 1, "31622400")):
             self.assertEqual(read_length(text, "step", unit), wanted)
-        for text in ("", "x", "5 m", "-5"):
+        for text in ("", "x", "5 m", "-5", "\u0665", "\u0665m"):
             with self.assertRaisesRegex(Untranslatable, "step must be a number or a duration"):
                 read_length(text, "step")
         with self.assertRaisesRegex(Untranslatable, "^step must be a number or a duration such as 5m, not 5 m$"):
@@ -81,6 +81,8 @@ class Translations(unittest.TestCase):
                 ("update f.rrd -s 1600000010:1 1600000020:1 1600000030:nan 1600000030:2",
                  ["update f.rrd 1600000030:U"]),
                 ("update f.rrd --skip-past-updates 1600000010:1", []),
+                (f"update f.rrd -s \u00b2:1 {'9' * 5_000}:1", [f"update f.rrd \u00b2:1 {'9' * 5_000}:1"]),
+                ("update f.rrd \u0661:1", ["update f.rrd \u0661:1"]),
                 ("update f.rrd now-1h@1", [f"update f.rrd {NOW - 3_600}:1"]),
                 ("fetch f.rrd MAX -r 1h -s end-2h -e 1600000000 -a",
                  ["fetch f.rrd MAX --resolution 3600 --start 1599991200 --end 1599998400"]),

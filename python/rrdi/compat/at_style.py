@@ -27,7 +27,7 @@ class Moment:
     def __init__(self, text: str, now: int):
         self.text, self.base, self.offset, self.is_summer = text, "", 0, -1
         self.parts = list(time.localtime(now)[:6])
-        self.tokens: List[str] = re.findall(r"\d+|[a-z]+|[^\s\d]", re.sub(r"[_,]", " ", text.lower()))
+        self.tokens: List[str] = re.findall(r"\d+|[a-z]+|[^\s\d]", re.sub(r"[_,]", " ", text.lower()), re.ASCII)
         if not self.tokens:
             self.refuse()
         first = self.tokens[0]
@@ -47,7 +47,7 @@ class Moment:
         raise Untranslatable(f"cannot parse time: {self.text}")
 
     def next_is(self, pattern: str, ahead: int = 0) -> bool:
-        return len(self.tokens) > ahead and re.fullmatch(pattern, self.tokens[ahead]) is not None
+        return len(self.tokens) > ahead and re.fullmatch(pattern, self.tokens[ahead], re.ASCII) is not None
 
     def take(self, pattern: str) -> str:
         if not self.next_is(pattern):

@@ -83,7 +83,7 @@ def read_number(text: str) -> str:
         return "U"
     if len(text) > LONGEST_NUMBER or not NUMBER.fullmatch(text):
         return text  # rrdi refuses the text and names it
-    if re.fullmatch(r"-?\d+(\.\d{1,6})?", text):
+    if re.fullmatch(r"-?[0-9]+(\.[0-9]{1,6})?", text):
         return text
     from decimal import Decimal  # most numbers need no rounding
     sign, digits, exponent = Decimal(text).as_tuple()
@@ -96,7 +96,7 @@ def read_number(text: str) -> str:
 
 def read_length(text: str, what: str, unit: int = 1) -> str:
     """Returns a length such as 5m in units of `unit` seconds. A number alone is a number of units."""
-    found = re.fullmatch(r"(\d{1,12})([smhdwMy]?)", text)
+    found = re.fullmatch("([0-9]{1,12})([smhdwMy]?)", text)
     if not found:
         raise Untranslatable(f"{what} must be a number or a duration such as 5m, not {text}")
     if not found[2]:

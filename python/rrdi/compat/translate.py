@@ -102,7 +102,7 @@ class Translation:
         taken = []
         for sample in samples:
             moment, values = self.time_and_values(sample, last is not None)
-            if last is not None and moment.isdigit():
+            if last is not None and re.fullmatch("[0-9]{1,20}", moment):  # rrdi refuses any other
                 if int(moment) <= last:
                     continue
                 last = int(moment)
@@ -115,7 +115,7 @@ class Translation:
             moment, _, values = sample.partition("@")
             return str(self.seconds(moment)), values
         moment, _, values = sample.partition(":")
-        if re.fullmatch(r"-?\d{1,12}(\.\d*)?", moment):
+        if re.fullmatch(r"-?[0-9]{1,12}(\.[0-9]*)?", moment):
             # A time below 0 is relative to now. A fraction of a second is dropped.
             number = int(moment.split(".")[0]) if "." in moment else int(moment)
             return str(number if number >= 0 else max(self.now + number, 0)), values
@@ -165,7 +165,7 @@ class Translation:
 
     def resized_archive(self, file: str, word: str) -> Optional[Command]:
         """Returns the command for rows that are added, removed or set: RRA#0:+10 becomes `resize FILE 0 GROW 10`."""
-        found = re.fullmatch(r"RRA#(\d{1,3}):([-+=]?)(\d{1,7})", word)
+        found = re.fullmatch("RRA#([0-9]{1,3}):([-+=]?)([0-9]{1,7})", word)
         if not found:
             raise Untranslatable(f"cannot parse the number of rows: {word}")
         number, sign, rows = found[1], found[2], int(found[3])

@@ -13,8 +13,8 @@ from ..limits import LATEST
 from .command_line import Failure, WrongArguments
 
 # A time as these tools print it, and one of ISO 8601, which may have a zone.
-PRINTED = re.compile(r"(\d{4})-(\d\d)-(\d\d)(?:[T ](\d\d):(\d\d)(?::(\d\d))?)?")
-ISO = re.compile(PRINTED.pattern + r"(?: ?(Z)|([-+]\d\d):?(\d\d))?")
+PRINTED = re.compile(r"(\d{4})-(\d\d)-(\d\d)(?:[T ](\d\d):(\d\d)(?::(\d\d))?)?", re.ASCII)
+ISO = re.compile(PRINTED.pattern + r"(?: ?(Z)|([-+]\d\d):?(\d\d))?", re.ASCII)
 SECONDS = re.compile("@([0-9]{1,10})")
 DAY = 86_400  # seconds
 SET_BACK = 10_800  # seconds: clocks are set back by no more, and by quarters of an hour
