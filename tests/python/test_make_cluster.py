@@ -2,8 +2,10 @@
 """Tests of examples/make-cluster: which processes of a member `start` starts. Small servers take the place of Graphite's."""
 from __future__ import annotations
 
+import contextlib
 import importlib.machinery
 import importlib.util
+import io
 import os
 import signal
 import socket
@@ -117,6 +119,21 @@ class Starting(unittest.TestCase):
         self.assertEqual([(self.cluster.folder / name / "front_pages.py").exists() for name in ("node1", "front")], [False, True])
         for text in (*texts.values(), (self.cluster.folder / "front/front_pages.py").read_text()):
             compile(text, "settings", "exec")
+
+    def test_folders_that_settings_cannot_name(self) -> None:
+        """A quote or a line feed in the name would be code or a setting."""
+        for name in ("it's", 'a"b', "a\\b", "a\nENABLE_UDP_LISTENER = True\n", "\x1b[31m", "\udcff"):
+            path = self.cluster.folder / name
+            with mock.patch.object(sys, "argv", ["make-cluster", "up", str(path)]), contextlib.redirect_stderr(io.StringIO()) as said:
+                self.assertEqual(self.module.main(), 1)
+            self.assertFalse(path.exists())
+            self.assertTrue(said.getvalue()[:-1].isprintable() and "must have no quotes" in said.getvalue(), ascii(said.getvalue()))
+
+    def test_a_cluster_of_another_program(self) -> None:
+        for text in ("", "[]", "{}", '{"nodes": "x", "port": 1, "database": "rrdi"}'):
+            (self.cluster.folder / "cluster.json").write_text(text)
+            with self.assertRaisesRegex(self.module.Failure, "was not made by make-cluster"):
+                self.module.read_cluster(self.cluster.folder)
 
     def test_the_status(self) -> None:
         """It says whether all was done."""
