@@ -85,6 +85,7 @@ class Parts(unittest.TestCase):
         picture = mock.Mock(series=[mock.Mock()], style="lines", has_band=False)
         picture.series[0].name = "g"
         self.assertTrue(list(gnuplot.plots(picture, "/tmp/it's"))[0].startswith("'/tmp/it''s/points' index 0 "))
+        self.assertNotIn("\n", "".join(gnuplot.plots(picture, "/tmp/x\n!touch y\n")))
 
     def test_what_rrdi_fix_has_done(self) -> None:
         for name in NAMES:

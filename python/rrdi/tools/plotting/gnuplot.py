@@ -21,7 +21,8 @@ from .spikes import CutMark
 TERMINALS = {".png": "pngcairo size {size} font 'sans,10' background rgb '{background}'",
              ".svg": "svg size {size} font 'sans-serif,12' background rgb '{background}'"}
 ENDS = {".png": b"IEND\xaeB`\x82", ".svg": b"</svg>"}  # of a whole picture
-SPECIAL = re.compile(r"[!-/:-@\[-`{-~]")  # ASCII that is neither a letter nor a digit nor a space
+UNQUOTED = re.compile(r"^'|''|[\0-\x1f\x7f]")  # what single quotes do not keep together
+SPECIAL = re.compile(r"[\0-\x1f!-/:-@\[-`{-\x7f]")  # ASCII that is neither a letter nor a digit nor a space
 # The sizes of the title and of the line below it.
 FONTS = {".png": (13, 9), ".svg": (17, 12)}
 
@@ -46,9 +47,10 @@ class Picture(NamedTuple):
 
 
 def quoted(text: str) -> str:
-    """Returns a text as a string of gnuplot. In single quotes only the apostrophe has a meaning; but gnuplot does not find the
-    end of such a string if it begins with an apostrophe, or has two in a row. In double quotes each character can have its code."""
-    if not text.startswith("'") and "''" not in text:
+    """Returns a text as a string of gnuplot, in one line. In single quotes only the apostrophe has a meaning; but gnuplot does not
+    find the end of such a string if it begins with an apostrophe, or has two in a row. A line feed ends a string and the command,
+    and what follows would be the next one. In double quotes each character can have its code."""
+    if not UNQUOTED.search(text):
         return "'" + text.replace("'", "''") + "'"
     return '"' + SPECIAL.sub(lambda found: f"\\{ord(found[0]):03o}", text) + '"'
 
