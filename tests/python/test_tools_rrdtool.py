@@ -92,6 +92,21 @@ class Ends(unittest.TestCase):
             self.assertEqual((err.getvalue(), gives_up.called, out.buffer.write.mock_calls), (said, given_up, [] if isinstance(error, Failure) else [mock.call(b"a\n")]))
 
 
+class Characters(unittest.TestCase):
+    def test_for_a_shell(self) -> None:
+        """What --show prints commands no terminal, and a shell reads the words of the command from it."""
+        for word, wanted in (("a.rrd", "a.rrd"), ("it's \u00e9", "'it'\"'\"'s \u00e9'"), ("a\x1b[1m'", r"$'a\x1b\x5b1m\x27'"), ("\udcff\n", r"$'\xff\x0a'")):
+            self.assertEqual(rrdtool.for_shell(word), wanted)
+
+    def test_zero_bytes(self) -> None:
+        """No argument has one, whatever the command does with it."""
+        from rrdi.tools.rrdtool.pipe import Pipe
+        for line in (b"cd a\0b", b"mkdir a\0b", b"info a\0b", b"in\0fo a", b"graph a\0.png x"):
+            output = io.BytesIO()
+            Pipe(lambda name, words: [], "", output).answer_all(io.BytesIO(line + b"\n"))
+            self.assertEqual(output.getvalue(), b"ERROR: an argument has a zero byte\n")
+
+
 class Spans(unittest.TestCase):
     """The span of a fetch, which `fetch` gets as RRDtool would have it."""
 

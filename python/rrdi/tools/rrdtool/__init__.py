@@ -43,7 +43,8 @@ from functools import lru_cache
 from typing import TYPE_CHECKING, List
 
 from ...errors import CANNOT_OPEN, CANNOT_WRITE, READ_FAILED, fault_of
-from ...escaping import escaped
+from ...escaping import HIDDEN, escaped
+from ...words import as_bytes
 from .. import program
 from ..command_line import Failure, Tool, WrongArguments, complain, error_text, give_up_output
 from ..exponents import be_exact
@@ -103,14 +104,22 @@ def run_pipe(words: List[str], has_lengths: bool) -> int:
     return 0
 
 
+def for_shell(word: str) -> str:
+    """Returns a word as a shell reads it. One with a character that commands a terminal or hides, or with bytes that are no
+    UTF-8, gets the quotes in which bash, ksh and zsh read codes."""
+    import shlex
+    if not HIDDEN.search(word):
+        return shlex.quote(word)
+    return "$'" + "".join(chr(byte) if chr(byte).isalnum() and byte < 128 else f"\\x{byte:02x}" for byte in as_bytes(word)) + "'"
+
+
 def run_as_rrdi(name: str, words: List[str], is_shown: bool) -> int:
     """Translates a command to commands of rrdi, and runs them with rrdi's own output, or prints them."""
-    import shlex
     for command in commands_for(name, words):
         if name == "resize":
             raise Failure("resize writes resize.rrd; use it without --rrdi and --show, or rrdi resize")
         if is_shown:
-            print(shlex.join(["rrdi", *command]))
+            print(" ".join(map(for_shell, ["rrdi", *command])))
         else:
             sys.stdout.write(asked(command))
             sys.stdout.flush()

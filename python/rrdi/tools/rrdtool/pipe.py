@@ -98,6 +98,8 @@ class Pipe:
                 f"r:{time.monotonic() - self.begun:.2f}\n").encode()
 
     def run(self, name: str, words: List[str]) -> Printed:
+        if any("\0" in word for word in (name, *words)):
+            raise Failure("an argument has a zero byte")
         if name in self.own:
             if len(words) != (1 if name in ("cd", "mkdir") else 0):
                 raise Failure(f"invalid parameter count for {name}")
