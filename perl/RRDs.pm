@@ -133,6 +133,7 @@ sub _bytes {
 sub _read {
     my $pipe = $from;  # a call in a handler of a signal may close it, and start another process
     no warnings 'closed';
+    local $/ = "\n";  # the caller's lines may end in another way, or not at all
     my $head = readline $pipe;
     return unless defined $head and $head =~ /^(OK|ERROR)([ \d]*)\n\z/;
     my ($status, @lengths) = ($1, split ' ', $2);
@@ -291,6 +292,7 @@ sub graph {
     return undef unless $lines;
     if (defined $image) {
         binmode STDOUT;
+        local $\;
         print STDOUT $image;
     }
     my ($size, @printed) = @$lines;

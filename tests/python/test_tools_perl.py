@@ -274,6 +274,12 @@ show last => RRDs::last('f.rrdi');
         script = "RRDs::last('f.rrdi'); system 'exit 3; true'; RRDs::last('f.rrdi'); print $? >> 8, qq(\\n)"
         self.assertEqual(self.lines(script), ["3"])
 
+    def test_the_ends_of_the_callers_lines(self) -> None:
+        """A program that reads a whole file has none, and may call meanwhile."""
+        for ends in ("undef", "''", "'x'", r"\1"):
+            with self.subTest(ends=ends):
+                self.assertEqual(self.lines(f"{{ local $/ = {ends}; show last => RRDs::last('f.rrdi'); }}"), ["last: 0; error undef"])
+
     def test_a_tied_output(self) -> None:
         ran = self.perl(r"""
 package Kept; sub TIEHANDLE { bless [] } sub PRINT { my $s = shift; push @$s, @_ } sub FILENO { undef }
