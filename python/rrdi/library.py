@@ -7,6 +7,7 @@ import os
 from typing import Optional
 
 from .errors import NoLibrary
+from .escaping import escaped
 from .extension import the_extension
 from .places import beside_package
 from .protocol import DONE as DONE, Answer as Answer, Library as Library
@@ -67,7 +68,7 @@ def load_library(path: Optional[str] = None) -> Library:
     try:
         loaded = _load(found)  # two threads may do this at once: each library is good
     except (OSError, AttributeError) as error:
-        raise NoLibrary(f"the C library cannot be used: {error}") from None
+        raise NoLibrary(f"the C library cannot be used: {escaped(str(error))}") from None
     _loaded.library = loaded
     return loaded
 

@@ -250,6 +250,7 @@ class Module:
              "f.rrd: unreadable sample 1: its value 1 is '1,5'; write '1.5', with a point"),
             (lambda: rrdtool.resize("f.rrd"), "resize.rrd: usage: give the number of an archive, such as 0"),
             (lambda: rrdtool.fetch("f.rrd", "AVERAGE", "-s", "32:00"), "cannot parse time: 32:00"),
+            (lambda: rrdtool.fetch("f.rrd", "AVERAGE", "-s", "a\nb\x1b"), "cannot parse time: a\\nb\\u{1b}"),
             (lambda: rrdtool.fetch("f.rrd"), "f.rrd: fetch needs a FUNCTION"),
             (lambda: rrdtool.last("none.rrd"), nothing), (lambda: rrdtool.last(), "last needs a FILE"),
             (lambda: rrdtool.update("none.rrd", "-s", "N:1"), nothing),

@@ -260,6 +260,8 @@ class Places(unittest.TestCase):
             with self.assertRaisesRegex(rrdi.NoLibrary, f"the C library cannot be used: .*{path}") as raised:
                 load_library(path)
             self.assertIsInstance(raised.exception, OSError)
+        with self.assertRaisesRegex(rrdi.NoLibrary, r"the C library cannot be used: .*/no\\nwhere"):  # in one line
+            load_library("/no\nwhere")
         if has_library():
             self.assertIs(load_library(), library.the_library())
             with mock.patch.object(library, "the_extension", return_value=None):

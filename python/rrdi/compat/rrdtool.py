@@ -20,6 +20,7 @@ from .. import __version__ as __version__
 from .. import commands
 from ..amounts import shortened
 from ..errors import Error, OperationalError, ProgrammingError
+from ..escaping import escaped
 from ..printed import Settings, settings_of
 from ..results import Row, last_update
 from .resizing import RESIZED, resize_copy
@@ -67,7 +68,7 @@ def _translated(command: str, words: Tuple[object, ...]) -> List[Command]:
     try:
         return translate(command, _flat(words), int(time.time()), _ByLibrary())
     except Untranslatable as reason:
-        raise OperationalError(str(reason)) from None
+        raise OperationalError(escaped(str(reason))) from None
 
 
 class _AsRrdtool:
