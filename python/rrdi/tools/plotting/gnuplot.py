@@ -47,9 +47,9 @@ class Picture(NamedTuple):
 
 
 def quoted(text: str) -> str:
-    """Returns a text as a string of gnuplot, in one line. In single quotes only the apostrophe has a meaning; but gnuplot does not
-    find the end of such a string if it begins with an apostrophe, or has two in a row. A line feed ends a string and the command,
-    and what follows would be the next one. In double quotes each character can have its code."""
+    """Returns a text as a string of gnuplot, in one line. In single quotes only the apostrophe has a meaning; but gnuplot does
+    not find the end of such a string if it begins with an apostrophe, or has two in a row. A line feed ends a string and the
+    command, and what follows would be the next one. In double quotes each character can have its code."""
     if not UNQUOTED.search(text):
         return "'" + text.replace("'", "''") + "'"
     return '"' + SPECIAL.sub(lambda found: f"\\{ord(found[0]):03o}", text) + '"'

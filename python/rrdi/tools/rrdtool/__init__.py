@@ -110,7 +110,8 @@ def for_shell(word: str) -> str:
     import shlex
     if not HIDDEN.search(word):
         return shlex.quote(word)
-    return "$'" + "".join(chr(byte) if chr(byte).isalnum() and byte < 128 else f"\\x{byte:02x}" for byte in as_bytes(word)) + "'"
+    codes = (chr(byte) if byte < 128 and chr(byte).isalnum() else f"\\x{byte:02x}" for byte in as_bytes(word))
+    return f"$'{''.join(codes)}'"
 
 
 def run_as_rrdi(name: str, words: List[str], is_shown: bool) -> int:

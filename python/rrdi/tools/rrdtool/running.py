@@ -95,7 +95,8 @@ def needed(settings: Settings, option: str, value: str) -> bool:
 def is_same_bound(old: str, new: str) -> bool:
     if "U" in (old, new):
         return old == new
-    return re.fullmatch(r"-?[0-9]{1,20}(\.[0-9]{1,6})?", new) is not None and program.as_millionths(old) == program.as_millionths(new)
+    is_number = re.fullmatch(r"-?[0-9]{1,20}(\.[0-9]{1,6})?", new) is not None
+    return is_number and program.as_millionths(old) == program.as_millionths(new)
 
 
 class Commands:
