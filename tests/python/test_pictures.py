@@ -368,7 +368,7 @@ class Commands(FileCase):
 
     def setUp(self) -> None:
         super().setUp()
-        self.change(mock.patch.dict(os.environ, {"RRDI_PLOT_SETUP": "", "LOOK": ""}))
+        self.change(mock.patch.dict(os.environ, {"RRDI_PLOT_SETUP": ""}))
         self.use(File("in out", START, {
             ("AVERAGE", 60): always(2.0, 5.0), ("MIN", 60): always(1.0, 4.0), ("MAX", 60): always(3.0, 9.0)}))
 
@@ -490,10 +490,9 @@ class Commands(FileCase):
 
     def test_commands_of_the_user(self) -> None:
         """They come before the plot. If they set a title, no other one is drawn."""
-        scale, title, other = "set logscale y", "set title 'x'", "set title 'y'"
+        scale, title = "set logscale y", "set title 'x'"
         tries: List[Tuple[Dict[str, str], str]] = [
-            ({"RRDI_PLOT_SETUP": scale}, scale), ({"LOOK": title}, title),
-            ({"RRDI_PLOT_SETUP": other, "LOOK": title}, other), ({}, "")]
+            ({"RRDI_PLOT_SETUP": scale}, scale), ({"RRDI_PLOT_SETUP": title}, title), ({"LOOK": title}, ""), ({}, "")]
         for variables, setup in tries:
             with self.subTest(setup=setup), mock.patch.dict(os.environ, variables):
                 picture = self.picture("--no-legend")

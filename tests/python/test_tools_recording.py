@@ -208,7 +208,7 @@ class Plot(ToolCase):
                      f'set xtics ("22:20:00\\n14 Nov" {self.START}, "22:20:10" {self.START + 10}, '):
             self.assertIn(line, commands)
         self.assertNotIn("'f'", commands)  # the title of its own
-        self.assertEqual(self.draw(0, 39, "p.svg", env={"LOOK": "set old 1"}), Ran(0, "", ""))
+        self.assertEqual(self.draw(0, 39, "p.svg", env={"RRDI_PLOT_SETUP": "set old 1"}), Ran(0, "", ""))
         commands = self.read("commands").decode()
         self.assertIn("set terminal svg size 900,", commands)
         self.assertIn("set old 1\n", commands)

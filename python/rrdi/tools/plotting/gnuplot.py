@@ -127,7 +127,7 @@ def commands(folder: str, end: str, picture: Picture) -> str:
     # The text of a mark is a format.
     marks = ", ".join(f"{quoted(text.replace('%', '%%'))} {value!r}"
                       for text, value in zip(picture.axis.texts, picture.axis.values))
-    setup = os.environ.get("RRDI_PLOT_SETUP") or os.environ.get("LOOK") or ""
+    setup = os.environ.get("RRDI_PLOT_SETUP", "")
     titled = picture._replace(title="", subtitle=[]) if "set title" in setup else picture
     return "\n".join([
         "set encoding utf8", f"set terminal {terminal} noenhanced", f"set output {quoted(f'{folder}/picture')}",
