@@ -45,6 +45,21 @@ class Copies(unittest.TestCase):
             resize_copy("f.rrd", len)
         self.assertEqual(self.names(), ["f.rrd"])
 
+    def test_a_file_of_that_name_stays_if_it_is_refused(self) -> None:
+        (self.folder / "resize.rrd").write_bytes(b"mine")
+        os.symlink("resize.rrd", "link.rrd")
+        for path in ("resize.rrd", "./resize.rrd", str(self.folder / "resize.rrd"), "link.rrd"):
+            with self.subTest(path=path), mock.patch("os.replace", side_effect=ValueError("no")):
+                self.assertRaisesRegex(ValueError, "no", resize_copy, path, len)
+                self.assertEqual((self.names(), (self.folder / "resize.rrd").read_bytes()),
+                                 (["f.rrd", "link.rrd", "resize.rrd"], b"mine"))
+
+    def test_a_link_of_that_name_goes_if_it_is_refused(self) -> None:
+        os.symlink("f.rrd", "resize.rrd")
+        with mock.patch("os.replace", side_effect=ValueError("no")):
+            self.assertRaisesRegex(ValueError, "no", resize_copy, "f.rrd", len)
+        self.assertEqual((self.names(), (self.folder / "f.rrd").read_bytes()), (["f.rrd"], b"12345"))
+
     def test_what_cannot_be_read(self) -> None:
         with self.assertRaises(OSError) as raised:
             resize_copy("none.rrd", len)

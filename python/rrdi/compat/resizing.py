@@ -13,7 +13,8 @@ def resize_copy(file: str, resize: Callable[[str], object]) -> None:
     """Calls `resize` on a copy of a file, and gives the copy the name resize.rrd.
 
     The file is read under a shared lock, so that no other program changes the file meanwhile. If it cannot be resized, there
-    is no resize.rrd, so a script that goes on moves no older copy to the place of the file.
+    is no resize.rrd, so a script that goes on moves no older copy to the place of the file; but a file that itself has this name
+    stays as it is.
 
     # Errors
     `OSError` with a file name if the file cannot be read or locked, or the copy cannot be written.
@@ -29,8 +30,16 @@ def resize_copy(file: str, resize: Callable[[str], object]) -> None:
         resize(copy)
         os.replace(copy, RESIZED)
     except BaseException:
-        remove([copy, RESIZED])
+        remove([copy] if has_its_name(file) else [copy, RESIZED])
         raise
+
+
+def has_its_name(file: str) -> bool:
+    """Checks whether a file is the one that has the name resize.rrd in this directory, and not only a link leads to it."""
+    try:
+        return os.path.samestat(os.stat(file), os.lstat(RESIZED))
+    except OSError:
+        return False
 
 
 def write(copy: str, data: bytes) -> None:
