@@ -94,3 +94,19 @@ class ClosedStreams(unittest.TestCase):
         for streams in CLOSED[1:]:
             with self.subTest(streams=streams):
                 self.assertEqual(self.told(streams), whole)
+
+
+class ClosedOutput(unittest.TestCase):
+    """A daemon that has closed its standard output runs rrdi-rrdtool: the command is run all the same."""
+
+    def test_a_change_is_made(self) -> None:
+        folder = new_folder(self)
+        program, file = folder / "rrdi", str(folder / "x.rrd")
+        program.write_text(f"#!/bin/sh\necho \"$@\" >> {folder}/ran\n")
+        program.chmod(0o755)
+        tool = str(PYTHON.parent / "tools" / "rrdi-rrdtool")
+        for words in (["update"], ["--rrdi", "update"]):
+            ran = subprocess.run(["sh", "-c", 'exec "$@" >&-', "sh", sys.executable, tool, *words, file, "10:1"],
+                                 env={**os.environ, "RRDI": str(program)}, capture_output=True, timeout=300)
+            self.assertEqual((ran.returncode, ran.stderr), (0, b""))
+        self.assertEqual((folder / "ran").read_text(), 2 * f"update {file} 10:1\n")

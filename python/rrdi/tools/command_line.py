@@ -64,6 +64,13 @@ def flush_output() -> None:
         sys.stdout.flush()
 
 
+def write_output(data: bytes) -> None:
+    """Writes bytes to standard output. If that was closed before the tool began, nobody misses them, as with `print`."""
+    if sys.stdout is not None:
+        sys.stdout.buffer.write(data)
+        sys.stdout.flush()
+
+
 def add_line(name: str, hint: str) -> None:
     """Prints a further line, if there is something to say."""
     if hint:

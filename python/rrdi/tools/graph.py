@@ -25,10 +25,9 @@ Exit status: 0; 1 if nothing was drawn; 2 after wrong arguments.
 from __future__ import annotations
 
 import re
-import sys
 from typing import List
 
-from .command_line import Tool, WrongArguments
+from .command_line import Tool, WrongArguments, write_output
 from .graphing import Grapher
 from .rrdtool_output import plain
 from .spans import as_of_rrdtool
@@ -54,7 +53,7 @@ def with_times(words: List[str]) -> List[str]:
 def draw(words: List[str]) -> int:
     if len(words) < 2 or not words[0] or words[0].startswith("-") and words[0] != "-":
         raise WrongArguments
-    sys.stdout.buffer.write(plain(Grapher().graph(with_times(words))))
+    write_output(plain(Grapher().graph(with_times(words))))
     return 0
 
 

@@ -46,7 +46,7 @@ from ...errors import CANNOT_OPEN, CANNOT_WRITE, READ_FAILED, fault_of
 from ...escaping import HIDDEN, escaped
 from ...words import as_bytes
 from .. import program
-from ..command_line import Failure, Tool, WrongArguments, complain, error_text, give_up_output
+from ..command_line import Failure, Tool, WrongArguments, complain, error_text, give_up_output, write_output
 from ..exponents import be_exact
 from ..rrdtool_output import Printed, lines_of, plain
 from .running import Commands, commands_for
@@ -122,8 +122,7 @@ def run_as_rrdi(name: str, words: List[str], is_shown: bool) -> int:
         if is_shown:
             print(" ".join(map(for_shell, ["rrdi", *command])))
         else:
-            sys.stdout.write(asked(command))
-            sys.stdout.flush()
+            print(asked(command), end="", flush=True)
     return 0
 
 
@@ -155,8 +154,7 @@ def run_words(words: List[str]) -> int:
     try:
         if mode:
             return run_as_rrdi(name, others, mode == "--show")
-        sys.stdout.buffer.write(plain(run_command(Commands(), name, others)))
-        sys.stdout.flush()
+        write_output(plain(run_command(Commands(), name, others)))
         return 0
     except Failure as failure:
         complain(f"ERROR: {escaped(str(failure))}")
