@@ -25,6 +25,7 @@ Filled = TypeVar("Filled")
 NO_LINKS = frozenset({errno.EPERM, errno.EOPNOTSUPP, errno.ENOTSUP, errno.ENOSYS, errno.EMLINK})
 # What readlink(2) answers if a path is no symbolic link.
 NOT_A_LINK = frozenset({errno.EINVAL, errno.ENOENT, errno.ENOTDIR})
+AT_FDCWD, RENAME_NOREPLACE = -100, 1  # Linux's numbers, for renameat2
 UNFINISHED = re.compile(r"\.rrdi-[0-9a-f]{16}\.new")
 LEFT_OVER = 86_400  # seconds after which nobody fills such a file any more
 MOST_LINKS = 40  # that lead from one to the next, as Linux follows them
@@ -133,8 +134,12 @@ class NewFile:
         return OSError(error.errno, error.strerror, self.path)
 
     def _take_name(self) -> bool:
-        """Gives the file its name where there are no links: takes the name by an empty file, and replaces that one, unless
-        another program has begun to fill or has replaced it meanwhile."""
+        """Gives the file its name where there are no links: by a renaming that replaces no file or, where the system has none,
+        takes the name by an empty file, and replaces that one, unless another program has begun to fill or has replaced it
+        meanwhile. After a kill between these two steps the empty file has the name."""
+        renamed = rename_to_new(self.unfinished, self.path)
+        if renamed in (0, errno.EEXIST):
+            return renamed == 0
         try:
             empty = open_file(self.path, os.O_RDWR | os.O_CREAT | os.O_EXCL)
         except FileExistsError:
@@ -152,6 +157,18 @@ class NewFile:
         finally:
             with suppress(OSError):
                 close(empty)
+
+
+def rename_to_new(before: str, after: str) -> int:
+    """Renames a file unless there is a file of the new name, by a call that Python does not have. Returns the system's error,
+    or 0."""
+    import ctypes  # here, since nearly all file systems have links
+    try:
+        function = ctypes.CDLL(None, use_errno=True).renameat2
+    except AttributeError:
+        return errno.ENOSYS
+    failed = function(AT_FDCWD, os.fsencode(before), AT_FDCWD, os.fsencode(after), RENAME_NOREPLACE)
+    return ctypes.get_errno() if failed else 0
 
 
 def is_empty_at(file: FileIO, path: str) -> bool:

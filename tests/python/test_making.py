@@ -78,8 +78,13 @@ class Making(DataCase):
 
     def test_a_file_system_without_links(self) -> None:
         with mock.patch("os.link", side_effect=OSError(errno.EPERM, "Operation not permitted")):
-            self.assertTrue(self.made())
-            self.assertFalse(self.made("other"))
+            with mock.patch.object(making, "rename_to_new", return_value=errno.ENOSYS):
+                self.assertTrue(self.made())
+                self.assertFalse(self.made("other"))
+                self.path.unlink()
+            with mock.patch.object(making, "open_file", side_effect=OSError(errno.EIO, "Input/output error")):
+                self.assertTrue(self.made())  # in one step
+                self.assertFalse(self.made("other"))
         self.assertEqual((self.files(), self.path.read_text()), (["data/f.rrdi"], "new"))
         with mock.patch("os.link", side_effect=OSError(errno.ENOSPC, "No space left")), self.assertRaises(OSError):
             self.made()
@@ -102,6 +107,7 @@ class Making(DataCase):
                 act()
                 return file
             with mock.patch("os.link", side_effect=OSError(errno.EPERM, "Operation not permitted")), \
+                    mock.patch.object(making, "rename_to_new", return_value=errno.EINVAL), \
                     mock.patch.object(making, "open_file", open_file):
                 self.assertFalse(self.made())
             self.assertEqual((self.files(), self.path.read_text()), (["data/f.rrdi"], wanted))
@@ -256,6 +262,7 @@ class WithoutLinks(DataCase):
             meanwhile()
             raise OSError(errno.EIO, "Input/output error")
         with mock.patch("os.link", side_effect=OSError(errno.EPERM, "Operation not permitted")), \
+                mock.patch.object(making, "rename_to_new", return_value=errno.EINVAL), \
                 mock.patch("os.rename", rename), self.assertRaises(OSError) as raised:
             make(str(self.path), lambda new: open(new, "w", encoding="ascii").close())
         self.assertEqual(raised.exception.errno, errno.EIO)
