@@ -16,7 +16,7 @@ from io import FileIO
 from types import TracebackType
 from typing import Callable, List, Optional, Type, TypeVar
 
-from .locks import EXCLUSIVE, close, lock, open_file
+from .locks import EXCLUSIVE, check_regular, close, lock, open_file
 from .words import FilePath
 
 Filled = TypeVar("Filled")
@@ -178,18 +178,21 @@ def is_empty_at(file: FileIO, path: str) -> bool:
 
 
 def take_owner(new: str, before: os.stat_result) -> None:
-    """Gives a file the owner and the mode of another one.
+    """Gives a new file the owner and the mode of another one. The file is opened first, since whoever may write the folder may
+    put a link to any file in its place meanwhile.
 
     # Errors
-    `OSError` if the system refuses them.
+    `OSError` if the system refuses them, or the new file is a link by now.
     """
-    found = os.stat(new)
-    if (found.st_uid, found.st_gid) != (before.st_uid, before.st_gid):
-        try:
-            os.chown(new, before.st_uid, before.st_gid)
-        except OSError as error:
-            raise OSError(error.errno, f"the new file cannot get the owner of the old one: {error.strerror}") from None
-    os.chmod(new, before.st_mode & 0o7777)
+    with open_file(new, os.O_RDONLY | os.O_NOFOLLOW | os.O_NONBLOCK) as file:
+        found = os.fstat(file.fileno())
+        check_regular(found)
+        if (found.st_uid, found.st_gid) != (before.st_uid, before.st_gid):
+            try:
+                os.fchown(file.fileno(), before.st_uid, before.st_gid)
+            except OSError as error:
+                raise OSError(error.errno, f"the new file cannot get the owner of the old one: {error.strerror}") from None
+        os.fchmod(file.fileno(), before.st_mode & 0o7777)
 
 
 def remove_empty(file: FileIO, path: str) -> None:

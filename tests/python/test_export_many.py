@@ -438,7 +438,7 @@ class Trees(OfTree):
 class Disturbed(OfTree):
     """Each call that changes a name, an owner or a mode, or waits for the disk, fails or is the last one."""
 
-    CALLS = ("fsync", "link,linkat", "rename,renameat,renameat2", "chmod,fchmodat", "unlink,unlinkat", "chown,fchownat")
+    CALLS = ("fsync", "link,linkat", "rename,renameat,renameat2", "fchmod", "unlink,unlinkat", "fchown")
 
     def disturbed(self, call: str, what: str, when: int) -> int:
         """Runs rrdi-export with a call that fails, or kills the process, and returns the status."""

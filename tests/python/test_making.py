@@ -40,7 +40,7 @@ class Making(DataCase):
         """The message says what could not be done, since nobody knows the file's first name."""
         self.path.write_text("new")
         before = mock.Mock(st_uid=os.geteuid() + 1, st_gid=os.getegid(), st_mode=0o644)
-        with mock.patch.object(os, "chown", side_effect=PermissionError(errno.EPERM, "no", "x")), self.assertRaises(OSError) as raised:
+        with mock.patch.object(os, "fchown", side_effect=PermissionError(errno.EPERM, "no", "x")), self.assertRaises(OSError) as raised:
             making.take_owner(str(self.path), before)
         self.assertEqual((raised.exception.errno, error_text(raised.exception)),
                          (errno.EPERM, "the new file cannot get the owner of the old one: no"))
@@ -286,6 +286,19 @@ class WithoutLinks(DataCase):
                 fcntl.flock(file, fcntl.LOCK_EX | fcntl.LOCK_NB)
         self.not_made(lock)
         self.assertEqual(self.files(), [])
+
+
+class Owners(DataCase):
+    """What takes the owner and the mode of another file."""
+
+    def test_no_file_to_which_a_link_leads(self) -> None:
+        other, new = self.folder / "other", self.folder / "new"
+        other.write_text("other")
+        other.chmod(0o600)
+        new.symlink_to(other)
+        with self.assertRaises(OSError) as raised:
+            making.take_owner(str(new), os.stat(self.folder))
+        self.assertEqual((raised.exception.errno, other.stat().st_mode & 0o7777), (errno.ELOOP, 0o600))
 
 
 class Modes(DataCase):
