@@ -63,6 +63,14 @@ class Placed(PictureCase):
                          (b"new", before.st_mode, before.st_uid, before.st_gid))
         self.assertEqual((after.st_ino == before.st_ino, self.names()), (False, ["p.png"]))
 
+    def test_a_database_stays(self) -> None:
+        for mark in (b"RRDI", b"RRDC", b"RRDL", b"RRD\0"):
+            self.path.write_bytes(mark + bytes(600))
+            with self.subTest(mark=mark), self.assertRaises(FileExistsError) as raised:
+                put_picture(str(self.path), b"new")
+            self.assertEqual(raised.exception.filename, str(self.path))
+            self.assertEqual((self.names(), self.path.read_bytes()), (["p.png"], mark + bytes(600)))
+
     def test_a_full_disk(self) -> None:
         for before in (b"before", None):
             if before is not None:

@@ -10,6 +10,7 @@ import tempfile
 from contextlib import contextmanager
 from typing import Iterator, List, Optional
 
+from ..kinds import RRDI_MARKS, RRDTOOL_MARK, first_bytes
 from ..making import MOST_LINKS, NewFile, take_owner
 from .command_line import Failure
 
@@ -19,11 +20,14 @@ NOT_REPLACED = frozenset({errno.EACCES, errno.EPERM, errno.EBUSY})
 
 def put_picture(path: str, data: bytes) -> None:
     """Writes a picture. It gets its name when it is complete, with the owner and the mode of the file that had the name. What
-    is no file, such as a FIFO, is written in place, and so is a file that this user may only write.
+    is no file, such as a FIFO, is written in place, and so is a file that this user may only write. A database stays: by a slip,
+    its name may stand in the place of the picture's.
 
     # Errors
     `OSError` with the name if the picture can't be written.
     """
+    if first_bytes(path) in (*RRDI_MARKS, RRDTOOL_MARK):
+        raise FileExistsError(errno.EEXIST, "this is a database and no picture; it stays as it is", path)
     try:
         if has_place(path) and replaced(path, data):
             return
