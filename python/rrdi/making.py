@@ -195,6 +195,19 @@ def take_owner(new: str, before: os.stat_result) -> None:
         os.fchmod(file.fileno(), before.st_mode & 0o7777)
 
 
+def flush(path: str) -> None:
+    """Waits until a file, or the names in a directory, are on the disk.
+
+    # Errors
+    `OSError` if the system says that they are not.
+    """
+    number = os.open(path or ".", os.O_RDONLY | os.O_CLOEXEC)
+    try:
+        os.fsync(number)
+    finally:
+        os.close(number)
+
+
 def remove_empty(file: FileIO, path: str) -> None:
     """Removes an empty file that is open, unless another program has filled, replaced or locked it meanwhile."""
     with suppress(OSError):

@@ -13,7 +13,7 @@ from ..importing.native import read_old
 from ..importing.whisper import WhisperFile, read_whisper, whisper_batch
 from ..kinds import WHISPER_END
 from ..locks import open_regular, state_of
-from ..making import NewFile, take_owner
+from ..making import NewFile, flush, take_owner
 from ..reader.selected import OpenFile
 from . import program, rrdtool_program
 from .command_line import Failure
@@ -171,8 +171,8 @@ def is_left_over(path: str, kept: str) -> bool:
 
 def swap_in(old: str, kept: str, lines: Iterable[str], look: Callable[[str], None], before: os.stat_result) -> None:
     """Puts a new database in the place of a file, which keeps its content under the name `kept`. The database gets the
-    owner and the mode of the file, after `look` got the name under which it is read. `before` is the file's status from
-    before it was read. There is no moment without a file of the name.
+    owner and the mode of the file, after `look` got the name under which it is read, and its name when it is on the disk.
+    `before` is the file's status from before it was read. There is no moment without a file of the name.
 
     # Errors
     - `Failure` if the file has changed since `before`, or there is another file of the name `kept`, or rrdi refuses the
@@ -180,8 +180,13 @@ def swap_in(old: str, kept: str, lines: Iterable[str], look: Callable[[str], Non
     - `OSError` if the system refuses the owner, the mode or a name.
     """
     with NewFile(old) as made:
-        fill(made, old, lines, look)
+        mask = os.umask(0o077)  # nobody else reads the database before it has the mode of the file
+        try:
+            fill(made, old, lines, look)
+        finally:
+            os.umask(mask)
         take_owner(made.unfinished, before)
+        flush(made.unfinished)
         if state_of(os.stat(old)) != state_of(before):
             raise Failure("it changed while it was converted; first stop what records into it")
         if not is_left_over(old, kept):
@@ -190,3 +195,4 @@ def swap_in(old: str, kept: str, lines: Iterable[str], look: Callable[[str], Non
             except FileExistsError:
                 raise Failure(f"{kept} already exists") from None
         made.replace()
+    flush(os.path.dirname(old))

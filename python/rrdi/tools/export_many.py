@@ -9,7 +9,7 @@ from ..importing.dump import Refusal
 from ..importing.native import read_old
 from ..kinds import RRDTOOL_MARK, WHISPER_END, first_bytes
 from ..locks import EXCLUSIVE, SHARED, close, lock, open_locked, open_regular, state_of
-from ..making import NewFile, take_owner
+from ..making import NewFile, flush, take_owner
 from ..reader import Reader, opened
 from ..reader.files import patience
 from ..reader.pieces import Parts
@@ -28,19 +28,6 @@ KEPT_END = ".rrdi"  # of a database whose name a file of RRDtool has taken
 
 
 # ---- One file
-
-def flush(path: str) -> None:
-    """Waits until a file, or the names in a directory, are on the disk.
-
-    # Errors
-    `OSError` if the system says that they are not.
-    """
-    number = os.open(path or ".", os.O_RDONLY | os.O_CLOEXEC)
-    try:
-        os.fsync(number)
-    finally:
-        os.close(number)
-
 
 def make_new(new: str, fill: Callable[[str], None], makes_folder: bool = False) -> None:
     """Makes a file, which gets its name when it is filled and on the disk, and never that of another file.
