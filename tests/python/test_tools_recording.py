@@ -404,8 +404,8 @@ class Copies(ToolCase):
                     self.assertEqual(record.newest_copy(self.file), f"{self.file}{found}" if found else "", answers)
 
     def test_when_a_copy_is_made(self) -> None:
-        """An hour after the newest one, or at once without one; the older ones move on, and the third goes."""
-        for first, last, is_made in ((10_000, 13_599, False), (10_000, 13_600, True), (0, 3_599, False), (0, 3_600, True), ("file: truncated at 5", 3_599, False), ("file: truncated at 5", 3_600, True), (20_000, 13_600, False)):
+        """An hour after the newest one, or at once without one, or if that is of a time to come; the older ones move on, and the third goes."""
+        for first, last, is_made in ((10_000, 13_599, False), (10_000, 13_600, True), (0, 3_599, False), (0, 3_600, True), ("file: truncated at 5", 3_599, False), ("file: truncated at 5", 3_600, True), (20_000, 13_600, True)):
             for there in ((1, 2, 3), (1, 2), (1,), (1, 3)):
                 for number in (1, 2, 3):
                     (self.folder / f"f.{number}").unlink(missing_ok=True)

@@ -228,13 +228,14 @@ def make_ready(file: str, fill: Fill) -> int:
 
 
 def keep_copies(file: str, last: int) -> None:
-    """Copies the file if the newest copy is at least an hour older; renames the older copies.
+    """Copies the file if the newest copy is at least an hour older, or is newer, since a clock that was ahead was set back and
+    the file reverted; renames the older copies.
 
     # Errors
     Those of `last_of_copy`, and `OSError` if the file cannot be copied, where the copies stay as they are, or if a copy
     cannot be renamed, where the oldest may be gone.
     """
-    if last - max(last_of_copy(f"{file}.1"), 0) < HOUR:
+    if 0 <= last - max(last_of_copy(f"{file}.1"), 0) < HOUR:
         return
     with NewFile(f"{file}.1", follows=False) as made:  # a link of this name goes on with what it leads to
         fill_copy(file, f"{file}.1", made.unfinished)
