@@ -76,18 +76,33 @@ static int take_other(const char *name, char *other) {
     return error;
 }
 
-/* Puts the file that has the other name in place of an empty file, which takes the name first. Whoever creates a database at the
- * name in between waits for the lock of the empty file, and finds then that the file has been replaced; or had the lock before, and
- * keeps its file. Returns 0 or an errno: EEXIST if the name is taken. */
+/* Checks whether an open file is empty, and still has its name. */
+static bool is_empty_at(int descriptor, const char *name) {
+    struct stat found, there;
+    return !fstat(descriptor, &found) && !lstat(name, &there) && found.st_dev == there.st_dev && found.st_ino == there.st_ino &&
+           !found.st_size;
+}
+
+/* Gives the file that has the other name its name in one step. Where the system cannot, puts it in place of an empty file, which
+ * takes the name first, and keeps it after a kill. Whoever creates a database at the name in between waits for the lock of the empty
+ * file, and finds then that the file has been replaced; or had the lock before, and keeps its file. Returns 0 or an errno: EEXIST if
+ * the name is taken. */
 static int replace_empty(const char *other, const char *name) {
-    struct stat found;
-    int error = 0, descriptor = open(name, O_RDWR | O_CREAT | O_EXCL | O_CLOEXEC, 0666);
+    int error = 0, descriptor;
+    if (!renameat2(AT_FDCWD, other, AT_FDCWD, name, RENAME_NOREPLACE))
+        return 0;
+    if (errno == EEXIST)
+        return EEXIST;
+    descriptor = open(name, O_RDWR | O_CREAT | O_EXCL | O_CLOEXEC, 0666);
     if (descriptor < 0)
         return errno;
-    if ((flock(descriptor, LOCK_EX | LOCK_NB) && errno == EWOULDBLOCK) || (!fstat(descriptor, &found) && found.st_size))
+    if ((flock(descriptor, LOCK_EX | LOCK_NB) && errno == EWOULDBLOCK) || !is_empty_at(descriptor, name)) {
         error = EEXIST;
-    else if (rename(other, name))
+    } else if (rename(other, name)) {
         error = errno;
+        if (is_empty_at(descriptor, name))
+            unlink(name);
+    }
     close(descriptor);
     return error;
 }
