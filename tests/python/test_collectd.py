@@ -9,7 +9,6 @@ import os
 import sys
 import threading
 import types
-import unittest
 from typing import Any, Dict, List, Optional, Tuple
 from unittest import mock
 

@@ -9,7 +9,6 @@ import json
 import os
 import random
 import time
-import unittest
 from typing import Any, List, NamedTuple
 
 import graphite_doubles as graphite

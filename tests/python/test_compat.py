@@ -8,7 +8,6 @@ import errno
 import os
 import subprocess
 import sys
-import time
 import unittest
 from pathlib import Path
 from typing import Any, List, Optional

@@ -37,7 +37,7 @@ from rrdi.words import encoded
 
 import rrdi
 
-UNKNOWN, WHOLE, DECIMAL = 0, 1, 2
+UNKNOWN, DECIMAL = 0, 2
 MANY = 100_000
 LOST = 300 * 16  # bytes: no block is so small
 
@@ -260,7 +260,6 @@ class Loading(ByExtension, unittest.TestCase):
 
 # ---- Samples
 
-Given = Callable[[random.Random], object]
 BOUNDARIES = [sign * value for sign in (1, -1) for value in (
     0.0, 5e-324, 2.2250738585072014e-308, 1e-7, 4.9999e-7, 5e-7, 5.0000000001e-7, 1e-6, 1.5e-6, 2.5e-6, 0.9999995, 0.99999949, 1.0,
     1.0000005, 0.5, 1 / 3, 21.5, 2.0**32, 2.0**33, 2.0**52 + 0.5, 2.0**53 - 1, 2.0**53, 2.0**53 + 2, 999_999_999_999_999.9,

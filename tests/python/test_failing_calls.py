@@ -8,7 +8,6 @@ import contextlib
 import errno
 import io
 import os
-import unittest
 from pathlib import Path
 from typing import Any, Callable, Counter, Dict, Iterator, List, Set
 from unittest import mock

@@ -12,7 +12,7 @@ from cases import new_folder
 from rrdi.errors import Damaged
 from rrdi.graphite.late import plan, reverts_for
 from rrdi.graphite.layout import archives_of, check_retentions, method_of, template, unknown_share
-from rrdi.graphite.losses import KINDS, LINES, Losses
+from rrdi.graphite.losses import KINDS, Losses
 from rrdi.graphite.names import metric_of, path_of
 from rrdi.graphite.slots import lines_of, sort_points
 from rrdi.limits import LATEST

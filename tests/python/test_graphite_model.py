@@ -8,7 +8,6 @@ import fcntl
 import hashlib
 import os
 import random
-import unittest
 from collections import Counter
 from pathlib import Path
 from typing import List, Optional, Tuple

@@ -3,7 +3,6 @@
 from __future__ import annotations
 
 import errno
-import unittest
 from typing import List
 from unittest import mock
 

@@ -6,7 +6,6 @@ import errno
 import fcntl
 import os
 import time
-import unittest
 from pathlib import Path
 from typing import Any, Callable, Dict, List
 from unittest import mock

@@ -4,7 +4,6 @@ longest name that is taken can be created, and a longer one is refused before an
 from __future__ import annotations
 
 import os
-import unittest
 from typing import Any, Dict, Optional
 
 import graphite_doubles  # noqa: F401

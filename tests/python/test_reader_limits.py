@@ -80,8 +80,7 @@ class File:
         return f"file: bad block at {sum(map(len, self.pieces[:number])) + (6 if number == 0 else more)}"
 
 
-# The sizes of parts before a partial step in a source, and before a partial row in an archive.
-TO_STEP, TO_ROW = len(settings()), len(archive(partial=b""))
+TO_ROW = len(archive(partial=b""))  # the size of what is before a partial row in an archive
 BAD = "file: bad entry 1"
 
 

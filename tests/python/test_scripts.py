@@ -9,7 +9,6 @@ import os
 import shutil
 import subprocess
 import time
-import unittest
 from typing import Callable, Dict, List, Tuple
 from unittest import mock
 

@@ -4,7 +4,6 @@ from __future__ import annotations
 
 import re
 import sys
-import unittest
 from typing import Set
 
 from doubles import TOP

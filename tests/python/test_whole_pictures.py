@@ -18,7 +18,6 @@ from unittest import mock
 from cases import new_folder
 from doubles import TOP
 
-from rrdi.tools import pictures
 from rrdi.tools.command_line import Failure
 from rrdi.tools.pictures import drawn, put_picture
 
