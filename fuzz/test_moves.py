@@ -16,7 +16,7 @@ from typing import Any, Callable, Iterator, Sequence
 import pytest
 
 from fuzz.random_rrd import Case, odd_case, random_case
-from rrdi.importing.batch import batch_of
+from rrdi.importing.batch import RrdBatch
 from rrdi.importing.dump import RrdFile
 from rrdi.importing.dump import read_rrd as read_dumped
 from rrdi.reader.files import read
@@ -128,7 +128,7 @@ def leave(old: RrdFile) -> None:
 def compared(move: Move, spoil: Spoil) -> Differing:
     """Moves a file, and compares all its cells."""
     old, kind, differing = move.create(), move.case.kind, Differing()
-    move.batch(batch_of(read_rrd(move.old), None, lambda note: None))
+    move.batch(RrdBatch(read_rrd(move.old), None, lambda note: None).noted_lines())
     spoil(old)
     database = read(move.new.read_bytes())
     differing.compare("there", old, database, kind)

@@ -29,7 +29,7 @@ from rrdi.graphite import layout
 from rrdi.graphite.store import StoreOptions
 from rrdi.graphite.store import Store
 from rrdi.importing.rounding import raw_value
-from rrdi.importing.batch import batch_of
+from rrdi.importing.batch import RrdBatch
 from rrdi.importing.dump import RrdArchive, RrdFile, Refusal, RrdSource
 from rrdi.library import DONE, Answer
 from rrdi.tools import importer
@@ -287,7 +287,7 @@ class Importing(unittest.TestCase):
         for word in HOSTILE:
             for name in ("name", "kind", "last_raw", "function"):
                 try:
-                    lines = list(batch_of(self.old(**{name: word}), None, lambda text: None))
+                    lines = list(RrdBatch(self.old(**{name: word}), None, lambda text: None).noted_lines())
                 except Refusal:
                     continue
                 self.assertEqual([line.split(" ")[0] for line in lines][:1], ["create"])

@@ -14,7 +14,7 @@ from unittest import mock
 import doubles  # noqa: F401
 from rrdi.importing import batch
 from rrdi.importing.rounding import Converter, as_text, millionths, raw_value
-from rrdi.importing.batch import RrdBatch, batch_of, merge, share_of
+from rrdi.importing.batch import RrdBatch, merge, share_of
 from rrdi.amounts import Millionths
 from rrdi.limits import LONGEST_LINE
 from rrdi.importing.differing import DifferingCell, NewArchive, differing_archives, differing_cells, differing_unfinished, reason
@@ -261,14 +261,14 @@ class Steps(unittest.TestCase):
 class Batches(unittest.TestCase):
     def lines(self, old: RrdFile, journal: str | None = None) -> tuple[list[str], list[str]]:
         notes: list[str] = []
-        return list(batch_of(old, journal, notes.append)), notes
+        return list(RrdBatch(old, journal, notes.append).noted_lines()), notes
 
     def test_a_counter_of_one_second_steps(self) -> None:
         """The last raw value would need a second of its own, whose rate is unknown: a step of one second has none to give."""
         for step, note in ((1, ["source s0: cannot convert its last value 7; its next rate will be unknown"]), (2, [])):
             old = RrdFile(step, 100, [source("COUNTER", last_raw="7")], [archive(0, "AVERAGE", 1, [1.0, 2.0, 3.0])])
             notes: list[str] = []
-            lines = list(batch_of(old, None, notes.append))
+            lines = list(RrdBatch(old, None, notes.append).noted_lines())
             self.assertEqual((notes, lines[-1] == "update 100:7"), (note, step == 2), lines)
 
     def test_steps_and_types(self) -> None:

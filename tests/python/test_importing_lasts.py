@@ -9,7 +9,7 @@ from array import array
 from typing import List, Optional
 
 import doubles  # noqa: F401
-from rrdi.importing.batch import batch_of
+from rrdi.importing.batch import RrdBatch
 from rrdi.importing.dump import RrdArchive, RrdFile, RrdSource
 from rrdi.importing.lasts import last_value, with_last
 
@@ -85,7 +85,7 @@ class Lines(unittest.TestCase):
         count = len(sources)
         rows = RrdArchive(0, "AVERAGE", 1, 0.5, [NAN] * count, [0] * count, array("d", [1.0] * count + [2.0] * count), count)
         self.notes: List[str] = []
-        return list(batch_of(RrdFile(10, last, list(sources), [rows]), None, self.notes.append))
+        return list(RrdBatch(RrdFile(10, last, list(sources), [rows]), None, self.notes.append).noted_lines())
 
     def test_a_gauge(self) -> None:
         """The last sample comes after its bounds."""

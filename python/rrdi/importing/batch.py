@@ -14,7 +14,7 @@ from .differing import NewArchive, differing_archives
 from .dump import RrdArchive, RrdFile, Refusal, RrdSource
 from .lasts import is_within, last_value, with_last
 from .rounding import BOUND_LIMIT, Converter, as_text, raw_value
-from .plan import Span, note_made_up_rows, plan
+from .plan import note_made_up_rows, plan
 from .rates import SourceRates, unfinished_step
 from .steps import Stretches
 
@@ -119,10 +119,6 @@ def merge(columns: list[Stretches]) -> Iterator[tuple[int, Rates]]:
         yield pending
 
 
-def as_words(rates: Iterable[int | None]) -> str:
-    return "".join(":" + as_text(rate) for rate in rates)
-
-
 def share_of(archive: RrdArchive) -> str:
     """Returns the xff with which rrdi allows as many unknown steps in a row as RRDtool does."""
     wanted = archive.allowed_unknown()
@@ -149,7 +145,11 @@ def updates(samples: Iterable[str]) -> Iterator[str]:
 
 
 class RrdBatch:
-    """Writes the lines of a batch."""
+    """Writes the lines of the batch that creates the database. Reports to `note` whatever cannot be converted.
+
+    # Errors
+    `Refusal` if rrdi cannot have such a database.
+    """
 
     def __init__(self, old: RrdFile, journal: str | None, note: Callable[[str], None]):
         if old.step < 1:
@@ -163,7 +163,6 @@ class RrdBatch:
         self.archives = choose_archives(old, len(self.sources), note)
         self.raw = [self.raw_of(source) for source in self.sources]
         self.last_given = old.last - any(raw is not None for raw in self.raw)
-        self.spans: list[Span] = []
 
     @property
     def changed(self) -> int:
@@ -246,7 +245,7 @@ class RrdBatch:
             self.note("numbers below half a millionth became 0")
 
     def create(self) -> str:
-        """Yields the lines. All sources begin as gauges without bounds and with the longest heartbeat."""
+        """Returns the first line. All sources begin as gauges without bounds and with the longest heartbeat."""
         words = [f"create --step {self.old.step} --start {self.start}"]
         if self.journal is not None:
             words.append(f"--journal {self.journal}")
@@ -262,26 +261,16 @@ class RrdBatch:
                 time = self.last_given
             if time > before:
                 before = time
-                yield f"{time}{as_words(rates)}"
+                yield ":".join([str(time), *map(as_text, rates)])
 
     def tune(self, source: RrdSource) -> str:
         heartbeat = min(source.heartbeat, LATEST)
         if heartbeat < source.heartbeat:
             self.note(f"source {source.name}: its heartbeat becomes {LATEST}, the longest in rrdi")
         words = [f"tune --heartbeat {source.name}:{heartbeat}"]
-        for option, bound in (("--minimum", source.minimum), ("--maximum", source.maximum)):
-            amount = self.converter.amount(bound, BOUND_LIMIT)
+        for option, amount in zip(("--minimum", "--maximum"), self.bounds(source)):
             if amount is not None:
                 words.append(f"{option} {source.name}:{as_text(amount)}")
         if source.kind != "GAUGE":
             words.append(f"--data-source-type {source.name}:{source.kind}")
         return " ".join(words)
-
-
-def batch_of(old: RrdFile, journal: str | None, note: Callable[[str], None]) -> Iterator[str]:
-    """Yields the lines of the batch that creates the database. Reports to `note` whatever cannot be converted.
-
-    # Errors
-    `Refusal` if rrdi cannot have such a database.
-    """
-    return RrdBatch(old, journal, note).noted_lines()
