@@ -3,6 +3,7 @@
 from __future__ import annotations
 
 import math
+from operator import itemgetter
 from typing import Dict, Iterable, List, Mapping, NamedTuple, Tuple
 
 from ..amounts import gauge_text
@@ -34,12 +35,8 @@ def sort_points(points: Iterable[Point], step: int, latest: float) -> Tuple[Slot
             continue
         reason = "value" if text is None else "time" if not (math.isfinite(when) and when >= 0) else "future"
         left_out[reason] = left_out.get(reason, 0) + 1
-    taken.sort(key=time_of)
+    taken.sort(key=itemgetter(0))
     return {int(when) // step * step + step: text for when, text in taken}, left_out
-
-
-def time_of(point: Tuple[float, str]) -> float:
-    return point[0]
 
 
 def sample(end: int, text: str, before: int, step: int, has_zeros: bool) -> str:

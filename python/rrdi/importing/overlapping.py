@@ -45,7 +45,7 @@ class Overlapping:
 
     def __init__(self, source: SourceRates, span: Span, over: RrdArchive):
         self.source, self.span, self.over, self.step = source, span, over, source.step
-        self.beside = span.companions(over, span.archives)
+        self.beside = span.companions(over)
 
     def average(self, time: int) -> float:
         """Returns the average of the finished row that ends at `time`; nan if it is unknown."""

@@ -24,13 +24,13 @@ class Span:
 
     def __init__(self, begin: int, end: int, archive: RrdArchive, archives: list[RrdArchive]):
         self.begin, self.end, self.archive, self.archives = begin, end, archive, archives
-        self.beside = self.companions(archive, archives)
-        self.above = self.coarser(archive, archives)
-        self.above_twice = self.coarser(self.above, archives) if self.above else None
+        self.beside = self.companions(archive)
+        self.above = self.coarser(archive)
+        self.above_twice = self.coarser(self.above) if self.above else None
         self.overlapping = None if self.above else min((other for other in archives if other.function == "AVERAGE" and
                                                         other.seconds > archive.seconds), key=lambda other: other.seconds,
                                                        default=None)
-        self.above_beside = self.companions(self.above, archives) if self.above else {}
+        self.above_beside = self.companions(self.above) if self.above else {}
         self.longer = [] if "AVERAGE" not in self.beside else [
             min(found, key=lambda other: other.seconds) for found in (
                 [other for other in archives if other.function == function and other.seconds % archive.seconds == 0]
@@ -41,17 +41,15 @@ class Span:
         self.most_dropped = min(allowed)
         self.most_hidden = min(archive.steps - most - 1 for most in allowed)
 
-    @staticmethod
-    def coarser(archive: RrdArchive, archives: list[RrdArchive]) -> RrdArchive | None:
+    def coarser(self, archive: RrdArchive) -> RrdArchive | None:
         """Returns the next coarser archive of averages whose rows consist of whole rows of this archive."""
-        found = [other for other in archives if other.function == "AVERAGE" and other.seconds > archive.seconds
+        found = [other for other in self.archives if other.function == "AVERAGE" and other.seconds > archive.seconds
                  and other.seconds % archive.seconds == 0]
         return min(found, key=lambda other: other.seconds) if found else None
 
-    @staticmethod
-    def companions(archive: RrdArchive, archives: list[RrdArchive]) -> dict[str, RrdArchive]:
+    def companions(self, archive: RrdArchive) -> dict[str, RrdArchive]:
         found: dict[str, RrdArchive] = {}
-        for other in archives:
+        for other in self.archives:
             if other.steps == archive.steps:
                 before = found.get(other.function)
                 if before is None or other.begin < before.begin:

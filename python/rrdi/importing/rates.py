@@ -405,7 +405,7 @@ class SourceRates:
             if sum(coarser.dropped.values()) >= excess:
                 return True
             coarser.dropped.clear()
-        row = self.row(Span.companions(top, span.archives), end)
+        row = self.row(span.companions(top), end)
         for steps in range(min(-excess, span.most_hidden, parts.unknown * span.most_hidden), 0, -1):
             hidden_mean = (mean * (parts.count + steps) - parts.total) / steps
             if row.may_have(hidden_mean, parts.count + steps):
