@@ -333,7 +333,7 @@ def keep_status(state: str, status: int) -> None:
                 file.write(f"{status}\n")
             new.replace()
     except OSError as error:
-        say(called_name(TOOL), f"{escaped(state)}: the status is not kept: {error.strerror or error_text(error)}")
+        say(called_name(TOOL), f"{state}: the status is not kept: {error.strerror or error_text(error)}")
 
 
 def check(words: List[str]) -> int:

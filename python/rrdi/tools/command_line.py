@@ -74,10 +74,10 @@ def write_output(data: bytes) -> None:
 def add_line(name: str, hint: str) -> None:
     """Prints a further line, if there is something to say."""
     if hint:
-        print_line(name, hint)
+        say(name, hint)
 
 
-def print_line(name: str, text: str) -> None:
+def say(name: str, text: str) -> None:
     """Prints a line on standard error. Names of files and words of others may have anything in them."""
     complain(f"{name}: {escaped(text)}")
 
@@ -128,7 +128,7 @@ def run(tool: Tool, words: Optional[List[str]] = None) -> int:
         return status
     except WrongArguments as wrong:
         if str(wrong):
-            print_line(name, str(wrong))
+            say(name, str(wrong))
         else:
             complain(f"usage: {name} {tool.usage}")
             if tool.help:
@@ -136,7 +136,7 @@ def run(tool: Tool, words: Optional[List[str]] = None) -> int:
                 add_line(name, option_hint(words, tool.help))
         ended = tool.misused
     except Failure as failure:
-        print_line(name, str(failure))
+        say(name, str(failure))
         if str(failure).endswith("file: not ours"):
             from .hints import file_hint
             add_line(name, file_hint(words))
@@ -149,7 +149,7 @@ def run(tool: Tool, words: Optional[List[str]] = None) -> int:
         give_up_output()
         return 130
     except OSError as error:
-        print_line(name, error_text(error))
+        say(name, error_text(error))
     except MemoryError:
         complain(f"{name}: out of memory")
     except Exception:
@@ -159,11 +159,6 @@ def run(tool: Tool, words: Optional[List[str]] = None) -> int:
     except OSError:
         give_up_output()
     return ended
-
-
-def say(tool_name: str, text: str) -> None:
-    """Prints a line of a tool on standard error, if that is open."""
-    print_line(tool_name, text)
 
 
 class Progress:

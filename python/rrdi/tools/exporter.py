@@ -47,7 +47,6 @@ from __future__ import annotations
 import os
 from typing import List, NamedTuple, Optional
 
-from ..escaping import escaped
 from ..reader.selected import OpenFile
 from .command_line import Failure, Progress, Tool, WrongArguments, called_name, say
 from .export_many import export_many, make_new
@@ -92,7 +91,7 @@ def make_whisper(file: str, new: str) -> None:
         except Failure as failure:
             raise Failure(f"{file}: {failure}") from None
     for note in copy.notes:
-        say(called_name(TOOL), escaped(f"{file}: {note}"))
+        say(called_name(TOOL), f"{file}: {note}")
     make_new(new, lambda unfinished: write_equal(copy, unfinished))
 
 

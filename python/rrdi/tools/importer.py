@@ -43,7 +43,6 @@ import os
 import re
 from typing import Iterator, List, NamedTuple, Optional
 
-from ..escaping import escaped
 from ..importing.dump import Refusal
 from ..kinds import is_of_rrdi
 from .command_line import Failure, Progress, Tool, WrongArguments, called_name, say
@@ -116,13 +115,9 @@ def look_at(old: str) -> None:
 def import_one(old: str, new: Optional[str], journal: Optional[str]) -> int:
     """Converts one file, and returns the status."""
     look_at(old)
-    conversion = Conversion(old, journal, lambda text: say(called_name(TOOL), f"{escaped(old)}: {text}"))
+    conversion = Conversion(old, journal, lambda text: say(called_name(TOOL), f"{old}: {text}"))
     progress = Progress(f"reading {old}")
-
-    def reading(done: int, size: int) -> None:
-        progress.show(done, size)
-
-    lines = ended(conversion.lines(reading), progress)
+    lines = ended(conversion.lines(progress.show), progress)
     if new is None:
         for line in lines:
             print(line)
@@ -149,8 +144,8 @@ def convert(words: List[str]) -> int:
         return import_one(arguments.old[0], arguments.new, arguments.journal)
     except Refusal as refusal:
         old = arguments.old[0]
-        reason = str(refusal)  # it may have texts of the old file in it
-        raise Failure(escaped(reason if old in reason else f"{old}: {reason}")) from None
+        reason = str(refusal)
+        raise Failure(reason if old in reason else f"{old}: {reason}") from None
 
 
 TOOL = Tool("rrdi-import", "[--journal DEPTH] OLD.rrd|OLD.wsp [NEW.rrdi]\n"

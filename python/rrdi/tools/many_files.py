@@ -177,7 +177,7 @@ class Conversions:
     def report(self, file: OldFile, answer: ChildAnswer) -> None:
         if not answer.is_done:
             self.refused += 1
-            say(self.tool, escaped(f"{file.path}: not converted: {answer.text}"))
+            say(self.tool, f"{file.path}: not converted: {answer.text}")
             return
         outcome, _, report = answer.text.partition("\n")
         self.counts[outcome] += 1

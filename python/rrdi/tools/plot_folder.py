@@ -9,7 +9,6 @@ from functools import partial
 from typing import Dict, List, NamedTuple, Optional, Set
 
 from ..choice import chosen
-from ..escaping import escaped
 from ..kinds import RRDTOOL_MARK, first_bytes
 from ..locks import open_regular
 from ..making import NewFile, is_there, remove_left_over
@@ -140,7 +139,7 @@ def draw_folder(asked: PagesAsked, tool: str) -> int:
         else:
             progress.end()
             refused.append(NotDrawn(file.name, answer.text))
-            say(tool, escaped(f"{file.path}: not drawn: {answer.text}"))
+            say(tool, f"{file.path}: not drawn: {answer.text}")
         progress.show(number, len(files))
     progress.end()
     title = asked.values.get("title", os.path.basename(os.path.abspath(asked.tree)))
