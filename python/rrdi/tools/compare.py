@@ -30,7 +30,7 @@ import re
 from typing import Dict, Iterator, List, NamedTuple, Optional
 
 from ..escaping import escaped
-from ..importing.differing import MOST_APART, SHARE_APART
+from ..importing.differing import agree
 from ..limits import FUNCTIONS
 from ..printed import printed_rows
 from . import program, rrdtool_program
@@ -58,20 +58,16 @@ class Counts:
 
     def add(self, time: int, old: float, new: float) -> None:
         self.cells += 1
-        if not math.isnan(old) and not math.isnan(new):
-            apart = abs(new - old)
-            if apart <= MOST_APART + abs(new) * SHARE_APART:
-                self.agree += 1
-                return
-            self.differ += 1
-            self.most = max(self.most, apart)
-        elif not math.isnan(new):
-            self.only_new += 1
-        elif not math.isnan(old):
-            self.only_old += 1
-        else:
+        if agree(old, new):
             self.agree += 1
             return
+        if math.isnan(old):
+            self.only_new += 1
+        elif math.isnan(new):
+            self.only_old += 1
+        else:
+            self.differ += 1
+            self.most = max(self.most, abs(new - old))
         self.newest = time if self.newest is None else max(self.newest, time)
 
     def text(self) -> str:
