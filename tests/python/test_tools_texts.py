@@ -26,7 +26,6 @@ from rrdi.tools.librrd import Exported
 from rrdi.tools.machine import load, memory, network
 from rrdi.tools.rows import NO_ARCHIVE, Rows, choose, rows_of
 from rrdi.tools.rrdtool.texts import fetch_text, last_update_text
-from rrdi.tools.rrdtool.texts import raw_text as text_of_rrdtool
 from rrdi.tools.rrdtool_output import guarded, lines_of, plain, with_lengths
 
 NAN = float("nan")
@@ -54,13 +53,13 @@ class Choices(unittest.TestCase):
                 ((fine, middle, coarse), LAST - 7_200, 1, 2), ((fine, middle, coarse), LAST - 9_999, 1, 2), ((coarse, middle, fine), LAST - 60, 1, 2), ((middle, middle), LAST, 1, 0),
                 ((fine, middle), LAST - 9_999, 1, 1), ((middle, fine), LAST - 9_999, 1, 0), ((("AVERAGE", 6, 1), ("AVERAGE", 1, 6)), LAST - 99, 1, 1), ((("AVERAGE", 6, 1), ("AVERAGE", 1, 6)), LAST - 99, 60, 0),
                 ((("MAX", 6, 9), middle), LAST - 9, 1, 1), ((("MAX", 1, 9), middle), LAST - 9, 1, 0), ((("MAX", 1, 9), middle), LAST - 9, 60, 1)):
-            self.assertEqual(choose(settings(*archives), "AVERAGE", start, LAST, resolution), number, (archives, start - LAST, resolution))
+            self.assertEqual(choose(settings(*archives), "AVERAGE", start, resolution), number, (archives, start - LAST, resolution))
         # The last time is in the middle of a row of all but the finest: they end at 1000, 990 and 960.
         for start, resolution, number in ((900, 1, 0), (900, 44, 1), (900, 45, 1), (900, 46, 2), (800, 1, 0), (799, 1, 1), (390, 1, 1), (389, 1, 2), (10, 1, 2)):
-            self.assertEqual(choose(settings(("AVERAGE", 1, 20), ("AVERAGE", 3, 20), ("AVERAGE", 6, 16), last=1_000), "AVERAGE", start, 1_000, resolution), number, (start, resolution))
+            self.assertEqual(choose(settings(("AVERAGE", 1, 20), ("AVERAGE", 3, 20), ("AVERAGE", 6, 16), last=1_000), "AVERAGE", start, resolution), number, (start, resolution))
         for archives, function in ((((("MAX", 6, 9)),), "AVERAGE"), ((("MAX", 1, 9),), "HWPREDICT"), ((), "MAX")):
             with self.assertRaisesRegex(Failure, f"^{NO_ARCHIVE}$"):
-                choose(settings(*archives), function, LAST, LAST, 1)
+                choose(settings(*archives), function, LAST, 1)
 
     def test_rows(self) -> None:
         """From the row after the start to the one that ends after the end; those that the archive lacks are unknown."""
@@ -95,7 +94,7 @@ class Choices(unittest.TestCase):
             found = rows_of("f", settings(("MAX", 6, 6), last=60), 0, 0, 59)
         self.assertEqual((found.cells, ask.call_args[0][0][-3:]), ([[1.0, 2.0]], ["0", "--end", "59"]))
         with self.assertRaisesRegex(Failure, r"^start \(6\) should be less than end \(5\)$"):
-            rows.fetch("f", "MAX", 6, 5)
+            rows.fetch("f", "MAX", 6, 5, 1)
         with mock.patch.object(program, "ask", return_value="time: a b\n60: 1 2\n120: 3 4\n"), mock.patch.object(program, "settings", return_value=settings(("MAX", 6, 6), last=120)) as asked:
             self.assertEqual(rows.fetch("f", "MAX", 5, 5, 60), Rows(0, 60, 60, ["a", "b"], [[1.0, 2.0]]))
             self.assertEqual(rows.fetch("f", "MAX", 5, 60, 60), Rows(0, 120, 60, ["a", "b"], [[1.0, 2.0], [3.0, 4.0]]))
@@ -131,13 +130,13 @@ class Shown(InUtc):
         stored = [StoredArchive(function, steps, 0, 6, 10 * steps, 0, ()) for function, steps in (("AVERAGE", 1), ("MAX", 6), ("AVERAGE", 6), ("MAX", 12))]
         outline = Outline(10, LAST, ("a",), (), tuple(stored), 0)
         for words, begin, number in (("f", LAST - 60, 0), ("f", LAST - 61, 2), ("f MAX", LAST - 60, 1), ("f MAX -r 95", LAST - 60, 3), ("f MAX", LAST - 361, 3), ("f -a 3", LAST, 3), ("f -a 0", LAST, 0), ("f MAX -a 2", LAST, 2)):
-            self.assertEqual(show.archive_number(outline, show.read_options(words.split()), begin, LAST), number, words)
+            self.assertEqual(show.archive_number(outline, show.read_options(words.split()), begin), number, words)
         for words, text in (("f -a 4", "f: there is no archive 4, only 0 to 3"), ("f MIN", "f: no archive has MIN, only AVERAGE, MAX")):
             with self.assertRaises(Failure) as failed:
-                show.archive_number(outline, show.read_options(words.split()), LAST, LAST)
+                show.archive_number(outline, show.read_options(words.split()), LAST)
             self.assertEqual(str(failed.exception), text)
         fine = [StoredArchive("MAX", steps, 0, 600, steps, 0, ()) for steps in (3, 1)]  # without a resolution the finest one
-        self.assertEqual(show.archive_number(Outline(1, LAST, ("a",), (), tuple(fine), 0), show.read_options(["f"]), LAST - 9, LAST), 1)
+        self.assertEqual(show.archive_number(Outline(1, LAST, ("a",), (), tuple(fine), 0), show.read_options(["f"]), LAST - 9), 1)
         row = {"steps": 6, "function": "MAX", "row_count": 3}
         self.assertEqual(show.archive_row(1, row, 10, LAST + 59), ["1", "MAX", "1 min", "3", "2023-11-14 22:11:00", "2023-11-14 22:14:00"])
         self.assertEqual(show.archive_row(0, row, 10, 70), ["0", "MAX", "1 min", "3", "1970-01-01 00:00:00", "1970-01-01 00:01:00"])
@@ -197,8 +196,6 @@ class OfRrdtool(unittest.TestCase):
     def test_the_last_update(self) -> None:
         self.assertEqual(last_update_text(settings()), f" a b\n\n{LAST}: 2.5 7\n")
         self.assertEqual(last_update_text(settings(last=5)), " a b\n\n         5: 2.5 7\n")
-        for text, short in (("2.500000", "2.5"), ("100", "100"), ("100.000000", "100"), ("U", "U"), ("0.000000", "0")):
-            self.assertEqual(text_of_rrdtool(text), short)
 
     def test_exports(self) -> None:
         found = Exported(1_000, 1_020, 10, ["a", 'b"c'], [(1.5, NAN), (2.0, -3.0)])

@@ -3,7 +3,6 @@
 from __future__ import annotations
 
 import datetime
-import math
 import numbers
 import unittest
 from datetime import timedelta, timezone
@@ -13,7 +12,6 @@ from unittest import mock
 import doubles  # noqa: F401 -- it puts the package on the path
 import rrdi
 from rrdi import errors, times, words
-from rrdi.amounts import LARGEST, gauge_text, shortened
 from rrdi.escaping import escaped
 from rrdi.limits import LONGEST_LINE
 
@@ -131,20 +129,6 @@ class Words(unittest.TestCase):
                             # Other surrogates stand for no byte.
                             ("\ud800\udc7f\udd00\udfff", "\\u{d800}\\u{dc7f}\\u{dd00}\\u{dfff}")):
             self.assertEqual(escaped(text), shown)
-
-
-class Amounts(unittest.TestCase):
-    def test_shortened(self) -> None:
-        for text, short in (("1.500000", "1.5"), ("100.000000", "100"), ("100", "100"), ("-0.000000", "0"), ("-0", "0"), ("0.000000", "0"),
-                            ("-0.500000", "-0.5"), ("0.000001", "0.000001"), ("10.010", "10.01")):
-            self.assertEqual(shortened(text), short)
-
-    def test_values_of_a_gauge(self) -> None:
-        below = LARGEST - 128  # the next smaller float
-        for value, text in ((1.5, "1.500000"), (0.0, "0.000000"), (-0.0, "0"), (-4e-7, "0"), (-6e-7, "-0.000001"), (4e-7, "0.000000"),
-                            (below, "999999999999999872.000000"), (-below, "-999999999999999872.000000"), (LARGEST, None), (-LARGEST, None),
-                            (math.inf, None), (-math.inf, None), (math.nan, None)):
-            self.assertEqual(gauge_text(value), text)
 
 
 if __name__ == "__main__":

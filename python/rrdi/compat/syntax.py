@@ -5,7 +5,7 @@ from __future__ import annotations
 import re
 from typing import Dict, List, Tuple
 
-from ..amounts import WITH_EXPONENT
+from ..amounts import WITH_EXPONENT, Millionths, shortened
 
 GivenOptions = List[Tuple[str, str]]
 
@@ -90,8 +90,7 @@ def read_number(text: str) -> str:
     value = int("".join(map(str, digits))) * (-1 if sign else 1)
     power = int(exponent) + 6
     millionths = value * 10**power if power >= 0 else (2 * value + 10**-power) // (2 * 10**-power)
-    whole, rest = divmod(abs(millionths), 10**6)
-    return f"{'-' * (millionths < 0)}{whole}.{rest:06}".rstrip("0").rstrip(".")
+    return shortened(str(Millionths(millionths)))
 
 
 def read_length(text: str, what: str, unit: int = 1) -> str:

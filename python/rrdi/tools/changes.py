@@ -4,11 +4,10 @@ from __future__ import annotations
 
 from typing import Iterator, List, NamedTuple, Optional, Tuple
 
-from ..amounts import Millionths, shortened
+from ..amounts import shortened
 from ..reader.pieces import Parts
 from .spans import length_text, time_text
 
-BOUND = "U"
 SETTINGS = ("name", "type", "heartbeat", "min", "max")
 
 
@@ -87,7 +86,7 @@ class Changes:
 
 def raw_text(value: object) -> str:
     """Returns a setting or a raw value; none is U."""
-    return BOUND if value is None else shortened(str(value)) if isinstance(value, Millionths) else str(value)
+    return "U" if value is None else shortened(str(value))
 
 
 def described(archive: Parts, step: int) -> str:

@@ -23,7 +23,7 @@ class Rows(NamedTuple):
     cells: List[List[Optional[float]]]
 
 
-def choose(settings: Settings, function: str, start: int, end: int, resolution: int) -> int:
+def choose(settings: Settings, function: str, start: int, resolution: int) -> int:
     """Returns the number of the archive that RRDtool reads.
 
     RRDtool reads an archive with one step per row for any function. Of the archives that reach back to `start`, RRDtool
@@ -78,7 +78,7 @@ def as_float(text: str) -> Optional[float]:
     return None if math.isnan(value) else value
 
 
-def fetch(file: str, function: str, start: int, end: int, resolution: int = 1) -> Rows:
+def fetch(file: str, function: str, start: int, end: int, resolution: int) -> Rows:
     """Returns the rows that `rrdtool fetch` prints.
 
     # Errors
@@ -88,4 +88,4 @@ def fetch(file: str, function: str, start: int, end: int, resolution: int = 1) -
     if start > end:
         raise Failure(f"start ({start}) should be less than end ({end})")
     settings = program.settings(file)
-    return rows_of(file, settings, choose(settings, function, start, end, resolution), start, end)
+    return rows_of(file, settings, choose(settings, function, start, resolution), start, end)

@@ -10,11 +10,6 @@ def number(value: Optional[int], unknown: str = "NaN") -> str:
     return unknown if value is None else str(value)
 
 
-def part(value: int, is_known: bool) -> str:
-    """Returns the value of an unfinished row. If no step is known, the value is unknown in RRDtool and 0 in rrdi."""
-    return number(value if is_known else None)
-
-
 def sources_as_xml(database: Dict[str, Any]) -> Iterator[str]:
     step, last = database["step"], database["last_time"]
     for source in database["sources"]:
@@ -36,9 +31,9 @@ def as_xml(database: Dict[str, Any]) -> Iterator[str]:
         yield f"<params><xff>{archive['xff']}</xff></params><cdp_prep>"
         passed = last // step % archive["steps"]
         for newest, preparation in zip(archive["rows"][-1]["cells"], archive["preparations"]):
-            known = preparation["known_steps"]
+            known = preparation["known_steps"]  # without one, the value is unknown in RRDtool and 0 in rrdi
             yield f"<ds><primary_value>{number(newest)}</primary_value><secondary_value>NaN</secondary_value>"
-            yield f"<value>{part(preparation['value'], known)}</value>"
+            yield f"<value>{number(preparation['value'] if known else None)}</value>"
             yield f"<unknown_datapoints>{passed - known}</unknown_datapoints></ds>"
         yield "</cdp_prep><database>"
         for row in archive["rows"]:

@@ -111,7 +111,7 @@ class ShownRows(NamedTuple):
                 "archives": [others] * self.number + [mine]}
 
 
-def archive_number(outline: Outline, options: ShowOptions, begin: int, until: int) -> int:
+def archive_number(outline: Outline, options: ShowOptions, begin: int) -> int:
     """Returns the archive that was chosen: by its number, or of the function's archives the one that RRDtool chooses.
 
     # Errors
@@ -129,7 +129,7 @@ def archive_number(outline: Outline, options: ShowOptions, begin: int, until: in
         raise Failure(f"{options.file}: no archive has {function}, only {there}")
     settings = Settings(outline.step, outline.last, 0, 0, [], [
         Archive(function, "", outline.archives[number].steps, outline.archives[number].rows) for number in numbers])
-    return numbers[choose(settings, function, begin, until, number_of(options.values, "resolution") or 1)]
+    return numbers[choose(settings, function, begin, number_of(options.values, "resolution") or 1)]
 
 
 def read_table(options: ShowOptions) -> ShownRows:
@@ -137,7 +137,7 @@ def read_table(options: ShowOptions) -> ShownRows:
     with reporting(options.file), OpenFile(options.file) as file:
         outline = file.outline()
         begin, until = span_of(options.values.get("start"), options.values.get("end"), outline.last)
-        number = archive_number(outline, options, begin, until)
+        number = archive_number(outline, options, begin)
         archive = outline.archives[number]
         rows = file.rows(archive, begin + 1, until + archive.seconds - 1)
     if not rows:

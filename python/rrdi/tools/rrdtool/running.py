@@ -273,14 +273,14 @@ class Commands:
         return "{} {}\n".format(*span(first, second, int(self.clock())))
 
 
-def commands_for(name: str, words: List[str], clock: Callable[[], float] = time.time) -> List[Command]:
+def commands_for(name: str, words: List[str]) -> List[Command]:
     """Returns the commands of rrdi for a command of RRDtool.
 
     # Errors
     `Failure` if rrdi does not have the command or a feature in the arguments.
     """
     try:
-        return translate(name, words, int(clock()), FileQuestions())
+        return Commands().translated(name, words)
     except Untranslatable as reason:
         raise Failure(str(reason)) from None
 

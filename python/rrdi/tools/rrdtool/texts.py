@@ -4,6 +4,7 @@
 # Without `annotations` of __future__: a named tuple whose types are texts makes a tool start a tenth slower.
 from typing import TYPE_CHECKING, List, NamedTuple, Optional
 
+from ...amounts import shortened
 from ...printed import Settings
 from ..exponents import exponent
 from ..rows import Rows
@@ -19,11 +20,6 @@ def bound(text: str) -> Optional[float]:
     return None if text == "U" else float(text)
 
 
-def raw_text(text: str) -> str:
-    """Returns a raw value without zeros after its last digit."""
-    return text.rstrip("0").rstrip(".") if "." in text else text
-
-
 def fetch_text(rows: Rows) -> str:
     lines = ["           " + "".join(f"{name:>20}" for name in rows.names), ""]
     for number, cells in enumerate(rows.cells, 1):
@@ -33,7 +29,7 @@ def fetch_text(rows: Rows) -> str:
 
 def last_update_text(settings: Settings) -> str:
     names = "".join(f" {source.name}" for source in settings.sources)
-    values = "".join(f" {raw_text(source.last_raw)}" for source in settings.sources)
+    values = "".join(f" {shortened(source.last_raw)}" for source in settings.sources)
     return f"{names}\n\n{settings.last:10}:{values}\n"
 
 
@@ -45,7 +41,7 @@ def source_lines(settings: Settings, unfinished: "Unfinished") -> List[str]:
                   f"{key}.minimal_heartbeat = {source.heartbeat}",
                   f"{key}.min = {exponent(bound(source.minimum), 'NaN')}",
                   f"{key}.max = {exponent(bound(source.maximum), 'NaN')}",
-                  f'{key}.last_ds = "{raw_text(source.last_raw)}"', f"{key}.value = {exponent(part.value, 'NaN')}",
+                  f'{key}.last_ds = "{shortened(source.last_raw)}"', f"{key}.value = {exponent(part.value, 'NaN')}",
                   f"{key}.unknown_sec = {part.unknown_seconds}"]
     return lines
 
