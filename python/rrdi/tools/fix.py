@@ -49,6 +49,7 @@ from .command_line import Failure, Tool, WrongArguments, error_text
 from .fixing.held import HeldFile, held
 from .fixing.history import History, OneSample, SentUpdate, given_samples, history_of, with_given, wrong_change
 from .options import given_words
+from .reading import reporting
 from .spans import PRINTED, exact_seconds, local_times, time_text
 
 WITH_VALUE = {"--source": "source", "--samples": "samples"}
@@ -221,15 +222,13 @@ def read_samples(name: Optional[str]) -> List[str]:
     """
     if name is None:
         return []
-    try:
+    with reporting(name):
         if name == "-" and sys.stdin is None:  # it was closed, and another file may have its number
             raise OSError(errno.EBADF, os.strerror(errno.EBADF))
         if name == "-":
             return sys.stdin.buffer.read().decode(errors="replace").splitlines()
         with open(name, encoding="utf-8", errors="replace") as lines:
             return lines.read().splitlines()
-    except OSError as error:
-        raise Failure(f"{name}: {error.strerror or error_text(error)}") from None
 
 
 def chosen_time(options: FixOptions, history: History, given: List[OneSample]) -> int:

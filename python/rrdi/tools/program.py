@@ -65,6 +65,13 @@ def is_utf_8(path: bytes) -> bool:
     return True
 
 
+def not_run(none: NoAnswer) -> Failure:
+    """Returns the failure for a program that gave no answer."""
+    if none.status:
+        return CommandFailed(f"{none.program} ended with status {none.status}")
+    return Failure(f"cannot run {none.program}: {none.reason}")
+
+
 def answered(call: Callable[..., Answer], file: str, given: bytes) -> Answer:
     """Calls a function of the library, or of the program in its place, for a file.
 
@@ -75,9 +82,7 @@ def answered(call: Callable[..., Answer], file: str, given: bytes) -> Answer:
     try:
         answer = call(as_bytes(file), given, int(time.time()), milliseconds(None), sync_of_environment())
     except NoAnswer as none:
-        if none.status:
-            raise CommandFailed(f"{none.program} ended with status {none.status}") from None
-        raise Failure(f"cannot run {none.program}: {none.reason}") from None
+        raise not_run(none) from None
     if answer.fault in (USAGE, CANNOT_OPEN) and not is_utf_8(as_bytes(file)):
         raise CommandFailed("the path is not in UTF-8, as rrdi wants it")
     if answer.fault != OK:

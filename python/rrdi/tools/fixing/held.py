@@ -20,6 +20,7 @@ from ...reader import settled
 from ...words import as_bytes, as_text
 from ..command_line import Failure, error_text
 from ..program import CommandFailed
+from ..reading import reporting
 from .trials import NO_TIME, Trial, accepted, by_library, by_program, text_of
 
 TRIES = 10  # of an opening, if another file takes the name each time
@@ -239,10 +240,8 @@ def read_all(file: FileIO, path: str) -> bytes:
     # Errors
     `Failure` if it cannot be read.
     """
-    try:
+    with reporting(path):
         return file.readall()
-    except OSError as error:
-        raise Failure(f"{path}: {error.strerror or error_text(error)}") from None
 
 
 def opened(path: str) -> "tuple[Session, FileIO]":
@@ -269,11 +268,8 @@ def identity_of_file(path: str) -> Identity:
     # Errors
     `Failure` if none has, or it is none that rrdi opens.
     """
-    try:
-        with open_regular(path, milliseconds(None) / 1_000) as file:
-            return identity_of(os.fstat(file.fileno()))
-    except OSError as error:
-        raise Failure(f"{path}: {error.strerror or error_text(error)}") from None
+    with reporting(path), open_regular(path, milliseconds(None) / 1_000) as file:
+        return identity_of(os.fstat(file.fileno()))
 
 
 def session_at(path: str) -> Session:

@@ -12,7 +12,7 @@ from ...limits import LONGEST_LINE
 from ...protocol import Answer, Library
 from ...words import as_bytes, as_text
 from ..command_line import Failure, error_text
-from ..program import CommandFailed
+from ..program import CommandFailed, not_run
 
 NO_TIME = 0  # what N stands for: no line of these tools has one
 
@@ -87,10 +87,3 @@ def by_program(program: str, folder: Optional[str] = None) -> Trial:
         except OSError as error:
             raise NoCopy(f"cannot make a copy to try the change on: {error_text(error)}") from None
     return tried
-
-
-def not_run(none: NoAnswer) -> Failure:
-    """Returns the failure for a program that gave no answer."""
-    if none.status:
-        return CommandFailed(f"{none.program} ended with status {none.status}")
-    return Failure(f"cannot run {none.program}: {none.reason}")
