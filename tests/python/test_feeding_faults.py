@@ -204,7 +204,7 @@ class NoMemory(FaultCase):
                                     "rrdi-feed: a line may be lost, got: 2.rrdi 2:2\nrrdi-feed: a line may be lost, got: 3.rrdi 3:3\n")
 
     def test_lines_that_cannot_be_shown(self) -> None:
-        with mock.patch.object(self.feeder, "take", side_effect=MemoryError), mock.patch("rrdi.feeding.feeder.text_of", side_effect=MemoryError):
+        with mock.patch.object(self.feeder, "take", side_effect=MemoryError), mock.patch("rrdi.feeding.feeder.as_text", side_effect=MemoryError):
             self.assertEqual(self.fed(b"1.rrdi 1:1\n", b""), 1)
         self.assertEqual(self.said, "rrdi-feed: cannot read the input any further: out of memory\nrrdi-feed: lines may be lost that there is no memory to show\n")
 
@@ -310,7 +310,7 @@ class NoMemory(FaultCase):
             self.assertEqual(BatchWriter(mock.Mock()).write(b"a", [b"10:1"]), Outcome(again="out of memory"))
 
     def test_messages(self) -> None:
-        with mock.patch("rrdi.feeding.feeder.text_of", side_effect=MemoryError):
+        with mock.patch("rrdi.feeding.feeder.as_text", side_effect=MemoryError):
             self.writer.outcomes = {b"1.rrdi": [Outcome(lost="cannot write")]}
             self.assertEqual(self.fed(b"1.rrdi 1:1\n2.rrdi 1:1\n", b""), 1)
         self.assertEqual(self.said, "rrdi-feed: samples may be lost that there is no memory to show\n")

@@ -19,7 +19,7 @@ from tool_case import Ran, ToolCase
 from rrdi.by_program import NoAnswer
 from rrdi.escaping import HIDDEN, escaped
 from rrdi.feeding.feeder import Feeder, FeedOptions
-from rrdi.feeding.writers import BatchWriter, Outcome, Reason, text_of
+from rrdi.feeding.writers import BatchWriter, Outcome, Reason
 from rrdi.tools import compare, feed, fix
 from rrdi.tools.command_line import Failure, Progress, called_name
 from rrdi.tools.plotting import gnuplot
@@ -53,7 +53,9 @@ class Parts(unittest.TestCase):
 
     def test_bytes(self) -> None:
         """Two files whose names are no UTF-8 have different names in a message."""
-        self.assertEqual([escaped(text_of(name)) for name in (b"\xff", b"\xfe", "\u00fc".encode())], ["\\xff", "\\xfe", "\u00fc"])
+        writer = mock.Mock(write=mock.Mock(return_value=Outcome(lost="why")))
+        for name, shown in ((b"\xff", "\\xff"), (b"\xfe", "\\xfe"), ("\u00fc".encode(), "\u00fc")):
+            self.assertIn(f"rrdi-feed: {shown}: why;", self.feeder_says(writer, name + b" 10:1\n"))
 
     def test_the_name_of_a_tool(self) -> None:
         """It may be that of a link."""

@@ -18,9 +18,10 @@ from typing import Callable, Dict, Iterable, Iterator, List, Optional, Set, Tupl
 from ..escaping import escaped
 from ..limits import LONGEST_LINE
 from ..open_files import OpenBounds
+from ..words import as_text
 from .ordering import further, in_order
 from .workers import FIRST, Batch, Workers
-from .writers import NO_ROOM, TOO_OLD, Outcome, Reason, Writer, text_of
+from .writers import NO_ROOM, TOO_OLD, Outcome, Reason, Writer
 
 UPDATE = b"update "
 SHORT = LONGEST_LINE - len(UPDATE)  # bytes of a line whose sample cannot be too long
@@ -56,7 +57,7 @@ class Waiting:
 
 def line_text(line: "bytes | bytearray") -> str:
     """Returns a line for a message: without its end."""
-    return escaped(text_of(line[:LONGEST_SHOWN]).strip() + (".." if len(line) > LONGEST_SHOWN else ""))
+    return escaped(as_text(line[:LONGEST_SHOWN]).strip() + (".." if len(line) > LONGEST_SHOWN else ""))
 
 
 NO_MEMORY_LEFT = Outcome(lost="MemoryError")
@@ -125,7 +126,7 @@ class Feeder:
         """Reports the refused samples of a batch: each in a line or, if many in a row have one reason, many in a line. So
         thousands of late samples bury nothing else, and can all be fed again."""
         for reason, group in groupby(refused, lambda one: one[1]):
-            name, samples = escaped(text_of(file)), [escaped(text_of(sample)) for sample, _ in group]
+            name, samples = escaped(as_text(file)), [escaped(as_text(sample)) for sample, _ in group]
             self.refused += len(samples)
             self.too_old += len(samples) * reason.startswith(TOO_OLD)
             in_line = 1 if len(samples) <= FEW else SAMPLES_OF_A_LINE
@@ -144,10 +145,10 @@ class Feeder:
     def say_lost(self, file: bytes, reason: str, samples: List[bytes]) -> None:
         """Reports samples that may be lost, in lines that the user can feed again."""
         try:
-            name = escaped(text_of(file))
+            name = escaped(as_text(file))
             self.say(f"{name}: {reason}; {len(samples)} samples may be lost")
             for at in range(0, len(samples), SAMPLES_OF_A_LINE):
-                self.say(f"may be lost: {name} {escaped(text_of(b' '.join(samples[at:at + SAMPLES_OF_A_LINE])))}")
+                self.say(f"may be lost: {name} {escaped(as_text(b' '.join(samples[at:at + SAMPLES_OF_A_LINE])))}")
         except MemoryError:
             self.say("samples may be lost that there is no memory to show")
 
@@ -155,7 +156,7 @@ class Feeder:
         """Reports the lines that were read and not taken."""
         try:
             for line in self.untaken() if self.lines else self.data.split(b"\n"):
-                self.say(f"a line may be lost, got: {escaped(text_of(line).strip())}")
+                self.say(f"a line may be lost, got: {escaped(as_text(line).strip())}")
         except MemoryError:
             self.say("lines may be lost that there is no memory to show")
 

@@ -9,7 +9,7 @@ from ..damaged import is_being_made
 from ..environment import is_synced, milliseconds
 from ..errors import CANNOT_OPEN, EXPLAINED, NO_MEMORY, OK, TRUNCATED, details_in, of_system, reason_of, reasons_in
 from ..protocol import DONE, Answer, OnFiles
-from ..words import present
+from ..words import as_text, present
 
 
 class Reason(str):
@@ -45,11 +45,6 @@ NO_ROOM = "out of memory"
 TOO_OLD = "too old"  # begins the reason of a sample that is too late to be put in
 
 
-def text_of(data: "bytes | bytearray") -> str:
-    """Returns bytes of others for a message, where each byte that is no UTF-8 gets its code."""
-    return data.decode(errors="surrogateescape")
-
-
 def may_be_made(file: bytes) -> bool:
     """Checks whether an empty file may be one that another program is making: one at which the system can't look, too."""
     try:
@@ -78,7 +73,7 @@ def outcome_of(file: bytes, samples: List[bytes], answer: Answer) -> Outcome:
         return Outcome(again=reason_for(answer))
     if answer.fault != OK:
         return Outcome(lost=reason_for(answer))
-    reasons, details = reasons_in(text_of(answer.output)), details_in(answer.explanation)
+    reasons, details = reasons_in(as_text(answer.output)), details_in(answer.explanation)
     return Outcome(refused=tuple((samples[number - 1], Reason(why, details.get(number, "")))
                                  for number, why in zip(answer.refused, reasons)))
 
