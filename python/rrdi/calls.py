@@ -15,7 +15,7 @@ from threading import get_ident
 from typing import Callable, List, NamedTuple, Optional, Protocol, Tuple
 from weakref import WeakValueDictionary
 
-from .locks import give_up
+from .locks import give_up, still_there
 
 LONGEST_WAIT = 1.0  # seconds, for calls that run
 LONGEST_STOP = 2.0  # seconds in which no call begins: no longer, even if an exception cut a fork short
@@ -115,11 +115,8 @@ class Calls:
 
     def _running(self) -> List[Running]:
         found = [Running(path, call.opened, call.thread, call)
-                 for call, path in ((call, call.path) for call in self._calls()) if path is not None]
+                 for call, path in ((call, call.path) for call in still_there(self.known)) if path is not None]
         return [*found, *(Running(*call) for one in self.elsewhere for call in one.running())]
-
-    def _calls(self) -> List[Call]:
-        return [call for call in (reference() for reference in self.known.valuerefs()) if call is not None]
 
     def stop(self) -> None:
         """Lets no call begin, and waits until those that run have ended, if they end soon."""
@@ -156,8 +153,7 @@ class Calls:
             one.forget_calls()
 
     def _open_files(self) -> List[StaysOpen]:
-        found = [file for file in (reference() for reference in self.open.valuerefs()) if file is not None]
-        return found + [file for one in self.elsewhere for file in one.files()]
+        return still_there(self.open) + [file for one in self.elsewhere for file in one.files()]
 
 
 calls = Calls()

@@ -92,7 +92,7 @@ class Collected:
     def batch(self, lines: Lines) -> Batch:
         if self._waiting:
             self._run([])
-        return batch(self.path, lines, now=self.now, busy_timeout=self.busy_timeout, sync=self.sync)
+        return self._batch(self.path, lines)
 
     def flush(self) -> None:
         while self._waiting:
@@ -134,5 +134,5 @@ class Collected:
         lines[creation.place] = ""  # an empty line does nothing
         return self._batch(self.path, lines)
 
-    def _batch(self, path: str, lines: List[str]) -> Batch:
+    def _batch(self, path: str, lines: Lines) -> Batch:
         return batch(path, lines, now=self.now, busy_timeout=self.busy_timeout, sync=self.sync)

@@ -17,7 +17,7 @@ from .environment import is_synced, milliseconds
 from .errors import CANNOT_OPEN, EXPLAINED, LOCKED, OK
 from .fetching import Asked
 from .library import the_library
-from .locks import Identity, identity_at, is_open_here, keepers
+from .locks import Identity, identity_at, is_open_here, keepers, still_there
 from .printed import printed_rows
 from .protocol import CLOSED, DONE, Answer, OpenedFile
 from .results import Table
@@ -171,12 +171,8 @@ class KeptFile:
 _files: WeakValueDictionary[int, KeptFile] = WeakValueDictionary()
 
 
-def _kept_files() -> List[KeptFile]:
-    return [file for file in (reference() for reference in _files.valuerefs()) if file is not None]
-
-
 def _after_fork_in_child() -> None:
-    for file in _kept_files():
+    for file in still_there(_files):
         file.guard = threading.RLock()  # another thread may have held it, and is not in the child
 
 

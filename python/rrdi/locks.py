@@ -18,7 +18,7 @@ import time
 from contextlib import contextmanager
 from functools import lru_cache, partial
 from operator import methodcaller
-from typing import Callable, Iterable, Iterator, List, Optional, Protocol, Tuple, Union
+from typing import Any, Callable, Iterable, Iterator, List, Optional, Protocol, Tuple, TypeVar, Union
 from weakref import WeakValueDictionary
 
 SHARED, EXCLUSIVE = fcntl.LOCK_SH, fcntl.LOCK_EX
@@ -32,6 +32,7 @@ NO_LOCKS = frozenset({errno.ENOSYS, errno.EOPNOTSUPP, errno.ENOTSUP, errno.EINVA
 
 
 Identity = Tuple[int, int]  # the device and the inode
+Kept = TypeVar("Kept")
 
 
 def identity_of(found: os.stat_result) -> Identity:
@@ -246,9 +247,13 @@ def _blind(numbers: Iterable[int]) -> None:
     os.close(unreadable)
 
 
+def still_there(known: WeakValueDictionary[Any, Kept]) -> List[Kept]:
+    """Returns what a dictionary has that is in use still. Other threads may change the dictionary meanwhile."""
+    return [one for one in (reference() for reference in known.valuerefs()) if one is not None]
+
+
 def _after_fork_in_child() -> None:
-    files = [file for file in (reference() for reference in _locked.valuerefs()) if file is not None]
-    _blind(file.fileno() for file in files if not file.closed)
+    _blind(file.fileno() for file in still_there(_locked) if not file.closed)
     _locked.clear()
 
 

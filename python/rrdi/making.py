@@ -13,8 +13,7 @@ import secrets
 import time
 from contextlib import suppress
 from io import FileIO
-from types import TracebackType
-from typing import Callable, List, Optional, Type, TypeVar
+from typing import Callable, List, Optional, TypeVar
 
 from .locks import EXCLUSIVE, check_regular, close, lock, open_file
 from .words import FilePath
@@ -87,12 +86,9 @@ class NewFile:
     def __enter__(self) -> NewFile:
         return self
 
-    def __exit__(self, kind: Optional[Type[BaseException]], error: Optional[BaseException],
-                 trace: Optional[TracebackType]) -> None:
-        try:
+    def __exit__(self, *_: object) -> None:
+        with suppress(OSError):  # it has its name, there never was one, or it stays: what was made counts all the same
             os.unlink(self.unfinished)
-        except OSError:  # it has its name, there never was one, or it stays: what was made counts all the same
-            pass
 
     def is_filled(self) -> bool:
         """Checks whether there is something under the other name: a refused `create` leaves no file.

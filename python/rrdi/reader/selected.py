@@ -7,8 +7,7 @@ database that the next command of rrdi would find.
 from __future__ import annotations
 
 import struct
-from types import TracebackType
-from typing import Dict, Iterator, List, NamedTuple, Optional, Tuple, Type
+from typing import Dict, Iterator, List, NamedTuple, Optional, Tuple
 
 from ..amounts import Millionths
 from ..errors import Damaged
@@ -91,8 +90,7 @@ class OpenFile:
     def __enter__(self) -> OpenFile:
         return self
 
-    def __exit__(self, kind: Optional[Type[BaseException]], error: Optional[BaseException],
-                 trace: Optional[TracebackType]) -> None:
+    def __exit__(self, *_: object) -> None:
         self.close()
 
     # ---- Parts
