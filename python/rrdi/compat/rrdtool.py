@@ -14,7 +14,8 @@ from __future__ import annotations
 
 import builtins
 import time
-from typing import Any, Callable, Dict, List, NoReturn, Optional, Tuple, Union
+from contextlib import contextmanager
+from typing import Any, Callable, Dict, Iterator, List, NoReturn, Optional, Tuple, Union
 
 from .. import __version__ as __version__
 from .. import commands
@@ -71,19 +72,17 @@ def _translated(command: str, words: Tuple[object, ...]) -> List[Command]:
         raise OperationalError(escaped(str(reason))) from None
 
 
-class _AsRrdtool:
+@contextmanager
+def _as_rrdtool() -> Iterator[None]:
     """Raises errors as RRDtool's module does."""
-
-    def __enter__(self) -> None:
-        pass
-
-    def __exit__(self, kind: object, error: Optional[BaseException], trace: object) -> None:
-        if isinstance(error, ProgrammingError):
-            raise OperationalError(error.reason, error.path, error.fault, detail=error.detail) from None
+    try:
+        yield
+    except ProgrammingError as error:
+        raise OperationalError(error.reason, error.path, error.fault, detail=error.detail) from None
 
 
 def _change(command: str, words: Tuple[object, ...]) -> None:
-    with _AsRrdtool():
+    with _as_rrdtool():
         for name, file, *others in _translated(command, words):
             commands.run_on(file, [name, *others])
 
@@ -107,7 +106,7 @@ def tune(*words: Words) -> None:
 
 def resize(*words: Words) -> None:
     """Writes FILE with more or fewer rows to resize.rrd in this directory: FILE ARCHIVE GROW|SHRINK ROWS"""
-    with _AsRrdtool():
+    with _as_rrdtool():
         (name, file, *others), = _translated("resize", words)
         try:
             resize_copy(file, lambda copy: commands.run_on(copy, [name, *others]))
@@ -120,7 +119,7 @@ def resize(*words: Words) -> None:
 
 def fetch(*words: Words) -> Tuple[Tuple[int, int, int], Tuple[str, ...], List[Row[float]]]:
     """Returns rows: FILE FUNCTION [-r SECONDS] [-s START] [-e END] [-a]"""
-    with _AsRrdtool():
+    with _as_rrdtool():
         (_, file, *others), = _translated("fetch", words)
         if not others:
             raise OperationalError("fetch needs a FUNCTION", file)
@@ -130,7 +129,7 @@ def fetch(*words: Words) -> Tuple[Tuple[int, int, int], Tuple[str, ...], List[Ro
 
 def first(*words: Words) -> int:
     """Returns the time of an archive's oldest row: FILE [--rraindex ARCHIVE]"""
-    with _AsRrdtool():
+    with _as_rrdtool():
         (_, file, *others), = _translated("first", words)
         return commands.first(file, *others)
 
@@ -172,7 +171,7 @@ def _by_keys(file: str, settings: Settings) -> Info:
 
 def _printed(command: str, words: Tuple[object, ...]) -> Tuple[str, str]:
     """Returns FILE, and the output of a command without options on FILE."""
-    with _AsRrdtool():
+    with _as_rrdtool():
         (name, file, *others), = _translated(command, words)
         return file, commands.run_on(file, [name, *others])
 
