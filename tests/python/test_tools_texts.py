@@ -260,17 +260,18 @@ class Trees(unittest.TestCase):
             names.new(files[1])
 
     def test_what_a_kill_has_left(self) -> None:
-        """In each folder all files of that kind, once."""
-        for folder in ("d", "z"):
-            for number in range(2):
-                left = self.tree / folder / f".rrdi-{number:016x}.new"
-                left.touch()
-                os.utime(left, (0, 0))
-        folders = [str(self.tree / folder) for folder in ("z", "d", "z")]
-        with contextlib.redirect_stdout(io.StringIO()) as said:
-            many_files.tidy(folders)
-        self.assertEqual(sorted(said.getvalue().splitlines()), [f"{self.tree}/{folder}/.rrdi-{number:016x}.new: removed, a run that was killed had left it" for folder in ("d", "z") for number in range(2)])
-        self.assertEqual(sorted(os.listdir(self.tree / "d")), ["e.rrd", "f.rrdi"])
+        """In each folder of a new file all files of that kind, once."""
+        names = [f"{folder}/x.rrd" for folder in ("z", "d", "z")]
+        for files, into in (([many_files.OldFile(str(self.tree / name), "x.rrd") for name in names], None), ([many_files.OldFile("x.rrd", name) for name in names], str(self.tree))):
+            for folder in ("d", "z"):
+                for number in range(2):
+                    left = self.tree / folder / f".rrdi-{number:016x}.new"
+                    left.touch()
+                    os.utime(left, (0, 0))
+            with contextlib.redirect_stdout(io.StringIO()) as said:
+                many_files.tidy(files, into)
+            self.assertEqual(sorted(said.getvalue().splitlines()), [f"{self.tree}/{folder}/.rrdi-{number:016x}.new: removed, a run that was killed had left it" for folder in ("d", "z") for number in range(2)])
+            self.assertEqual(sorted(os.listdir(self.tree / "d")), ["e.rrd", "f.rrdi"])
 
     def test_the_bar_of_all(self) -> None:
         """By the bytes of the files: those that are done, and of one that is read no more than it has."""

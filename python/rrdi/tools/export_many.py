@@ -129,11 +129,6 @@ def into_whisper(path: str, new: str) -> str:
 
 # ---- Many files
 
-def new_path(into: str, name: str, is_whisper: bool) -> str:
-    stem, end = os.path.splitext(name)
-    return os.path.join(into, (stem if end in (NEW_END, RRDTOOL_END) else name) + (WHISPER_END if is_whisper else RRDTOOL_END))
-
-
 class Exporter(Conversions):
     """Makes files of RRDtool or of whisper."""
 
@@ -142,7 +137,9 @@ class Exporter(Conversions):
         super().__init__(files, into, "RRDtool", tool)
 
     def new_of(self, file: OldFile) -> str:
-        return new_path(self.into or "", file.name, self.is_whisper)
+        stem, end = os.path.splitext(file.name)
+        name = stem if end in (NEW_END, RRDTOOL_END) else file.name
+        return os.path.join(self.into or "", name + (WHISPER_END if self.is_whisper else RRDTOOL_END))
 
     def converted(self, file: OldFile, reading: Reading) -> str:
         if first_bytes(file.path) == RRDTOOL_MARK:
@@ -164,7 +161,7 @@ def export_many(words: List[str], into: Optional[str], is_whisper: bool, jobs: i
     files = files_of(words, ends)
     if not is_whisper:
         rrdtool_program.found()
-    tidy(os.path.dirname(file.path if into is None else new_path(into, file.name, is_whisper)) for file in files)
+    tidy(files, into)
     exporter = Exporter(files, into, is_whisper, tool)
     exporter.convert(jobs)
     print(exporter.summary(sum(links_below(word, ends) for word in words if os.path.isdir(word))))

@@ -82,7 +82,7 @@ def import_many(words: List[str], into: Optional[str], journal: Optional[str], j
     - `OSError` if a directory can't be read.
     """
     files = files_of(words, OLD_ENDS)
-    tidy(os.path.dirname(file.path if into is None else os.path.join(into, file.name)) for file in files)
+    tidy(files, into)
     chosen()  # here, because otherwise each process would load it
     importer = Importer(files, into, journal, tool)
     importer.convert(jobs)

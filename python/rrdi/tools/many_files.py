@@ -95,9 +95,10 @@ class NewNames:
         return new
 
 
-def tidy(folders: Iterable[str]) -> None:
-    """Removes from folders what runs that were killed have left, and says so."""
-    for folder in dict.fromkeys(folders):
+def tidy(files: Iterable[OldFile], into: Optional[str]) -> None:
+    """Removes from the folders of the new files what runs that were killed have left, and says so."""
+    paths = (file.path if into is None else os.path.join(into, file.name) for file in files)
+    for folder in dict.fromkeys(os.path.dirname(path) for path in paths):
         for path in remove_left_over(folder):
             print(escaped(f"{path}: removed, a run that was killed had left it"), flush=True)
 
