@@ -10,15 +10,9 @@ from support.changes import FILE
 from support.check import Check
 from support.library import ON_FILES, WAYS
 from support.program import Program, error
-from support.refusals import NOW, Row, rows
+from support.refusals import NOW, Row, rows, said
 
 LEAST = {"refusals": 800, "batches": 12, "files": 10}
-
-
-def said(err: str) -> str:
-    """Returns the explanation of a refused command."""
-    lines = err.split("\n")
-    return lines[1].removeprefix("rrdi: ") if lines[0].startswith("ERROR: ") and lines[1].startswith("rrdi: ") else ""
 
 
 def create(by_library: Program, folder: Path, row: Row) -> None:

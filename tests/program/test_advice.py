@@ -11,7 +11,7 @@ import pytest
 
 from support import layout
 from support.program import error
-from support.refusals import Row, rows
+from support.refusals import Row, rows, said
 from support.runs import FILE, RUNS, Runs
 
 LEAST = {RUNS: 245}
@@ -87,12 +87,6 @@ def test_misuse(t: Runs, words: list[Any], says: str, command: str) -> None:
     t.same(words, 2, error("usage") + line(says) + usage_of(usage, command))
 
 
-def told_of(err: str) -> str:
-    """Returns what is said of a refused command, in the line after that of the fault."""
-    lines = err.split("\n")
-    return lines[1].removeprefix("rrdi: ") if lines[0].startswith("ERROR: ") and lines[1].startswith("rrdi: ") else ""
-
-
 def test_refusals(t: Runs) -> None:
     """Runs the table of refusals."""
     made: list[str] = []
@@ -103,7 +97,7 @@ def test_refusals(t: Runs) -> None:
             t.run(["create", FILE, *row.create[1:]])
             made = row.create
         status, out, err = t.told([row.words[0], FILE, *row.words[1:]])
-        t.check.same((status in (1, 2), out, told_of(err)), (True, "", row.says), " ".join(row.words)[:80])
+        t.check.same((status in (1, 2), out, said(err)), (True, "", row.says), " ".join(row.words)[:80])
 
 
 def test_refused_lines(t: Runs) -> None:

@@ -207,11 +207,9 @@ def file_bytes(last: int, names: Sequence[str] = ("average",),
     return data + entries
 
 
-def update_entry(before: int, archives: int, sources: int = 1) -> bytes:
-    """A journal entry of an update that finished one row of the first archive."""
-    entry = b"\1" + struct.pack(">Q", before) + (amount(None) + struct.pack(">I", 0) + amount(0)) * sources
+def update_entry(before: int, archives: int) -> bytes:
+    """A journal entry of an update that finished one row of the first archive, of one source."""
+    entry = b"\1" + struct.pack(">Q", before) + amount(None) + struct.pack(">I", 0) + amount(0)
     for number in range(archives):
-        finished = 1 if number == 0 else 0
-        entry += (struct.pack(">I", 0) + amount(0)) * sources + struct.pack(">I", finished)
-        entry += amount(None) * sources * finished
+        entry += struct.pack(">I", 0) + amount(0) + struct.pack(">I", number == 0) + amount(None) * (number == 0)
     return entry

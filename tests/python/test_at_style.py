@@ -103,16 +103,12 @@ class Boundaries(unittest.TestCase):
         for text, wanted in DAYS:
             self.assertEqual(Moment(text, NOW).seconds(), wanted, text)
 
-    def test_no_days(self) -> None:
-        for text in NO_DAYS:
+    def test_no_days_and_nothing_twice(self) -> None:
+        for text in (*NO_DAYS, *TWICE):
             self.assertTrue(self.refused(text), text)
 
     def test_digits_of_other_scripts(self) -> None:
         for text in ("\u0661:00", "now-\u0661h", "epoch+\u0661", "20240203".translate({48 + digit: 0x660 + digit for digit in range(10)}), "now-1\u00b2h"):
-            self.assertTrue(self.refused(text), text)
-
-    def test_nothing_twice(self) -> None:
-        for text in TWICE:
             self.assertTrue(self.refused(text), text)
 
     def test_each_day_of_each_week(self) -> None:

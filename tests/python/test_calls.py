@@ -17,11 +17,11 @@ from typing import Any, Callable, Dict, List, Optional
 from unittest import mock
 
 from building import ByExtension, chosen
-from cases import HANG, DataCase, run_in_threads, sleeping_child, use_library
+from cases import HANG, run_in_threads, sleeping_child
 from doubles import TOP
-from locking import Locking, c_library, put
+from locking import c_library, put
 from opcodes import between_all, raised_at_each
-from test_kept import is_locked
+from test_kept import KeptCase, is_locked
 
 from rrdi import calls as running
 import rrdi
@@ -155,17 +155,13 @@ class MeetingByExtension(ByExtension, Meeting):
     least_steps = 0
 
 
-class Interrupted(DataCase):
+class Interrupted(KeptCase):
     """After an exception at any step no lock is held, and no file is open."""
 
     least_steps = 200
 
     def setUp(self) -> None:
         super().setUp()
-        self.path = self.folder / "f.rrdi"
-        self.path.write_bytes(b"a database")
-        self.library = Locking()
-        use_library(self, self.library.library)
         self.addCleanup(gc.enable)
         gc.disable()
 
@@ -206,14 +202,11 @@ class InterruptedByExtension(ByExtension, Interrupted):
     least_steps = 100
 
 
-class Forks(DataCase):
+class Forks(KeptCase):
     """No child keeps a lock after its parent was killed, of which nobody calls an `unlock`."""
 
     def setUp(self) -> None:
         super().setUp()
-        self.path = self.folder / "f.rrdi"
-        self.path.write_bytes(b"a database")
-        self.library = Locking()
         self.begun, self.may_end = threading.Event(), threading.Event()
         self.addCleanup(self.may_end.set)
         self.library.at_call = self.in_a_call
@@ -257,7 +250,6 @@ class Forks(DataCase):
 
     def test_a_child_that_uses_the_file_of_a_long_call(self) -> None:
         """It hears that the file is locked: it does not wait for the thread of the call, which it does not have."""
-        use_library(self, self.library.library)
         kept, self.library.at_call = KeptFile(self.path, 0), lambda: None
         kept.run(["last"])
         self.library.at_call = self.in_a_call
@@ -374,7 +366,6 @@ class Forks(DataCase):
                 self.library.library.run_file(b"f", b"last", 0, 0, False)
                 done.append(number)
             kept.close()
-        use_library(self, self.library.library)
         for number in range(4):
             (self.folder / str(number)).write_bytes(b"a database")
         threads = [threading.Thread(target=work, args=(number,)) for number in range(4)]

@@ -67,14 +67,14 @@ class FaultCase(unittest.TestCase):
                 self.said = said.getvalue()
 
 
-    def fed_to_its_end(self, status: int = 0, said: str = "") -> None:
+    def fed_to_its_end(self) -> None:
         """Feeds the lines, and fails if that never ends."""
         def end(*_: object) -> None:
             raise AssertionError("feed does not end")
         before = signal.signal(signal.SIGALRM, end)
         signal.setitimer(signal.ITIMER_REAL, HANG, 1)
         try:
-            self.assertEqual((self.fed(LINES, b""), self.stored(), self.said), (status, self.wanted(), said))
+            self.assertEqual((self.fed(LINES, b""), self.stored(), self.said), (0, self.wanted(), ""))
         finally:
             signal.setitimer(signal.ITIMER_REAL, 0)
             signal.signal(signal.SIGALRM, before)

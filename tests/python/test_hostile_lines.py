@@ -75,11 +75,11 @@ class LineCase(DataCase):
         self.keeping = Keeping()
         use_library(self, self.keeping)
 
-    def only(self, command: str, most: int, lines: Sequence[str], word: str) -> None:
-        """The library was given at most so many lines, each with one command and no option."""
+    def only_updates(self, most: int, lines: Sequence[str], word: str) -> None:
+        """The library was given at most so many lines, each with one update and no option."""
         self.assertLessEqual(len(lines), most, ascii(word[:60]))
         for line in lines:
-            self.assertTrue(is_one_line(line, command), (ascii(word[:60]), ascii(line[:90])))
+            self.assertTrue(is_one_line(line, "update"), (ascii(word[:60]), ascii(line[:90])))
 
 
 class Calls(LineCase):
@@ -177,7 +177,7 @@ class Feeding(LineCase):
                 self.keeping.commands.clear()
                 names = Names(os.fsencode(self.folder), rules)
                 self.fed(MetricFeeder(FeedOptions(), BatchWriter(self.keeping), names), line)
-                self.only("update", 1, self.keeping.lines, word)
+                self.only_updates(1, self.keeping.lines, word)
                 for found in self.keeping.commands:
                     self.assertEqual([found[0], *found[3:]], [b"create", b"--step", b"10", b"DS:v:GAUGE:60:U:U",
                                                               b"RRA:AVERAGE:0.5:1:9"])
@@ -223,7 +223,7 @@ class Carbon(LineCase):
         store = self.store()
         store.create("m", layout.template([(10, 60)], 0.5, "average", 16))
         store.write("m", [(NOW + 10 * number, value) for number, value in enumerate((math.nan, math.inf, -0.0, 1e17, -1e-9))])
-        self.only("update", 3, self.keeping.lines[1:], "values")
+        self.only_updates(3, self.keeping.lines[1:], "values")
 
 
 class Collectd(LineCase):
@@ -253,7 +253,7 @@ class Collectd(LineCase):
                 begin, lines = self.written(self.values(**{name: word}))
                 self.writer.write(self.values(**{name: word, "time": -1.0}))  # a message has the name
                 self.assertTrue(all(escaped(text) == text for text in self.collectd.lines), ascii(word[:60]))
-                self.only("update", 1, lines, word)
+                self.only_updates(1, lines, word)
                 for line in begin:
                     self.assertRegex(line, rf"^create --step 10 --start {NOW - 1} --journal 16 DS:value:DERIVE:20:0.000000:U RRA:")
         self.assertEqual([name for name in self.files() if not name.startswith("data/")], [])
@@ -263,7 +263,7 @@ class Collectd(LineCase):
         for number, word in enumerate(HOSTILE):
             with mock.patch.dict(self.collectd.DATASETS, {word: [(word, "gauge", 0.0, math.nan)]}):
                 begin, lines = self.written(self.values(type=word, host=f"h{number}"))
-            self.only("update", 1, lines, word)
+            self.only_updates(1, lines, word)
             for line in begin:
                 self.assertTrue(line.isascii() and line.isprintable() and line.split(" ")[7].startswith(f"DS:{word}:"), word)
 

@@ -421,8 +421,9 @@ class Parts(unittest.TestCase):
                 self.assertEqual(rates.find_below_unknown(span, archives[1], coarser, -2, []), found != none, (low, high))
             self.assertEqual((coarser.hidden, coarser.hidden_mean), found)
 
-    def below_unknown(self, dropped: int, excess: int, top: float = 30.0) -> Tuple[bool, Dict[int, int]]:
-        """Returns what is found in an unknown row of 36 steps if so many unknown steps explain the mean of the row above."""
+    def below_unknown(self, dropped: int, top: float = 30.0) -> Tuple[bool, Dict[int, int]]:
+        """Returns what is found in an unknown row of 36 steps, of which three are unknown at least, if so many unknown steps explain
+        the mean of the row above."""
         fine = [1.0] * 24 + [40.0] * 6 + [20.0] * 6
         archives = [archive_of(0, self.FINE, fine, 216), archive_of(1, self.COARSE, [5.0, 6.0, 7.0, NAN, 40.0, 20.0], 216),
                     archive_of(2, Kind("AVERAGE", 108, 2), [77.0, top], 216)]
@@ -433,13 +434,13 @@ class Parts(unittest.TestCase):
             found.dropped[114] = dropped
             return True
         with mock.patch.object(rates, "find_dropped", find):
-            return rates.find_below_unknown(span, archives[1], coarser, excess, []), coarser.dropped
+            return rates.find_below_unknown(span, archives[1], coarser, 3, []), coarser.dropped
 
     def test_as_many_unknown_steps_as_an_unknown_row_has_at_least(self) -> None:
         for dropped, found in ((2, (False, {})), (3, (True, {114: 3})), (4, (True, {114: 4}))):
-            self.assertEqual(self.below_unknown(dropped, 3), found)
+            self.assertEqual(self.below_unknown(dropped), found)
         # The row above is unknown too, or has the mean of its steps.
-        self.assertEqual([self.below_unknown(3, 3, top) for top in (NAN, (36 + 36 * 40 + 36 * 20) / 108)], [(False, {})] * 2)
+        self.assertEqual([self.below_unknown(3, top) for top in (NAN, (36 + 36 * 40 + 36 * 20) / 108)], [(False, {})] * 2)
 
     def test_a_coarser_row_that_begins_where_the_span_ends(self) -> None:
         """All its steps count, whatever the rates after the span are."""

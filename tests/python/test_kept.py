@@ -214,19 +214,20 @@ class Handlers(KeptCase):
         super().setUp()
         self.library.is_echo = True
 
+    def act(self, inner: List[str]) -> None:
+        """Runs a command, and notes its answer."""
+        try:
+            inner.append(self.kept.run(["inner"]))
+        except rrdi.Busy:
+            inner.append("busy")
+
     def test_a_command_at_each_step(self) -> None:
         """Both get their answers. Only while the outer one opens the file, the inner one finds it locked."""
         for is_open in (False, True):
             inner: List[str] = []
-
-            def act() -> None:
-                try:
-                    inner.append(self.kept.run(["inner"]))
-                except rrdi.Busy:
-                    inner.append("busy")
             if not is_open:
                 self.kept.close()
-            self.assertEqual(between_all(act, lambda: self.kept.run(["outer"])), "outer")
+            self.assertEqual(between_all(lambda: self.act(inner), lambda: self.kept.run(["outer"])), "outer")
             self.assertEqual(set(inner) - {"busy"}, {"inner"})
             self.assertLess(inner.count("busy"), len(inner) / 2)
             self.assertTrue(not is_open or "busy" not in inner)
@@ -235,17 +236,11 @@ class Handlers(KeptCase):
         """The file that the inner one opens is the file of both."""
         inner: List[str] = []
 
-        def act() -> None:
-            try:
-                inner.append(self.kept.run(["inner"]))
-            except rrdi.Busy:
-                inner.append("busy")
-
         def work() -> str:
             found = self.kept.run(["outer"])
             self.kept.close()
             return found
-        outer = list(between_each(act, work))
+        outer = list(between_each(lambda: self.act(inner), work))
         self.assertEqual((set(outer), set(inner)), ({"outer"}, {"inner", "busy"}))
         self.assertLess(inner.count("busy"), len(inner) / 2)
         self.kept.close()

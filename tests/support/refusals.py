@@ -31,6 +31,12 @@ class Row(NamedTuple):
         return OF_THE_CLOCK.search(" ".join(self.words)) is not None
 
 
+def said(err: str) -> str:
+    """Returns what is said of a refused command, in the line after that of the fault."""
+    lines = err.split("\n")
+    return lines[1][len("rrdi: "):] if lines[0].startswith("ERROR: ") and lines[1].startswith("rrdi: ") else ""
+
+
 def text_of(quoted: str) -> str:
     """Returns the text of a line in a string of Rust."""
     return re.sub(r"\\(?:u\{([0-9a-f]+)\}|(.))", lambda code: code[2] or chr(int(code[1], 16)), quoted)
