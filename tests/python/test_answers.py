@@ -26,8 +26,7 @@ from rrdi.differences import difference
 from rrdi.environment import is_synced, milliseconds, sync_of_environment, wait_of_environment
 from rrdi.errors import details_in, error_of, error_of_line, fault_of, reason_of, reasons_in
 from rrdi.printed import Settings, printed_rows, settings_of
-from rrdi.results import Table, info_of, last_update, table
-from rrdi.words import encoded, flat, is_word, line_of, options, present
+from rrdi.results import info_of, last_update
 
 INFO = """step = 10
 last_update = 1600000033
@@ -181,10 +180,13 @@ class Definitions(unittest.TestCase):
     def test_what_is_lacking(self) -> None:
         for line in INFO.splitlines(True):
             if not line.startswith(("ds[1].name", "rra[1].cf")):  # these end the sources, or the archives
-                self.assertRaises(ValueError, settings_of, INFO.replace(line, ""))
+                with self.assertRaisesRegex(ValueError, "^no "):
+                    settings_of(INFO.replace(line, ""))
         self.assertEqual(len(settings_of(INFO.replace("ds[1].name = c\n", "")).sources), 1)
         self.assertEqual(len(settings_of(INFO.replace("rra[1].cf = MAX\n", "")).archives), 1)
-        self.assertRaises(ValueError, settings_of, "")
+        for text in ("", "step = 10\nlast_update = 5\njournal = 1\nundoable = 0\n", INFO.replace("step = 10", "step = x")):
+            self.assertRaises(ValueError, settings_of, text)
+        self.assertEqual(settings_of(INFO.replace("last_raw = U", "last_raw = 7 = 8")).sources[1].last_raw, "7 = 8")
 
     def test_for_people(self) -> None:
         for kind in (float, Decimal):
@@ -193,6 +195,10 @@ class Definitions(unittest.TestCase):
                 "g": SourceInfo("g", "GAUGE", 60, kind("-1.5"), None, kind("2.5")), "c": SourceInfo("c", "COUNTER", 70, kind("0"), kind("100"), None)},
                 (ArchiveInfo("AVERAGE", kind("0.5"), 1, 4, 10), ArchiveInfo("MAX", kind("0.25"), 6, 3, 60))))
             self.assertIs(type(found.sources["g"].min), kind)
+            with self.assertRaises(AttributeError):
+                found.step = 5
+        exact = info_of(INFO.replace("last_raw = U", f"last_raw = {2**64 - 1}"), "net.rrdi", Decimal)
+        self.assertEqual(exact.sources["c"].last_raw, Decimal(2**64 - 1))
         self.assertRaises(TypeError, info_of, INFO, "net.rrdi", str)
 
     def test_what_differs(self) -> None:
@@ -213,26 +219,10 @@ class Definitions(unittest.TestCase):
 
 
 class Rows(unittest.TestCase):
-    TEXT = "time: a b\n10: 1.500000 nan\n20: U -2.000000\n"
-
     def test_printed(self) -> None:
-        found = printed_rows(self.TEXT)
-        self.assertEqual((found.names, found.times, found.words), (("a", "b"), [10, 20], [["1.500000", "nan"], ["U", "-2.000000"]]))
-        self.assertEqual(tuple(printed_rows("")), ((), [], []))
-
-    def test_a_table(self) -> None:
-        for kind in (float, Decimal):
-            found: Any = table(printed_rows(self.TEXT), 10, kind)
-            self.assertEqual((found.start, found.end, found.step, found.names, found.rows), (0, 20, 10, ("a", "b"), [(kind("1.5"), None), (None, kind("-2"))]))
-            self.assertEqual((list(found.times), list(found.records())), ([10, 20], [(10, {"a": kind("1.5"), "b": None}), (20, {"a": None, "b": kind("-2")})]))
-            columns = found.columns()
-            self.assertEqual([[None if math.isnan(cell) else cell for cell in columns[name]] for name in ("a", "b")], [[1.5, None], [None, -2.0]])
-            self.assertEqual({type(cell) for column in columns.values() for cell in column}, {float})
-            self.assertEqual(repr(found), f"Table(start=0, end=20, step=10, names=('a', 'b'), rows={found.rows!r})")
-        self.assertEqual(tuple(Table((0, 20, 10), ("a",), [(1.0,), (None,)])), ((0, 20, 10), ("a",), [(1.0,), (None,)]))
-        wrong: Any = int
-        with self.assertRaisesRegex(TypeError, "^values must be float or Decimal, not <class 'int'>$"):
-            table(printed_rows(self.TEXT), 10, wrong)
+        found = printed_rows("time: a b\n10: 1.500000 nan\n-20: U -2.000000\n")
+        self.assertEqual((found.names, found.times, found.words), (("a", "b"), [10, -20], [["1.500000", "nan"], ["U", "-2.000000"]]))
+        self.assertEqual((tuple(printed_rows("")), tuple(printed_rows("time: a b\n"))), (((), [], []), (("a", "b"), [], [])))
 
     def test_the_last_update(self) -> None:
         found = last_update("time: a b\n1700000000: 5 U\n", float, datetime.timezone.utc)
@@ -253,38 +243,7 @@ class Amounts(unittest.TestCase):
             self.assertEqual(gauge_text(number), text, number)
 
 
-class Words(unittest.TestCase):
-    def test_words(self) -> None:
-        nested: List[Any] = ["a", 5, ["b", [6, ("c",)]], ()]
-        self.assertEqual(flat(nested), ["a", "5", "b", "6", "c"])
-        for wrong in (True, 1.5, None, b"a", {"a"}):
-            self.assertRaises(TypeError, flat, [wrong])
-        self.assertEqual(options(start=5, end=None, step="x", rows=0), ["--start=5", "--step=x", "--rows=0"])
-        cases: List[Tuple[List[str], bytes]] = [([], b""), (["a"], b"a"), (["a", "", "b"], b"a\0\0b"), ([""], b"")]
-        for words, data in cases:
-            self.assertEqual(encoded(words), data)
-        for words, why in ((["a\0b"], "a word has a zero byte"), (["a", "\0"], "a word has a zero byte"), (["\0"], "a word has a zero byte"), (["\ud800"], "an argument is not in UTF-8")):
-            with self.assertRaises(errors.Usage) as raised:
-                encoded(words)
-            self.assertEqual((raised.exception.reason, raised.exception.detail), ("usage", why))
-
-    def test_lines(self) -> None:
-        for word, is_right in (("a", True), ("!", True), ("~", True), ("", False), (" ", False), ("a b", False), ("a\n", False), ("\x7f", False), ("\u00e4", False), ("a\t", False)):
-            self.assertEqual(is_word(word), is_right, word)
-            if is_right:
-                self.assertEqual(line_of(["update", word]), f"update {word}")
-            else:
-                self.assertRaises(errors.Usage, line_of, ["update", word])
-        self.assertEqual(len(line_of(["update", "1" * (65_536 - 7)])), 65_536)
-        self.assertRaises(errors.Usage, line_of, ["update", "1" * (65_536 - 6)])
-
-    def test_now(self) -> None:
-        for given, seconds in ((5, 5), (1, 1), (0, 0), (-5, 0)):
-            self.assertEqual(present(given), seconds)
-        for clock, seconds in ((1.9, 1), (0.5, 0), (-3.0, 0), (1_700_000_000.999, 1_700_000_000)):
-            with mock.patch("rrdi.words.clock", lambda: clock):
-                self.assertEqual(present(None), seconds)
-
+class Defaults(unittest.TestCase):
     def test_defaults(self) -> None:
         for given, wait in ((0, 0), (0.0005, 0), (0.001, 1), (1.5, 1_500), (3_600, 3_600_000), (3_600.5, 3_600_000), (math.inf, 3_600_000)):
             self.assertEqual(milliseconds(given), wait)

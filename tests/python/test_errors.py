@@ -75,11 +75,6 @@ class Errors(unittest.TestCase):
             self.assertEqual(str(error), f"f.rrdi: reason: {os.strerror(number)}")
             error.path = "other"
             self.assertEqual(error.filename, "other")
-        exists = rrdi.Exists("f.rrdi")
-        self.assertEqual((exists.errno, exists.filename), (errno.EEXIST, "f.rrdi"))
-        unknown = error_of(errors.CANNOT_OPEN, "cannot open", "f.rrdi")
-        assert isinstance(unknown, OSError)
-        self.assertEqual((unknown.errno, unknown.strerror, str(unknown)), (None, None, "f.rrdi: cannot open"))
 
 
 if __name__ == "__main__":

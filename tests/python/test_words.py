@@ -80,15 +80,15 @@ class Words(unittest.TestCase):
         self.assertEqual(words.options(step=0, start=None, end="", pick=-1), ["--step=0", "--end=", "--pick=-1"])
 
     def test_encoded(self) -> None:
-        self.assertEqual([words.encoded(given) for given in (["a"], ["a", ""], ["ä", "-1"])],
-                         [b"a", b"a\0", "ä".encode() + b"\0-1"])
+        self.assertEqual([words.encoded(given) for given in (["a"], ["a", "", "b"], ["ä", "-1"])],
+                         [b"a", b"a\0\0b", "ä".encode() + b"\0-1"])
         for wrong in (["a\0b"], ["\0"], ["a", "b\0"], ["\udcff"]):
             with self.assertRaises(rrdi.Usage) as raised:
                 words.encoded(wrong)
             self.refused(raised.exception)
 
     def test_lines(self) -> None:
-        self.assertEqual(words.line_of(["update", "5:1"]), "update 5:1")
+        self.assertEqual(words.line_of(["update", "5:1", "!", "~"]), "update 5:1 ! ~")
         longest = ["x" * (LONGEST_LINE - 2), "y"]
         self.assertEqual(len(words.line_of(longest)), LONGEST_LINE)
         for wrong in ([*longest, ""], ["x" * LONGEST_LINE, "y"], ["x" * (LONGEST_LINE + 1)], ["a b"], ["a", ""], ["a\n"], ["ä"],
