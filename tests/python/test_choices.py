@@ -5,7 +5,6 @@ from __future__ import annotations
 
 import datetime
 import os
-import struct
 import time
 import unittest
 from decimal import Decimal
@@ -23,8 +22,6 @@ from rrdi import reader
 from rrdi.feeding.feeder import Feeder, FeedOptions
 from rrdi.feeding.writers import Outcome
 from rrdi.graphite import web
-from rrdi.graphite.late import plan
-from rrdi.graphite.layout import archives_of, method_of
 from rrdi.reader.selected import OpenFile
 from rrdi.tools import program, record, rrdtool_program
 from rrdi.tools.compare import Counts
@@ -87,35 +84,6 @@ class Chosen(unittest.TestCase):
 
 class Archives(DataCase):
     """Of several archives of a file, in both orders."""
-
-    def open(self, data: bytes) -> OpenFile:
-        path = self.folder / "m.rrdi"
-        path.write_bytes(data)
-        file = OpenFile(str(path))
-        self.addCleanup(file.close)
-        return file
-
-    def test_the_longest_archive_of_single_steps(self) -> None:
-        """Late points are put in as far as the longer of two archives of single steps reaches."""
-        cells = {moment: [moment / 10] for moment in range(90, 140, 10)}
-        for rows in ((2, 6), (6, 2)):
-            made = [(1, count, {at: cells[at] for at in list(cells)[-count:]}) for count in rows]
-            found = plan(self.open(graphite.file_bytes(130, archives=made, entries=self.entries(), count=3)), {110: "7"})
-            self.assertEqual((found.reverts, found.last, found.put_in, found.lost), (3, 100, 1, 0), rows)
-            self.assertEqual(found.slots, {110: "7", 120: "12.000000", 130: "13.000000"})
-
-    @staticmethod
-    def entries() -> bytes:
-        """The journal of three updates that each finished one row of both archives."""
-        unknown, part = graphite.amount(None), struct.pack(">I", 0) + graphite.amount(0)
-        return b"".join(b"\1" + struct.pack(">Q", before) + unknown + part + (part + struct.pack(">I", 1) + unknown) * 2
-                        for before in (120, 110, 100))
-
-    def test_the_finest_and_the_first_archive(self) -> None:
-        for order in ([(6, 4), (1, 6), (1, 9)], [(1, 9), (6, 4), (1, 6)]):
-            outline = self.open(graphite.file_bytes(130, ("temp",), [(steps, rows, {}) for steps, rows in order], function=3)).outline()
-            self.assertEqual(method_of(outline), "last")
-            self.assertEqual([(one.steps, one.rows) for one in archives_of(outline, "last")], [(1, 9), (1, 6), (6, 4)])
 
     def test_the_longest_archive_of_a_metric(self) -> None:
         """What graphite-web is told of a metric, by a clock that is given."""

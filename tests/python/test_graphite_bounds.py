@@ -89,7 +89,7 @@ class Slots(unittest.TestCase):
         for when, reason in ((-0.001, "time"), (1_000.001, "future"), (float("inf"), "time"), (float("nan"), "time")):
             self.assertEqual(sort_points([(when, 7)], 10, 1_000), ({}, {reason: 1}))
         # The last point of a slot counts, and of two at one time the one that came last.
-        self.assertEqual(sort_points([(12, 2), (11, 1), (12, 3), (19, float("nan"))], 10, 1_000), ({20: "3.000000"}, {"value": 1}))
+        self.assertEqual(sort_points([(12, 2), (11, 9), (12, 3), (19, float("nan"))], 10, 1_000), ({20: "3.000000"}, {"value": 1}))
 
     def test_samples(self) -> None:
         for before, words in ((20, "30:5"), (19, "20:U 30:5"), (21, "30:5"), (0, "20:U 30:5")):

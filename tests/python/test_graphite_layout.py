@@ -5,13 +5,13 @@ from __future__ import annotations
 import math
 import os
 import unittest
-from typing import Dict, List, Tuple
+from typing import Dict, List
 
 import graphite_doubles as graphite
 from cases import new_folder
 from rrdi.errors import Damaged
-from rrdi.graphite.late import plan, reverts_for
-from rrdi.graphite.layout import archives_of, check_retentions, method_of, template, unknown_share
+from rrdi.graphite.late import plan
+from rrdi.graphite.layout import method_of, template, unknown_share
 from rrdi.graphite.losses import KINDS, Losses
 from rrdi.graphite.names import metric_of, path_of
 from rrdi.graphite.slots import lines_of, sort_points
@@ -77,22 +77,8 @@ class Templates(unittest.TestCase):
                     of_rrdi = (steps - known) * 1_000_000 <= unknown_share(xff) * steps
                     self.assertEqual(of_rrdi, of_whisper, (xff, known, steps))
 
-    def test_retentions(self) -> None:
-        for right in ([(10, 2160)], [(60, 1440), (10, 2160), (600, 1008)], [(1, 1_000_000)]):
-            check_retentions(right)
-        cases: List[List[Tuple[int, int]]] = [
-            [], [(10, 60), (10, 120)], [(10, 60), (15, 600)], [(10, 60), (60, 10)], [(10, 5), (60, 60)], [(10, 0)],
-            [(1, 2_592_000)], [(0, 10)], [(2_000_000, 10)], [(2**number, 900_000) for number in range(5)]]
-        for wrong in cases:
-            with self.assertRaises(ValueError, msg=str(wrong)):
-                check_retentions(wrong)
-
 
 class Slots(unittest.TestCase):
-    def test_sorted(self) -> None:
-        slots, left_out = sort_points([(100, 1), (109.9, 2), (90, 3), (101, 4)], 10, 1_000)
-        self.assertEqual((slots, dict(left_out)), ({110: "2.000000", 100: "3.000000"}, {}))
-
     def test_left_out(self) -> None:
         nan, inf = math.nan, math.inf
         points = [(100, nan), (100, inf), (100, -inf), (100, 1e18), (100, -1e18), (-1, 1), (nan, 1), (inf, 1), (-inf, 1),
@@ -105,11 +91,6 @@ class Slots(unittest.TestCase):
         """No slot ends after the latest time of a database, whatever the clock says."""
         slots, left_out = sort_points([(LATEST - 10, 1), (LATEST - 9, 2), (LATEST, 3)], 10, 1e12)
         self.assertEqual((slots, left_out), ({LATEST - 9: "1.000000"}, {"future": 2}))
-
-    def test_values(self) -> None:
-        for value, text in ((1.5e3, "1500.000000"), (4.9e-7, "0.000000"), (-1e-9, "0"), (-12.3456789, "-12.345679"),
-                            (123456789012345.678, "123456789012345.671875"), (3, "3.000000")):
-            self.assertEqual(sort_points([(0, value)], 1, 9)[0], {1: text})
 
     def test_lines(self) -> None:
         texts = [line.text for line in lines_of({20: "1", 30: "2", 60: "3"}, 10, 10, False, 16)]
@@ -194,12 +175,6 @@ class Parts(unittest.TestCase):
         file = self.open(b"RRDC" + graphite.file_bytes(130, archives=[(1, 6, {130: [2.5]})])[4:])
         self.assertEqual(file.rows(file.outline().archives[0], 130, 130), {130: [2_500_000]})
 
-    def test_reverts(self) -> None:
-        for wanted, oldest, times in ((130, 0, [120]), (125, 0, [120]), (120, 0, [120, 110]), (111, 0, [120, 110]),
-                                      (100, 0, [120, 110, 90]), (50, 0, [120, 110, 90]), (50, 100, [120, 110]),
-                                      (131, 0, [])):
-            self.assertEqual(reverts_for([120, 110, 90], 130, oldest, wanted), times)
-
     def planned(self, slots: Dict[int, str]) -> object:
         entries = b"".join(graphite.update_entry(before, 1) for before in (120, 110, 90))
         cells = {time: [time / 10] for time in (90, 100, 110, 120, 130)}
@@ -215,15 +190,6 @@ class Parts(unittest.TestCase):
                          (3, 90, {100: "8", 110: "11.000000", 120: "12.000000", 130: "13.000000"}, 1, 1))
         # Nothing is reverted if nothing would be gained.
         self.assertEqual(self.planned({90: "7", 80: "8", 140: "1"}), (0, 130, {140: "1"}, 0, 2))
-
-    def test_files_of_others(self) -> None:
-        file = self.open(graphite.file_bytes(130, ("temp",), [(6, 4, {}), (1, 6, {})], function=2))
-        outline = file.outline()
-        self.assertEqual(method_of(outline), "max")
-        self.assertEqual([archive.steps for archive in archives_of(outline, "max")], [1, 6])
-        # Sums need the source of zeros beside them.
-        alone = self.open(graphite.file_bytes(130, ("sum",), [(1, 6, {})], function=2))
-        self.assertEqual(method_of(alone.outline()), "max")
 
 
 class Counting(unittest.TestCase):
