@@ -5,6 +5,7 @@ from __future__ import annotations
 
 import errno
 import unittest
+from typing import List, Optional, Tuple
 from unittest import mock
 
 from cases import needs_program
@@ -13,19 +14,24 @@ from tool_case import Ran, ToolCase
 from rrdi.tools import program
 from rrdi.tools.command_line import Failure
 from rrdi.tools.conversion import make
-from rrdi.tools.hints import file_hint, option_hint
+from rrdi.tools.hints import file_hint, nearest, option_hint
 
 
 class Options(unittest.TestCase):
-    HELP = "-s, --start START  begin there\n--json  print JSON\n--no-band  draw no band; well-known words are none"
+    HELP = "  --start TIME, -s    begins\n  --end=TIME   ends (as --start)\n  -f --no-legend"
 
     def test_options(self) -> None:
-        for words, hint in ((["f", "--jsn"], "there is no option --jsn; did you mean --json?"),
-                            (["f", "--strat=5"], "there is no option --strat; did you mean --start?"),
-                            (["--xyz"], "there is no option --xyz"), (["f", "-1h"], ""), (["-"], ""), (["--json", "-s"], ""),
-                            (["-x"], "there is no option -x"), (["-known"], "there is no option -known")):
-            with self.subTest(words=words):
-                self.assertEqual(option_hint(words, self.HELP), hint)
+        """The first word that is no option, and the one that is meant: with as many dashes."""
+        for words, hint in (("", ""), ("a b", ""), ("--start -s --end=5 -f --no-legend", ""), ("--stat", "there is no option --stat; did you mean --start?"),
+                            ("a --ends=5", "there is no option --ends; did you mean --end?"), ("--xyzzy", "there is no option --xyzzy"), ("-q", "there is no option -q"),
+                            ("--stat --ends", "there is no option --stat; did you mean --start?"), ("--no-legends x", "there is no option --no-legends; did you mean --no-legend?"),
+                            ("-start", "there is no option -start"), ("-legend", "there is no option -legend"), ("-5 - --", ""), ("---x", "")):
+            self.assertEqual(option_hint(words.split(), self.HELP), hint, words)
+
+    def test_nearest(self) -> None:
+        cases: List[Tuple[str, List[str], Optional[str]]] = [("abcd", ["abcx", "axxx"], "abcx"), ("abcd", ["xxxx"], None), ("abcd", [], None), ("abcde", ["abcxx", "xxxxx"], "abcxx"), ("abcde", ["abxxx"], None)]
+        for word, words, found in cases:
+            self.assertEqual(nearest(word, words), found)
 
 
 class Tools(ToolCase):

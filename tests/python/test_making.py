@@ -419,15 +419,6 @@ class SetAside(DataCase):
             self.assertEqual(len(self.aside()), turn)
         self.assertTrue(damaged.is_being_made(self.file))  # it is gone, so another one may come
 
-    def test_how_long_a_file_may_be_empty(self: Any) -> None:
-        """By the clock and the file's time alone, on both sides."""
-        self.write(b"")
-        now, most = 1_700_000_000.0, damaged.LONGEST_CREATION
-        with mock.patch("time.time", return_value=now):
-            for age, is_new in ((0, True), (most - 1, True), (1 - most, True), (most + 1, False), (-most - 1, False), (1e7, False), (-1e7, False)):
-                os.utime(self.file, (now - age, now - age))
-                self.assertEqual(damaged.is_being_made(self.file), is_new, age)
-
     def test_a_file_of_a_newer_rrdi(self: Any) -> None:
         with open(self.file, "r+b") as file:
             file.seek(4)

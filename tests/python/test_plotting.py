@@ -16,7 +16,7 @@ import cases  # noqa: F401  (finds the package)
 
 from rrdi.tools.command_line import WrongArguments
 from rrdi.tools.plotting.asked import Bounds, read_bounds, read_size
-from rrdi.tools.plotting.columns import Columns, Curve, group_size, grouped, series_of
+from rrdi.tools.plotting.columns import Columns, Curve, series_of
 from rrdi.tools.plotting import pages
 from rrdi.tools.plotting.gnuplot import Picture
 from rrdi.tools.plotting.labels import DISTANCES, Label, distance_of, label_days, labels
@@ -72,26 +72,6 @@ class Legends(unittest.TestCase):
     def test_sources_wider_than_the_picture(self) -> None:
         legend = legend_of(200, curves(["a_name_of_" + 4 * "characters", "b"]), "")
         self.assertEqual((legend.tables, [place.line for place in legend.places()]), (1, [1, 2]))
-
-
-class Groups(unittest.TestCase):
-    def test_sizes(self) -> None:
-        """A row covers a part of a day, or whole days, if so few do: of seven hours, 24 rows are the first whole days."""
-        for seconds, count, most, size in ((60, 1_440, 514, 3), (10_800, 2_920, 514, 8), (10_800, 2_920, 343, 16), (60, 10, 20, 1),
-                                           (7, 1_000, 500, 2), (25_200, 600, 100, 24), (25_200, 600, 120, 5)):
-            with self.subTest(seconds=seconds, count=count, most=most):
-                rows = Columns(["g"], seconds, [seconds * at for at in range(1, count + 1)], [[1.0] * count])
-                self.assertEqual(group_size(rows, most), size)
-
-    def test_groups(self) -> None:
-        """The rows end at multiples of their seconds, and unknown cells count in none."""
-        unknown = math.nan
-        rows = Columns(["g"], 10, [20, 30, 40, 50, 60, 70], [[1.0, 2.0, unknown, 6.0, unknown, unknown]])
-        for function, cells in (("AVERAGE", [1.5, 6.0]), ("MIN", [1.0, 6.0]), ("MAX", [2.0, 6.0]), ("LAST", [2.0, 6.0])):
-            with self.subTest(function=function):
-                found = grouped(rows, 3, function)
-                self.assertEqual((found.seconds, found.times, found.columns[0][:2]), (30, [30, 60, 90], cells))
-                self.assertTrue(math.isnan(found.columns[0][2]))
 
 
 @contextmanager

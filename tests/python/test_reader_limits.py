@@ -3,16 +3,12 @@
 breaks it is the fault of its piece."""
 from __future__ import annotations
 
-import os
 import struct
-import tempfile
 import unittest
 from typing import List, Optional, Sequence, Tuple
-from unittest import mock
 
 import doubles  # noqa: F401 -- it puts the package on the path
 from rrdi import errors, reader
-from rrdi.reader.stored import read_at
 
 MILLION = 10**6
 TOP = (2**64 - 1) * MILLION
@@ -82,19 +78,6 @@ class File:
 
 TO_ROW = len(archive(partial=b""))  # the size of what is before a partial row in an archive
 BAD = "file: bad entry 1"
-
-
-class Reads(unittest.TestCase):
-    def test_the_system_may_give_a_part(self) -> None:
-        """Then the rest is read, up to the end of the file."""
-        pread = os.pread
-        with tempfile.TemporaryFile() as file:
-            file.write(bytes(range(50)))
-            file.flush()
-            for most in (1, 7, 49, 50, 60):
-                with mock.patch("os.pread", lambda number, count, at: pread(number, min(count, most), at)):
-                    self.assertEqual([read_at(file.fileno(), 10, count) for count in (0, 1, 40, 45)],
-                                     [b"", b"\n", bytes(range(10, 50)), bytes(range(10, 50))])
 
 
 class Limits(unittest.TestCase):

@@ -12,7 +12,7 @@ from cases import needs_program, use_zone
 from tool_case import Ran, ToolCase
 
 from rrdi.tools.command_line import Failure, WrongArguments
-from rrdi.tools.spans import length_text, span_of
+from rrdi.tools.spans import span_of
 
 USAGE = ("[--csv|--json|--openmetrics] FILE [FUNCTION] [-s START] [-e END] [-r SECONDS] [-a ARCHIVE]\n"
          "       rrdi-show --journal [--json] FILE")
@@ -52,13 +52,6 @@ class Spans(unittest.TestCase):
                 span_of(start, end, 9)
         with self.assertRaisesRegex(Failure, "is not before the end, .* the last update of the file"):
             span_of("2024-01-01", None, 9)
-
-
-class Texts(unittest.TestCase):
-    def test_lengths(self) -> None:
-        for seconds, text in ((1, "1 s"), (60, "1 min"), (90, "90 s"), (300, "5 min"), (3_600, "1 h"), (DAY, "1 day"),
-                              (2 * DAY, "2 days"), (7 * DAY, "1 week"), (5_400, "90 min")):
-            self.assertEqual(length_text(seconds), text)
 
 
 @needs_program

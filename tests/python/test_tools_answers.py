@@ -11,7 +11,7 @@ from typing import Dict, List
 from doubles import PROGRAM, TOP
 from tool_case import Ran, ToolCase
 
-from rrdi.tools.rrdtool_output import Printed, guarded, plain, with_lengths
+from rrdi.tools.rrdtool_output import Printed, guarded, lines_of, plain, with_lengths
 
 CC, PERL = shutil.which("cc"), shutil.which("perl")
 # Texts that read as the end of an answer, whole or in one of their lines. PRINT makes a line feed of %n.
@@ -26,7 +26,7 @@ class Forms(unittest.TestCase):
         printed: Printed = ["1x1", "OK u:0.00", "a\nERROR: b\nc", "", "an OK", picture]
         self.assertEqual(plain(printed), b"1x1\nOK u:0.00\na\nERROR: b\nc\n\nan OK\n" + picture)
         self.assertEqual(guarded(printed), b"1x1\n OK u:0.00\na\n ERROR: b\nc\n\nan OK\n" + picture)
-        self.assertEqual(guarded([]), b"")
+        self.assertEqual((guarded([]), lines_of(""), lines_of("a\n\nb\n")), (b"", [], ["a", "", "b"]))
 
     def test_the_form_with_lengths(self) -> None:
         self.assertEqual(with_lengths("OK", []), b"OK\n")

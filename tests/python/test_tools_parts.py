@@ -16,7 +16,6 @@ from rrdi.locks import Identity, identity_at, open_regular
 from rrdi.tools import exponents
 from rrdi.tools.command_line import Failure, Progress, WrongArguments
 from rrdi.tools.fixing import held
-from rrdi.tools.hints import nearest, option_hint
 from rrdi.tools.options import function_at, given_words, number_of
 from rrdi.tools.plotting.columns import (Columns, Curve, NothingToDraw, chosen, columns_of, filled, group_size, grouped, known, limits, segments, series_of,
                                          since_known)
@@ -89,23 +88,6 @@ class Words(unittest.TestCase):
         for text in ("", "x", "-1", "+1", "1.0", "10000000000", "1 ", "\u0661"):
             with self.assertRaisesRegex(WrongArguments, "^--jobs must be a whole number, not "):
                 number_of({"jobs": text}, "jobs")
-
-
-class Hints(unittest.TestCase):
-    HELP = "  --start TIME, -s    begins\n  --end=TIME   ends (as --start)\n  -f --no-legend"
-
-    def test_options(self) -> None:
-        """The first word that is no option, and the one that is meant: with as many dashes."""
-        for words, hint in (("", ""), ("a b", ""), ("--start -s --end=5 -f --no-legend", ""), ("--stat", "there is no option --stat; did you mean --start?"),
-                            ("a --ends=5", "there is no option --ends; did you mean --end?"), ("--xyzzy", "there is no option --xyzzy"), ("-q", "there is no option -q"),
-                            ("--stat --ends", "there is no option --stat; did you mean --start?"), ("--no-legends x", "there is no option --no-legends; did you mean --no-legend?"),
-                            ("-start", "there is no option -start"), ("-5 - --", ""), ("---x", "")):
-            self.assertEqual(option_hint(words.split(), self.HELP), hint, words)
-
-    def test_nearest(self) -> None:
-        cases: List[Tuple[str, List[str], Optional[str]]] = [("abcd", ["abcx", "axxx"], "abcx"), ("abcd", ["xxxx"], None), ("abcd", [], None), ("abcde", ["abcxx", "xxxxx"], "abcxx"), ("abcde", ["abxxx"], None)]
-        for word, words, found in cases:
-            self.assertEqual(nearest(word, words), found)
 
 
 class Exponents(unittest.TestCase):
@@ -251,7 +233,7 @@ class Pictures(unittest.TestCase):
         """At most so many rows: the least number of them that makes rows of parts of a day, or of days, if that is up to four times
         the least one at all."""
         for count, most, seconds, size in ((10, 10, 60, 1), (11, 10, 60, 2), (20, 10, 60, 2), (21, 10, 60, 3), (70, 10, 60, 8), (70, 10, 86_400, 7), (7, 1, 50_000, 7), (2, 1, 43_200, 2),
-                                           (3, 1, 21_600, 4), (11, 1, 10_800, 16), (7, 1, 10_800, 8)):
+                                           (3, 1, 21_600, 4), (11, 1, 10_800, 16), (7, 1, 10_800, 8), (600, 100, 25_200, 24), (600, 120, 25_200, 5)):
             rows = Columns(["a"], seconds, [seconds * at for at in range(1, count + 1)], [[1.0] * count])
             self.assertEqual(group_size(rows, most), size, (count, most, seconds))
         rows = Columns(["a", "b"], 10, [30, 40, 50, 60], [[1.0, 2.0, 4.0, NAN], [NAN, NAN, 7.0, 9.0]])

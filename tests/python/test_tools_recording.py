@@ -25,7 +25,6 @@ from tool_case import Ran, ToolCase
 from rrdi.tools import machine, program, record
 from rrdi.tools.command_line import Failure, error_text
 from rrdi.tools.plotting import labels, numbers
-from rrdi.tools.plotting.columns import chosen, columns_of, limits, segments, series_of, since_known
 
 
 def in_zone(zone: str, begin: int, end: int) -> List[labels.Label]:
@@ -125,48 +124,6 @@ class Numbers(unittest.TestCase):
         """Three steps of 0.1 are not quite 0.3 for a computer; the marks at both ends stay."""
         found = numbers.axis(-0.3, 0.3).ending_at(-0.3, 0.3)
         self.assertEqual((found.texts, found.low, found.high), (["-0.3", "-0.2", "-0.1", "0", "0.1", "0.2", "0.3"], -0.3, 0.3))
-
-
-class Rows(unittest.TestCase):
-    ROWS = {20: ["1.0", "4.0"], 30: ["nan", "5.0"], 40: ["3.0", "nan"]}
-
-    def test_nothing(self) -> None:
-        nothing: List[Dict[int, List[str]]] = [{}, {10: ["1"]}, {10: ["nan"], 20: ["nan"]}]
-        for rows in nothing:
-            with self.assertRaises(Failure):
-                columns_of(["g"], rows)
-        with self.assertRaisesRegex(Failure, "there is no source x, only g, h"):
-            chosen(columns_of(["g", "h"], self.ROWS), ["g", "x"])
-        with self.assertRaisesRegex(Failure, "nothing to draw"):
-            chosen(columns_of(["g", "h"], {10: ["nan", "1"], 20: ["nan", "1"]}), ["g"])
-
-    def test_lines(self) -> None:
-        """A row is a line over its seconds, and an unknown row is a gap."""
-        rows = chosen(columns_of(["g", "h"], self.ROWS), ["h", "g"])
-        self.assertEqual((rows.names, rows.begin, rows.end, rows.seconds), (["h", "g"], 10, 40, 10))
-        second, first = series_of(rows, None, None, False)
-        self.assertEqual(list(segments(rows, first)), [[(10, 0, 1, 1, 1), (20, 0, 1, 1, 1)], [(30, 0, 3, 3, 3), (40, 0, 3, 3, 3)]])
-        self.assertEqual(list(segments(rows, second)), [[(10, 0, 4, 4, 4), (20, 0, 4, 4, 4), (20, 0, 5, 5, 5), (30, 0, 5, 5, 5)]])
-        self.assertEqual((first.last, first.least, first.mean, first.greatest), (3, 1, 2, 3))
-        self.assertEqual(limits([first, second], False), (1, 5))
-
-    def test_stacks(self) -> None:
-        """Each area lies on those below it, and an unknown value adds nothing."""
-        rows = columns_of(["g", "h"], self.ROWS)
-        first, second = series_of(rows, None, None, True)
-        self.assertEqual([point[1:3] for stretch in segments(rows, second) for point in stretch], [(1, 5), (1, 5), (0, 5), (0, 5)])
-        self.assertEqual((second.greatest, limits([first, second], False)), (5, (1, 5)))
-
-    def test_the_first_known_row(self) -> None:
-        rows = columns_of(["g", "h"], {10: ["nan", "nan"], **self.ROWS})
-        self.assertEqual((since_known(rows).times, since_known(rows).columns[1][:2]), ([20, 30, 40], [4, 5]))
-        self.assertEqual(since_known(columns_of(["g"], {10: ["nan"], 20: ["nan"], 30: ["1"]})).times, [20, 30])
-
-    def test_bands(self) -> None:
-        rows, low, high = (columns_of(["g"], {20: [text], 30: ["2"]}) for text in ("2", "-1", "9"))
-        one, = series_of(rows, low, high, False)
-        self.assertEqual(list(segments(rows, one))[0][0], (10, 0, 2, -1, 9))
-        self.assertEqual((one.least, one.mean, one.greatest, limits([one], True), limits([one], False)), (-1, 2, 9, (-1, 9), (2, 2)))
 
 
 PLOT_USAGE = "FILE PICTURE.png|PICTURE.svg [FUNCTION] [options]\n       rrdi-plot --html DIR OUT [FUNCTION] [options]"

@@ -26,7 +26,6 @@ from rrdi.tools.librrd import Exported
 from rrdi.tools.machine import load, memory, network
 from rrdi.tools.rows import NO_ARCHIVE, Rows, choose, rows_of
 from rrdi.tools.rrdtool.texts import fetch_text, last_update_text
-from rrdi.tools.rrdtool_output import guarded, lines_of, plain, with_lengths
 
 NAN = float("nan")
 LAST = 1_700_000_040  # a multiple of 60, and of 120
@@ -211,12 +210,6 @@ class OfRrdtool(unittest.TestCase):
             first = ['"1010",', '"1020",'] if has_times else ["", ""]
             self.assertTrue(text.endswith(f'  "data": [\n    [ {first[0]}1.5000000000e+00, null ],\n    [ {first[1]}2.0000000000e+00, -3.0000000000e+00 ]\n  ]\n}}\n'), text)
             self.assertIn('    "start": 1010,\n    "end": 1020,\n    "step": 10,\n    "legend": [\n      "a",\n      "b\\"c"\n          ]', text)
-
-    def test_answers(self) -> None:
-        self.assertEqual((lines_of("a\n\nb\n"), lines_of("")), (["a", "", "b"], []))
-        self.assertEqual(plain(["a", b"\x89P", "b"]), b"a\n\x89Pb\n")
-        self.assertEqual(guarded(["OK x", "ERROR: y", "a\nOKAY\nb OK", b"OK"]), b" OK x\n ERROR: y\na\n OKAY\nb OK\nOK")
-        self.assertEqual((with_lengths("OK", ["a\u00e4", b"xyz", ""]), with_lengths("ERROR", [])), (b"OK 3 3 0\na\xc3\xa4xyz", b"ERROR\n"))
 
 
 class Trees(unittest.TestCase):
