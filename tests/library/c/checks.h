@@ -1,6 +1,6 @@
 /* SPDX-License-Identifier: MIT OR Apache-2.0 */
 /* What the tests of rrdi.h have in common: an answer and its output, an open file, the count of
-   the checks, and files. */
+   the checks, a forked child, and files. */
 #ifndef CHECKS_H
 #define CHECKS_H
 
@@ -10,6 +10,8 @@
 #include <string.h>
 #include <sys/resource.h>
 #include <sys/stat.h>
+#include <sys/wait.h>
+#include <unistd.h>
 
 #include "rrdi.h"
 
@@ -91,6 +93,32 @@ static inline void with_limit(size_t size, void (*call)(void)) {
     setrlimit(RLIMIT_FSIZE, &less);
     call();
     setrlimit(RLIMIT_FSIZE, &limit);
+}
+
+/* Calls a function in a forked child, whose checks go on counting. Another program takes the child's place, so that valgrind does
+   not take what it has of its parent's memory for lost. */
+static inline void in_child(void (*call)(void)) {
+    int ends[2], found[2] = {0, 1}, status;
+    if (pipe(ends))
+        exit(3);
+    fflush(stdout);
+    pid_t child = fork();
+    if (!child) {
+        count = wrong = 0;
+        call();
+        found[0] = count;
+        found[1] = wrong;
+        fflush(stdout);
+        if (write(ends[1], found, sizeof found) == sizeof found)
+            execlp("true", "true", (char *)NULL);
+        _exit(1);
+    }
+    close(ends[1]);
+    want(read(ends[0], found, sizeof found) == sizeof found && waitpid(child, &status, 0) == child && !status,
+         "a child comes to its end");
+    close(ends[0]);
+    count += found[0];
+    wrong += found[1];
 }
 
 static inline size_t held(const char *path) {

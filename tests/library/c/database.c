@@ -198,32 +198,6 @@ static void test_wrong_files(void) {
 
 /* ---- a fork */
 
-/* Calls a function in a forked child, whose checks go on counting. Another program takes the child's place, so that valgrind does
-   not take what it has of its parent's memory for lost. */
-static void in_child(void (*call)(void)) {
-    int ends[2], found[2] = {0, 1}, status;
-    if (pipe(ends))
-        exit(3);
-    fflush(stdout);
-    pid_t child = fork();
-    if (!child) {
-        count = wrong = 0;
-        call();
-        found[0] = count;
-        found[1] = wrong;
-        fflush(stdout);
-        if (write(ends[1], found, sizeof found) == sizeof found)
-            execlp("true", "true", (char *)NULL);
-        _exit(1);
-    }
-    close(ends[1]);
-    want(read(ends[0], found, sizeof found) == sizeof found && waitpid(child, &status, 0) == child && !status,
-         "a child comes to its end");
-    close(ends[0]);
-    count += found[0];
-    wrong += found[1];
-}
-
 static void use_in_child(void) {
     struct rrdi_value values[2] = {rrdi_double(1.0), rrdi_count(1)};
     struct rrdi_rows rows;

@@ -9,7 +9,6 @@
 #include <fcntl.h>
 #include <sys/file.h>
 #include <sys/syscall.h>
-#include <sys/wait.h>
 #include <unistd.h>
 
 #include "checks.h"
@@ -284,32 +283,6 @@ static void test_structs(void) {
 }
 
 /* ---- a fork */
-
-/* Calls a function in a forked child, whose checks go on counting. Another program takes the child's place, so that valgrind does
-   not take what it has of its parent's memory for lost. */
-static void in_child(void (*call)(void)) {
-    int found[2] = {0, 1}, ends[2], status = 1;
-    if (pipe(ends))
-        exit(3);
-    fflush(stdout);
-    pid_t child = fork();
-    if (!child) {
-        count = wrong = 0;
-        call();
-        found[0] = count;
-        found[1] = wrong;
-        fflush(stdout);
-        if (write(ends[1], found, sizeof found) == sizeof found)
-            execlp("true", "true", (char *)NULL);
-        _exit(1);
-    }
-    close(ends[1]);
-    want(read(ends[0], found, sizeof found) == sizeof found && waitpid(child, &status, 0) == child && !status,
-         "a child comes to its end");
-    close(ends[0]);
-    count += found[0];
-    wrong += found[1];
-}
 
 static void use_in_child(void) {
     test_each_call(&opened, ECHILD, "an open file of the parent");
