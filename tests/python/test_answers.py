@@ -121,7 +121,7 @@ class Faults(unittest.TestCase):
             self.assertEqual(reason_of(fault, b"10\n20\n"), text)
         self.assertEqual(reason_of(errors.REFUSED, b"a\xff"), "a\ufffd")
         self.assertEqual(reasons_in("10\nERROR: not later than 10\nnot ERROR: x\nERROR: \nERROR:\n"), ["not later than 10", ""])
-        self.assertEqual(details_in(b"line 2: why\nline 12: a: b\nwhy\nline x: y\n\nline 3: \xff"), {2: "why", 12: "a: b", 3: "\ufffd"})
+        self.assertEqual(details_in(b"line 2: why\nline 12: a: b\nwhy\nline x: y\n\nline 3: \xff\xe2\x80\xa8c"), {2: "why", 12: "a: b", 3: "\ufffd\u2028c"})
         for reason, kind in (("not later than 10", errors.Refused), ("unreadable sample 1", errors.Unreadable), ("no database", errors.NoDatabase)):
             error = error_of_line(reason, "f", "what was wrong")
             self.assertEqual((type(error), error.reason, error.path, error.detail), (kind, reason, "f", "what was wrong"))
@@ -251,7 +251,7 @@ class Defaults(unittest.TestCase):
             with self.assertRaisesRegex(ValueError, "^busy_timeout must be 0 or more seconds, not "):
                 milliseconds(wrong)
         for text, seconds in (("18446744073709551615", 3_600), ("18446744073709551616", 5), ("00000000000000000000000000000000000007", 7), ("99999999999999999999", 5), ("100000000000000000000", 5),
-                              ("3599", 3_599), ("3600", 3_600), ("3601", 3_600), ("000", 0), ("", 5), ("\u0661", 5), ("1 ", 5), ("+1", 5)):
+                              ("3599", 3_599), ("3600", 3_600), ("3601", 3_600), ("000", 0), ("", 5), ("\u0661", 5), ("1 ", 5), ("+1", 5), ("5.5", 5), ("9" * 5_000, 5)):
             with mock.patch.dict(os.environ, {"RRDI_WAIT": text}):
                 self.assertEqual(wait_of_environment(), 1_000 * seconds, text)
         for text, is_set in (("1", True), ("0", False), ("", False), ("01", False), ("true", False)):

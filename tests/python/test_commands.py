@@ -290,10 +290,6 @@ class Commands(OfFiles):
             library.run_file.reset_mock()
 
     def test_wait_of_the_environment(self: Any) -> None:
-        for text, wanted in (("0", 0), ("7", 7_000), ("99999", 3_600_000), ("x", 5_000), ("-1", 5_000), ("", 5_000),
-                             ("0" * 30 + "7", 7_000), (str(2**64 - 1), 3_600_000), (str(2**64), 5_000), ("9" * 5_000, 5_000)):
-            with mock.patch.dict(os.environ, {"RRDI_WAIT": text}):
-                self.assertEqual(environment.wait_of_environment(), wanted)
         file, library = self.fill(), mock.Mock()
         library.run_file.return_value = Answer(OK, 0, 0, b"10\n")
         for wait in (0, 7_000):

@@ -15,7 +15,7 @@ from tool_case import ToolCase
 
 import rrdi
 from rrdi import errors, memory
-from rrdi.by_program import ByProgram, number_of, of_every_second
+from rrdi.by_program import ByProgram, number_of
 from rrdi.commands import run_on
 from rrdi.database import RefusedLines
 from rrdi.errors import details_in
@@ -29,15 +29,6 @@ IN_USE = "f: in use by another program (waited 5 seconds)"
 
 
 class Answers(unittest.TestCase):
-    def test_details(self) -> None:
-        said = "line 2: a\nline 10: b: c\nno line: d\nline 3: \u2028e\n"
-        self.assertEqual(details_in(said.encode()), {2: "a", 10: "b: c", 3: "\u2028e"})
-        self.assertEqual((details_in(b""), details_in(b"line x: a")), ({}, {}))
-
-    def test_numbers_of_lines(self) -> None:
-        """The program gets a line of `last` after each of the caller's."""
-        self.assertEqual(of_every_second(b"line 1: a\nline 2: b\nline 7: c\n"), b"line 1: a\nline 4: c\n")
-
     def test_reasons_of_the_system(self) -> None:
         for text, number in (("f: no such file or directory", errno.ENOENT), (IN_USE, errno.EAGAIN),
                              ("a: b: permission denied", errno.EACCES), ("f: is a directory", errno.EISDIR),

@@ -1,19 +1,16 @@
 # SPDX-License-Identifier: MIT OR Apache-2.0
-"""Tests of `rrdi.fetching` and `rrdi.times`: words of a fetch, numbers for the C library, and the step of one row. No program is
-needed."""
+"""Tests of `rrdi.fetching`: words of a fetch, numbers for the C library, and the step of one row. No program is needed."""
 from __future__ import annotations
 
 import datetime
 import unittest
 from decimal import Decimal
-from fractions import Fraction
-from typing import Any, List, Optional, Tuple
+from typing import Any, List, Tuple
 
 import doubles  # noqa: F401
 from rrdi.errors import OperationalError
 from rrdi.fetching import DAY, TRIES, Asked, fetched, take_option, with_next_row, with_step
 from rrdi.results import Table
-from rrdi.times import seconds_of, span_word, time_word
 
 NOW = 1_700_000_000
 UTC = datetime.timezone.utc
@@ -104,35 +101,6 @@ class Steps(unittest.TestCase):
             run, asked = self.answers("time: g\n10: 1.500000\n40: U\n")
             self.assertEqual(fetched(run, ["LAST"], NOW, kind), Table((-20, 40, 30), ("g",), cells))
             self.assertEqual(asked, [["fetch", "LAST"]])
-
-
-class Times(unittest.TestCase):
-    def test_seconds(self) -> None:
-        """A fraction is dropped, also below 0, as by the program's N."""
-        zone = datetime.timezone(datetime.timedelta(hours=2))
-        for time, seconds in ((0, 0), (-5, -5), (2.0, 2), (2.999, 2), (-0.5, -1), (Fraction(7, 2), 3), (datetime.datetime(1970, 1, 1, 0, 0, 1, tzinfo=UTC), 1),
-                              (datetime.datetime(1970, 1, 1, 2, 0, 0, 999_999, zone), 0), (datetime.datetime(1969, 12, 31, 23, 59, 59, 999_999, UTC), -1)):
-            self.assertEqual(seconds_of(time), seconds, time)  # type: ignore[arg-type]
-            self.assertIs(type(seconds_of(time)), int)  # type: ignore[arg-type]
-
-    def test_no_seconds(self) -> None:
-        for time, kind, why in ((True, TypeError, "a time must be a number or a datetime, not True"), (None, TypeError, "a time must be a number or a datetime, not NoneType"),
-                                (datetime.date(2024, 1, 1), TypeError, "a time must be a number or a datetime, not date"), (1j, TypeError, "a time must be a number or a datetime, not complex"),
-                                (float("nan"), ValueError, "nan is no time"), (float("inf"), ValueError, "inf is no time"),
-                                (datetime.datetime(2024, 1, 1), ValueError, "the datetime 2024-01-01 00:00:00 has no zone; write datetime.now")):
-            with self.assertRaisesRegex(kind, f"^{why}"):
-                seconds_of(time)  # type: ignore[arg-type]
-
-    def test_words(self) -> None:
-        for span, word in ((None, None), ("x", "x"), (5, 5), (-5, -5), (datetime.timedelta(minutes=2), 120), (datetime.timedelta(0), 0), (datetime.timedelta(seconds=-3), -3)):
-            found: Optional[object] = span_word(span)
-            self.assertEqual(found, word)
-        wrong: List[Tuple[Any, Any, str]] = [(datetime.timedelta(seconds=1.5), ValueError, "a span must be whole seconds, not 0:00:01.500000"), (True, TypeError, "not bool"), (1.0, TypeError, "not float")]
-        for given, kind, why in wrong:
-            with self.assertRaisesRegex(kind, why):
-                span_word(given)
-        for time, word in ((None, None), ("N", "N"), (5, 5), (5.9, 5)):
-            self.assertEqual(time_word(time), word)
 
 
 if __name__ == "__main__":

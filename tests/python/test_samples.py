@@ -20,7 +20,7 @@ from file_case import LAST, OfFiles
 import rrdi
 from rrdi.amounts import Millionths
 from rrdi.samples import sample_text, sample_words, value_text
-from rrdi.times import seconds_of, span_word
+from rrdi.times import seconds_of
 
 UTC = datetime.timezone.utc
 COUNTERS = ("DS:c:COUNTER:100:U:U", "DS:d:DERIVE:100:U:U", "DS:a:ABSOLUTE:100:U:U", "RRA:LAST:0.5:1:4")
@@ -123,27 +123,13 @@ class Values(unittest.TestCase):
         self.assertEqual(sample_words([("N", 1), "N:2"], None, 70), ["70:1", "70:2"])
         self.assertEqual(sample_text((Fraction(9, 2), 1), 1), "4:1")
 
-    def test_times(self) -> None:
-        berlin = datetime.timezone(datetime.timedelta(hours=2))
-        self.assertEqual(seconds_of(datetime.datetime(2020, 9, 13, 14, 26, 40, tzinfo=berlin)), 1_600_000_000)
-        self.assertEqual(seconds_of(datetime.datetime(2286, 11, 20, 17, 46, 39, 999_999, UTC)), 9_999_999_999)
-        self.assertEqual(seconds_of(datetime.datetime(1969, 12, 31, 23, 59, 59, 1, UTC)), -1)
-        self.assertEqual((seconds_of(12.9), seconds_of(-0.5)), (12, -1))
-        wrong: List[Any] = [None, True, "5", datetime.date(2020, 1, 1), datetime.timedelta(1)]
-        for value in wrong:
-            with self.assertRaises(TypeError):
-                seconds_of(value)
+    def test_times_of_pandas(self) -> None:
         stamp = Timestamp(2020, 9, 13, 12, 26, 40)
         with self.assertRaisesRegex(ValueError, r"write time\.tz_localize\('UTC'\)"):
             seconds_of(stamp)
         self.assertEqual(seconds_of(stamp.tz_localize("UTC")), 1_600_000_000)
         with self.assertRaisesRegex(TypeError, r"not datetime64; write pandas\.Timestamp\(time\)\.tz_localize\('UTC'\)"):
             seconds_of(cast(Any, type("datetime64", (), {})()))
-        others: List[Any] = [math.nan, math.inf, datetime.datetime(2020, 1, 1)]
-        for value in others:
-            with self.assertRaises(ValueError):
-                seconds_of(value)
-        self.assertEqual((span_word(datetime.timedelta(days=1)), span_word(None), span_word("5")), (86_400, None, "5"))
 
 
 class Number:

@@ -6,6 +6,7 @@ import datetime
 import numbers
 import unittest
 from datetime import timedelta, timezone
+from fractions import Fraction
 from typing import Any, List, Tuple, Union
 from unittest import mock
 
@@ -14,6 +15,8 @@ import rrdi
 from rrdi import errors, times, words
 from rrdi.escaping import escaped
 from rrdi.limits import LONGEST_LINE
+
+UTC = timezone.utc
 
 
 class Whole:
@@ -28,21 +31,25 @@ numbers.Integral.register(Whole)
 
 class Times(unittest.TestCase):
     def test_seconds(self) -> None:
-        for time, seconds in ((25, 25), (25.9, 25), (-0.5, -1), (Whole(), 25), (-3, -3),
-                              (datetime.datetime(1970, 1, 2, tzinfo=timezone.utc), 86_400),
-                              (datetime.datetime(1970, 1, 1, 0, 0, 0, 999_999, timezone.utc), 0),
-                              (datetime.datetime(1970, 1, 1, tzinfo=timezone(timedelta(hours=1))), -3_600)):
-            self.assertEqual(times.seconds_of(time), seconds)  # type: ignore[arg-type]
+        """A fraction is dropped, also below 0, as by the program's N."""
+        zone = timezone(timedelta(hours=2))
+        for time, seconds in ((0, 0), (-5, -5), (2.0, 2), (2.999, 2), (-0.5, -1), (Fraction(7, 2), 3), (Whole(), 25), (datetime.datetime(1970, 1, 1, 0, 0, 1, tzinfo=UTC), 1),
+                              (datetime.datetime(1970, 1, 1, 2, 0, 0, 999_999, zone), 0), (datetime.datetime(1969, 12, 31, 23, 59, 59, 999_999, UTC), -1),
+                              (datetime.datetime(2286, 11, 20, 17, 46, 39, 999_999, UTC), 9_999_999_999)):
+            self.assertEqual(times.seconds_of(time), seconds, time)  # type: ignore[arg-type]
             self.assertIs(type(times.seconds_of(time)), int)  # type: ignore[arg-type]
-        for wrong in (True, False, "25", None, 1j):
-            with self.assertRaisesRegex(TypeError, "a time must be a number or a datetime"):
-                times.seconds_of(wrong)  # type: ignore[arg-type]
-        for value in (float("inf"), float("nan"), datetime.datetime(2024, 1, 1)):
-            self.assertRaises(ValueError, times.seconds_of, value)
+
+    def test_no_seconds(self) -> None:
+        for time, kind, why in ((True, TypeError, "a time must be a number or a datetime, not True"), (None, TypeError, "a time must be a number or a datetime, not NoneType"),
+                                ("25", TypeError, "a time must be a number or a datetime, not str"),
+                                (datetime.date(2024, 1, 1), TypeError, "a time must be a number or a datetime, not date"), (1j, TypeError, "a time must be a number or a datetime, not complex"),
+                                (float("nan"), ValueError, "nan is no time"), (float("inf"), ValueError, "inf is no time"),
+                                (datetime.datetime(2024, 1, 1), ValueError, "the datetime 2024-01-01 00:00:00 has no zone; write datetime.now")):
+            with self.assertRaisesRegex(kind, f"^{why}"):
+                times.seconds_of(time)  # type: ignore[arg-type]
 
     def test_words_of_times(self) -> None:
-        for time, word in ((None, None), ("", ""), ("end-1h", "end-1h"), (0, 0), (25.5, 25),
-                           (datetime.datetime(1970, 1, 2, tzinfo=timezone.utc), 86_400)):
+        for time, word in ((None, None), ("", ""), ("end-1h", "end-1h"), (0, 0), (25.5, 25), (datetime.datetime(1970, 1, 2, tzinfo=UTC), 86_400)):
             self.assertEqual(times.time_word(time), word)
 
     def test_words_of_spans(self) -> None:
@@ -51,10 +58,10 @@ class Times(unittest.TestCase):
             self.assertEqual(times.span_word(span), word)  # type: ignore[arg-type]
         self.assertIs(type(times.span_word(Whole())), int)  # type: ignore[arg-type]
         for wrong in (True, False, 1.0, b"1", [1]):
-            with self.assertRaisesRegex(TypeError, "a span must be whole seconds or a timedelta"):
+            with self.assertRaisesRegex(TypeError, f"^a span must be whole seconds or a timedelta, not {type(wrong).__name__}$"):
                 times.span_word(wrong)  # type: ignore[arg-type]
         for micros in (1, 999_999, -1, 1_000_001):
-            with self.assertRaisesRegex(ValueError, "a span must be whole seconds"):
+            with self.assertRaisesRegex(ValueError, f"^a span must be whole seconds, not {timedelta(microseconds=micros)}$"):
                 times.span_word(timedelta(microseconds=micros))
 
     def test_now(self) -> None:
