@@ -76,15 +76,16 @@ static int take_other(const char *name, char *other) {
     return error;
 }
 
-/* Checks whether an open file is empty, and still has its name. */
-static bool is_empty_at(int descriptor, const char *name) {
+/* Checks whether another program has filled the empty file with which this one took a name, or has given the name to a file of its
+ * own. */
+static bool is_taken(int descriptor, const char *name) {
     struct stat found, there;
-    return !fstat(descriptor, &found) && !lstat(name, &there) && found.st_dev == there.st_dev && found.st_ino == there.st_ino &&
-           !found.st_size;
+    return !fstat(descriptor, &found) && !lstat(name, &there) &&
+           (found.st_size || found.st_dev != there.st_dev || found.st_ino != there.st_ino);
 }
 
 /* Gives the file that has the other name its name in one step. Where the system cannot, puts it in place of an empty file, which
- * takes the name first, and keeps it after a kill. Whoever creates a database at the name in between waits for the lock of the empty
+ * takes the name first, and after a kill still has it. Whoever creates a database at the name in between waits for the lock of the empty
  * file, and finds then that the file has been replaced; or had the lock before, and keeps its file. Returns 0 or an errno: EEXIST if
  * the name is taken. */
 static int replace_empty(const char *other, const char *name) {
@@ -96,11 +97,11 @@ static int replace_empty(const char *other, const char *name) {
     descriptor = open(name, O_RDWR | O_CREAT | O_EXCL | O_CLOEXEC, 0666);
     if (descriptor < 0)
         return errno;
-    if ((flock(descriptor, LOCK_EX | LOCK_NB) && errno == EWOULDBLOCK) || !is_empty_at(descriptor, name)) {
+    if ((flock(descriptor, LOCK_EX | LOCK_NB) && errno == EWOULDBLOCK) || is_taken(descriptor, name)) {
         error = EEXIST;
     } else if (rename(other, name)) {
         error = errno;
-        if (is_empty_at(descriptor, name))
+        if (!is_taken(descriptor, name))
             unlink(name);
     }
     close(descriptor);

@@ -1,8 +1,8 @@
 # SPDX-License-Identifier: MIT OR Apache-2.0
 """rrdi_create_new makes a file once: by many processes, by processes that are killed, and with calls that fail.
 
-One process makes the file, and no other file stays. Where there are no links, an empty file may have the name after a
-kill. The program is c/creator.c."""
+One process makes the file, and no other file stays. Where there are no links, and no renaming that replaces nothing, an
+empty file may have the name after a kill. The program is c/creator.c."""
 from __future__ import annotations
 
 import errno
@@ -20,13 +20,13 @@ from support.check import Check
 from support.library import Library
 from support.program import Program, held
 
-LEAST = {"races": 44, "kills": 35, "calls that failed": 100}
+LEAST = {"races": 44, "kills": 57, "calls that failed": 165}
 NEW, OTHER = "new.rrdi", re.compile(r"new\.rrdi\.new-\d+-\d+")
 MADE, IS_THERE = "0 0\n", f"15 {errno.EEXIST}\n"
 # How often so many processes make one file.
 RACES = {2: 40, 50: 4}
 FAILS = (errno.EIO, errno.ENOSPC, errno.EACCES)
-LINKS: dict[str, dict[str, object]] = {"with links": {}, "without links": {"NO_LINKS": 1}}
+LINKS: dict[str, dict[str, object]] = {"with links": {}, "without links": {"NO_LINKS": 1}, "by a file": {"NO_LINKS": 2}}
 
 
 class Left(NamedTuple):
@@ -47,20 +47,21 @@ def judge_race(answers: list[str], left: Left, whole: bytes, check: Check) -> No
     check(is_right, f"{len(answers)} processes make one file: {answers}, {str(left)[:200]}")
 
 
-def judge_kill(what: str, left: Left, following: str, then: Left, whole: bytes, has_links: bool, check: Check) -> None:
-    """Checks what a kill leaves, and that the next process makes the file, or finds it there."""
+def judge_kill(what: str, left: Left, following: str, then: Left, whole: bytes, is_empty: bool, check: Check) -> None:
+    """Checks what a kill leaves, which may be an empty file if `is_empty`, and that the next process makes the file, or finds
+    it there."""
     check.count("kills")
-    is_left = left.new in (None, whole) or left.new == b"" and not has_links
+    is_left = left.new in (None, whole) or left.new == b"" and is_empty
     check(is_left and left.has_other, f"{what}: it leaves {str(left)[:200]}")
     wanted = (IS_THERE, left) if left.new is not None else (MADE, Left(whole, left.others))
     check((following, then) == wanted, f"{what}, then {following!r}, {str(then)[:200]}")
 
 
 def judge_fault(what: str, said: str, left: Left, whole: bytes, why: int, keeps: bool, check: Check) -> None:
-    """Checks that the file is made, or the reason is told and nothing left. If it can't be taken away, it `keeps` a
-    file."""
+    """Checks that the file is made, or the reason is told and nothing left, except the other file if it can't be taken
+    away."""
     check.count("calls that failed")
-    is_told = said == f"15 {why}\n" and (left.new is None or keeps and left.new == b"")
+    is_told = said == f"15 {why}\n" and left.new is None
     is_right = said == MADE and left.new == whole or is_told
     check(is_right and (not left.others or keeps and left.has_other), f"{what}: {said!r}, {str(left)[:200]}")
 
@@ -118,12 +119,11 @@ class Creator:
             self.empty()
             self.run(**links, KILL=number)
             left, following = self.left(), self.run(**links)
-            judge_kill(f"{what} killed", left, following, self.left(), whole, not links, check)
+            judge_kill(f"{what} killed", left, following, self.left(), whole, way == "by a file", check)
             for why in () if links and call.kind == "link" else FAILS:
                 self.empty()
                 said = self.run(**links, CALL=number, WHY=why)
-                keeps = call.kind in ("unlink", "rename")
-                judge_fault(f"{what} error {why}", said, self.left(), whole, why, keeps, check)
+                judge_fault(f"{what} error {why}", said, self.left(), whole, why, call.kind == "unlink", check)
 
 
 @pytest.fixture

@@ -60,25 +60,25 @@ WHOLE, HALF, LATE, ONE = b"whole", b"half", f"15 {errno.EIO}\n", (f"{NEW}.new-7-
 RACE = (([MADE, IS_THERE], Left(WHOLE), True), ([MADE, MADE], Left(WHOLE), False),
         ([IS_THERE, IS_THERE], Left(WHOLE), False), ([MADE, LATE], Left(WHOLE), False),
         ([MADE, IS_THERE], Left(HALF), False), ([MADE, IS_THERE], Left(WHOLE, ONE), False))
-# What a kill leaves, the next answer, what is left then, whether there are links, and whether that is right.
-KILL = ((Left(None, ONE), MADE, Left(WHOLE, ONE), True, True),
-        (Left(WHOLE, ONE), IS_THERE, Left(WHOLE, ONE), True, True),
-        (Left(b"", ONE), IS_THERE, Left(b"", ONE), False, True),
-        (Left(b"", ONE), IS_THERE, Left(b"", ONE), True, False), (Left(HALF), IS_THERE, Left(HALF), False, False),
-        (Left(None, ONE * 2), MADE, Left(WHOLE, ONE * 2), True, False),
-        (Left(None), IS_THERE, Left(None), True, False), (Left(WHOLE), MADE, Left(WHOLE), True, False),
-        (Left(None, ONE), MADE, Left(WHOLE), True, False), (Left(WHOLE), IS_THERE, Left(HALF), True, False))
-# The answer after a fault, what is left, whether a file may stay, and whether that is right.
-FAULT = ((MADE, Left(WHOLE), False, True), (LATE, Left(None), False, True), (LATE, Left(b"", ONE), True, True),
-         (LATE, Left(b""), False, False), (LATE, Left(None, ONE), False, False), (LATE, Left(WHOLE), False, False),
+# What a kill leaves, the next answer, what is left then, whether an empty file may be, and whether that is right.
+KILL = ((Left(None, ONE), MADE, Left(WHOLE, ONE), False, True),
+        (Left(WHOLE, ONE), IS_THERE, Left(WHOLE, ONE), False, True),
+        (Left(b"", ONE), IS_THERE, Left(b"", ONE), True, True),
+        (Left(b"", ONE), IS_THERE, Left(b"", ONE), False, False), (Left(HALF), IS_THERE, Left(HALF), True, False),
+        (Left(None, ONE * 2), MADE, Left(WHOLE, ONE * 2), False, False),
+        (Left(None), IS_THERE, Left(None), False, False), (Left(WHOLE), MADE, Left(WHOLE), False, False),
+        (Left(None, ONE), MADE, Left(WHOLE), False, False), (Left(WHOLE), IS_THERE, Left(HALF), False, False))
+# The answer after a fault, what is left, whether the other file may stay, and whether that is right.
+FAULT = ((MADE, Left(WHOLE), False, True), (LATE, Left(None), False, True), (LATE, Left(None, ONE), True, True),
+         (LATE, Left(b"", ONE), True, False), (LATE, Left(b""), False, False), (LATE, Left(None, ONE), False, False), (LATE, Left(WHOLE), False, False),
          (LATE, Left(HALF), True, False), (MADE, Left(None), False, False), (IS_THERE, Left(None), False, False))
 
 
 def test_files_that_are_made(rejects: Callable[..., bool]) -> None:
     for answers, left, is_right in RACE:
         assert rejects(judge_race, answers, left, WHOLE) != is_right, (answers, left)
-    for left, following, then, has_links, is_right in KILL:
-        found = rejects(judge_kill, "a kill", left, following, then, WHOLE, has_links)
+    for left, following, then, is_empty, is_right in KILL:
+        found = rejects(judge_kill, "a kill", left, following, then, WHOLE, is_empty)
         assert found != is_right, (left, following, then)
     for said, left, keeps, is_right in FAULT:
         assert rejects(judge_fault, "a fault", said, left, WHOLE, errno.EIO, keeps) != is_right, (said, left)

@@ -13,8 +13,8 @@ def resize_copy(file: str, resize: Callable[[str], object]) -> None:
     """Calls `resize` on a copy of a file, and gives the copy the name resize.rrd.
 
     The file is read under a shared lock, so that no other program changes the file meanwhile. If it cannot be resized, there
-    is no resize.rrd, so a script that goes on moves no older copy to the place of the file; but a file that itself has this name
-    stays as it is.
+    is no resize.rrd, so a script that goes on moves no older copy to the place of the file; but a file that has this name
+    itself stays.
 
     # Errors
     `OSError` with a file name if the file cannot be read or locked, or the copy cannot be written.

@@ -20,8 +20,8 @@ NOT_REPLACED = frozenset({errno.EACCES, errno.EPERM, errno.EBUSY})
 
 def put_picture(path: str, data: bytes) -> None:
     """Writes a picture. It gets its name when it is complete, with the owner and the mode of the file that had the name. What
-    is no file, such as a FIFO, is written in place, and so is a file that this user may only write. A database stays: by a slip,
-    its name may stand in the place of the picture's.
+    is no file, such as a FIFO, is written in place, and so is a file that this user may only write. A database stays, if its
+    name was given by a slip.
 
     # Errors
     `OSError` with the name if the picture can't be written.
