@@ -241,9 +241,9 @@ void rrdi_batch_file(const char *path, size_t path_length, const uint8_t *lines,
  * the fault is RRDI_CANNOT_WRITE with EEXIST as its system_error; also if the file appears during the call, and if it is a
  * directory or a symbolic link, even one that leads nowhere. With a fault the call leaves no new file.
  *
- * Nobody sees half a database at the path. On a file system without links there is an empty file for a moment, which stays if the
- * system refuses a rename. A kill may leave a file whose name is that of the database and `.new-` with two numbers. You may remove
- * it.
+ * Nobody sees half a database at the path. A kill may leave a file whose name is that of the database and `.new-` with two numbers;
+ * you may remove it. On a file system that has neither links nor a rename that replaces no file, there is an empty file for a moment,
+ * which stays after a kill.
  *
  * The parameters are those of rrdi_run_file. The command is `create`; the fault of another command is RRDI_USAGE. A call needs
  * 10 KiB of stack more than the other functions, and the name of the file at most 220 bytes. */
