@@ -126,7 +126,7 @@ class Feeder:
         """Reports the refused samples of a batch: each in a line or, if many in a row have one reason, many in a line. So
         thousands of late samples bury nothing else, and can all be fed again."""
         for reason, group in groupby(refused, lambda one: one[1]):
-            name, samples = escaped(as_text(file)), [escaped(as_text(sample)) for sample, _ in group]
+            name, samples = as_text(file), [as_text(sample) for sample, _ in group]
             self.refused += len(samples)
             self.too_old += len(samples) * reason.startswith(TOO_OLD)
             in_line = 1 if len(samples) <= FEW else SAMPLES_OF_A_LINE
