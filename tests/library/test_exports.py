@@ -23,8 +23,8 @@ MAY_CALL = frozenset({
     "open64", "close", "read", "pread", "pread64", "pwrite", "pwrite64", "lseek", "lseek64", "ftruncate", "ftruncate64",
     "fdatasync", "flock", "fcntl", "fcntl64", "statx", "realpath", "nanosleep", "clock_gettime", "__xpg_strerror_r",
     # And what the part in plain C calls: the name of a new file, the time of its creation, and numbers.
-    "getpid", "access", "link", "unlink", "rename", "fstat", "fstat64", "memchr", "snprintf", "__snprintf_chk", "strerrordesc_np",
-    "time", "strtoull", "__isoc23_strtoull"})
+    "getpid", "access", "link", "unlink", "rename", "renameat2", "fstat", "fstat64", "lstat", "lstat64", "memchr", "snprintf",
+    "__snprintf_chk", "strerrordesc_np", "time", "strtoull", "__isoc23_strtoull"})
 # The functions of the compiler's own library (division of 128 bits), of the linker and of the start files.
 OF_LINKER = frozenset({"__divti3", "__udivti3", "__cxa_finalize", "__gmon_start__", "_ITM_deregisterTMCloneTable",
                        "_ITM_registerTMCloneTable"})

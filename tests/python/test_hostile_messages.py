@@ -20,7 +20,7 @@ from rrdi.by_program import NoAnswer
 from rrdi.escaping import HIDDEN, escaped
 from rrdi.feeding.feeder import Feeder, FeedOptions
 from rrdi.feeding.writers import BatchWriter, Outcome, Reason
-from rrdi.tools import compare, feed, fix
+from rrdi.tools import compare, feed, fix, rrdtool_program
 from rrdi.tools.command_line import Failure, Progress, called_name
 from rrdi.tools.plotting import gnuplot
 
@@ -114,11 +114,11 @@ class Parts(unittest.TestCase):
         for name in ("a", "a\nstep = 1\nb", "a\nstep = x\nb", "a\nlast_update = 0\n", 'a\nrra[0].cf = "X"\n'):
             self.assertEqual(list(compare.spans(text.format(name, name))), [("MAX", 10, 0, 29)], name)
         for wrong in (text.format(*2 * ('\nrra[1].cf = "MAX"\n',)), text.replace("= 10", "= 0"), text.replace("= 10", "= x"), text.replace("step", "x")):
-            with mock.patch.object(compare.rrdtool_program, "ask", return_value=wrong), self.assertRaises(Failure) as failed:
+            with mock.patch.object(rrdtool_program, "ask", return_value=wrong), self.assertRaises(Failure) as failed:
                 compare.compare(["old", "new"])
             self.assertEqual(str(failed.exception), "rrdtool does not tell which rows old has")
         printed = [text, "    a\nx: 1\n\n10: 1\n"]
-        with mock.patch.object(compare.rrdtool_program, "ask", side_effect=printed), self.assertRaises(Failure) as failed:
+        with mock.patch.object(rrdtool_program, "ask", side_effect=printed), self.assertRaises(Failure) as failed:
             compare.compare(["old", "new"])
         self.assertEqual(str(failed.exception), "cannot read what rrdtool fetches of MAX from old")
 

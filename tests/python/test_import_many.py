@@ -19,7 +19,7 @@ from test_tools_moving import DUMP
 from tool_case import NO_RRDTOOL, RRDTOOL, Ran, ToolCase
 
 from rrdi.importing.dump import Refusal
-from rrdi.tools import importer
+from rrdi.tools import command_line, importer
 from rrdi.tools.children import ChildAnswer
 from rrdi.tools.command_line import Failure, Progress
 from rrdi.tools.conversion import Reading
@@ -70,10 +70,10 @@ class Bars(unittest.TestCase):
 class Refusals(unittest.TestCase):
     def test_one_line(self) -> None:
         """A reason has texts of the old file, with anything in them."""
-        with patch.object(importer, "import_one", side_effect=Refusal("unknown function 'M\n\x1b[2J'")):
-            with self.assertRaises(Failure) as raised:
-                importer.convert(["a\nb.rrd"])
-        self.assertEqual(str(raised.exception), "a\\nb.rrd: unknown function 'M\\n\\u{1b}[2J'")
+        refusal = Refusal("unknown function 'M\n\x1b[2J'")
+        with patch.object(importer, "import_one", side_effect=refusal), redirect_stderr(StringIO()) as said:
+            self.assertEqual(command_line.run(importer.TOOL, ["a\nb.rrd"]), 1)
+        self.assertEqual(said.getvalue().partition(": ")[2], "a\\nb.rrd: unknown function 'M\\n\\u{1b}[2J'\n")
 
 
 @needs_program

@@ -171,9 +171,11 @@ class Place:
     def __init__(self, program: Program, library: str, folder: str | Path, stays_open: bool = False) -> None:
         self.program, self.library, self.folder, self.stays_open = program, library, Path(folder), stays_open
         self.file, self.log = self.folder / FILE, self.folder / "log"
+        self.count = 0
         self.interrupted: dict[Task, bytes] = {}
 
     def plain(self, words: tuple[str, ...], lines: str = "", explains: bool = False, **settings: object) -> Answer:
+        self.count += 1
         env = between.settings(self.library, **settings) if settings else {}
         return self.program.run(words, lines, cwd=self.folder, env=env, explains=explains)
 

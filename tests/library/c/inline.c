@@ -1,6 +1,6 @@
 /* SPDX-License-Identifier: MIT OR Apache-2.0 */
 /* Tests what is plain C and does more than to name something: rrdi_words, and rrdi_create_new
-   on a file system with links and on one without, with each fault, in threads. The system calls link and rename go by
+   on a file system with links and on one without, with each fault, in threads. The calls link, rename and renameat2 go by
    this program. Run the program in an empty folder; it prints each wrong result and the number of tests. */
 #define _GNU_SOURCE
 #include <dirent.h>
@@ -17,8 +17,9 @@
 #define THREADS 8
 #define ROUNDS 20
 
-/* The error of a link, 0 if links work, and that of a rename; and whether a file appears before a link. */
-static int link_error, rename_error;
+/* The error of a link, 0 if links work, that of a rename that replaces no file, and that of any other; and whether a file appears
+ * before a link. */
+static int link_error, new_error, rename_error;
 static bool is_overtaken;
 
 int link(const char *from, const char *to) {
@@ -29,6 +30,14 @@ int link(const char *from, const char *to) {
         return -1;
     }
     return syscall(SYS_linkat, AT_FDCWD, from, AT_FDCWD, to, 0);
+}
+
+int renameat2(int from_folder, const char *from, int to_folder, const char *to, unsigned how) {
+    if (new_error) {
+        errno = new_error;
+        return -1;
+    }
+    return syscall(SYS_renameat2, from_folder, from, to_folder, to, how);
 }
 
 int rename(const char *from, const char *to) {
@@ -214,17 +223,15 @@ static void test_limit(void) {
 
 static void test_links(void) {
     const int none[] = {EPERM, EOPNOTSUPP, ENOSYS, EMLINK};
-    for (size_t at = 0; at < sizeof none / sizeof *none; at++) {
-        link_error = none[at];
+    for (size_t at = 0; at < 2 * sizeof none / sizeof *none; at++) {
+        link_error = none[at / 2];
+        new_error = at % 2 ? EINVAL : 0;
         test_made("a file system without links");
         test_overtaken("a file that appears where there are no links");
     }
-    link_error = EPERM;
     rename_error = EIO;
-    test_error(NAME(PATH), EIO, 1, "a rename that fails");
-    want(held(PATH) == 0, "the name that a rename does not replace");
-    unlink(PATH);
-    rename_error = 0;
+    test_error(NAME(PATH), EIO, 0, "a rename that fails");
+    new_error = rename_error = 0;
     link_error = EIO;
     test_error(NAME(PATH), EIO, 0, "a link that fails");
     want(explains(PATH ": input/output error"), "why a link fails");
@@ -240,11 +247,12 @@ static void test_closed_input(void) {
     for (int has_links = 0; has_links < 2; has_links++) {
         close(0);
         link_error = has_links ? 0 : EPERM;
+        new_error = EINVAL;
         create(NAME(PATH));
         want(gave(RRDI_OK, true, "") && files() == 1 && dup(1) == 0, "a create without a standard input");
         unlink(PATH);
     }
-    link_error = 0;
+    link_error = new_error = 0;
     dup2(input, 0);
     close(input);
 }
@@ -264,6 +272,7 @@ static void test_threads(void) {
         pthread_t threads[THREADS];
         size_t made = 0;
         link_error = round % 2 ? EPERM : 0;
+        new_error = round % 4 == 3 ? EINVAL : 0;
         for (size_t at = 0; at < THREADS; at++)
             if (pthread_create(&threads[at], NULL, create_alone, NULL))
                 exit(3);
@@ -275,7 +284,7 @@ static void test_threads(void) {
         want(made == 1 && files() == 1 && held(PATH) == 224, "threads that make one file");
         unlink(PATH);
     }
-    link_error = 0;
+    link_error = new_error = 0;
 }
 
 int main(void) {

@@ -37,6 +37,11 @@ int link(const char *path, const char *to) {
     return has_no_links ? -1 : (int)syscall(SYS_link, path, to);
 }
 
+int renameat2(int from_folder, const char *path, int to_folder, const char *to, unsigned how) {
+    errno = EINVAL;
+    return has_no_links ? -1 : (int)syscall(SYS_renameat2, from_folder, path, to_folder, to, how);
+}
+
 int rename(const char *path, const char *to) {
     come(&before_rename);
     return (int)syscall(SYS_rename, path, to);
@@ -383,7 +388,8 @@ static void create_raced(void) {
     rrdi_create_new(NAME("raced"), WORDS(CREATE), 0, 0, false, output, sizeof output, &answer);
 }
 
-/* Without links an empty file has the name for a moment. Whoever creates a database there keeps it. */
+/* Without links, and without a rename that replaces no file, an empty file has the name for a moment. Whoever creates a database
+ * there keeps it. */
 static void test_races_without_links(void) {
     has_no_links = true;
     before_rename = take_path;
