@@ -117,7 +117,7 @@ class Times(unittest.TestCase):
         words = ["p.png", "--start", "2024-01-01T11:00Z", "--end=@1704106900", "-s2024-01-01 12:00", "-e", "now",
                  "DEF:a=f:g:LAST:start=noon"]
         self.assertEqual(with_times(words),
-                         ["p.png", "--start", f"epoch+{NOON}", "--end=epoch+1704106900", f"-sepoch+{NOON}", "-e", "now",
+                         ["p.png", "--start", f"{NOON}", "--end=1704106900", f"-s{NOON}", "-e", "now",
                           "DEF:a=f:g:LAST:start=noon"])
 
 

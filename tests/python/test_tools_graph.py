@@ -17,6 +17,7 @@ from tool_case import NO_RRDTOOL, RRDTOOL, Ran, ToolCase
 from rrdi.tools import graphing, librrd
 from rrdi.tools.command_line import Failure
 from rrdi.tools.rows import Rows
+from rrdi.tools.spans import time_text
 
 
 def has_library() -> bool:
@@ -144,6 +145,16 @@ class Pictures(ToolCase):
             self.assertEqual((ran.status, ran.err, ran.out.count("x")), (0, "", 1))
             found.append(pixels(self.read(f"{file}.png")))
         self.assertEqual(found[0], found[1])
+
+    def test_times_as_the_tools_print_them(self) -> None:
+        begin, until = self.START + 1_000, self.START + 4_000
+        pictures = []
+        for start, end in ((str(begin), str(until)), (f"@{begin}", f"@{until}"), (time_text(begin), time_text(until))):
+            for words in (["-s", start, "-e", end], [f"--start={start}", f"--end={end}"]):
+                ran = self.tool("rrdi-graph", "p.png", *words, "DEF:a=f.rrdi:g:AVERAGE", "LINE1:a#ff0000")
+                self.assertEqual((ran.status, ran.err), (0, ""), words)
+                pictures.append(self.read("p.png"))
+        self.assertEqual(pictures[1:], pictures[:-1])
 
     def test_a_name_with_a_colon(self) -> None:
         (self.folder / "f.rrdi").rename(self.folder / "a:b c.rrdi")

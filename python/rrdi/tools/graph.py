@@ -30,10 +30,16 @@ from typing import List
 from .command_line import Tool, WrongArguments, write_output
 from .graphing import Grapher
 from .rrdtool_output import plain
-from .spans import as_of_rrdtool
+from .spans import typed_seconds
 
 
 TIME = re.compile("((?:--start|--end)=|-[se])(.+)")
+
+
+def in_digits(text: str) -> str:
+    """Returns a time in a form that RRDtool's library reads: not `epoch+SECONDS`, of which RRDtool 1.7.2 reads another one."""
+    seconds = typed_seconds(text)
+    return text if seconds is None else str(seconds)
 
 
 def with_times(words: List[str]) -> List[str]:
@@ -42,9 +48,9 @@ def with_times(words: List[str]) -> List[str]:
     for word in words:
         joined = TIME.fullmatch(word)
         if before in ("-s", "-e", "--start", "--end"):
-            word = as_of_rrdtool(word)
+            word = in_digits(word)
         elif joined is not None:
-            word = joined[1] + as_of_rrdtool(joined[2])
+            word = joined[1] + in_digits(joined[2])
         found.append(word)
         before = word
     return found

@@ -14,8 +14,8 @@ PICTURE ends in .png or .svg, and is written at the end, if all went well.
 Without FUNCTION you get that of the file's first archive.
 
 The second form writes pages for a browser, without gnuplot: OUT/index.html
-shows the last day of each database below DIR, and OUT/NAME.html the last day,
-week, month and year of the file NAME.
+shows the last day of each .rrdi or .rrd database below DIR, OUT/NAME.html the
+last day, week, month and year of NAME.
 
 options:
   --html DIR           write pages of all databases below DIR; -s, -r, --dark

@@ -19,7 +19,7 @@ shows what the next reverts would take back.
 
 options, anywhere on the line:
   -s, --start START    show rows after START (default: a day before END)
-  -e, --end END        show rows up to END (default: the last update); times
+  -e, --end END        show rows begun before END (default: last update); times
                        are 2026-11-25 14:00, 2026-11-25T14:00Z (UTC),
                        @1700000000, or RRDtool's, such as noon, -2h or -5min
                        (-5m is five months)
@@ -33,7 +33,7 @@ options, anywhere on the line:
   --version            show the version and exit
 
 RRDI_WAIT sets how many seconds to wait for the file's lock (default: 5). With
---csv, --json or --openmetrics and no FUNCTION, FILE may be - for standard
+just --csv, --json, --openmetrics or --journal, FILE may be - for standard
 input. docs/export.md has more.
 
 Exit status: 0; 1 and a line on standard error if FILE cannot be read, is not a

@@ -72,19 +72,23 @@ def local_times(text: str, parts: Sequence[Optional[str]]) -> List[int]:
     return times
 
 
-def as_of_rrdtool(text: str, is_end: bool = False) -> str:
-    """Returns a time in RRDtool's form. One as these tools print it is in the local time zone, unless it has another one;
-    of two, it is the earlier one, or as an end the later one.
+def typed_seconds(text: str, is_end: bool = False) -> Optional[int]:
+    """Returns the seconds since 1970 of a time as these tools print it, which is in the local time zone unless it has another
+    one; of two, it is the earlier one, or as an end the later one. Returns None if it is a time in another form.
 
     # Errors
     `WrongArguments` if there is no such time.
     """
     exact, found = exact_seconds(text), PRINTED.fullmatch(text)
-    if exact is not None:
-        return f"epoch+{exact}"
-    if found is None:
-        return text
-    return f"epoch+{local_times(text, found.groups())[-1 if is_end else 0]}"
+    if exact is not None or found is None:
+        return exact
+    return local_times(text, found.groups())[-1 if is_end else 0]
+
+
+def as_of_rrdtool(text: str, is_end: bool = False) -> str:
+    """Returns a time in the form that `span` reads, where digits alone may be a date. Errors are those of `typed_seconds`."""
+    seconds = typed_seconds(text, is_end)
+    return text if seconds is None else f"epoch+{seconds}"
 
 
 def span_of(start: Optional[str], end: Optional[str], last: int) -> Tuple[int, int]:
