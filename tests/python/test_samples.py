@@ -9,7 +9,7 @@ import importlib
 import math
 import time
 import unittest
-from decimal import Decimal
+from decimal import ROUND_UP, Context, Decimal, localcontext
 from fractions import Fraction
 from typing import Any, List, Tuple, cast
 from unittest import mock
@@ -73,6 +73,12 @@ class Values(unittest.TestCase):
                     (Decimal("0.00000050000000000000000000000000000000000000001"), "0.000001"),
                     (Decimal("999999999999.9999995"), "1000000000000"), (Fraction(1, 2_000_000), "0"),
                     (Fraction(3, 2_000_000), "0.000002"), (Fraction(-3, 2_000_000), "-0.000002")])
+
+    def test_a_program_that_reckons_otherwise(self) -> None:
+        """How a program rounds its own decimals, and to how many digits, changes no sample."""
+        for own in (Context(prec=3), Context(rounding=ROUND_UP)):
+            with localcontext(own):
+                self.check([(Decimal("1234.5678"), "1234.5678"), (Decimal("0.0000001"), "0")])
 
     def test_unknown(self) -> None:
         self.check([(None, "U"), (math.nan, "U"), (Decimal("nan"), "U"), (Decimal("-sNaN"), "U")])
