@@ -56,6 +56,16 @@ class Finding(FolderCase):
             settings.RRDI_DIR = "/own"
             self.assertEqual(web.RrdiFinder().folders, ["/own"])
 
+    def test_several_folders(self) -> None:
+        """A metric is read in the folder that has it."""
+        from graphite.finders.utils import FindQuery
+        second = self.folder.parent / "second"
+        (second / "disk").mkdir(parents=True)
+        (second / "disk/used.rrdi").write_bytes(graphite.file_bytes(NOW))
+        finder = web.RrdiFinder([str(self.folder), str(second)])
+        paths = {node.path: node.reader.path for node in finder.find_nodes(FindQuery("*.{used,total}", None, None))}
+        self.assertEqual(paths, {"app.total": f"{self.folder}/app/total.rrdi", "disk.used": f"{second}/disk/used.rrdi"})
+
     def test_patterns(self) -> None:
         for pattern, metrics, folders in (
                 ("other", ["other"], []), ("app", [], ["app"]), ("*", ["other"], ["app", "app2"]),
