@@ -340,6 +340,15 @@ class Many(ToolCase):
         self.assertTrue(self.read("a.rrd").startswith(OLD_FORM))
         self.assertFalse((self.folder / "a.rrd.old").exists())
 
+    def test_a_file_that_changes_while_it_is_read(self) -> None:
+        """So does one that gets a sample after RRDtool has read it."""
+        self.old("a.rrd")
+        self.stub("rrdtool", 'case $1 in dump) tail -c +5 "$2" ;; last) printf x >>"$2"; echo 1600000030 ;; esac')
+        self.assertEqual(self.run_import("--in-place", "a.rrd"), (
+            1, "1 file: 0 converted; 1 not converted\n", "rrdi-import: a.rrd: not converted: "
+            "it changed while it was converted; first stop what records into it\n"))
+        self.assertEqual((self.read("a.rrd")[-1:], (self.folder / "a.rrd.old").exists()), (b"x", False))
+
     def test_nothing_to_convert(self) -> None:
         self.assertEqual(self.run_import("--into", "new", "tree"), (
             1, "", "rrdi-import: tree: no file below it has a name that ends in .rrd or .wsp\n"))
