@@ -12,7 +12,9 @@ from cases import needs_program
 from tool_case import Ran, ToolCase
 
 from rrdi.graphite.layout import METHODS, WITH_ZEROS, template, unknown_share
-from rrdi.tools.whisper_file import known_share
+from rrdi.reader.selected import Outline
+from rrdi.tools.command_line import Failure
+from rrdi.tools.whisper_file import check_sources, known_share
 
 HAS_WHISPER = graphite.is_installed("whisper")
 NOW = 1_700_000_400  # a multiple of 600
@@ -25,6 +27,16 @@ class Shares(unittest.TestCase):
         """An xFilesFactor comes back as it was typed."""
         for text in ("0", "0.1", "0.25", "0.3", "0.5", "0.7", "0.99", "1"):
             self.assertEqual(known_share(unknown_share(float(text))), float(text))
+
+
+class Sources(unittest.TestCase):
+    def test_one_metric(self) -> None:
+        """The only other source that may be left out is that of the zeros, of a sum or of an average with zeros."""
+        for names in (("temp",), ("sum",), ("sum", "zero"), ("avg_zero", "zero")):
+            check_sources(Outline(10, NOW, names, (), (), 0))
+        for names in (("a", "b"), ("sum", "b"), ("max", "zero"), ("zero", "sum"), ("sum", "zero", "b")):
+            with self.assertRaisesRegex(Failure, f"^a file of whisper has one metric, and there are the sources {', '.join(names)}$"):
+                check_sources(Outline(10, NOW, names, (), (), 0))
 
 
 @needs_program
