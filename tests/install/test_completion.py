@@ -103,6 +103,13 @@ def test_offers(shell: str, place: Path, rooms: Path, needs: Callable[..., None]
     check_offers(SHELLS[shell](place), rooms, environment(place, rooms), check)
 
 
+def test_offers_below_the_home_directory(place: Path, rooms: Path) -> None:
+    """A directory ends in a slash there too, so that a shell adds no space to it."""
+    ran = subprocess.run([*SHELLS["bash"](place), "rrdi-plot ~/ro"], cwd="/", capture_output=True, text=True, timeout=PATIENCE,
+                         env=environment(place, rooms))
+    assert (sorted(ran.stdout.splitlines()), ran.stderr) == (["~/room.rrdi", "~/rooms/"], "")
+
+
 def test_wrong_offers(folder: Path, planted: Check) -> None:
     check_offers(["sh", "-c", "touch run; echo last"], folder, os.environ, planted)
     assert len(planted.faults) == len(LINES) + 1
