@@ -198,8 +198,14 @@ class Children(unittest.TestCase):
     def test_one_process_for_many(self) -> None:
         """There are no more processes than were asked for, each with many things, whichever take long; and none is left if the
         caller gives up, nor an open pipe."""
+        done, is_done = os.pipe()
+        self.addCleanup(os.close, done)
+        self.addCleanup(os.close, is_done)
+
         def work(number: int) -> ChildAnswer:
-            time.sleep(0.3 if number == 0 else 0.001)
+            for _ in range(99 if number == 0 else 0):  # this one takes as long as all others together
+                os.read(done, 1)
+            os.write(is_done, b"." if number else b"")
             return ChildAnswer(True, str(os.getpid()))
         open_before = os.listdir("/proc/self/fd")
         found = [answer.text for _, answer in answers(range(100), work, 3)]
