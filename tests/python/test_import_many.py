@@ -322,6 +322,17 @@ class Many(ToolCase):
         self.assertEqual(self.run_import("--into", "new", "tree")[1].splitlines()[-1],
                          "2 files: 0 converted; 2 there already, 2 of them with notes")
 
+    def test_in_place_leaves_what_would_change_a_type(self) -> None:
+        """A counter of fractions would take whole numbers only; into a directory it comes as one that does."""
+        before = self.old("tree/a.rrd", WHOLE.replace("GAUGE", "DDERIVE", 1))
+        notes = ("source g: its type DDERIVE becomes DERIVE, which takes whole numbers only; "
+                 "source g: cannot convert its last value 3.5; its next rate will be unknown")
+        self.assertEqual(self.run_import("--in-place", "tree"), (
+            1, "1 file: 0 converted; 1 not converted\n", f"rrdi-import: tree/a.rrd: not converted: {notes}\n"))
+        self.assertEqual((self.read("tree/a.rrd"), (self.folder / "tree/a.rrd.old").exists()), (before, False))
+        self.assertEqual(self.run_import("--into", "new", "tree"), (
+            0, f"tree/a.rrd: new/a.rrdi (2 data sources, 1 archive); {notes}\n1 file: 1 converted, 1 of them with notes\n", ""))
+
     def test_a_note_in_place(self) -> None:
         """The last line counts it: a heartbeat is too long for rrdi."""
         self.old("tree/a.rrd", WHOLE.replace(">60<", ">10000000000<", 1))
