@@ -502,7 +502,7 @@ def test_writes_find(bug: str, fake: Program, bugs: Any, folder: Path, planted: 
 # ---- odd files
 
 NOT_OURS = error("file: not ours")
-OF_OTHERS = NOT_OURS + "rrdi: 4.rrdi is a file of RRDtool; convert it: rrdi-import 4.rrdi NEW.rrdi\n"
+OF_OTHERS = NOT_OURS + "rrdi: 4.rrdi is a file of RRDtool; rrdi-import converts it\n"
 
 
 @pytest.mark.parametrize("answer, more, is_right", [

@@ -37,4 +37,4 @@ def owner_of(file: str) -> str:
 def why_not_ours(file: str) -> str:
     """Says how to convert a file of another program, as the program does; nothing if it is of no known one."""
     owner = owner_of(file)
-    return escaped(f"{file} is a file of {owner}; convert it: rrdi-import {file} NEW.rrdi") if owner else ""
+    return escaped(f"{file} is a file of {owner}; rrdi-import converts it") if owner else ""

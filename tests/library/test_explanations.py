@@ -58,9 +58,9 @@ def test_files(by_library: Program, check: Check, tmp_path: Path) -> None:
     for file, fault, why in ((name, "cannot open", "a\\u{1b}\\n\\u{202e}.rrdi: no such file or directory"),
                              ("folder", "cannot open", "folder: is a directory"),
                              (b"\xff.rrdi", "cannot open", "the path is not in UTF-8"),
-                             ("old", "file: not ours", "old is a file of RRDtool; convert it: rrdi-import old NEW.rrdi"),
+                             ("old", "file: not ours", "old is a file of RRDtool; rrdi-import converts it"),
                              ("old.wsp", "file: not ours",
-                              "old.wsp is a file of whisper; convert it: rrdi-import old.wsp NEW.rrdi")):
+                              "old.wsp is a file of whisper; rrdi-import converts it")):
         for way in ON_FILES:
             ran = by_library.run(["last", file], cwd=tmp_path, env=WAYS[way])
             check.count("files")

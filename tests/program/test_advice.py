@@ -141,7 +141,7 @@ def test_times_of_rrdtool(t: Runs, words: list[str], before: int) -> None:
 @pytest.mark.parametrize("held, name, other", OTHERS, ids=range(len(OTHERS)))
 def test_files_of_other_programs(t: Runs, held: bytes, name: str, other: str) -> None:
     t.put(held, name)
-    says = f"{name} is a file of {other}; convert it: rrdi-import {name} NEW.rrdi" if other else ""
+    says = f"{name} is a file of {other}; rrdi-import converts it" if other else ""
     for words in (["last", name], ["update", name, "10:1"], ["batch", name]):
         t.run(words, 1, err=error("file: not ours") + line(says))
     t.check.same(t.held(name), held, f"the file {name} afterwards")

@@ -54,7 +54,7 @@ def change(program: Program, folder: Path, right: bytes, at: int, check: Check) 
         answer, left = program.run(["batch", file]), file.read_bytes()
         is_read = answer == Answer(0) and left == as_written(held)
         err, advice = parted(answer.err)
-        is_advised = "is a file of RRDtool; convert it" in advice if held.startswith(OF_RRDTOOL) else not advice
+        is_advised = "is a file of RRDtool; rrdi-import converts it" in advice if held.startswith(OF_RRDTOOL) else not advice
         is_refused = answer[:2] == (1, "") and bool(REFUSED.fullmatch(err)) and is_advised and left == held
         check.count(CHANGED)
         check.count("read" if is_read else "refused")

@@ -242,7 +242,7 @@ class Commands(OfFiles):
             with self.assertRaises(rrdi.Damaged) as raised:
                 rrdi.last(self.folder / name)
             path = self.folder / name
-            self.assertEqual(raised.exception.detail, f"{path} is a file of {whose}; convert it: rrdi-import {path} NEW.rrdi")
+            self.assertEqual(raised.exception.detail, f"{path} is a file of {whose}; rrdi-import converts it")
 
     def refuses_without_reading_folder(self: Any) -> None:
         with self.assertRaises((rrdi.CannotRead, rrdi.CannotOpen)):

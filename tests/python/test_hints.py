@@ -68,8 +68,8 @@ class Tools(ToolCase):
             for file, kind in (("old.rrd", "RRDtool"), ("old.wsp", "whisper")):
                 with self.subTest(tool=tool, file=file):
                     ran = self.tool(tool, file, *words.split())
-                    self.assertEqual(ran, Ran(1, "", f"{tool}: {file}: file: not ours\n{tool}: {file} is a file of {kind}; "
-                                              f"convert it: rrdi-import {file} NEW.rrdi\n"))
+                    self.assertEqual(ran, Ran(1, "", f"{tool}: {file}: file: not ours\n"
+                                              f"{tool}: {file} is a file of {kind}; rrdi-import converts it\n"))
         self.assertEqual(self.tool("rrdi-show", "other"), Ran(1, "", "rrdi-show: other: file: not ours\n"))
         self.assertEqual(file_hint([str(self.folder / "none.rrd")]), "")
 

@@ -26,8 +26,8 @@ class Kinds(DataCase):
 
     def test_how_to_convert(self) -> None:
         """A line for a file of another program, whatever its name has in it; nothing for others."""
-        for name, data, said in (("a.rrd", b"RRD\0003", "{0} is a file of RRDtool; convert it: rrdi-import {0} NEW.rrdi"),
-                                 ("b\n.wsp", b"\0\0\0\1", "{0} is a file of whisper; convert it: rrdi-import {0} NEW.rrdi"),
+        for name, data, said in (("a.rrd", b"RRD\0003", "{0} is a file of RRDtool; rrdi-import converts it"),
+                                 ("b\n.wsp", b"\0\0\0\1", "{0} is a file of whisper; rrdi-import converts it"),
                                  ("c.rrdi", b"RRDI\0\2", ""), ("d", b"text", "")):
             file = self.folder / name
             file.write_bytes(data)

@@ -102,7 +102,7 @@ class Hints(ToolCase):
         """After wrong arguments without a text it says which option was meant; of files that are not ours, whose they are; else
         what the failure knows. A tool without help has no options to name."""
         old = self.write("old.rrd", b"RRD\x000003" + bytes(100))
-        known, of_rrdtool = Failure("why"), f"{old} is a file of RRDtool; convert it: rrdi-import {old} NEW.rrdi"
+        known, of_rrdtool = Failure("why"), f"{old} is a file of RRDtool; rrdi-import converts it"
         known.detail = "more\n"
         usage, meant = "usage: rrdi-try FILE", "rrdi-try: there is no option --stat; did you mean --start?"
         cases: List[Tuple[Exception, Optional[str], List[str], List[str], int]] = [

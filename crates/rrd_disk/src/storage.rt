@@ -45,8 +45,7 @@ pub(crate) enum Found {
     Unwritable(Error),
     /// The file is open and locked. It is a database that the run may change, and begins like this.
     Open(Base),
-    /// The file is open and locked, and has a mark: it was changed. The database that it stands for begins like this, and the
-    /// log, if there is one, has the changes that wait to be brought into place.
+    /// The same of a file with a mark: it was changed. The log, if there is one, has what waits to be brought into place.
     Kept(Base, Option<Log>),
 }
 

@@ -17,8 +17,6 @@ fn program_of(file: &str, first: &[u8]) -> Option<&'static str> {
 /// Returns `None` if they do not show it, or memory runs out.
 pub fn other_program(alloc: Global, file: &str, first: &[u8]) -> Option<Explanation> {
     let program = program_of(file, first)?;
-    let text = format!(in alloc;
-        "{file} is a file of {program}; convert it: rrdi-import {file} NEW.rrdi"
-    ).ok()?;
+    let text = format!(in alloc; "{file} is a file of {program}; rrdi-import converts it").ok()?;
     Explanation::new(alloc, &text).ok()
 }

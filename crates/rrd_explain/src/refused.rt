@@ -2,7 +2,7 @@
 use crate::Explanation;
 use crate::create::of_create;
 use crate::misuse::misused;
-use crate::reading::{of_fetch, of_first, of_resize, of_revert};
+use crate::other_commands::{of_fetch, of_first, of_resize, of_revert};
 use crate::tune::of_tune;
 use crate::unreadable::unreadable;
 use crate::update::of_update;

@@ -45,17 +45,17 @@ const FILES: &[(&[u8], &str, &str)] = &[
     (
         b"RRD\x000003",
         "old",
-        "old is a file of RRDtool; convert it: rrdi-import old NEW.rrdi",
+        "old is a file of RRDtool; rrdi-import converts it",
     ),
     (
         b"RRD\x00",
         "a\nb",
-        "a\\nb is a file of RRDtool; convert it: rrdi-import a\\nb NEW.rrdi",
+        "a\\nb is a file of RRDtool; rrdi-import converts it",
     ),
     (
         b"\0\0\0\x01",
         "x.wsp",
-        "x.wsp is a file of whisper; convert it: rrdi-import x.wsp NEW.rrdi",
+        "x.wsp is a file of whisper; rrdi-import converts it",
     ),
     (b"\0\0\0\x01", "x", ""),
     (b"\0\0\0\x09", "x.wsp", ""),
