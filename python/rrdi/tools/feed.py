@@ -16,8 +16,8 @@ options:
   --held SAMPLES       while this many samples are held, read no more lines;
                        if no file can be opened, drop the fullest one's
                        (default: 1000000)
-  --patience SECONDS   at the end, go on trying files that cannot be opened
-                       for this long (default: 30)
+  --patience SECONDS   at the end, go on for this long trying files that cannot
+                       be opened (default: 30)
   --open-files FILES   keep up to this many busy files open (default: 256; 0:
                        none)
   --open-seconds SECONDS
@@ -35,12 +35,12 @@ options:
   -h, --help           show this help and exit
   --version            show the version and exit
 
-At the end of the input, and after SIGTERM, SIGINT and SIGHUP, all samples are
-written; after SIGUSR1 too, then all files are closed, and it goes on.
+At the end of the input, and after SIGTERM, SIGINT and SIGHUP, it writes all
+samples; after SIGUSR1 it does so, closes all files, and goes on.
 
 environment:
-  RRDI                 a program to run instead of the C library, four to five
-                       times as slow
+  RRDI                 a program to run instead of the C library, five to
+                       thirteen times as slow
   RRDI_SYNC            1: flush each change to the disk
   RRDI_WAIT            seconds to wait for FILE's lock (default: 5)
 

@@ -19,9 +19,9 @@ If it cannot do all of it, it says why and leaves FILE as it was.
 
 options, anywhere on the line:
   --source NAME        change the value of this source only
-  --samples FILE       take samples from FILE, or from standard input if it is
-                       -, with a line TIME:VALUE.. for each: for updates of
-                       several samples, of which the journal has the last
+  --samples FILE       take samples from FILE, or standard input if it is -,
+                       one line TIME:VALUE.. each: an update of several needs
+                       them all, as the journal has only the last
   -h, --help           show this help and exit
   --version            show the version and exit
 
