@@ -133,13 +133,14 @@ class Moment:
         sign, before = 1, ""
         while self.tokens:
             if self.next_is("[-+]"):
-                sign = -1 if self.take("[-+]") == "-" else 1
+                sign, before = -1 if self.take("[-+]") == "-" else 1, ""
             number, unit = int(self.take(r"\d{1,10}")), "s"
             if self.next_is("[a-z]+"):
                 word = self.take("[a-z]+")
                 one = word[:-1] if len(word) > 2 and word.endswith("s") else ""
                 unit = UNITS.get(word, UNITS.get(one, ""))
-            # After days or longer units m is a month, and after hours a minute. Alone it is a month if the number is small.
+            # Right after days or longer units m is a month, and right after hours a minute. After a sign it is a month if the
+            # number is small.
             if unit == "m":
                 unit = "mon" if before in ("d", "w", "mon", "y") or before == "" and number < 6 else "min"
             if unit == "":
