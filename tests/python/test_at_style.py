@@ -133,6 +133,12 @@ class Boundaries(unittest.TestCase):
         for words in (("end-1d", "1698577200"), ("1698490800", "start+1d")):
             self.assertEqual(span(*words, NOW), (1_698_490_800, 1_698_577_200))
 
+    def test_now_while_clocks_show_a_time_twice(self) -> None:
+        self.in_zone("CET-1CEST,M3.5.0,M10.5.0/3")
+        for now in (1_729_988_999, 1_729_992_599):  # half past two in summer time, and an hour later
+            self.assertEqual(span("now-10min", "now", now), (now - 600, now))
+            self.assertEqual(span("end-1h", str(now), 1_729_988_999), (now - 3_600, now))
+
     def test_months_and_minutes(self) -> None:
         """An m alone is a month up to 5, and a minute from 6 on; after hours it is a minute, and after days a month, whatever
         its number, as in RRDtool's manual of fetch."""

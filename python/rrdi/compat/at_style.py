@@ -25,7 +25,7 @@ class Moment:
     """A time, or the distance from another time: years, months, days and so on, and seconds."""
 
     def __init__(self, text: str, now: int):
-        self.text, self.base, self.offset, self.is_summer = text, "", 0, -1
+        self.text, self.now, self.base, self.offset, self.is_summer = text, now, "", 0, -1
         self.parts = list(time.localtime(now)[:6])
         self.tokens: List[str] = re.findall(r"\d+|[a-z]+|[^\s\d]", re.sub(r"[_,]", " ", text.lower()), re.ASCII)
         if not self.tokens:
@@ -159,8 +159,10 @@ class Moment:
                 raise Untranslatable(f"this time is relative to itself: {self.text}")
             parts = [part + moved for part, moved in zip(time.localtime(base), parts)]
             is_summer = time.localtime(base).tm_isdst
+        # A clock that was set back shows one time twice: that of now is now.
+        is_now = is_summer < 0 and parts == list(time.localtime(self.now)[:6])
         try:
-            told = seconds_of(parts, is_summer) + self.offset
+            told = (self.now if is_now else seconds_of(parts, is_summer)) + self.offset
         except (OverflowError, ValueError):
             return self.refuse()
         if told < 0:
