@@ -120,6 +120,14 @@ class Times(unittest.TestCase):
                          ["p.png", "--start", f"{NOON}", "--end=1704106900", f"-s{NOON}", "-e", "now",
                           "DEF:a=f:g:LAST:start=noon"])
 
+    def test_times_of_a_graph_before_1980(self) -> None:
+        """RRDtool reads such digits as an hour of today, a month or a date."""
+        for text in ("@0", "@20240101", "@315360000", "1970-08-23T06:15:01Z"):
+            for words in (["p.png", "--start", text], ["p.png", f"--end={text}"]):
+                with self.assertRaisesRegex(WrongArguments, f"^RRDtool draws nothing before 1980: '{text}'$"):
+                    with_times(words)
+        self.assertEqual(with_times(["p.png", "-s", "@315360001"]), ["p.png", "-s", "315360001"])
+
 
 @unittest.skipUnless(RRDTOOL, NO_RRDTOOL)
 class BesideRRDtool(ToolCase):

@@ -33,12 +33,19 @@ from .rrdtool_output import plain
 from .spans import typed_seconds
 
 
+MOST_OF_A_DATE = 315_360_000  # up to here RRDtool reads digits as an hour or a date
 TIME = re.compile("((?:--start|--end)=|-[se])(.+)")
 
 
 def in_digits(text: str) -> str:
-    """Returns a time in a form that RRDtool's library reads: not `epoch+SECONDS`, of which RRDtool 1.7.2 reads another one."""
+    """Returns a time in a form that RRDtool's library reads: not `epoch+SECONDS`, of which RRDtool 1.7.2 reads another one.
+
+    # Errors
+    `WrongArguments` if the time is before 1980: RRDtool reads fewer seconds as an hour or a date, and draws none before.
+    """
     seconds = typed_seconds(text)
+    if seconds is not None and seconds <= MOST_OF_A_DATE:
+        raise WrongArguments(f"RRDtool draws nothing before 1980: {text!r}")
     return text if seconds is None else str(seconds)
 
 
