@@ -431,8 +431,9 @@ class Commands(FileCase):
 
     def test_texts_in_quotes(self) -> None:
         """gnuplot takes an apostrophe at the beginning of a text, or one of two in a row, for its end, and so a line feed, which the
-        name of a folder may have. The codes in double quotes leave nothing in it that has a meaning."""
-        for text, wanted in (("it's", "'it''s'"), ("a'", "'a'''"), ("`a` @b \\", r"'`a` @b \'"), ("'90", r'"\04790"'), ("5''", r'"5\047\047"'), ("/a\n!b\r\x7f/c", r'"\057a\012\041b\015\177\057c"'),
+        name of a folder may have. The codes in double quotes leave nothing in it that has a meaning, and no digit that a code
+        before it would take."""
+        for text, wanted in (("it's", "'it''s'"), ("a'", "'a'''"), ("`a` @b \\", r"'`a` @b \'"), ("'24 a", r'"\047\062\064 a"'), ("5''", r'"\065\047\047"'), ("/a\n!b\r\x7f/c", r'"\057a\012\041b\015\177\057c"'),
                              ("'`a` @b \\ \" $x\u00e9", '"\\047\\140a\\140 \\100b \\134 \\042 \\044x\u00e9"')):
             self.assertEqual(gnuplot.quoted(text), wanted)
 

@@ -22,7 +22,7 @@ TERMINALS = {".png": "pngcairo size {size} font 'sans,10' background rgb '{backg
              ".svg": "svg size {size} font 'sans-serif,12' background rgb '{background}'"}
 ENDS = {".png": b"IEND\xaeB`\x82", ".svg": b"</svg>"}  # of a whole picture
 UNQUOTED = re.compile(r"^'|''|[\0-\x1f\x7f]")  # what single quotes do not keep together
-SPECIAL = re.compile(r"[\0-\x1f!-/:-@\[-`{-\x7f]")  # ASCII that is neither a letter nor a digit nor a space
+SPECIAL = re.compile(r"[\0-\x1f!-@\[-`{-\x7f]")  # ASCII but letters and spaces: a code takes the digits after it
 # The sizes of the title and of the line below it.
 FONTS = {".png": (13, 9), ".svg": (17, 12)}
 
