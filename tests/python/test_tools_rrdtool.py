@@ -96,7 +96,7 @@ class Ends(unittest.TestCase):
 class Characters(unittest.TestCase):
     def test_for_a_shell(self) -> None:
         """What --show prints commands no terminal, and a shell reads the words of the command from it."""
-        for word, wanted in (("a.rrd", "a.rrd"), ("it's \u00e9", "'it'\"'\"'s \u00e9'"), ("a\x1b[1m'", r"$'a\x1b\x5b1m\x27'"), ("\udcff\n", r"$'\xff\x0a'")):
+        for word, wanted in (("a.rrd", "a.rrd"), ("it's \u00e9", "'it'\"'\"'s \u00e9'"), ("a\x1b[1m'", r"$'a\033\1331m\047'"), ("\udcff\nfe", r"$'\377\012fe'")):
             self.assertEqual(rrdtool.for_shell(word), wanted)
 
     def test_zero_bytes(self) -> None:

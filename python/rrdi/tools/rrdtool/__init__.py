@@ -106,11 +106,11 @@ def run_pipe(words: List[str], has_lengths: bool) -> int:
 
 def for_shell(word: str) -> str:
     """Returns a word as a shell reads it. One with a character that commands a terminal or hides, or with bytes that are no
-    UTF-8, gets the quotes in which bash, ksh and zsh read codes."""
+    UTF-8, gets the quotes in which bash, ksh and zsh read codes: octal ones, since ksh has no end of a hexadecimal one."""
     import shlex
     if not HIDDEN.search(word):
         return shlex.quote(word)
-    codes = (chr(byte) if byte < 128 and chr(byte).isalnum() else f"\\x{byte:02x}" for byte in as_bytes(word))
+    codes = (chr(byte) if byte < 128 and chr(byte).isalnum() else f"\\{byte:03o}" for byte in as_bytes(word))
     return f"$'{''.join(codes)}'"
 
 
