@@ -62,6 +62,14 @@ class Dumped(ToolCase):
                 with self.assertRaisesRegex(Refusal, "^rrdtool did not read the file to its end$", msg=(end, count)):
                     read_rrd(rrdtool, "old.rrd")
 
+    def test_rrdtool_does_not_end(self) -> None:
+        """It prints as many rows, and as long a history of failures, as a damaged file says."""
+        begun = self.write("begun", DUMP[:DUMP.index(b"<row>")])
+        for more in ("<row><v>1</v><v>2</v></row>", "101"):
+            rrdtool = self.stub("rrdtool", f"cat {begun}\nexec yes '{more}'")
+            with self.assertRaisesRegex(Refusal, "^rrdtool prints more than the file has$"):
+                read_rrd(rrdtool, begun)
+
 
 class OfWhisper(DataCase):
     def test_files(self) -> None:

@@ -134,6 +134,8 @@ class Dumps(unittest.TestCase):
     def test_a_row_of_another_width_is_refused(self) -> None:
         with self.assertRaisesRegex(Refusal, "a row of archive 0 has 1 cells"):
             read_dump(io.BytesIO(self.TEXT.replace(b"<v>4</v>", b"")))
+        with self.assertRaisesRegex(Refusal, "a row of archive 0 has 0 cells"):
+            read_dump(io.BytesIO(b"<rrd><step>1</step><rra><database><row></row></database></rra></rrd>"))
 
 
 class Plans(unittest.TestCase):

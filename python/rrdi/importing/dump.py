@@ -2,11 +2,15 @@
 """Reads a file of RRDtool by `rrdtool dump`."""
 from __future__ import annotations
 
+import os
 import subprocess
 import xml.etree.ElementTree as ElementTree
 from array import array
 from dataclasses import dataclass
 from typing import IO, Callable
+
+
+SHORT, PRINTED = 10**6, 20  # bytes of a dump of any file, and bytes for a byte of the file: a row of 8 bytes has about 90
 
 
 class Refusal(Exception):
@@ -99,13 +103,28 @@ def read_archive(element: ElementTree.Element, number: int, cells: array[float],
         [int(text_of(part, "unknown_datapoints", "0")) for part in parts], cells, columns)
 
 
-def read_dump(stream: IO[bytes], progress: Callable[[int], None] = lambda cells: None) -> RrdFile:
+class Bounded:
+    """What rrdtool prints of a file. It takes the numbers of rows, and of characters of a history, from the file, and prints
+    as many, even if they have no end."""
+
+    def __init__(self, stream: IO[bytes], file: str):
+        self.stream, self.file, self.count = stream, file, 0
+
+    def read(self, size: int = -1) -> bytes:
+        data = self.stream.read(size)
+        self.count += len(data)
+        if self.count > SHORT and self.count > PRINTED * os.path.getsize(self.file):
+            raise Refusal("rrdtool prints more than the file has")
+        return data
+
+
+def read_dump(stream: IO[bytes] | Bounded, progress: Callable[[int], None] = lambda cells: None) -> RrdFile:
     """Reads the output of `rrdtool dump`, and reports the number of cells to `progress`, every thousand rows.
 
     # Errors
     - `ElementTree.ParseError` if the text is not complete XML.
     - `ValueError` if what should be a number is none.
-    - `Refusal` if a row has another number of cells than the file has data sources.
+    - `Refusal` if a row has another number of cells than the file has data sources, or none.
     """
     step = last = -1
     sources: list[RrdSource] = []
@@ -116,7 +135,7 @@ def read_dump(stream: IO[bytes], progress: Callable[[int], None] = lambda cells:
         if tag == "v":
             continue
         if tag == "row":
-            if len(element) != len(sources):
+            if len(element) != len(sources) or not sources:
                 raise Refusal(f"a row of archive {len(archives)} has {len(element)} cells")
             cells.extend([float(cell.text or "nan") for cell in element])
             element.clear()
@@ -143,13 +162,13 @@ def read_rrd(rrdtool: str, file: str, progress: Callable[[int], None] = lambda c
     """Reads a file by `rrdtool dump`.
 
     # Errors
-    `Refusal` if rrdtool does not read the file to its end, or the file changes meanwhile.
+    `Refusal` if rrdtool does not read the file to its end, or prints more than it has, or the file changes meanwhile.
     """
     with subprocess.Popen([rrdtool, "dump", file], stdout=subprocess.PIPE, stderr=subprocess.PIPE) as dump:
         assert dump.stdout and dump.stderr
         fault = "rrdtool did not read the file to its end"
         try:
-            old = read_dump(dump.stdout, progress)
+            old = read_dump(Bounded(dump.stdout, file), progress)
         except ElementTree.ParseError:
             old = None
         except ValueError:  # rrdtool prints the texts of the file as they are, even tags
