@@ -347,6 +347,11 @@ class Batches(unittest.TestCase):
         _, notes = self.lines(RrdFile(10, 1000, [source()], [archive(0, "MAX", 1, rows), archive(1, "AVERAGE", 0, rows)]))
         self.assertEqual(notes, ["skipped archive 1, AVERAGE: its rows have no steps"])
 
+    def test_tiny_numbers(self) -> None:
+        """A mean of 0 is not that of rows with 5 and a number that is nearly 0."""
+        old = RrdFile(10, 1020, [source()], [archive(0, "AVERAGE", 2, [NAN, 5.0, 1e-320]), archive(1, "AVERAGE", 6, [0.0])])
+        self.assertEqual(update_words(self.lines(old)[0])[-1], "1020:0")
+
     def test_counters_of_fractions(self) -> None:
         """They become a DERIVE. The direction of a DCOUNTER, whose restarts are unknown, becomes a bound of 0."""
         counters: List[Tuple[str, List[float], Dict[str, Any], str, str]] = [

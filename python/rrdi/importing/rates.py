@@ -310,7 +310,8 @@ class SourceRates:
                 if own == mean:
                     continue
                 rest, rest_total = parts.count - first, parts.total - first * before
-                second = math.floor((rest_total - mean * rest) / (own - mean) + 0.5)
+                apart = (rest_total - mean * rest) / (own - mean)  # tiny numbers may be infinitely many times apart
+                second = math.floor(apart + 0.5) if abs(apart) < rest else 0
                 if not 1 <= second <= span.most_dropped or second >= rest:
                     continue
                 if not is_mean(mean, (rest_total - second * own) / (rest - second), parts.size):
