@@ -63,12 +63,26 @@ class Placed(PictureCase):
         self.assertEqual((after.st_ino == before.st_ino, self.names()), (False, ["p.png"]))
 
     def test_a_database_stays(self) -> None:
-        for mark in (b"RRDI", b"RRDC", b"RRDL", b"RRD\0"):
-            self.path.write_bytes(mark + bytes(600))
+        for name, mark in (("p.png", b"RRDI"), ("p.png", b"RRDC"), ("p.png", b"RRDL"), ("p.png", b"RRD\0"), ("p.wsp", b"\0\0\0\1")):
+            path = self.folder / name
+            path.write_bytes(mark + bytes(600))
             with self.subTest(mark=mark), self.assertRaises(FileExistsError) as raised:
-                put_picture(str(self.path), b"new")
-            self.assertEqual(raised.exception.filename, str(self.path))
-            self.assertEqual((self.names(), self.path.read_bytes()), (["p.png"], mark + bytes(600)))
+                put_picture(str(path), b"new")
+            self.assertEqual((raised.exception.filename, path.read_bytes()), (str(path), mark + bytes(600)))
+        self.assertEqual(self.names(), ["p.png", "p.wsp"])
+
+    def test_a_database_where_rrdtool_itself_draws(self) -> None:
+        """RRDtool takes the first word that belongs to no option, wherever it is, and what is open by a number."""
+        self.path.write_bytes(b"RRDI" + bytes(600))
+        path = str(self.path)
+        with open(path, "r+b") as file:
+            for words in (["-w", "100", path, "DEF:a=b:c:MAX"], ["--", path], [f"/dev/fd/{file.fileno()}", "-w", "100"]):
+                with self.subTest(words=words), self.assertRaises(FileExistsError), drawn(words):
+                    self.fail("it is drawn")
+        with drawn(["-", "--title", path]) as canvas:
+            self.assertEqual(canvas.words, ["-", "--title", path])
+        with drawn(["-w", "100", f"{path}.png"]) as canvas:
+            self.assertEqual(canvas.words, ["-w", "100", f"{path}.png"])
 
     def test_a_full_disk(self) -> None:
         for before in (b"before", None):

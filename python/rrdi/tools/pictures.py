@@ -10,7 +10,7 @@ import tempfile
 from contextlib import contextmanager
 from typing import Iterator, List, Optional
 
-from ..kinds import RRDI_MARKS, RRDTOOL_MARK, first_bytes
+from ..kinds import is_of_rrdi, owner_of
 from ..making import MOST_LINKS, NewFile, take_owner
 from .command_line import Failure
 
@@ -18,16 +18,24 @@ from .command_line import Failure
 NOT_REPLACED = frozenset({errno.EACCES, errno.EPERM, errno.EBUSY})
 
 
+def check_place(path: str) -> None:
+    """Checks that a name, which may be given by a slip, is not that of a database.
+
+    # Errors
+    `FileExistsError` if it is.
+    """
+    if is_of_rrdi(path) or owner_of(path):
+        raise FileExistsError(errno.EEXIST, "this is a database and no picture; it stays as it is", path)
+
+
 def put_picture(path: str, data: bytes) -> None:
     """Writes a picture. It gets its name when it is complete, with the owner and the mode of the file that had the name. What
-    is no file, such as a FIFO, is written in place, and so is a file that this user may only write. A database stays, if its
-    name was given by a slip.
+    is no file, such as a FIFO, is written in place, and so is a file that this user may only write. A database stays.
 
     # Errors
     `OSError` with the name if the picture can't be written.
     """
-    if first_bytes(path) in (*RRDI_MARKS, RRDTOOL_MARK):
-        raise FileExistsError(errno.EEXIST, "this is a database and no picture; it stays as it is", path)
+    check_place(path)
     try:
         if has_place(path) and replaced(path, data):
             return
@@ -86,13 +94,16 @@ class Canvas:
 @contextmanager
 def drawn(words: List[str]) -> Iterator[Canvas]:
     """Gives the words of a graph with the name of a file in memory in place of the picture's, which is their first one, and
-    then puts what was drawn there in its place: RRDtool itself does not notice that a disk is full.
+    then puts what was drawn there in its place: RRDtool itself does not notice that a disk is full. Where options come first,
+    the picture is the first word that belongs to none of them, and RRDtool writes it itself: no word may name a database then.
 
     # Errors
     `OSError` if the picture can't be written; `Failure` if it was not drawn to its end.
     """
     path = words[0] if words else ""
     if not path or path.startswith("-") or not has_place(path):
+        for word in words if path[:1] == "-" != path else [path]:
+            check_place(word)
         yield Canvas(words)
         return
     with open(os.memfd_create("picture"), "r+b") as memory, name_of(memory.fileno(), words) as name:
