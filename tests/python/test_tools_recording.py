@@ -376,6 +376,46 @@ class Copies(ToolCase):
         self.answers[".1"] = "file: read failed"
         self.assertRaises(program.CommandFailed, record.keep_copies, self.file, 10**9)
 
+    def test_nobody_else_reads_a_copy(self) -> None:
+        """Not even before it has the mode of the file."""
+        self.addCleanup(os.umask, os.umask(0o022))
+        for mode in (0o600, 0o640, 0o644):
+            os.chmod(self.file, mode)
+            with mock.patch("shutil.copymode", side_effect=OSError(errno.EIO, "no")) as refused, self.assertRaises(OSError), \
+                    mock.patch("os.unlink"):
+                record.keep_copies(self.file, 10**9)
+            self.assertEqual((os.stat(refused.call_args[0][1]).st_mode & 0o777, os.umask(0o022)), (0o600, 0o022))
+            record.copy(self.file, f"{self.file}.refused")
+            self.assertEqual(os.stat(f"{self.file}.refused").st_mode & 0o777, mode)
+
+    def test_what_replaces_a_damaged_file(self) -> None:
+        """It has the owner and the mode of the damaged one, which goes to no file to which a link leads."""
+        self.addCleanup(os.umask, os.umask(0o022))
+        elsewhere = self.write("elsewhere", b"of others")
+        self.answers[""] = "file: truncated at 6"
+        owner = (12, 34) if os.getuid() == 0 else (os.getuid(), os.getgid())
+        for copies in ((".1",), ()):
+            for number in copies:
+                self.answers[number], _ = 5, self.write(f"f{number}", b"copy")
+            self.write("f", b"RRDI\0\2")
+            os.chown(self.file, *owner)
+            os.chmod(self.file, 0o600)
+            with contextlib.suppress(FileNotFoundError):
+                os.unlink(f"{self.file}.refused")
+            os.symlink(elsewhere, f"{self.file}.refused")
+            with contextlib.redirect_stderr(io.StringIO()):
+                record.restore(self.file, "truncated at 6", lambda new: Path(new).write_bytes(b"empty"))
+            found = os.stat(self.file)
+            self.assertEqual((found.st_mode & 0o777, found.st_uid, found.st_gid), (0o600, *owner))
+            self.assertEqual((self.read("f"), self.read("f.refused"), self.read("elsewhere")),
+                             (b"copy" if copies else b"empty", b"RRDI\0\2", b"of others"))
+            self.answers[".1"] = "file: not ours"
+        with mock.patch("os.fchown", side_effect=PermissionError(errno.EPERM, "no")), contextlib.redirect_stderr(io.StringIO()):
+            self.write("f", b"RRDI\0\2")
+            os.chown(self.file, -1, 13 if os.getuid() == 0 else -1)
+            record.restore(self.file, "truncated at 6", lambda new: Path(new).write_bytes(b"again"))
+        self.assertEqual(self.read("f"), b"again")
+
 
 @needs_program
 class Record(ToolCase):

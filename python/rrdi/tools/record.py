@@ -43,7 +43,7 @@ from __future__ import annotations
 
 import os
 import shutil
-from contextlib import contextmanager
+from contextlib import contextmanager, suppress
 from functools import partial
 from io import FileIO
 from typing import Callable, Dict, Iterator, List, NamedTuple, Optional
@@ -52,7 +52,7 @@ from ..damaged import held, is_being_made
 from ..errors import NOT_OURS, TRAILING, TRUNCATED, fault_of
 from ..limits import MOST_CHANGES
 from ..locks import EXCLUSIVE, close, lock, open_file
-from ..making import NewFile, is_there, make
+from ..making import NewFile, is_there, make, take_owner
 from ..reader.stored import MARK
 from . import machine, program
 from .command_line import Failure, Tool, WrongArguments, called_name, error_text, say
@@ -91,23 +91,26 @@ def take_turn(file: FileIO, path: str) -> None:
 
 
 def copy(old: str, new: str) -> None:
-    """Copies a file. The copy gets its name only when it is complete."""
-    with NewFile(new) as made:
+    """Copies a file. The copy gets its name only when it is complete, and takes the place of a link of this name."""
+    with NewFile(new, follows=False) as made:
         fill_copy(old, new, made.unfinished)
         made.replace()
 
 
 def fill_copy(old: str, new: str, unfinished: str) -> None:
-    """Copies a file to the name under which `new` is being made.
+    """Copies a file, and its mode, to the name under which `new` is being made.
 
     # Errors
     `OSError` with the name of the file that cannot be read or made: Python's own names the old one if the disk is full, too.
     """
+    mask = os.umask(0o077)  # nobody else reads the copy before it has the mode of the file
     try:
         shutil.copy(old, unfinished)
     except OSError as error:
         is_unread = error.filename == old and error.filename2 is None  # it could not be opened
         raise OSError(error.errno, error.strerror or str(error), old if is_unread else new) from None
+    finally:
+        os.umask(mask)
 
 
 Fill = Callable[[str], object]  # creates an empty database
@@ -192,7 +195,8 @@ def newest_copy(file: str) -> str:
 
 
 def restore(file: str, damage: str, fill: Fill) -> None:
-    """Replaces a damaged file by its newest readable copy, or by an empty database, and keeps the damaged one.
+    """Replaces a damaged file by its newest readable copy, or by an empty database, and keeps the damaged one. What replaces
+    it gets its owner, if this user may give that, and its mode.
 
     # Errors
     `Failure` if another program uses the file or has changed it meanwhile, and those of `newest_copy`.
@@ -207,6 +211,8 @@ def restore(file: str, damage: str, fill: Fill) -> None:
                 fill_copy(chosen, file, made.unfinished)
             else:
                 fill(made.unfinished)
+            with suppress(PermissionError):
+                take_owner(made.unfinished, os.stat(file))
             made.replace()
     what = f"; restored from {chosen}" if chosen else " and no copy is readable; started an empty database"
     say(called_name(TOOL), f"{file} is damaged ({damage}){what}")
