@@ -13,7 +13,7 @@ import secrets
 import time
 from contextlib import suppress
 from io import FileIO
-from typing import Callable, List, Optional, TypeVar
+from typing import Callable, List, Optional, TypeVar, Union
 
 from .locks import EXCLUSIVE, check_regular, close, lock, open_file
 from .words import FilePath
@@ -24,6 +24,8 @@ Filled = TypeVar("Filled")
 NO_LINKS = frozenset({errno.EPERM, errno.EOPNOTSUPP, errno.ENOTSUP, errno.ENOSYS, errno.EMLINK})
 # What readlink(2) answers if a path is no symbolic link.
 NOT_A_LINK = frozenset({errno.EINVAL, errno.ENOENT, errno.ENOTDIR})
+ACCESS_LIST = "system.posix_acl_access"
+NO_LIST = frozenset({errno.ENODATA, errno.EOPNOTSUPP, errno.ENOTSUP, errno.ENOSYS})  # the file has no list, or no file has
 AT_FDCWD, RENAME_NOREPLACE = -100, 1  # Linux's numbers, for renameat2
 UNFINISHED = re.compile(r"\.rrdi-[0-9a-f]{16}\.new")
 LEFT_OVER = 86_400  # seconds after which nobody fills such a file any more
@@ -173,9 +175,10 @@ def is_empty_at(file: FileIO, path: str) -> bool:
     return found.st_size == 0 and os.path.samestat(found, os.lstat(path))
 
 
-def take_owner(new: str, before: os.stat_result) -> None:
-    """Gives a new file the owner and the mode of another one. The file is opened first, since whoever may write the folder may
-    put a link to any file in its place meanwhile.
+def take_owner(new: str, before: os.stat_result, old: Union[str, int]) -> None:
+    """Gives a new file the owner and the mode of another one, `old`, a path or the number of an open file, with the status
+    `before`. The new file is opened first, since whoever may write the folder may put a link to any file in its place
+    meanwhile.
 
     # Errors
     `OSError` if the system refuses them, or the new file is a link by now.
@@ -188,7 +191,39 @@ def take_owner(new: str, before: os.stat_result) -> None:
                 os.fchown(file.fileno(), before.st_uid, before.st_gid)
             except OSError as error:
                 raise OSError(error.errno, f"the new file cannot get the owner of the old one: {error.strerror}") from None
-        os.fchmod(file.fileno(), before.st_mode & 0o7777)
+        take_mode(file.fileno(), before, old)
+
+
+def take_mode(new: int, before: os.stat_result, old: Union[str, int]) -> None:
+    """Gives an open file the mode of another one, and its access control list: with a list, what a mode has for the group is
+    the most that anybody in the list may do, and what the group may do is in the list. Without one, the new file has none
+    either, also where the folder gives its new files one.
+
+    # Errors
+    `OSError` if the system refuses them.
+    """
+    listed = access_list(old)
+    if listed != access_list(new):
+        os.fchmod(new, 0o600)  # nobody gets more meanwhile
+        if listed is None:
+            os.removexattr(new, ACCESS_LIST)
+        else:
+            os.setxattr(new, ACCESS_LIST, listed)
+    os.fchmod(new, before.st_mode & 0o7777)
+
+
+def access_list(file: Union[str, int]) -> Optional[bytes]:
+    """Returns the access control list of a file, as the system keeps it; None if it has none.
+
+    # Errors
+    `OSError` if the system does not say.
+    """
+    try:
+        return os.getxattr(file, ACCESS_LIST)
+    except OSError as error:
+        if error.errno not in NO_LIST:
+            raise
+        return None
 
 
 def flush(path: str) -> None:

@@ -5,9 +5,10 @@ from __future__ import annotations
 import errno
 import fcntl
 import os
+import struct
 import time
 from pathlib import Path
-from typing import Any, Callable, Dict, List
+from typing import Any, Callable, Dict, List, Tuple
 from unittest import mock
 
 from cases import DataCase, WithLibrary, WithProgram, use_library
@@ -40,7 +41,7 @@ class Making(DataCase):
         self.path.write_text("new")
         before = mock.Mock(st_uid=os.geteuid() + 1, st_gid=os.getegid(), st_mode=0o644)
         with mock.patch.object(os, "fchown", side_effect=PermissionError(errno.EPERM, "no", "x")), self.assertRaises(OSError) as raised:
-            making.take_owner(str(self.path), before)
+            making.take_owner(str(self.path), before, str(self.path))
         self.assertEqual((raised.exception.errno, error_text(raised.exception)),
                          (errno.EPERM, "the new file cannot get the owner of the old one: no"))
 
@@ -287,6 +288,11 @@ class WithoutLinks(DataCase):
         self.assertEqual(self.files(), [])
 
 
+def access_list(*entries: Tuple[int, ...]) -> bytes:
+    """A list as the system keeps it: of a kind, what it may do, and who that is."""
+    return struct.pack("<I", 2) + b"".join(struct.pack("<HHI", kind, may, *(who or [2**32 - 1])) for kind, may, *who in entries)
+
+
 class Owners(DataCase):
     """What takes the owner and the mode of another file."""
 
@@ -296,8 +302,35 @@ class Owners(DataCase):
         other.chmod(0o600)
         new.symlink_to(other)
         with self.assertRaises(OSError) as raised:
-            making.take_owner(str(new), os.stat(self.folder))
+            making.take_owner(str(new), os.stat(self.folder), str(self.folder))
         self.assertEqual((raised.exception.errno, other.stat().st_mode & 0o7777), (errno.ELOOP, 0o600))
+
+    def test_access_control_lists(self) -> None:
+        """The group has not what is the most for all in the list; and a list of the folder gives nobody more."""
+        old, new, folder = self.folder / "old", self.folder / "lists/new", self.folder / "lists"
+        folder.mkdir()
+        old.write_text("old")
+        mine = access_list((1, 6), (2, 6, 1234), (4, 0), (16, 6), (32, 0))
+        try:
+            os.setxattr(folder, "system.posix_acl_default", access_list((1, 7), (2, 6, 4321), (4, 5), (16, 7), (32, 4)))
+        except OSError as error:
+            self.skipTest(f"no access control lists: {error}")
+        for wanted, mode in ((mine, 0o660), (None, 0o640), (None, 0o600)):
+            if wanted is None and making.access_list(str(old)) is not None:
+                os.removexattr(old, making.ACCESS_LIST)
+            elif wanted is not None:
+                os.setxattr(old, making.ACCESS_LIST, wanted)
+            old.chmod(mode)
+            new.write_text("new")
+            steps: List[int] = []
+            with mock.patch.object(os, "fchmod", side_effect=lambda file, to: (steps.append(to), os.chmod(file, to))):
+                making.take_owner(str(new), old.stat(), str(old))
+            self.assertEqual((making.access_list(str(new)), new.stat().st_mode & 0o7777, steps), (wanted, mode, [0o600, mode]))
+            making.take_owner(str(new), old.stat(), str(old))
+            self.assertEqual((making.access_list(str(new)), new.stat().st_mode & 0o7777), (wanted, mode))
+            new.unlink()
+        with mock.patch.object(os, "getxattr", side_effect=OSError(errno.EIO, "no")), self.assertRaises(OSError):
+            making.access_list(str(old))
 
 
 class Modes(DataCase):

@@ -185,7 +185,7 @@ def swap_in(old: str, kept: str, lines: Iterable[str], look: Callable[[str], Non
             fill(made, old, lines, look)
         finally:
             os.umask(mask)
-        take_owner(made.unfinished, before)
+        take_owner(made.unfinished, before, old)
         flush(made.unfinished)
         if state_of(os.stat(old)) != state_of(before):
             raise Failure("it changed while it was converted; first stop what records into it")

@@ -71,7 +71,7 @@ def swap_in_place(path: str) -> str:
                 restore_equal(database, made.unfinished)
             finally:
                 os.umask(mask)
-            take_owner(made.unfinished, before)
+            take_owner(made.unfinished, before, file.fileno())
             flush(made.unfinished)
             # Another exporter waits now; or it has put its own file there, which RRDtool may have changed since.
             lock(file, EXCLUSIVE, patience())

@@ -75,7 +75,7 @@ def replaced(path: str, data: bytes) -> bool:
             with open(made.unfinished, "xb") as file:
                 file.write(data)
             if before is not None:
-                take_owner(made.unfinished, before)
+                take_owner(made.unfinished, before, path)
             made.replace()
         except OSError as error:
             if before is None or error.errno not in NOT_REPLACED:

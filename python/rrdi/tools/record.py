@@ -52,7 +52,7 @@ from ..damaged import held, is_being_made
 from ..errors import NOT_OURS, TRAILING, TRUNCATED, fault_of
 from ..limits import MOST_CHANGES
 from ..locks import EXCLUSIVE, close, lock, open_file
-from ..making import NewFile, is_there, make, take_owner
+from ..making import NewFile, is_there, make, take_mode, take_owner
 from ..reader.stored import MARK
 from . import machine, program
 from .command_line import Failure, Tool, WrongArguments, called_name, error_text, say
@@ -98,19 +98,20 @@ def copy(old: str, new: str) -> None:
 
 
 def fill_copy(old: str, new: str, unfinished: str) -> None:
-    """Copies a file, and its mode, to the name under which `new` is being made.
+    """Copies a file, with its mode and its access control list, to the name under which `new` is being made.
 
     # Errors
     `OSError` with the name of the file that cannot be read or made: Python's own names the old one if the disk is full, too.
     """
-    mask = os.umask(0o077)  # nobody else reads the copy before it has the mode of the file
     try:
-        shutil.copy(old, unfinished)
+        # Nobody else reads the copy before it has the mode of the file.
+        open_file(unfinished, os.O_WRONLY | os.O_CREAT | os.O_EXCL, 0o600).close()
+        shutil.copyfile(old, unfinished)
+        with open(unfinished, "rb") as copied:
+            take_mode(copied.fileno(), os.stat(old), old)
     except OSError as error:
         is_unread = error.filename == old and error.filename2 is None  # it could not be opened
         raise OSError(error.errno, error.strerror or str(error), old if is_unread else new) from None
-    finally:
-        os.umask(mask)
 
 
 Fill = Callable[[str], object]  # creates an empty database
@@ -212,7 +213,7 @@ def restore(file: str, damage: str, fill: Fill) -> None:
             else:
                 fill(made.unfinished)
             with suppress(PermissionError):
-                take_owner(made.unfinished, os.stat(file))
+                take_owner(made.unfinished, os.stat(file), file)
             made.replace()
     what = f"; restored from {chosen}" if chosen else " and no copy is readable; started an empty database"
     say(called_name(TOOL), f"{file} is damaged ({damage}){what}")
