@@ -178,15 +178,18 @@ def is_empty_at(file: FileIO, path: str) -> bool:
 def take_owner(new: str, before: os.stat_result, old: Union[str, int]) -> None:
     """Gives a new file the owner and the mode of another one, `old`, a path or the number of an open file, with the status
     `before`. The new file is opened first, since whoever may write the folder may put a link to any file in its place
-    meanwhile.
+    meanwhile; a hard link to a file of others, too.
 
     # Errors
-    `OSError` if the system refuses them, or the new file is a link by now.
+    `OSError` if the system refuses them, or the new file is a link by now, or has another name, or another owner than this user.
     """
     with open_file(new, os.O_RDONLY | os.O_NOFOLLOW | os.O_NONBLOCK) as file:
         found = os.fstat(file.fileno())
         check_regular(found)
-        if (found.st_uid, found.st_gid) != (before.st_uid, before.st_gid):
+        is_given = (found.st_uid, found.st_gid) != (before.st_uid, before.st_gid)
+        if found.st_nlink != 1 or is_given and found.st_uid != os.geteuid():
+            raise OSError(errno.EMLINK, "another file took the name of the new one")
+        if is_given:
             try:
                 os.fchown(file.fileno(), before.st_uid, before.st_gid)
             except OSError as error:

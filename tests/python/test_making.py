@@ -305,6 +305,24 @@ class Owners(DataCase):
             making.take_owner(str(new), os.stat(self.folder), str(self.folder))
         self.assertEqual((raised.exception.errno, other.stat().st_mode & 0o7777), (errno.ELOOP, 0o600))
 
+    def test_no_file_of_others(self) -> None:
+        """Whoever may write the folder may give the name to another file: to one that has two names then, or is of another user."""
+        other, new = self.folder / "other", self.folder / "new"
+        other.write_text("other")
+        other.chmod(0o640)
+        os.link(other, new)
+        with self.assertRaises(OSError) as raised:
+            making.take_owner(str(new), os.stat(self.folder), str(self.folder))
+        self.assertEqual(error_text(raised.exception), "another file took the name of the new one")
+        other.unlink()
+        before = mock.Mock(st_uid=os.geteuid(), st_gid=os.getegid() + 1, st_mode=0o600)
+        with mock.patch.object(os, "geteuid", return_value=os.geteuid() + 1), mock.patch.object(os, "fchown") as given:
+            with self.assertRaises(OSError):
+                making.take_owner(str(new), before, str(self.folder))
+            self.assertEqual((given.call_count, new.stat().st_mode & 0o777), (0, 0o640))
+            making.take_owner(str(new), mock.Mock(st_uid=new.stat().st_uid, st_gid=new.stat().st_gid, st_mode=0o600), str(new))
+        self.assertEqual((given.call_count, new.stat().st_mode & 0o777), (0, 0o600))
+
     def test_access_control_lists(self) -> None:
         """The group has not what is the most for all in the list; and a list of the folder gives nobody more."""
         old, new, folder = self.folder / "old", self.folder / "lists/new", self.folder / "lists"
