@@ -381,12 +381,10 @@ class Copies(ToolCase):
         self.addCleanup(os.umask, os.umask(0o022))
         for mode in (0o600, 0o640, 0o644):
             os.chmod(self.file, mode)
-            with mock.patch.object(record, "take_mode", side_effect=OSError(errno.EIO, "no")), self.assertRaises(OSError), \
-                    mock.patch("os.unlink"):
-                record.keep_copies(self.file, 10**9)
-            (left,) = self.folder.glob(".rrdi-*.new")
-            self.assertEqual((left.read_bytes(), left.stat().st_mode & 0o777), (b"RRDI\0\2", 0o600))
-            left.unlink()
+            seen = []
+            with mock.patch.object(shutil, "copyfileobj", side_effect=lambda source, copied: seen.append(os.fstat(copied.fileno()).st_mode & 0o777)):
+                record.copy(self.file, f"{self.file}.refused")
+            self.assertEqual((seen, os.stat(f"{self.file}.refused").st_mode & 0o777), ([0o600], mode))
             record.copy(self.file, f"{self.file}.refused")
             self.assertEqual(os.stat(f"{self.file}.refused").st_mode & 0o777, mode)
 
@@ -689,7 +687,7 @@ class CannotLook(unittest.TestCase):
             return stat(path, **more)
         with mock.patch("os.stat", failing), self.assertRaises(OSError):
             record.keep_copies(self.file, 10**9)
-        with mock.patch("shutil.copyfile", side_effect=OSError(errno.ENOSPC, "No space left on device")), self.assertRaises(OSError):
+        with mock.patch("shutil.copyfileobj", side_effect=OSError(errno.ENOSPC, "No space left on device")), self.assertRaises(OSError):
             record.keep_copies(self.file, 10**9)
         self.assertEqual(self.copies(), "123")
         record.keep_copies(self.file, 10**9)

@@ -51,7 +51,7 @@ from typing import Callable, Dict, Iterator, List, NamedTuple, Optional
 from ..damaged import held, is_being_made
 from ..errors import NOT_OURS, TRAILING, TRUNCATED, fault_of
 from ..limits import MOST_CHANGES
-from ..locks import EXCLUSIVE, close, lock, open_file
+from ..locks import EXCLUSIVE, close, lock, open_file, open_regular
 from ..making import NewFile, is_there, make, take_mode, take_owner
 from ..reader.stored import MARK
 from . import machine, program
@@ -104,14 +104,17 @@ def fill_copy(old: str, new: str, unfinished: str) -> None:
     `OSError` with the name of the file that cannot be read or made: Python's own names the old one if the disk is full, too.
     """
     try:
-        # Nobody else reads the copy before it has the mode of the file.
-        open_file(unfinished, os.O_WRONLY | os.O_CREAT | os.O_EXCL, 0o600).close()
-        shutil.copyfile(old, unfinished)
-        with open(unfinished, "rb") as copied:
-            take_mode(copied.fileno(), os.stat(old), old)
+        # By these numbers only: whoever may write the folder may put a link in the place of either file meanwhile.
+        with open_regular(old) as source, open(unfinished, "xb", opener=open_for_me) as copied:
+            shutil.copyfileobj(source, copied)
+            take_mode(copied.fileno(), os.fstat(source.fileno()), source.fileno())
     except OSError as error:
-        is_unread = error.filename == old and error.filename2 is None  # it could not be opened
-        raise OSError(error.errno, error.strerror or str(error), old if is_unread else new) from None
+        raise OSError(error.errno, error.strerror or str(error), old if error.filename == old else new) from None
+
+
+def open_for_me(path: str, flags: int) -> int:
+    """Opens a file as `open` does; nobody else may read it if it is new."""
+    return os.open(path, flags, 0o600)
 
 
 Fill = Callable[[str], object]  # creates an empty database
