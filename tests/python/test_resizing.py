@@ -2,6 +2,7 @@
 """Tests of RRDtool's resize, which writes resize.rrd: by rrdi-rrdtool, by rrdtool-words, and by rrdi.compat.rrdtool."""
 from __future__ import annotations
 
+import errno
 import fcntl
 import os
 import threading
@@ -53,6 +54,19 @@ class Copies(unittest.TestCase):
                 self.assertRaisesRegex(ValueError, "no", resize_copy, path, len)
                 self.assertEqual((self.names(), (self.folder / "resize.rrd").read_bytes()),
                                  (["f.rrd", "link.rrd", "resize.rrd"], b"mine"))
+
+    def test_a_file_of_that_name_stays_if_the_system_does_not_say_so(self) -> None:
+        (self.folder / "resize.rrd").write_bytes(b"mine")
+
+        def fail(_copy: str) -> None:
+            patch.start()
+            raise ValueError("no")
+        patch = mock.patch("os.lstat", side_effect=OSError(errno.EIO, "Input/output error"))
+        self.addCleanup(mock.patch.stopall)
+        self.assertRaisesRegex(ValueError, "no", resize_copy, "resize.rrd", fail)
+        with self.assertRaises(OSError) as raised:
+            resize_copy("resize.rrd", len)
+        self.assertEqual((raised.exception.filename, (self.folder / "resize.rrd").read_bytes()), ("resize.rrd", b"mine"))
 
     def test_a_link_of_that_name_goes_if_it_is_refused(self) -> None:
         os.symlink("f.rrd", "resize.rrd")

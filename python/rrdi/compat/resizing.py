@@ -21,7 +21,7 @@ def resize_copy(file: str, resize: Callable[[str], object]) -> None:
     """
     from ..reader.files import read_bytes  # only this command reads a file itself
     try:
-        data = read_bytes(file)
+        data, stays = read_bytes(file), has_its_name(file)
     except OSError as error:
         raise OSError(error.errno, error.strerror, file) from None
     copy = f"{RESIZED}.{os.getpid()}-{time.monotonic_ns()}"
@@ -30,15 +30,19 @@ def resize_copy(file: str, resize: Callable[[str], object]) -> None:
         resize(copy)
         os.replace(copy, RESIZED)
     except BaseException:
-        remove([copy] if has_its_name(file) else [copy, RESIZED])
+        remove([copy] if stays else [copy, RESIZED])
         raise
 
 
 def has_its_name(file: str) -> bool:
-    """Checks whether a file is the one that has the name resize.rrd in this directory, and not only a link leads to it."""
+    """Checks whether a file is the one that has the name resize.rrd in this directory, and not only a link leads to it.
+
+    # Errors
+    `OSError` if the system can't look at it.
+    """
     try:
         return os.path.samestat(os.stat(file), os.lstat(RESIZED))
-    except OSError:
+    except FileNotFoundError:
         return False
 
 
