@@ -212,7 +212,7 @@ def take_mode(new: int, before: os.stat_result, old: Union[str, int]) -> None:
             os.removexattr(new, ACCESS_LIST)
         else:
             os.setxattr(new, ACCESS_LIST, listed)
-    os.fchmod(new, before.st_mode & 0o7777)
+    os.fchmod(new, before.st_mode & 0o777)  # no program that runs as its owner, whatever the contents are
 
 
 def access_list(file: Union[str, int]) -> Optional[bytes]:

@@ -323,6 +323,14 @@ class Owners(DataCase):
             making.take_owner(str(new), mock.Mock(st_uid=new.stat().st_uid, st_gid=new.stat().st_gid, st_mode=0o600), str(new))
         self.assertEqual((given.call_count, new.stat().st_mode & 0o777), (0, 0o600))
 
+    def test_no_program_that_runs_as_its_owner(self) -> None:
+        old, new = self.folder / "old", self.folder / "new"
+        for path in (old, new):
+            path.write_text("text")
+        old.chmod(0o6755)
+        making.take_owner(str(new), old.stat(), str(old))
+        self.assertEqual(new.stat().st_mode & 0o7777, 0o755)
+
     def test_access_control_lists(self) -> None:
         """The group has not what is the most for all in the list; and a list of the folder gives nobody more."""
         old, new, folder = self.folder / "old", self.folder / "lists/new", self.folder / "lists"
