@@ -187,7 +187,7 @@ def take_owner(new: str, before: os.stat_result, old: Union[str, int]) -> None:
         found = os.fstat(file.fileno())
         check_regular(found)
         is_given = (found.st_uid, found.st_gid) != (before.st_uid, before.st_gid)
-        if found.st_nlink != 1 or is_given and found.st_uid != os.geteuid():
+        if found.st_nlink > 1 or is_given and found.st_uid != os.geteuid():
             raise OSError(errno.EMLINK, "another file took the name of the new one")
         if is_given:
             try:
