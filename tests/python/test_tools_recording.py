@@ -376,6 +376,18 @@ class Copies(ToolCase):
         self.answers[".1"] = "file: read failed"
         self.assertRaises(program.CommandFailed, record.keep_copies, self.file, 10**9)
 
+    def test_a_kill_while_copies_move(self) -> None:
+        """The next run moves no copy that need not move, so the set of copies is the same as without the kill."""
+        for left in ((2, 3), (1, 3)):
+            for number in (1, 2, 3):
+                (self.folder / f"f.{number}").unlink(missing_ok=True)
+            for number in left:
+                self.write(f"f.{number}", f"{number}")
+            self.answers[".1"] = 5 if 1 in left else "cannot open"
+            record.keep_copies(self.file, 10**9)
+            self.assertEqual([self.read(f"f.{number}") for number in (1, 2, 3)],
+                             [b"RRDI\0\2", b"1" if 1 in left else b"2", b"3"], left)
+
     def test_nobody_else_reads_a_copy(self) -> None:
         """Not even before it has the mode of the file."""
         self.addCleanup(os.umask, os.umask(0o022))

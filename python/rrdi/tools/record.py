@@ -249,7 +249,9 @@ def keep_copies(file: str, last: int) -> None:
         return
     with NewFile(f"{file}.1", follows=False) as made:  # a link of this name goes on with what it leads to
         fill_copy(file, f"{file}.1", made.unfinished)
-        for number in [number for number in range(COPIES, 1, -1) if is_there(f"{file}.{number - 1}")]:
+        # Up to the first name that is free, as one is after a kill.
+        free = next((number for number in range(1, COPIES) if not is_there(f"{file}.{number}")), COPIES)
+        for number in range(free, 1, -1):
             rename_copy(f"{file}.{number - 1}", f"{file}.{number}")
         made.replace()
 
