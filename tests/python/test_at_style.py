@@ -109,8 +109,8 @@ class Boundaries(unittest.TestCase):
         for text in (*NO_DAYS, *TWICE):
             self.assertTrue(self.refused(text), text)
 
-    def test_digits_of_other_scripts(self) -> None:
-        for text in ("\u0661:00", "now-\u0661h", "epoch+\u0661", "20240203".translate({48 + digit: 0x660 + digit for digit in range(10)}), "now-1\u00b2h"):
+    def test_digits_and_spaces_of_other_scripts(self) -> None:
+        for text in ("now\u2003-1h", "\u0661:00", "now-\u0661h", "epoch+\u0661", "20240203".translate({48 + digit: 0x660 + digit for digit in range(10)}), "now-1\u00b2h"):
             self.assertTrue(self.refused(text), text)
 
     def test_each_day_of_each_week(self) -> None:

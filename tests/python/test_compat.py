@@ -161,6 +161,7 @@ class Translations(unittest.TestCase):
                               ("fetch f MAX -s", "--start needs a value"), ("tune f", "tune needs an option"),
                               ("tune f DEL:g", "tune cannot add or remove data sources"),
                               ("tune f RRA#0:x", "cannot parse the number of rows"),
+                              ("tune f RRA#0:=\u0665", "cannot parse the number of rows"),
                               ("tune f -d g:COMPUTE", "rrdi has no type COMPUTE"), ("tune f -x 1", "is not supported"),
                               ("tune f --alpha 0.1", "tune --alpha is not supported"),
                               ("create f -r y DS:g:GAUGE:9:U:U", "create --source is not supported"),

@@ -70,6 +70,11 @@ class Dumped(ToolCase):
             with self.assertRaisesRegex(Refusal, "^rrdtool prints more than the file has$"):
                 read_rrd(rrdtool, begun)
 
+    def test_what_is_no_number(self) -> None:
+        """A text of the file may have a tag in it."""
+        with self.assertRaisesRegex(Refusal, "^what rrdtool prints of the file has something else than a number$"):
+            read_rrd(self.stub("rrdtool", "echo '<rrd><step>x</step></rrd>'"), "old.rrd")
+
 
 class OfWhisper(DataCase):
     def test_files(self) -> None:

@@ -280,6 +280,10 @@ class WithoutLinks(DataCase):
             self.assertEqual((self.files(), self.path.read_text()), (["data/f.rrdi"], text))
             self.path.unlink()
 
+    def test_a_library_of_c_without_the_call(self) -> None:
+        with mock.patch("ctypes.CDLL", return_value=None):
+            self.assertEqual(making.rename_to_new("a", "b"), errno.ENOSYS)
+
     def test_nobody_else_locks_it(self) -> None:
         def lock() -> None:
             with self.path.open() as file, self.assertRaises(BlockingIOError):
@@ -357,6 +361,14 @@ class Owners(DataCase):
             new.unlink()
         with mock.patch.object(os, "getxattr", side_effect=OSError(errno.EIO, "no")), self.assertRaises(OSError):
             making.access_list(str(old))
+
+    def test_nothing_but_a_file(self) -> None:
+        """Nor does it wait for the other end of a pipe."""
+        os.mkfifo(self.folder / "pipe")
+        for name, number in (("pipe", errno.EINVAL), (".", errno.EISDIR)):
+            with self.assertRaises(OSError) as raised:
+                making.take_owner(str(self.folder / name), os.stat(self.folder), str(self.folder))
+            self.assertEqual(raised.exception.errno, number)
 
 
 class Modes(DataCase):

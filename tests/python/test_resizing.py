@@ -42,9 +42,11 @@ class Copies(unittest.TestCase):
 
     def test_a_refused_one_leaves_nothing(self) -> None:
         (self.folder / "resize.rrd").write_bytes(b"old")
-        with self.assertRaisesRegex(ValueError, "no"), mock.patch("os.replace", side_effect=ValueError("no")):
-            resize_copy("f.rrd", len)
-        self.assertEqual(self.names(), ["f.rrd"])
+        with mock.patch("os.replace", side_effect=ValueError("no")):
+            for _ in range(2):  # there is an older copy, or none
+                with self.assertRaisesRegex(ValueError, "no"):
+                    resize_copy("f.rrd", len)
+                self.assertEqual(self.names(), ["f.rrd"])
 
     def test_a_file_of_that_name_stays_if_it_is_refused(self) -> None:
         (self.folder / "resize.rrd").write_bytes(b"mine")

@@ -15,7 +15,7 @@ from tool_case import NO_RRDTOOL, RRDTOOL, ToolCase
 from rrdi.tools.command_line import Failure, WrongArguments
 from rrdi.tools.fix import times_of
 from rrdi.tools.graph import with_times
-from rrdi.tools.spans import as_of_rrdtool, length_text, local_times, span_of, time_text, zone_of
+from rrdi.tools.spans import as_of_rrdtool, length_text, local_times, span_of, time_text, typed_seconds, zone_of
 
 NOON = 1_704_106_800  # 2024-01-01 11:00 UTC, and 12:00 in Berlin
 
@@ -33,6 +33,8 @@ class Times(unittest.TestCase):
         self.assertEqual(as_of_rrdtool("2024-07-01T00:00Z"), "epoch+1719792000")
         self.assertEqual(as_of_rrdtool("2024-07-01"), "epoch+1719784800")
         self.assertEqual(as_of_rrdtool("@60"), "epoch+60")
+        for text in ("202\u0664-01-01", "202\u0664-01-01T00:00Z", "2024-01-01T00:00+0\u0661", "@6\u0660"):
+            self.assertIsNone(typed_seconds(text), text)
 
     def test_spans(self) -> None:
         self.assertEqual(span_of("@1704106000", "2024-01-01T11:00Z", 5), (1_704_106_000, NOON))

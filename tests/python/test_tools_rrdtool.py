@@ -55,6 +55,7 @@ class Words(unittest.TestCase):
         for option, value, wanted in (("--data-source-type", "g:GAUGE", False), ("--data-source-type", "g:COUNTER", True),
                                       ("--heartbeat", "g:60", False), ("--heartbeat", "g:61", True),
                                       ("--maximum", "g:5.5", False), ("--maximum", "g:5.50", False), ("--maximum", "g:U", True),
+                                      ("--maximum", "g:0.5500000", True),
                                       ("--minimum", "g:U", False), ("--minimum", "g:0", True), ("--maximum", "g:x", True),
                                       ("--maximum", f"g:{'9' * 5_000}", True), ("--maximum", "g:\u0665.5", True),
                                       ("--data-source-rename", "g:h", True), ("--maximum", "none:5.5", True)):
