@@ -83,9 +83,12 @@ class Lines(unittest.TestCase):
         self.assertEqual((feeder.has_failed, feeder.bad_lines), (True, 4))
 
     def test_how_a_bad_line_is_shown(self) -> None:
+        feeder = self.feeder()
         for line, text in ((b"a\r", "a"), (b"\x1b[2Ja", "\\u{1b}[2Ja"), (b"a\0b", "a\\u{0}b"), (b"\xff", "\\xff"),
                            ("\u202eü".encode(), "\\u{202e}ü"), (b"a" * 4_096, "a" * 4_096), (b"a" * 4_097, "a" * 4_096 + "..")):
-            self.assertEqual(line_text(line), text)
+            with contextlib.redirect_stderr(io.StringIO()) as said:
+                feeder.say_bad("why", line)
+            self.assertEqual(said.getvalue(), f"rrdi-feed: why, got: {text}\n")
 
     def test_nobody_reads_the_messages(self) -> None:
         feeder, closed = self.feeder(), mock.Mock(write=mock.Mock(side_effect=BrokenPipeError))

@@ -57,7 +57,7 @@ class Waiting:
 
 def line_text(line: "bytes | bytearray") -> str:
     """Returns a line for a message: without its end."""
-    return escaped(as_text(line[:LONGEST_SHOWN]).strip() + (".." if len(line) > LONGEST_SHOWN else ""))
+    return as_text(line[:LONGEST_SHOWN]).strip() + (".." if len(line) > LONGEST_SHOWN else "")
 
 
 NO_MEMORY_LEFT = Outcome(lost="MemoryError")
@@ -145,10 +145,10 @@ class Feeder:
     def say_lost(self, file: bytes, reason: str, samples: List[bytes]) -> None:
         """Reports samples that may be lost, in lines that the user can feed again."""
         try:
-            name = escaped(as_text(file))
+            name = as_text(file)
             self.say(f"{name}: {reason}; {len(samples)} samples may be lost")
             for at in range(0, len(samples), SAMPLES_OF_A_LINE):
-                self.say(f"may be lost: {name} {escaped(as_text(b' '.join(samples[at:at + SAMPLES_OF_A_LINE])))}")
+                self.say(f"may be lost: {name} {as_text(b' '.join(samples[at:at + SAMPLES_OF_A_LINE]))}")
         except MemoryError:
             self.say("samples may be lost that there is no memory to show")
 
@@ -156,7 +156,7 @@ class Feeder:
         """Reports the lines that were read and not taken."""
         try:
             for line in self.untaken() if self.lines else self.data.split(b"\n"):
-                self.say(f"a line may be lost, got: {escaped(as_text(line).strip())}")
+                self.say(f"a line may be lost, got: {as_text(line).strip()}")
         except MemoryError:
             self.say("lines may be lost that there is no memory to show")
 
