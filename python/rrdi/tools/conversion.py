@@ -110,7 +110,7 @@ def make(new: str, lines: Iterable[str], look: Callable[[str], None]) -> None:
         raise Failure(f"{new} already exists")
     given = list(lines)
     with NewFile(new) as made:
-        fill(made, new, given, look)
+        fill_by_batch(made.unfinished, new, given, look)
         if not made.appear():
             raise Failure(f"{new} already exists")
 
@@ -124,7 +124,7 @@ def make_or_find(new: str, lines: Iterable[str], look: Callable[[str], None]) ->
     """
     given = list(lines)
     with NewFile(new, makes_folder=True) as made:
-        fill(made, new, given, look)
+        fill_by_batch(made.unfinished, new, given, look)
         if not os.path.lexists(new) and made.appear():
             return True
         different = difference(new, made.unfinished)
@@ -133,12 +133,12 @@ def make_or_find(new: str, lines: Iterable[str], look: Callable[[str], None]) ->
         return False
 
 
-def fill(made: NewFile, new: str, lines: Iterable[str], look: Callable[[str], None]) -> None:
+def fill_by_batch(unfinished: str, new: str, lines: Iterable[str], look: Callable[[str], None]) -> None:
     try:
-        program.batch(made.unfinished, lines)
+        program.batch(unfinished, lines)
     except program.CommandFailed as failed:
         raise Failure(failed.of_file(new, os.path.dirname(new) or ".")) from None
-    look(made.unfinished)
+    look(unfinished)
 
 
 def difference(there: str, made: str) -> str:
@@ -169,20 +169,19 @@ def is_left_over(path: str, kept: str) -> bool:
     return True
 
 
-def swap_in(old: str, kept: str, lines: Iterable[str], look: Callable[[str], None], before: os.stat_result) -> None:
-    """Puts a new database in the place of a file, which keeps its content under the name `kept`. The database gets the
-    owner and the mode of the file, after `look` got the name under which it is read, and its name when it is on the disk.
-    `before` is the file's status from before it was read. There is no moment without a file of the name.
+def swap_in(old: str, kept: str, before: os.stat_result, fill: Callable[[str], None]) -> None:
+    """Puts a new file in the place of an old one, which keeps its content under the name `kept`. `fill` makes the new file
+    under the name that it gets. The file then takes the owner and the mode of the old one, and its name when it is on the
+    disk. `before` is the old file's status from before it was read. There is no moment without a file of the name.
 
     # Errors
-    - `Failure` if the file has changed since `before`, or there is another file of the name `kept`, or rrdi refuses the
-      batch.
+    - `Failure` if the file has changed since `before`, or there is another file of the name `kept`; those of `fill`.
     - `OSError` if the system refuses the owner, the mode or a name.
     """
     with NewFile(old) as made:
-        mask = os.umask(0o077)  # nobody else reads the database before it has the mode of the file
+        mask = os.umask(0o077)  # nobody else reads the new file before it has the mode of the old one
         try:
-            fill(made, old, lines, look)
+            fill(made.unfinished)
         finally:
             os.umask(mask)
         take_owner(made.unfinished, before, old)

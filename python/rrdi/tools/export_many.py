@@ -8,8 +8,8 @@ from typing import Callable, List, Optional
 from ..importing.dump import Refusal
 from ..importing.native import read_old
 from ..kinds import RRDTOOL_MARK, WHISPER_END, first_bytes
-from ..locks import EXCLUSIVE, SHARED, close, lock, open_locked, open_regular, state_of
-from ..making import NewFile, flush, take_owner
+from ..locks import EXCLUSIVE, SHARED, close, lock, open_locked, open_regular
+from ..making import NewFile, flush
 from ..reader import Reader, opened
 from ..reader.files import patience
 from ..reader.pieces import Parts
@@ -17,7 +17,7 @@ from ..reader.selected import OpenFile
 from ..reader.stored import Stored
 from . import rrdtool_program
 from .command_line import Failure
-from .conversion import Reading, is_left_over
+from .conversion import Reading, is_left_over, swap_in
 from .import_many import NEW_END, RRDTOOL_END
 from .many_files import (IS_THERE, NOTED, NOTED_THERE, PASSED_OVER, THERE, WHOLE, Conversions, OldFile, counted, files_of, has,
                          links_below, tidy)
@@ -65,24 +65,14 @@ def swap_in_place(path: str) -> str:
         before = os.fstat(file.fileno())
         others = before.st_nlink - 1 - is_left_over(path, kept)
         database = Reader(Stored.of_file(file.fileno())).database()
-        with NewFile(path) as made:
-            mask = os.umask(0o077)  # nobody else reads the new file before it has the mode of the database
-            try:
-                restore_equal(database, made.unfinished)
-            finally:
-                os.umask(mask)
-            take_owner(made.unfinished, before, file.fileno())
-            flush(made.unfinished)
+
+        def fill(unfinished: str) -> None:
+            restore_equal(database, unfinished)
             # Another exporter waits now; or it has put its own file there, which RRDtool may have changed since.
             lock(file, EXCLUSIVE, patience())
-            if state_of(os.stat(path)) != state_of(before):
-                raise Failure("it changed while it was converted; first stop what records into it")
-            if not is_left_over(path, kept):
-                os.link(path, kept)
-            made.replace()
+        swap_in(path, kept, before, fill)
     finally:
         close(file)
-    flush(os.path.dirname(path))
     text = has(len(database["sources"]), len(database["archives"]))
     return f"converted, the database is {kept}{text}{other_names(others)}"
 

@@ -10,7 +10,7 @@ from ..importing.dump import Refusal
 from ..kinds import WHISPER_END, is_of_rrdi
 from .children import ChildAnswer
 from .command_line import Failure
-from .conversion import Conversion, Reading, is_left_over, make_or_find, swap_in
+from .conversion import Conversion, Reading, fill_by_batch, is_left_over, make_or_find, swap_in
 from .many_files import (INCOMPLETE, IS_THERE, NOTED, NOTED_THERE, PARTLY_THERE, PASSED_OVER, THERE, WHOLE, Conversions,
                          OldFile, files_of, has, links_below, tidy)
 
@@ -65,7 +65,7 @@ class Importer(Conversions):
         lines = list(conversion.lines(reading))
         if not conversion.is_whole:
             raise Failure("; ".join(conversion.notes))
-        swap_in(path, kept, lines, conversion.compare, before)
+        swap_in(path, kept, before, lambda unfinished: fill_by_batch(unfinished, path, lines, conversion.compare))
         return f"{NOTED if conversion.notes else WHOLE}\nconverted, the old file is {kept}{described(conversion)}"
 
 
