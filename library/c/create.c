@@ -1,8 +1,8 @@
 /* SPDX-License-Identifier: MIT OR Apache-2.0 */
 /* Creates a database, and never in place of a file that is there.
  *
- * The database is made under another name in the same directory, and a link gives it its own name when it is whole. A link fails
- * if there is a file of this name. */
+ * The database is made under another name in the same directory, and a link gives it its own name when it is whole. A link
+ * fails if there is a file of this name. */
 #define _GNU_SOURCE
 #include <errno.h>
 #include <fcntl.h>
@@ -56,45 +56,44 @@ static int read_path(const char *path, size_t path_length, char *name) {
     return access(name, F_OK) ? 0 : EEXIST;
 }
 
-/* Takes a name by an empty file. Returns 0 or an errno: EEXIST if the name is taken. */
+/* Takes a name by an empty file. Returns a descriptor, or -1 and sets errno: EEXIST if the name is taken. */
 static int take_name(const char *name) {
-    int descriptor = open(name, O_WRONLY | O_CREAT | O_EXCL | O_CLOEXEC, 0666);
+    return open(name, O_RDWR | O_CREAT | O_EXCL | O_CLOEXEC, 0666);
+}
+
+/* Takes another name beside the name. mkstemp would do the same, but nobody else could read its file. Returns 0 or an errno. */
+static int take_other(const char *name, char *other) {
+    unsigned number = 0;
+    int descriptor;
+    do {
+        snprintf(other, OTHER_ROOM, "%s.new-%ld-%u", name, (long)getpid(), number++);
+        descriptor = take_name(other);
+    } while (descriptor < 0 && errno == EEXIST);
     if (descriptor < 0)
         return errno;
     close(descriptor);
     return 0;
 }
 
-/* Takes another name beside the name. mkstemp would do the same, but nobody else could read its file. Returns 0 or an errno. */
-static int take_other(const char *name, char *other) {
-    unsigned number = 0;
-    int error;
-    do {
-        snprintf(other, OTHER_ROOM, "%s.new-%ld-%u", name, (long)getpid(), number++);
-        error = take_name(other);
-    } while (error == EEXIST);
-    return error;
-}
-
-/* Checks whether another program has filled the empty file with which this one took a name, or has given the name to a file of its
- * own. */
+/* Checks whether another program has filled the empty file with which this one took a name, or has given the name to a file of
+ * its own. */
 static bool is_taken(int descriptor, const char *name) {
     struct stat found, there;
     return !fstat(descriptor, &found) && !lstat(name, &there) &&
            (found.st_size || found.st_dev != there.st_dev || found.st_ino != there.st_ino);
 }
 
-/* Gives the file that has the other name its name in one step. Where the system cannot, puts it in place of an empty file, which
- * takes the name first, and after a kill still has it. Whoever creates a database at the name in between waits for the lock of the empty
- * file, and finds then that the file has been replaced; or had the lock before, and keeps its file. Returns 0 or an errno: EEXIST if
- * the name is taken. */
-static int replace_empty(const char *other, const char *name) {
+/* Gives the file that has the other name its name where there are no links: in one step or, where the system cannot, in place
+ * of an empty file, which takes the name first, and after a kill still has it. Whoever creates a database at the name in
+ * between waits for the lock of the empty file, and finds then that the file has been replaced; or had the lock before, and
+ * keeps its file. Returns 0 or an errno: EEXIST if the name is taken. */
+static int rename_to_new(const char *other, const char *name) {
     int error = 0, descriptor;
     if (!renameat2(AT_FDCWD, other, AT_FDCWD, name, RENAME_NOREPLACE))
         return 0;
     if (errno == EEXIST)
         return EEXIST;
-    descriptor = open(name, O_RDWR | O_CREAT | O_EXCL | O_CLOEXEC, 0666);
+    descriptor = take_name(name);
     if (descriptor < 0)
         return errno;
     if ((flock(descriptor, LOCK_EX | LOCK_NB) && errno == EWOULDBLOCK) || is_taken(descriptor, name)) {
@@ -113,7 +112,7 @@ static int replace_empty(const char *other, const char *name) {
 static int give_name(const char *other, const char *name) {
     int error = link(other, name) ? errno : 0;
     if (error == EPERM || error == EOPNOTSUPP || error == ENOSYS || error == EMLINK)
-        error = replace_empty(other, name);
+        error = rename_to_new(other, name);
     unlink(other);
     return error;
 }
