@@ -13,7 +13,8 @@ examples:
 The first form creates NEW.rrdi, which must not exist. The second prints the
 batch that does, for `rrdi batch NEW.rrdi`. The other forms convert many files:
 those named, and all below the directories TREE whose names end in .rrd or .wsp
-(--in-place refuses .wsp). First stop the programs that record into the old files.
+(--in-place refuses .wsp). First stop the programs that record into the old
+files.
 
 options:
   --journal DEPTH      how many changes the new database can revert
