@@ -128,8 +128,8 @@ class Files(unittest.TestCase):
 
     def test_methods(self) -> None:
         """A file that Graphite did not make has the function of its first archive; the longest of equal archives is read."""
-        for names, method in ((("max",), "max"), (("sum", "zero"), "sum"), (("sum",), "last"), (("avg_zero",), "last"), (("temp",), "last")):
-            self.assertEqual(method_of(self.open(graphite.file_bytes(130, names, function=3)).outline()), method)
+        for names, function, method in ((("max",), 3, "max"), (("sum", "zero"), 3, "sum"), (("sum",), 3, "last"), (("avg_zero",), 3, "last"), (("temp",), 3, "last"), (("temp",), 2, "max")):
+            self.assertEqual(method_of(self.open(graphite.file_bytes(130, names, function=function)).outline()), method)
         for kept, wanted in ((((1, 4), (1, 9), (6, 4)), [(1, 9), (1, 4), (6, 4)]), (((6, 2), (1, 9), (1, 4)), [(1, 9), (1, 4), (6, 2)])):
             outline = self.open(graphite.file_bytes(130, archives=[(steps, count, {}) for steps, count in kept])).outline()
             self.assertEqual([(one.steps, one.rows) for one in archives_of(outline, "average")], wanted)
