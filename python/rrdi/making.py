@@ -132,9 +132,9 @@ class NewFile:
         return OSError(error.errno, error.strerror, self.path)
 
     def _take_name(self) -> bool:
-        """Gives the file its name where there are no links: by a renaming that replaces no file or, where the system has none,
-        takes the name by an empty file, and replaces that one, unless another program has begun to fill or has replaced it
-        meanwhile. After a kill between these two steps the empty file has the name."""
+        """Gives the file its name where there are no links, by a renaming that replaces no file. Where the system has none, an
+        empty file takes the name and is replaced, unless another program has begun to fill or has replaced it meanwhile.
+        After a kill between these two steps the empty file has the name."""
         renamed = rename_to_new(self.unfinished, self.path)
         if renamed in (0, errno.EEXIST):
             return renamed == 0

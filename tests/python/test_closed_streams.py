@@ -1,6 +1,6 @@
 # SPDX-License-Identifier: MIT OR Apache-2.0
 """Tests of a process that has closed some of its standard streams, as a daemon does: the system then gives their numbers to
-the next files that are opened, and no text of another thread may reach a database."""
+the next files that are opened, and no text of another thread may reach a database; and a tool does what it does with them."""
 from __future__ import annotations
 
 import json

@@ -352,7 +352,7 @@ class Many(ToolCase):
         self.assertFalse((self.folder / "a.rrd.old").exists())
 
     def test_a_file_that_changes_while_it_is_read(self) -> None:
-        """So does one that gets a sample after RRDtool has read it."""
+        """The old file also stays if it gets a sample after RRDtool has read it."""
         self.old("a.rrd")
         self.stub("rrdtool", 'case $1 in dump) tail -c +5 "$2" ;; last) printf x >>"$2"; echo 1600000030 ;; esac')
         self.assertEqual(self.run_import("--in-place", "a.rrd"), (

@@ -1,5 +1,5 @@
 # SPDX-License-Identifier: MIT OR Apache-2.0
-"""Tests of the words of a command, and of the times, spans and amounts of Python that become words."""
+"""Tests of the words of a command, and of the times and spans of Python that become words."""
 from __future__ import annotations
 
 import datetime

@@ -99,7 +99,7 @@ def print_help(tool: Tool) -> int:
 
 
 def run_or_help(tool: Tool, words: List[str]) -> int:
-    """Runs a tool with these words, or prints its help if they ask for it and are nothing else that it can do."""
+    """Runs a tool with these words. If they ask for its help, and are otherwise wrong, prints that."""
     try:
         return tool.run(words)
     except WrongArguments as wrong:

@@ -238,8 +238,8 @@ def make_ready(file: str, fill: Fill) -> int:
 
 
 def keep_copies(file: str, last: int) -> None:
-    """Copies the file if the newest copy is at least an hour older, or is newer, since a clock that was ahead was set back and
-    the file reverted; renames the older copies.
+    """Copies the file if the newest copy is at least an hour older, or is newer: then a clock that was ahead was set back, and
+    the file reverted. Renames the older copies.
 
     # Errors
     Those of `last_of_copy`, and `OSError` if the file cannot be copied, where the copies stay as they are, or if a copy

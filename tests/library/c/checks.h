@@ -95,8 +95,8 @@ static inline void with_limit(size_t size, void (*call)(void)) {
     setrlimit(RLIMIT_FSIZE, &limit);
 }
 
-/* Calls a function in a forked child, whose checks go on counting. Another program takes the child's place, so that valgrind does
-   not take what it has of its parent's memory for lost. */
+/* Calls a function in a forked child, whose checks go on counting. Another program takes the child's place, so that valgrind
+   does not take what it has of its parent's memory for lost. */
 static inline void in_child(void (*call)(void)) {
     int ends[2], found[2] = {0, 1}, status;
     if (pipe(ends))

@@ -17,8 +17,8 @@
 #define THREADS 8
 #define ROUNDS 20
 
-/* The error of a link, 0 if links work, that of a rename that replaces no file, and that of any other; and whether a file appears
- * before a link. */
+/* The error of a link, 0 if links work, that of a rename that replaces no file, and that of any other rename; and whether a
+ * file appears before a link. */
 static int link_error, new_error, rename_error;
 static bool is_overtaken;
 

@@ -388,8 +388,8 @@ static void create_raced(void) {
     rrdi_create_new(NAME("raced"), WORDS(CREATE), 0, 0, false, output, sizeof output, &answer);
 }
 
-/* Without links, and without a rename that replaces no file, an empty file has the name for a moment. Whoever creates a database
- * there keeps it. */
+/* Without links, and without a rename that replaces no file, an empty file has the name for a moment. Whoever creates a
+ * database there keeps it. */
 static void test_races_without_links(void) {
     has_no_links = true;
     before_rename = take_path;
