@@ -6,7 +6,6 @@ import io
 import math
 import random
 import unittest
-import xml.etree.ElementTree as ElementTree
 from array import array
 from typing import Any, Callable, Dict, List, Optional, Tuple
 from unittest import mock
@@ -119,11 +118,6 @@ class Dumps(unittest.TestCase):
                          (5, 9, 0, "a", "", 1, "U", 0, ""))
         self.assertTrue(all(map(math.isnan, (one.minimum, one.maximum, one.partial_sum, rows.partial[0]))))
         self.assertEqual((rows.number, rows.function, rows.steps, rows.share, rows.unknown_steps, rows.row_count, rows.columns), (0, "", 1, 0.0, [0], 0, 1))
-
-    def test_a_cut_dump_is_an_error(self) -> None:
-        for size in (0, 100, len(self.TEXT) - 8):
-            with self.assertRaises(ElementTree.ParseError):
-                read_dump(io.BytesIO(self.TEXT[:size]))
 
     def test_a_tag_in_a_text_of_the_file(self) -> None:
         """rrdtool prints the texts of a file as they are. Where a number should be, there may be none."""

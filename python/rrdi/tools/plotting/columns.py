@@ -6,10 +6,10 @@ import math
 from typing import Callable, Dict, Iterator, List, NamedTuple, Optional, Tuple
 
 from ..command_line import Failure
+from ..spans import DAY
 
 NOTHING = "nothing to draw: no known value, or fewer than two rows"
 Column = List[float]
-DAY = 86_400  # seconds
 
 
 class NothingToDraw(Failure):

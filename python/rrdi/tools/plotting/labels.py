@@ -6,7 +6,9 @@ import math
 import time
 from typing import Callable, Iterator, List, Tuple
 
-DAY, MONTH = 86_400, 2_678_400  # seconds
+from ..spans import DAY
+
+MONTH = 2_678_400  # seconds
 DISTANCES = (1, 2, 5, 10, 20, 30, 60, 120, 300, 600, 1_200, 1_800, 3_600, 7_200, 10_800, 21_600, 43_200, DAY, 2 * DAY,
              4 * DAY, 7 * DAY, 14 * DAY, MONTH, 2 * MONTH, 3 * MONTH, 6 * MONTH, 12 * MONTH)
 MOST_LABELS, LABEL = 7, 56  # and the points that a label takes at least
