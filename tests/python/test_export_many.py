@@ -20,7 +20,7 @@ from cases import HANG, DataCase, needs_program
 from doubles import PROGRAM, TOP
 from tool_case import NO_RRDTOOL, RRDTOOL, Ran, ToolCase
 
-from rrdi.tools import export_many
+from rrdi.tools import conversion, export_many
 from rrdi.tools.children import ChildAnswer, answers
 from rrdi.tools.command_line import Failure
 from rrdi.tools.export_many import make_new, swap_in_place
@@ -128,6 +128,9 @@ class InPlace(DataCase):
             with self.assertRaisesRegex(Failure, f"^{text}$"):
                 self.swap(act)
             self.assertEqual(self.path.read_bytes(), self.data)
+        Path(f"{self.path}.rrdi").unlink()
+        with mock.patch.object(conversion, "is_left_over", return_value=False), self.assertRaisesRegex(Failure, f"^{text}$"):
+            self.swap(taken)  # that name is taken at the last moment
         self.assertEqual((self.files(), Path(f"{self.path}.rrdi").read_text()), (["data/f.rrd", "data/f.rrd.rrdi"], "another's"))
         with self.assertRaisesRegex(Failure, "^a file whose name ends in .rrdi is converted with --into$"):
             export_many.swap_in_place(f"{self.path}.rrdi")
