@@ -19,8 +19,8 @@ from . import rrdtool_program
 from .command_line import Failure
 from .conversion import Reading, is_left_over, swap_in
 from .import_many import NEW_END, RRDTOOL_END
-from .many_files import (IS_THERE, NOTED, NOTED_THERE, PASSED_OVER, THERE, WHOLE, Conversions, OldFile, counted, files_of, has,
-                         links_below, tidy)
+from .many_files import (IS_THERE, NOTED, NOTED_THERE, PASSED_OVER, THERE, WHOLE, Conversions, OldFile, counted, files_of,
+                         has)
 from .restoring import difference, restore_equal
 from .whisper_file import bytes_of, copy_of, write_equal
 
@@ -151,8 +151,4 @@ def export_many(words: List[str], into: Optional[str], is_whisper: bool, jobs: i
     files = files_of(words, ends)
     if not is_whisper:
         rrdtool_program.found()
-    tidy(files, into)
-    exporter = Exporter(files, into, is_whisper, tool)
-    exporter.convert(jobs)
-    print(exporter.summary(sum(links_below(word, ends) for word in words if os.path.isdir(word))))
-    return exporter.status
+    return Exporter(files, into, is_whisper, tool).run(words, ends, jobs)

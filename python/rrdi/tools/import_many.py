@@ -12,7 +12,7 @@ from .children import ChildAnswer
 from .command_line import Failure
 from .conversion import Conversion, Reading, fill_by_batch, is_left_over, make_or_find, swap_in
 from .many_files import (INCOMPLETE, IS_THERE, NOTED, NOTED_THERE, PARTLY_THERE, PASSED_OVER, THERE, WHOLE, Conversions,
-                         OldFile, files_of, has, links_below, tidy)
+                         OldFile, files_of, has)
 
 RRDTOOL_END, NEW_END = ".rrd", ".rrdi"
 OLD_ENDS = (RRDTOOL_END, WHISPER_END)
@@ -82,9 +82,5 @@ def import_many(words: List[str], into: Optional[str], journal: Optional[str], j
     - `OSError` if a directory can't be read.
     """
     files = files_of(words, OLD_ENDS)
-    tidy(files, into)
     chosen()  # here, because otherwise each process would load it
-    importer = Importer(files, into, journal, tool)
-    importer.convert(jobs)
-    print(importer.summary(sum(links_below(word, OLD_ENDS) for word in words if os.path.isdir(word))))
-    return importer.status
+    return Importer(files, into, journal, tool).run(words, OLD_ENDS, jobs)

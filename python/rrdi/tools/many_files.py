@@ -140,8 +140,15 @@ class Conversions:
         """
         raise NotImplementedError
 
+    def run(self, words: List[str], ends: Ends, jobs: int) -> int:
+        """Converts the files that the arguments name, so many at a time, and says what became of them. Returns the status."""
+        tidy(self.files, self.into)
+        self.convert(jobs)
+        print(self.summary(sum(links_below(word, ends) for word in words if os.path.isdir(word))))
+        return self.status
+
     def convert(self, jobs: int) -> None:
-        """Converts the files, so many at a time, and reports each in one line.
+        """Converts the files, and reports each in one line.
 
         # Errors
         `KeyboardInterrupt` if a key stops it, which is reported too.
