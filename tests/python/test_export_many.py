@@ -6,6 +6,7 @@ from __future__ import annotations
 import os
 import pwd
 import re
+import select
 import shutil
 import subprocess
 import sys
@@ -207,6 +208,8 @@ class Children(unittest.TestCase):
 
         def work(number: int) -> ChildAnswer:
             for _ in range(99 if number == 0 else 0):  # this one takes as long as all others together
+                if not select.select([done], [], [], HANG)[0]:
+                    break
                 os.read(done, 1)
             os.write(is_done, b"." if number else b"")
             return ChildAnswer(True, str(os.getpid()))
