@@ -181,7 +181,8 @@ def take_owner(new: str, before: os.stat_result, old: Union[str, int]) -> None:
     meanwhile; a hard link to a file of others, too.
 
     # Errors
-    `OSError` if the system refuses them, or the new file is a link by now, or has another name, or another owner than this user.
+    `OSError` if the system refuses them, or the new file is a link by now, has another name too, or another owner than this
+    user.
     """
     with open_file(new, os.O_RDONLY | os.O_NOFOLLOW | os.O_NONBLOCK) as file:
         found = os.fstat(file.fileno())

@@ -352,9 +352,9 @@ class Owners(DataCase):
                 os.setxattr(old, making.ACCESS_LIST, wanted)
             old.chmod(mode)
             new.write_text("new")
-            steps: List[int] = []
-            with mock.patch.object(os, "fchmod", side_effect=lambda file, to: (steps.append(to), os.chmod(file, to))):
+            with mock.patch.object(os, "fchmod", side_effect=os.chmod) as changed:
                 making.take_owner(str(new), old.stat(), str(old))
+            steps = [call.args[1] for call in changed.call_args_list]
             self.assertEqual((making.access_list(str(new)), new.stat().st_mode & 0o7777, steps), (wanted, mode, [0o600, mode]))
             making.take_owner(str(new), old.stat(), str(old))
             self.assertEqual((making.access_list(str(new)), new.stat().st_mode & 0o7777), (wanted, mode))
