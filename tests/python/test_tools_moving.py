@@ -390,10 +390,11 @@ class Comparing(unittest.TestCase):
         found = compare.old_cells("            a    b\n\n10: 1.5000000000e+00 nan\n\n20: -nan -2.0000000000e+00\nno time\n")
         self.assertEqual(repr(found), "{10: {'a': 1.5, 'b': nan}, 20: {'a': nan, 'b': -2.0}}")
         self.assertEqual((compare.old_cells(""), compare.old_cells(" a\n")), ({}, {}))
-        with mock.patch("rrdi.tools.rrdtool_program.ask", return_value=" a b\n\n10: 1 2\n20: 3 4\n") as old, mock.patch("rrdi.tools.program.ask", return_value="time: a c\n20: 3 5\n30: 1 nan\n") as new:
-            counts = compare.compare_archive("o", "n", compare.ArchiveSpan("MAX", 10, 5, 29))
-        self.assertEqual(counts.text(), "4 cells, 2 agree, 2 only in the new, the newest at 30")
-        self.assertEqual([asked.call_args[0][0] for asked in (old, new)], [["fetch", name, "MAX", "-r", "10", "-s", "5", "-e", "29"] for name in ("o", "n")])
+        for begin, start in ((400_000_005, "400000005"), (315_360_002, "315360002"), (315_360_000, "315360001"), (0, "315360001")):
+            with mock.patch("rrdi.tools.rrdtool_program.ask", return_value=" a b\n\n10: 1 2\n20: 3 4\n") as old, mock.patch("rrdi.tools.program.ask", return_value="time: a c\n20: 3 5\n30: 1 nan\n") as new:
+                counts = compare.compare_archive("o", "n", compare.ArchiveSpan("MAX", 10, begin, 400_000_029))
+            self.assertEqual(counts.text(), "4 cells, 2 agree, 2 only in the new, the newest at 30")
+            self.assertEqual([asked.call_args[0][0] for asked in (old, new)], [["fetch", name, "MAX", "-r", "10", "-s", start, "-e", "400000029"] for name in ("o", "n")])
 
     def test_both_files(self) -> None:
         info = 'step = 10\nlast_update = 1005\nds[a].type = "GAUGE"\nds[b-c].type = "COMPUTE"\nds[d].type = "DERIVE"\n' + "".join(f'rra[{at}].cf = "MAX"\nrra[{at}].rows = {rows}\nrra[{at}].pdp_per_row = 1\n' for at, rows in enumerate((5, 5, 6)))

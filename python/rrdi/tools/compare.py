@@ -37,6 +37,7 @@ from . import program, rrdtool_program
 from .command_line import Failure, Tool, WrongArguments
 
 OldCells = Dict[int, Dict[str, float]]
+EARLIEST = 315_360_001  # seconds: RRDtool has no row before 1980, and reads fewer as an hour or a date
 
 
 class ArchiveSpan(NamedTuple):
@@ -146,7 +147,7 @@ def old_cells(text: str) -> OldCells:
 
 
 def compare_archive(old: str, new: str, span: ArchiveSpan) -> Counts:
-    words = [span.function, "-r", str(span.seconds), "-s", str(span.begin), "-e", str(span.end)]
+    words = [span.function, "-r", str(span.seconds), "-s", str(max(span.begin, EARLIEST)), "-e", str(span.end)]
     try:
         cells = old_cells(rrdtool_program.ask(["fetch", old, *words]))
     except Failure as failure:
