@@ -122,7 +122,7 @@ class Starting(unittest.TestCase):
 
     def test_folders_that_settings_cannot_name(self) -> None:
         """A quote or a line feed in the name would be code or a setting."""
-        for name in ("it's", 'a"b', "a\\b", "a\nENABLE_UDP_LISTENER = True\n", "\x1b[31m", "\udcff"):
+        for name in ("it's", 'a"b', "a\\b", "a:b", "a\nENABLE_UDP_LISTENER = True\n", "\x1b[31m", "\udcff"):
             path = self.cluster.folder / name
             with mock.patch.object(sys, "argv", ["make-cluster", "up", str(path)]), contextlib.redirect_stderr(io.StringIO()) as said:
                 self.assertEqual(self.module.main(), 1)
@@ -130,7 +130,7 @@ class Starting(unittest.TestCase):
             self.assertTrue(said.getvalue()[:-1].isprintable() and "must have no quotes" in said.getvalue(), ascii(said.getvalue()))
 
     def test_a_cluster_of_another_program(self) -> None:
-        for text in ("", "[]", "{}", '{"nodes": "x", "port": 1, "database": "rrdi"}'):
+        for text in ("", "[]", "{}", "[" * 100_000, *(f'{{"nodes": {number}, "port": 1, "database": "rrdi"}}' for number in ('"x"', "Infinity"))):
             (self.cluster.folder / "cluster.json").write_text(text)
             with self.assertRaisesRegex(self.module.Failure, "was not made by make-cluster"):
                 self.module.read_cluster(self.cluster.folder)
