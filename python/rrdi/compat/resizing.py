@@ -20,12 +20,13 @@ def resize_copy(file: str, resize: Callable[[str], object]) -> None:
     `OSError` with a file name if the file cannot be read or locked, or the copy cannot be written.
     """
     from ..reader.files import read_bytes  # only this command reads a file itself
+    copy, stays = f"{RESIZED}.{os.getpid()}-{time.monotonic_ns()}", True
     try:
-        data, stays = read_bytes(file), has_its_name(file)
-    except OSError as error:
-        raise OSError(error.errno, error.strerror, file) from None
-    copy = f"{RESIZED}.{os.getpid()}-{time.monotonic_ns()}"
-    try:
+        try:
+            stays = has_its_name(file)
+            data = read_bytes(file)
+        except OSError as error:
+            raise OSError(error.errno, error.strerror, file) from None
         write(copy, data)
         resize(copy)
         os.replace(copy, RESIZED)
