@@ -96,8 +96,6 @@ class Words(ToolCase):
             program.ask(["last", "f.rrdi"])
 
 
-@needs_program
-@unittest.skipUnless(LIBRARY, NO_LIBRARY)
 class Answers(unittest.TestCase):
     """What becomes of an answer of the library, or of the program in its place."""
 
@@ -157,6 +155,8 @@ class Answers(unittest.TestCase):
         self.assertEqual((program.batch("f", ["x" * 65_536]), call.call_count), ([], 1))
 
 
+@needs_program
+@unittest.skipUnless(LIBRARY, NO_LIBRARY)
 class InProcess(ToolCase):
     COMMANDS = ["create {} --step 10 --start 1000000000 DS:g:GAUGE:60:-5:U DS:c:COUNTER:60:0:U RRA:AVERAGE:0.5:1:900 RRA:MAX:0.5:3:4",
                 "update {} 1000000010:1.5:100 1000000025:-2:175", "last {}", "info {}", "lastupdate {}", "first {} --rraindex 1",
