@@ -478,6 +478,13 @@ class Program(unittest.TestCase):
         self.assertEqual(said.getvalue(), f"rrdi-carbon-cache: No module named 'carbon'; {sys.executable} needs carbon "
                                           "(Debian: graphite-carbon)\n")
 
+    def test_help_that_nobody_can_read(self) -> None:
+        import subprocess
+        for words in (["--help"], ["start", "-h"], ["--version"]):
+            with open("/dev/full", "w") as full:
+                ran = subprocess.run([sys.executable, str(TOP / "tools/rrdi-carbon-cache"), *words], stdout=full, stderr=subprocess.PIPE, text=True)
+            self.assertEqual((ran.returncode, ran.stderr), (1, "rrdi-carbon-cache: No space left on device\n"))
+
     @unittest.skipIf(graphite.HAS_CARBON, "carbon is installed for this Python")
     def test_without_carbon(self) -> None:
         import subprocess

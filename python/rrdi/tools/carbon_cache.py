@@ -34,8 +34,9 @@ from __future__ import annotations
 import importlib
 import shutil
 import sys
+from typing import List
 
-from .. import __version__
+from .command_line import Failure, Tool, WrongArguments
 
 # Debian's path, if carbon-cache is not on the PATH.
 CARBON_CACHE = "/usr/bin/carbon-cache"
@@ -52,19 +53,18 @@ def start() -> None:
         raise SystemExit(str(fault)) from None
 
 
-def main() -> int:
-    if any(word in ("-h", "--help") for word in sys.argv[1:]):
-        print((__doc__ or "").strip())
-        return 0
-    if sys.argv[1:2] == ["--version"]:
-        print(f"rrdi-carbon-cache {__version__}")
-        return 0
+def run(words: List[str]) -> int:
+    if {"-h", "--help"}.intersection(words):
+        raise WrongArguments
     try:
         start()
     except ImportError as error:
-        print(f"rrdi-carbon-cache: {error}; {sys.executable} needs carbon (Debian: graphite-carbon)", file=sys.stderr)
-        return 1
+        raise Failure(f"{error}; {sys.executable} needs carbon (Debian: graphite-carbon)") from None
     return 0
+
+
+TOOL = Tool("rrdi-carbon-cache", "[OPTION..] start|stop|status", __doc__, run)
+main = TOOL.main
 
 
 if __name__ == "__main__":
