@@ -25,7 +25,8 @@ NO_LINKS = frozenset({errno.EPERM, errno.EOPNOTSUPP, errno.ENOTSUP, errno.ENOSYS
 # What readlink(2) answers if a path is no symbolic link.
 NOT_A_LINK = frozenset({errno.EINVAL, errno.ENOENT, errno.ENOTDIR})
 ACCESS_LIST = "system.posix_acl_access"
-NO_LIST = frozenset({errno.ENODATA, errno.EOPNOTSUPP, errno.ENOTSUP, errno.ENOSYS, errno.EINVAL})  # this file has no list, or none has
+# What getxattr(2) answers if this file has no list, or no file of the file system.
+NO_LIST = frozenset({errno.ENODATA, errno.EOPNOTSUPP, errno.ENOTSUP, errno.ENOSYS, errno.EINVAL})
 AT_FDCWD, RENAME_NOREPLACE = -100, 1  # Linux's numbers, for renameat2
 UNFINISHED = re.compile(r"\.rrdi-[0-9a-f]{16}\.new")
 LEFT_OVER = 86_400  # seconds after which nobody fills such a file any more
