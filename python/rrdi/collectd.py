@@ -35,7 +35,7 @@ from .escaping import escaped
 from .library import load_library
 from .making import is_there, make
 from .open_files import OpenBounds, OpenFiles
-from .waiting import MOST_OF_A_FILE, newest, why
+from .unwritten import MOST_OF_A_FILE, newest, why
 from .words import as_bytes, line_of
 
 FUNCTIONS = ("AVERAGE", "MIN", "MAX")

@@ -12,7 +12,7 @@ from .collecting import RefusedLines as RefusedLines
 from .commands import Batch, Lines, RefusedLine, batch, creation, fetch_words, made, run_on
 from .errors import Error
 from .fetching import Asked, fetched
-from .kept import KeptFile
+from .kept_file import KeptFile
 from .results import LastUpdate, Table, Value, info_of, last_update
 from .samples import Sample, is_table, no_sample, sample_words
 from .times import Span, Time, moment, seconds_of

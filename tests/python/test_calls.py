@@ -27,7 +27,7 @@ from rrdi import calls as running
 import rrdi
 from rrdi import by_ctypes
 from rrdi.errors import REFUSED
-from rrdi.kept import KeptFile
+from rrdi.kept_file import KeptFile
 from rrdi.locks import keepers
 from rrdi.open_files import OpenFiles
 from rrdi.protocol import Answer

@@ -23,7 +23,7 @@ from doubles import TOP
 from file_case import BOTH, LAST, OfFiles
 
 import rrdi
-from rrdi.kept import KeptFile
+from rrdi.kept_file import KeptFile
 from rrdi.locks import Identity
 from rrdi.reader import settled
 

@@ -21,7 +21,7 @@ from rrdi.database import RefusedLines
 from rrdi.errors import details_in
 from rrdi.escaping import escaped
 from rrdi.feeding.writers import BatchWriter, Reason
-from rrdi.kept import KeptFile
+from rrdi.kept_file import KeptFile
 from rrdi.protocol import Answer
 from rrdi.words import encoded
 

@@ -27,7 +27,7 @@ from rrdi import by_ctypes, extension, fetching, library
 from rrdi.calls import calls
 from rrdi.errors import CANNOT_WRITE, NO_ROOM, REFUSED, BadSample, Error
 from rrdi.fetching import Asked
-from rrdi.kept import KeptFile
+from rrdi.kept_file import KeptFile
 from rrdi.limits import LATEST
 from rrdi.library import library_path
 from rrdi.protocol import DONE, Answer, OpenedFile

@@ -16,7 +16,7 @@ from rrdi.importing.rounding import Converter, as_text, millionths, raw_value
 from rrdi.importing.batch import RrdBatch, merge, share_of
 from rrdi.amounts import Millionths
 from rrdi.limits import LONGEST_LINE
-from rrdi.importing.differing import DifferingCell, NewArchive, differing_archives, differing_cells, differing_unfinished, reason
+from rrdi.importing.comparing import DifferingCell, NewArchive, differing_archives, differing_cells, differing_unfinished, reason
 from rrdi.importing.dump import RrdArchive, RrdFile, Refusal, RrdSource, read_dump
 from rrdi.importing.plan import Span, note_made_up_rows, plan
 from rrdi.importing.rates import SourceRates

@@ -15,7 +15,7 @@ from unittest import mock
 
 import doubles  # noqa: F401
 from rrdi.importing.dump import RrdArchive, RrdSource
-from rrdi.importing.overlapping import Overlapping
+from rrdi.importing.uneven_rows import Overlapping
 from rrdi.importing.plan import Span, plan
 from rrdi.importing.rates import Coarser, SourceRates, is_mean, unfinished_step
 from rrdi.importing.rates import Parts as PartsOfARow

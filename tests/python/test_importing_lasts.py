@@ -11,7 +11,7 @@ from typing import List, Optional
 import doubles  # noqa: F401
 from rrdi.importing.batch import RrdBatch
 from rrdi.importing.dump import RrdArchive, RrdFile, RrdSource
-from rrdi.importing.lasts import last_value, with_last
+from rrdi.importing.last_values import last_value, with_last
 
 NAN = math.nan
 MILLION = 10**6

@@ -1,5 +1,5 @@
 # SPDX-License-Identifier: MIT OR Apache-2.0
-"""Tests of `rrdi.kept`: when a file is opened, closed and opened again, with a library that really locks the file, and
+"""Tests of `rrdi.kept_file`: when a file is opened, closed and opened again, with a library that really locks the file, and
 answers what a test wants."""
 from __future__ import annotations
 
@@ -22,7 +22,7 @@ import rrdi
 from rrdi.by_ctypes import FileByWords
 from rrdi.errors import CANNOT_OPEN, CANNOT_WRITE, NO_MEMORY, READ_FAILED, REFUSED
 from rrdi.fetching import Asked
-from rrdi.kept import KeptFile
+from rrdi.kept_file import KeptFile
 from rrdi.protocol import DONE, Answer, OpenedFile
 from rrdi.results import Table
 

@@ -12,7 +12,7 @@ from cases import DataCase, use_library
 from rrdi.graphite import store as stores
 from rrdi.graphite.layout import template
 from rrdi.graphite.losses import Losses
-from rrdi.waiting import MOST_OF_A_FILE, MOST_OF_ALL, newest
+from rrdi.unwritten import MOST_OF_A_FILE, MOST_OF_ALL, newest
 
 NOW = 1_700_000_000
 

@@ -15,7 +15,7 @@ A point of carbon-cache, a metric `a.b` with a value and a time, goes into `a/b.
 4. `commands.batch` gives the lines to the library: one opening, one lock. Those of a new file begin with `create`, and
    `making` gives the file its name; those of late points begin with `revert`; otherwise the first line asks for the last
    time. If another program has taken samples back, or refuses a line by its own sample, the points are tried again as late.
-5. If the file cannot be written, the points wait in `store`: `waiting` says how many may, and has `damaged` rename a
+5. If the file cannot be written, the points wait in `store`: `unwritten` says how many may, and has `damaged` rename a
    damaged file. Of too many the oldest are lost; `losses` counts and logs them, and carbon gets the counts as metrics.
 
 graphite-web reads the same file by `web`, `finding` (patterns), `series` (rows as whisper gives them) and

@@ -9,12 +9,12 @@ from functools import partial
 from typing import Callable, Dict, Iterable, List, Mapping, NamedTuple, Optional, Tuple
 
 from ..commands import Batch, batch
-from ..kept import KeptFile
+from ..kept_file import KeptFile
 from ..locks import identity_at, identity_of
 from ..making import is_there, make
 from ..open_files import OpenBounds, OpenFiles
 from ..reader.selected import Front, OpenFile
-from ..waiting import MOST_OF_A_FILE, MOST_OF_ALL, newest, why
+from ..unwritten import MOST_OF_A_FILE, MOST_OF_ALL, newest, why
 from ..words import encoded_path
 from .late import plan
 from .layout import Template

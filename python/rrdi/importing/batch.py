@@ -10,9 +10,9 @@ from typing import Callable, Iterable, Iterator, Optional, Tuple
 from ..amounts import MILLION
 from ..limits import (FUNCTIONS, LATEST, LONGEST_STEP, MOST_ARCHIVES, MOST_CELLS, MOST_ROWS, MOST_SOURCES, MOST_STEPS,
                       NAME_OF_SOURCE, OF_A_NAME, TYPES)
-from .differing import NewArchive, differing_archives
+from .comparing import NewArchive, differing_archives
 from .dump import RrdArchive, RrdFile, Refusal, RrdSource
-from .lasts import is_within, last_value, with_last
+from .last_values import is_within, last_value, with_last
 from .rounding import BOUND_LIMIT, Converter, as_text, raw_value
 from .plan import note_made_up_rows, plan
 from .rates import SourceRates, unfinished_step

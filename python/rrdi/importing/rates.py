@@ -8,9 +8,9 @@ from dataclasses import dataclass, field, replace
 from ..amounts import MILLION
 from .rounding import Converter
 from .dump import RrdArchive, RrdSource
-from .overlapping import Overlapping
 from .plan import Span
 from .steps import Row, Stretches, Wanted, lay, sum_of_rest
+from .uneven_rows import Overlapping
 
 
 @dataclass

@@ -30,7 +30,7 @@ import re
 from typing import Dict, Iterator, List, NamedTuple, Optional
 
 from ..escaping import escaped
-from ..importing.differing import agree
+from ..importing.comparing import agree
 from ..limits import FUNCTIONS
 from ..printed import printed_rows
 from . import program, rrdtool_program

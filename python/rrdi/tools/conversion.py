@@ -8,7 +8,7 @@ from typing import Callable, Iterable, Iterator, List, Optional
 from ..errors import Damaged
 from ..escaping import escaped
 from ..importing.batch import RrdBatch
-from ..importing.differing import NewArchive
+from ..importing.comparing import NewArchive
 from ..importing.native import read_old
 from ..importing.whisper import WhisperFile, read_whisper, whisper_batch
 from ..kinds import WHISPER_END

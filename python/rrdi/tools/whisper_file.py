@@ -8,7 +8,7 @@ from typing import Dict, Iterator, List, NamedTuple, Optional
 from ..amounts import MILLION
 from ..graphite.layout import WITH_ZEROS, ZERO, archives_of, check_retentions, method_of, unknown_share
 from ..graphite.series import unfinished_value, value_of
-from ..importing.differing import MOST_APART, SHARE_APART
+from ..importing.comparing import MOST_APART, SHARE_APART
 from ..importing.dump import Refusal
 from ..importing.whisper import ARCHIVE, HEAD, NUMBERS, POINT, WhisperArchive, WhisperFile, read_whisper
 from ..reader.selected import OpenFile, Outline, StoredArchive
