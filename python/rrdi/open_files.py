@@ -26,7 +26,7 @@ from .words import FilePath, encoded_path, present
 
 HARMLESS = EXPLAINED | {OK}  # faults after which a file may stay open
 MEGABYTE = 1 << 20
-MEMORY_OF_A_FILE, MEMORY_OF_A_BYTE = 49_152, 3  # that an open file takes: so much, and so much for each of its bytes
+MEMORY_OF_A_FILE, MEMORY_OF_A_BYTE = 49_152, 2  # that an open file takes: so much, and so much for each of its bytes
 MOST_FILES = 1_000_000
 PART, LONGEST_PAUSE = 8, 5.0  # a look for old files comes after so small a part of their time, and after so many seconds
 
