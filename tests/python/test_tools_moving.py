@@ -59,6 +59,14 @@ class Import(ToolCase):
                          "       rrdi-import [--journal DEPTH] [--jobs N] --into DIRECTORY|--in-place OLD|TREE..",
                          [[], ["a", ""]])
 
+    def test_no_file(self) -> None:
+        """Nobody waits for whoever may write into a FIFO."""
+        for name in ("f.rrd", "f.wsp"):
+            os.mkfifo(self.folder / name)
+            self.assertEqual(self.tool("rrdi-import", name), Ran(1, "", f"rrdi-import: {name}: cannot open: not a regular file\n"))
+            ran = self.tool("rrdi-import", "--into", "new", name)
+            self.assertEqual((ran.status, ran.err), (1, f"rrdi-import: {name}: not converted: cannot open: not a regular file\n"))
+
     @needs_program
     def test_rows_that_differ(self) -> None:
         """The new file is compared with the old one: a maximum of 99 is in none of the rows of which the row consists."""

@@ -9,6 +9,7 @@ from ..errors import Damaged
 from ..escaping import escaped
 from ..importing.batch import RrdBatch
 from ..importing.comparing import NewArchive
+from ..importing.dump import Refusal
 from ..importing.native import read_old
 from ..importing.whisper import WhisperFile, read_whisper, whisper_batch
 from ..kinds import WHISPER_END
@@ -60,6 +61,8 @@ class Conversion:
         - `OSError` if a file of whisper can't be opened or read.
         - `Failure` if rrdtool is needed to read it and not installed.
         """
+        if os.path.exists(self.old) and not os.path.isfile(self.old):  # nobody waits for who writes into a FIFO
+            raise Refusal("cannot open: not a regular file")
         if self.old.endswith(WHISPER_END):
             self._whisper = read_whisper(self.old)
             lines, there = whisper_batch(self._whisper, self.journal, self.note), 0
