@@ -281,9 +281,10 @@ sub _picture {
     require File::Temp;
     my $drawn = File::Temp->new(SUFFIX => '.rrdi-graph');
     my $lines = _ask($name, $drawn->filename, @words) or return;
-    binmode $drawn;
+    # The picture is another file, which has taken the place of the empty one.
+    open my $picture, '<:raw', $drawn->filename or do { $error = "opening the picture: $!"; return };
     local $/;
-    return ($lines, scalar readline $drawn);
+    return ($lines, scalar readline $picture);
 }
 
 # Returns the texts of PRINT, and the width and the height.

@@ -96,6 +96,17 @@ class BesideRRDs(PerlCase):
         self.assertEqual(self.read("r.rrd")[:4], b"RRDI")
 
 
+@unittest.skipUnless(PERL, "perl is not installed")
+class ForStandardOutput(ToolCase):
+    def test_a_picture_that_takes_the_place_of_a_file(self) -> None:
+        """The module reads the new file, and not the empty one that it made."""
+        assert PERL
+        tool = self.stub("rrdi-rrdtool", "read name file words\nprintf picture > new\nmv new $file\nprintf 'OK 5\\n10x20'")
+        for script in ("$\\ = 'x'; RRDs::graph('-', 'LINE1')", "print RRDs::graphv('-', 'LINE1')->{image}"):
+            ran = self.run_command([PERL, f"-I{TOP}/perl", "-MRRDs", "-e", script], env={"RRDI_RRDTOOL": tool})
+            self.assertEqual(ran, Ran(0, "picture", ""))
+
+
 # Each call of the system is interrupted as often as the argument says, and then reads or writes one byte.
 INTERRUPTED = r"""
 use Errno qw(EINTR);
