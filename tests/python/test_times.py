@@ -122,6 +122,14 @@ class Times(unittest.TestCase):
                          ["p.png", "--start", f"{NOON}", "--end=1704106900", f"-s{NOON}", "-e", "now",
                           "DEF:a=f:g:LAST:start=noon"])
 
+    def test_a_time_that_clocks_show_twice_in_a_graph(self) -> None:
+        """A start is the earlier one, and an end the later one, as in the other tools."""
+        text, begin, end = "2024-10-27 02:30", "1729989000", "1729992600"
+        for first, second in (("-s", "-e"), ("--start", "--end")):
+            self.assertEqual(with_times([first, text, second, text]), [first, begin, second, end])
+        for first, second in (("-s", "-e"), ("--start=", "--end=")):
+            self.assertEqual(with_times([first + text, second + text]), [first + begin, second + end])
+
     def test_times_of_a_graph_before_1980(self) -> None:
         """RRDtool reads such digits as an hour of today, a month or a date."""
         for text in ("@0", "@20240101", "@315360000", "1970-08-23T06:15:01Z"):

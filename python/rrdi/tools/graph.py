@@ -37,13 +37,13 @@ MOST_OF_A_DATE = 315_360_000  # up to here RRDtool reads digits as an hour or a 
 TIME = re.compile("((?:--start|--end)=|-[se])(.+)")
 
 
-def in_digits(text: str) -> str:
+def in_digits(text: str, is_end: bool) -> str:
     """Returns a time in a form that RRDtool's library reads: not `epoch+SECONDS`, of which RRDtool 1.7.2 reads another one.
 
     # Errors
     `WrongArguments` if the time is before 1980: RRDtool reads fewer seconds as an hour or a date, and draws none before.
     """
-    seconds = typed_seconds(text)
+    seconds = typed_seconds(text, is_end)
     if seconds is not None and seconds <= MOST_OF_A_DATE:
         raise WrongArguments(f"RRDtool draws nothing before 1980: {text!r}")
     return text if seconds is None else str(seconds)
@@ -55,9 +55,9 @@ def with_times(words: List[str]) -> List[str]:
     for word in words:
         joined = TIME.fullmatch(word)
         if before in ("-s", "-e", "--start", "--end"):
-            word = in_digits(word)
+            word = in_digits(word, before in ("-e", "--end"))
         elif joined is not None:
-            word = joined[1] + in_digits(joined[2])
+            word = joined[1] + in_digits(joined[2], joined[1] in ("-e", "--end="))
         found.append(word)
         before = word
     return found
