@@ -147,7 +147,8 @@ def old_cells(text: str) -> OldCells:
 
 
 def compare_archive(old: str, new: str, span: ArchiveSpan) -> Counts:
-    words = [span.function, "-r", str(span.seconds), "-s", str(max(span.begin, EARLIEST)), "-e", str(span.end)]
+    begin = EARLIEST if span.begin < EARLIEST < span.end else span.begin
+    words = [span.function, "-r", str(span.seconds), "-s", str(begin), "-e", str(span.end)]
     try:
         cells = old_cells(rrdtool_program.ask(["fetch", old, *words]))
     except Failure as failure:
