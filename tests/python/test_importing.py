@@ -340,6 +340,10 @@ class Batches(unittest.TestCase):
             self.assertEqual(lines[0].split(" ")[5:], ["DS:s0:GAUGE:9999999999:U:U", "RRA:MAX:0.5:1:2"])
         _, notes = self.lines(RrdFile(10, 1000, [source()], [archive(0, "MAX", 1, rows), archive(1, "AVERAGE", 0, rows)]))
         self.assertEqual(notes, ["skipped archive 1, AVERAGE: its rows have no steps"])
+        _, notes = self.lines(RrdFile(10, 1000, [source()], [archive(0, "MAX", 1, rows), archive(1, "AVERAGE", 1, [])]))
+        self.assertEqual(notes, ["skipped archive 1, AVERAGE: it has no rows"])
+        with self.assertRaisesRegex(Refusal, "^the last time is before 1970$"):
+            self.lines(RrdFile(10, -1, [source()], [archive(0, "MAX", 1, rows)]))
 
     def test_tiny_numbers(self) -> None:
         """A mean of 0 is not that of rows with 5 and a number that is nearly 0."""

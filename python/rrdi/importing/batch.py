@@ -82,6 +82,8 @@ def choose_archives(old: RrdFile, sources: int, note: Callable[[str], None]) -> 
             why = "an archive in rrdi has at most 1,000,000 rows"
         elif archive.steps < 1:
             why = "its rows have no steps"
+        elif archive.row_count < 1:
+            why = "it has no rows"
         elif not 0 <= archive.share < 1:  # nan is neither
             why = f"its xff is not from 0 to below 1, but {archive.share}"
         else:
@@ -156,6 +158,8 @@ class RrdBatch:
             raise Refusal("a step of the file has no seconds")
         if old.step > LONGEST_STEP:
             raise Refusal("a step of rrdi has at most 1,000,000 seconds")
+        if old.last < 0:
+            raise Refusal("the last time is before 1970")
         if old.last > LATEST:
             raise Refusal(f"the last time is after {LATEST}")
         self.old, self.journal, self.note, self.converter = old, journal, note, Converter()
