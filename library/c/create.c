@@ -16,6 +16,7 @@
 /* Room for the longest path and its end, and for what the other name has besides. */
 #define PATH_ROOM 4096
 #define OTHER_ROOM (PATH_ROOM + 48)
+#define NUMBER_ROOM 32
 
 static bool is_create(const uint8_t *words, size_t words_length) {
     return words_length >= 6 && !memcmp(words, "create", 6) && (words_length == 6 || !words[6]);
@@ -44,6 +45,23 @@ static void explain(const char *path, size_t path_length, int error, struct rrdi
         text[at] = (char)(text[at] - 'A' + 'a');
 }
 
+/* Puts the path in place of the one by which the file was made, which tells nobody anything, where an explanation begins with
+ * that. */
+static void name_path(const char *path, size_t path_length, const char *made, struct rrdi_answer *answer) {
+    char why[RRDI_EXPLANATION], *text = (char *)answer->explanation;
+    size_t at = 0, begin = strlen(made) + 2, length;
+    if (answer->explanation_length < begin || memcmp(text, made, begin - 2))
+        return;
+    length = answer->explanation_length - begin;
+    memcpy(why, text + begin, length);
+    if (is_printable(path, path_length))
+        at = (size_t)snprintf(text, RRDI_EXPLANATION, "%.*s: ", (int)path_length, path);
+    if (length > RRDI_EXPLANATION - at)
+        length = RRDI_EXPLANATION - at;
+    memcpy(text + at, why, length);
+    answer->explanation_length = at + length;
+}
+
 /* Makes a string of the path of a file that is not there yet. Returns 0 or an errno. */
 static int read_path(const char *path, size_t path_length, char *name) {
     if (path_length >= PATH_ROOM)
@@ -61,18 +79,47 @@ static int take_name(const char *name) {
     return open(name, O_RDWR | O_CREAT | O_EXCL | O_CLOEXEC, 0666);
 }
 
-/* Takes another name beside the name. mkstemp would do the same, but nobody else could read its file. Returns 0 or an errno. */
-static int take_other(const char *name, char *other) {
+/* Moves a file that took the number of a standard stream to a higher number: if the stream is closed, what the program writes
+ * to the stream must not land in the file. */
+static int above_streams(int descriptor) {
+    int higher;
+    if (descriptor > STDERR_FILENO)
+        return descriptor;
+    higher = fcntl(descriptor, F_DUPFD_CLOEXEC, STDERR_FILENO + 1);
+    close(descriptor);
+    return higher;
+}
+
+/* Takes another name beside the name by an empty file, and keeps that open. mkstemp would do the same, but nobody else could
+ * read its file. Returns 0 or an errno. */
+static int take_other(const char *name, char *other, int *descriptor) {
     unsigned number = 0;
-    int descriptor;
     do {
         snprintf(other, OTHER_ROOM, "%s.new-%ld-%u", name, (long)getpid(), number++);
-        descriptor = take_name(other);
-    } while (descriptor < 0 && errno == EEXIST);
-    if (descriptor < 0)
-        return errno;
-    close(descriptor);
-    return 0;
+        *descriptor = take_name(other);
+    } while (*descriptor < 0 && errno == EEXIST);
+    return *descriptor < 0 ? errno : 0;
+}
+
+static bool is_utf_8(const char *text) {
+    for (const unsigned char *at = (const unsigned char *)text; *at;) {
+        unsigned first = *at, second = at[1], more = first < 0x80 ? 0 : first < 0xe0 ? 1 : first < 0xf0 ? 2 : 3;
+        if ((first >= 0x80 && first < 0xc2) || first > 0xf4 || (first == 0xe0 && second < 0xa0) ||
+            (first == 0xed && second > 0x9f) || (first == 0xf0 && second < 0x90) || (first == 0xf4 && second > 0x8f))
+            return false;
+        for (at++; more; more--, at++) {
+            if ((*at & 0xc0) != 0x80)
+                return false;
+        }
+    }
+    return true;
+}
+
+/* Returns a path that leads to the open file, whatever has its name: whoever may write the directory may put a link to any file
+ * there, and `create` replaces a file. Without /proc it is the name, and so is one that rrdi_run_file refuses. */
+static const char *path_of(int descriptor, const char *other, char *by_number) {
+    snprintf(by_number, NUMBER_ROOM, "/proc/self/fd/%d", descriptor);
+    return descriptor < 0 || !is_utf_8(other) || access(by_number, F_OK) ? other : by_number;
 }
 
 /* Checks whether another program has filled the empty file with which this one took a name, or has given the name to a file of
@@ -119,7 +166,9 @@ static int give_name(const char *other, const char *name) {
 
 void rrdi_create_new(const char *path, size_t path_length, const uint8_t *words, size_t words_length, uint64_t now,
                      uint64_t wait, bool syncs, uint8_t *output, size_t output_room, struct rrdi_answer *answer) {
-    char name[PATH_ROOM], other[OTHER_ROOM];
+    char name[PATH_ROOM], other[OTHER_ROOM], by_number[NUMBER_ROOM];
+    const char *made;
+    int descriptor = -1;
     path_length = path ? path_length : 0;
     if (!words || !is_create(words, words_length)) {
         rrdi_refuse(RRDI_USAGE, 0, "", output, output_room, answer);
@@ -127,10 +176,15 @@ void rrdi_create_new(const char *path, size_t path_length, const uint8_t *words,
     }
     int error = read_path(path, path_length, name);
     if (!error)
-        error = take_other(name, other);
+        error = take_other(name, other, &descriptor);
     if (!error) {
-        rrdi_run_file(other, strlen(other), words, words_length, now, wait, syncs, output, output_room, answer);
+        descriptor = above_streams(descriptor);
+        made = path_of(descriptor, other, by_number);
+        rrdi_run_file(made, strlen(made), words, words_length, now, wait, syncs, output, output_room, answer);
+        if (descriptor >= 0)
+            close(descriptor);
         if (answer->fault) {
+            name_path(path, path_length, made, answer);
             unlink(other);
             return;
         }

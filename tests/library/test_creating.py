@@ -139,3 +139,12 @@ def test_processes_that_make_one_file(count: int, creator: Creator, check: Check
 @pytest.mark.parametrize("way", LINKS)
 def test_a_file_that_is_made_in_part(way: str, creator: Creator, check: Check) -> None:
     creator.try_disturbed(way, check)
+
+
+@pytest.mark.parametrize("before", (b"important", b""))
+def test_a_link_in_place_of_the_other_file(before: bytes, built: Library, folder: Path) -> None:
+    """Whoever may write the directory puts a link there: the file to which it leads stays as it is."""
+    victim = folder / "victim"
+    victim.write_bytes(before)
+    Program(str(built.program("swapped.c"))).run([NEW, str(victim)], cwd=folder)
+    assert victim.read_bytes() == before
