@@ -99,8 +99,7 @@ sub _quote {
 }
 
 sub _write {
-    my ($text) = @_;
-    my $pipe = $to;  # as in _read
+    my ($pipe, $text) = @_;
     no warnings 'closed';
     local $SIG{PIPE} = 'IGNORE';
     my ($at, $interrupted) = (0, 0);
@@ -131,7 +130,7 @@ sub _bytes {
 # Reads an answer: a line with OK or ERROR and the length of each text, and then the texts. Returns OK or ERROR and the
 # texts; or returns nothing if the program ended or did not answer in this form.
 sub _read {
-    my $pipe = $from;  # a call in a handler of a signal may close it, and start another process
+    my ($pipe) = @_;
     no warnings 'closed';
     local $/ = "\n";  # the caller's lines may end in another way, or not at all
     my $head = readline $pipe;
@@ -150,9 +149,11 @@ sub _read {
 # Sends a line. Returns the texts of the answer; or returns undef, and sets the error.
 sub _answer {
     my ($line) = @_;
+    # A call in a handler of a signal may close these, and start another process, whose answers are not for this call.
+    my ($into, $out_of) = ($to, $from);
     $is_busy = 1;
     local $.;  # so that later warnings of the program don't name this pipe
-    my ($status, @texts) = _write("$line\n") ? _read() : ();
+    my ($status, @texts) = _write($into, "$line\n") ? _read($out_of) : ();
     if (not defined $status) {
         my $program = _program();
         _stop();

@@ -172,6 +172,15 @@ show outer => RRDs::last('slow'); show last => RRDs::last('f');"""
         self.assertEqual(self.perl(script, f"-I{TOP}/perl", env={"RRDI_RRDTOOL": slow}),
                          f"inner: 7; undef\nouter: undef; {slow} ended; is it installed?\nlast: 7; undef\n")
 
+    def test_a_call_in_a_handler_before_the_answer(self) -> None:
+        """The call that was interrupted takes no answer of the process that the handler has begun."""
+        late = self.stub("late", "read line; printf 'OK 1\\n7'; sleep 1; printf 'OK 1\\n8'; read line")
+        script = r"""local $SIG{ALRM} = sub { show inner => RRDs::last('f') }; $| = 1; my ($read, $count) = (\&RRDs::_read, 1);
+{ no warnings 'redefine'; *RRDs::_read = sub { kill ALRM => $$ if $count-- > 0; $read->(@_) } }
+show outer => RRDs::last('f'); show last => RRDs::last('f');"""
+        self.assertEqual(self.perl(script, f"-I{TOP}/perl", env={"RRDI_RRDTOOL": late}),
+                         f"inner: 7; undef\nouter: undef; {late} ended; is it installed?\nlast: 7; undef\n")
+
     def installed(self) -> str:
         """Installs the module with a program beside it, as `make install` does: in taint mode only that one is run."""
         (self.folder / "perl").mkdir()

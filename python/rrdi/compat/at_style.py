@@ -159,12 +159,14 @@ class Moment:
                 raise Untranslatable(f"this time is relative to itself: {self.text}")
             parts = [part + moved for part, moved in zip(time.localtime(base), parts)]
             is_summer = time.localtime(base).tm_isdst
-        # A clock that was set back shows one time twice: that of now is now.
-        is_now = is_summer < 0 and parts == list(time.localtime(self.now)[:6])
         try:
-            told = (self.now if is_now else seconds_of(parts, is_summer)) + self.offset
+            told = seconds_of(parts, is_summer)  # of now too: mktime puts a day that was left out near what it told last
         except (OverflowError, ValueError):
             return self.refuse()
+        # A clock that was set back shows one time twice: that of now is now.
+        if is_summer < 0 and parts == list(time.localtime(self.now)[:6]):
+            told = self.now
+        told += self.offset
         if told < 0:
             self.refuse()
         return told

@@ -98,14 +98,22 @@ def print_help(tool: Tool) -> int:
     return 0
 
 
+def print_version(tool: Tool) -> int:
+    """Prints the version of a tool, and returns 0."""
+    print(tool.version or f"{tool.name} {__version__}")
+    return 0
+
+
 def run_or_help(tool: Tool, words: List[str]) -> int:
-    """Runs a tool with these words. If they ask for its help, and are otherwise wrong, prints that."""
+    """Runs a tool, or prints its help or version if words that ask for that are refused without a reason."""
     try:
         return tool.run(words)
     except WrongArguments as wrong:
-        if str(wrong) or not {"-h", "--help"}.intersection(words):
-            raise
-        return print_help(tool)
+        if not str(wrong) and {"-h", "--help"}.intersection(words):
+            return print_help(tool)
+        if not str(wrong) and "--version" in words:
+            return print_version(tool)
+        raise
 
 
 def run(tool: Tool, words: Optional[List[str]] = None) -> int:
@@ -120,8 +128,7 @@ def run(tool: Tool, words: Optional[List[str]] = None) -> int:
         if words[:1] in (["-h"], ["--help"]):
             status = print_help(tool)
         elif words[:1] == ["--version"]:
-            print(tool.version or f"{tool.name} {__version__}")
-            status = 0
+            status = print_version(tool)
         else:
             status = run_or_help(tool, words)
         flush_output()

@@ -41,7 +41,7 @@ def in_digits(text: str, is_end: bool) -> str:
     """Returns a time in a form that RRDtool's library reads: not `epoch+SECONDS`, of which RRDtool 1.7.2 reads another one.
 
     # Errors
-    `WrongArguments` if the time is before 1980: RRDtool reads fewer seconds as an hour or a date, and draws none before.
+    `WrongArguments` if `typed_seconds` finds 1979-12-30 or earlier: RRDtool reads these as an hour or date, and draws none.
     """
     seconds = typed_seconds(text, is_end)
     if seconds is not None and seconds <= MOST_OF_A_DATE:
