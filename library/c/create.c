@@ -103,7 +103,7 @@ static int take_other(const char *name, char *other, int *descriptor) {
 
 static bool is_utf_8(const char *text) {
     for (const unsigned char *at = (const unsigned char *)text; *at;) {
-        unsigned first = *at, second = at[1], more = first < 0x80 ? 0 : first < 0xe0 ? 1 : first < 0xf0 ? 2 : 3;
+        unsigned first = *at, second = at[1], more = (first >= 0x80) + (first >= 0xe0) + (first >= 0xf0);
         if ((first >= 0x80 && first < 0xc2) || first > 0xf4 || (first == 0xe0 && second < 0xa0) ||
             (first == 0xed && second > 0x9f) || (first == 0xf0 && second < 0x90) || (first == 0xf4 && second > 0x8f))
             return false;
