@@ -117,7 +117,7 @@ BEGIN {
     *CORE::GLOBAL::read = sub (*\$$;$) { my $got = one(); ${$_[1]} .= 'x' if $got; return $got };
 }
 use RRDs;
-print RRDs::_write('abc'), " $calls";
+print RRDs::_write(undef, 'abc'), " $calls";
 $calls = 0;
 print ' ', RRDs::_bytes(undef, 3) // 'none', " $calls\n";
 """
