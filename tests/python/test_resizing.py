@@ -82,13 +82,13 @@ class Copies(unittest.TestCase):
         self.assertEqual((raised.exception.filename, raised.exception.strerror), ("none.rrd", "No such file or directory"))
 
     def test_an_older_one_goes_if_the_file_cannot_be_read(self) -> None:
-        """A script that goes on would move it to the place of the file."""
-        for path in ("f.rrd", "none.rrd"):
+        """A script that goes on would move it to the place of the file. A name that is none costs nothing."""
+        for path, left in (("f.rrd", ["f.rrd"]), ("none.rrd", ["f.rrd", "resize.rrd"])):
             (self.folder / "resize.rrd").write_bytes(b"old")
             with open("f.rrd", "r+b") as held, mock.patch.object(environment, "WAIT", 0):
                 fcntl.flock(held, fcntl.LOCK_EX)
                 self.assertRaises(OSError, resize_copy, path, len)
-            self.assertEqual(self.names(), ["f.rrd"], path)
+            self.assertEqual(self.names(), left, path)
 
     def test_it_waits_for_a_change(self) -> None:
         """The copy is of the file after the change that holds the lock."""

@@ -13,8 +13,8 @@ def resize_copy(file: str, resize: Callable[[str], object]) -> None:
     """Calls `resize` on a copy of a file, and gives the copy the name resize.rrd.
 
     The file is read under a shared lock, so that no other program changes the file meanwhile. If it cannot be resized, there
-    is no resize.rrd, so a script that goes on moves no older copy to the place of the file; but a file that has this name
-    itself stays.
+    is no resize.rrd, so a script that goes on moves no older copy to the place of the file. But a file that has this name
+    itself stays, and so does an older copy if there is no file of the given name, whose place it could take.
 
     # Errors
     `OSError` with a file name if the file cannot be read or locked, or the copy cannot be written.
@@ -39,10 +39,11 @@ def has_its_name(file: str) -> bool:
     """Checks whether a file is the one that has the name resize.rrd in this directory, and not only a link leads to it.
 
     # Errors
-    `OSError` if the system can't look at it.
+    `OSError` if there is no such file, or the system can't look at it.
     """
+    found = os.stat(file)
     try:
-        return os.path.samestat(os.stat(file), os.lstat(RESIZED))
+        return os.path.samestat(found, os.lstat(RESIZED))
     except FileNotFoundError:
         return False
 
