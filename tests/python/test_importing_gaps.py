@@ -379,6 +379,14 @@ class Parts(unittest.TestCase):
         self.assertEqual([[rates.can_drop(span, time, steps) for steps in (0, 1)] for time in (6, 12, 18)],
                          [[True, False], [True, False], [True, True]])
 
+    def test_as_many_steps_as_a_row_can_lack(self) -> None:
+        """No more than a row may have dropped, than are too many, and than its numbers allow."""
+        for most, excess, allowed, wanted in ((4, 3, 9, {0: 3}), (2, 3, 9, {0: 2, 6: 1}), (4, 6, 3, {0: 3, 6: 3}), (4, 2, 1, {0: 1, 6: 1}),
+                                              (4, 1, 0, {0: 0, 6: 0}), (4, 0, 9, {})):
+            rates, coarser = mock.Mock(can_drop=lambda span, time, steps: steps <= allowed), Coarser(0)
+            SourceRates.drop_until_unknown(rates, mock.Mock(most_dropped=most), coarser, mock.Mock(known=[0, 6]), excess)
+            self.assertEqual(coarser.dropped, wanted, (most, excess, allowed))
+
     def test_where_an_extreme_goes(self) -> None:
         """Into the row with the least average of a longer row, or the greatest, the first and the last row included."""
         for place in range(6):
@@ -390,6 +398,16 @@ class Parts(unittest.TestCase):
                     rates.add_extremes(Span(0, 36, archives[0], archives), row, 6 * at)
                 found = [row.minimum if function == "MIN" else row.maximum for row in rows]
                 self.assertEqual(found, [round(cell * 1_000_000) if at == place else None for at in range(6)])
+
+    def test_longer_rows_that_show_no_extreme(self) -> None:
+        """One that is unknown, or not whole in the span; and none shows that of a row that is unknown."""
+        known = [10.0, 5.0] + [10.0] * 4
+        for begin, end, cell, means, found in ((0, 36, 2.0, known, 2_000_000), (0, 36, NAN, known, None), (0, 36, 2.0, [NAN] * 6, None),
+                                               (6, 36, 2.0, known, None), (0, 30, 2.0, known, None)):
+            archives = [archive_of(0, Kind("AVERAGE", 6, 6), means, 36), archive_of(1, Kind("MIN", 36, 1), [cell], 36)]
+            row = Row(True, means[1])
+            SourceRates(0, 1, 36, Converter()).add_extremes(Span(begin, end, archives[0], archives), row, 12)
+            self.assertEqual(row.minimum, found, (begin, end, cell, means))
 
     def test_the_fewest_steps_that_make_a_row_unknown(self) -> None:
         """Of 36 steps 18 may be unknown; of 30 in known rows, 13 are then unknown too."""

@@ -8,7 +8,8 @@ import struct
 import sys
 import unittest
 import zlib
-from typing import List, Tuple
+from typing import Any, List, Tuple
+from unittest import mock
 
 from cases import needs_program
 from doubles import PROGRAM, TOP
@@ -255,3 +256,24 @@ class NoLibrary(unittest.TestCase):
         with mock.patch.object(librrd, "NAMES", ("libc.so.6",)), \
                 self.assertRaisesRegex(Failure, "RRDtool's library is too old: .*rrd_graph_v"):
             graphing.Grapher()
+
+
+class Memory(unittest.TestCase):
+    """What RRDtool has allocated for an answer is given back."""
+
+    def test_of_rows(self) -> None:
+        texts = [ctypes.create_string_buffer(name) for name in (b"a", b"b")]
+        addresses = (ctypes.c_void_p * 2)(*map(ctypes.addressof, texts))
+        cells = (ctypes.c_double * 4)(1, 2, 3, 4)
+
+        def xport(*words: Any) -> int:
+            for word, value in zip(words[3:], (0, 20, 10, 2, ctypes.addressof(addresses), ctypes.addressof(cells))):
+                word._obj.value = value
+            return 0
+        opened = librrd.Librrd.__new__(librrd.Librrd)
+        opened.library = mock.Mock(rrd_xport=xport)
+        found = opened.xport([], mock.Mock())
+        self.assertEqual((found.names, found.rows), (["a", "b"], [(1, 2), (3, 4)]))
+        freed = [call.args[0] if isinstance(call.args[0], int) else call.args[0].value
+                 for call in opened.library.rrd_freemem.call_args_list]
+        self.assertEqual(freed, [*addresses, ctypes.addressof(addresses), ctypes.addressof(cells)])
