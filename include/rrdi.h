@@ -409,7 +409,7 @@ static inline struct rrdi_value rrdi_millionths(int64_t number) {
 
 /* Returns the number rounded to millionths, as printf rounds it by %.6f: to the nearest, and a number in the middle to the even
  * one. A number that is not a number is no value. A number of 2^64 or more, or an infinite one, becomes one that each data source
- * refuses, as each refuses numbers from 10^18 on. For a GAUGE or an ABSOLUTE. */
+ * refuses: it has a decimal point, and is above 10^18. For a GAUGE or an ABSOLUTE. */
 static inline struct rrdi_value rrdi_double(double number) {
     struct rrdi_value value = {0, 0, RRDI_UNKNOWN, false};
     uint64_t bits, part, high, low, rounded;

@@ -74,19 +74,18 @@ static int read_path(const char *path, size_t path_length, char *name) {
     return access(name, F_OK) ? 0 : EEXIST;
 }
 
-/* Takes a name by an empty file. Returns a descriptor, or -1 and sets errno: EEXIST if the name is taken. */
+/* Takes a name by an empty file. Returns a descriptor, or -1 and sets errno: EEXIST if the name is taken. It is above those of the
+ * standard streams: if one of these is closed, what the program writes to it must not land in the file. */
 static int take_name(const char *name) {
-    return open(name, O_RDWR | O_CREAT | O_EXCL | O_CLOEXEC, 0666);
-}
-
-/* Moves a file that took the number of a standard stream to a higher number: if the stream is closed, what the program writes
- * to the stream must not land in the file. */
-static int above_streams(int descriptor) {
-    int higher;
-    if (descriptor > STDERR_FILENO)
+    int descriptor = open(name, O_RDWR | O_CREAT | O_EXCL | O_CLOEXEC, 0666), higher, error;
+    if (descriptor < 0 || descriptor > STDERR_FILENO)
         return descriptor;
     higher = fcntl(descriptor, F_DUPFD_CLOEXEC, STDERR_FILENO + 1);
+    error = errno;
     close(descriptor);
+    if (higher < 0)
+        unlink(name);
+    errno = error;
     return higher;
 }
 
@@ -119,7 +118,7 @@ static bool is_utf_8(const char *text) {
  * there, and `create` replaces a file. Without /proc it is the name, and so is one that rrdi_run_file refuses. */
 static const char *path_of(int descriptor, const char *other, char *by_number) {
     snprintf(by_number, NUMBER_ROOM, "/proc/self/fd/%d", descriptor);
-    return descriptor < 0 || !is_utf_8(other) || access(by_number, F_OK) ? other : by_number;
+    return !is_utf_8(other) || access(by_number, F_OK) ? other : by_number;
 }
 
 /* Checks whether another program has filled the empty file with which this one took a name, or has given the name to a file of
@@ -178,11 +177,9 @@ void rrdi_create_new(const char *path, size_t path_length, const uint8_t *words,
     if (!error)
         error = take_other(name, other, &descriptor);
     if (!error) {
-        descriptor = above_streams(descriptor);
         made = path_of(descriptor, other, by_number);
         rrdi_run_file(made, strlen(made), words, words_length, now, wait, syncs, output, output_room, answer);
-        if (descriptor >= 0)
-            close(descriptor);
+        close(descriptor);
         if (answer->fault) {
             name_path(path, path_length, made, answer);
             unlink(other);
