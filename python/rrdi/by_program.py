@@ -9,7 +9,7 @@ from typing import Iterator, List, Tuple
 
 from .errors import CANNOT_OPEN, CANNOT_WRITE, ERROR, OK, READ_FAILED, details_in, fault_of
 from .protocol import DONE, Answer
-from .words import as_bytes, as_text
+from .words import as_bytes, as_text, numbers_in
 
 EXPLAINED = "rrdi: "  # begins the line of an explanation
 IN_USE = "in use by another program"  # begins the reason if another program holds the lock
@@ -38,27 +38,28 @@ class ByProgram:
 
     def run_file(self, path: bytes, words: bytes, now: int, wait: int, syncs: bool) -> Answer:
         name, *others = words.split(b"\0")
-        answer = self._ran([name, as_argument(path), *others], b"", wait, syncs, [0])
+        answer = self._ran([name, path, *others], b"", wait, syncs, [0])
         return answer if answer.fault or answer.output else DONE
 
     def batch_file(self, path: bytes, lines: bytes, now: int, wait: int, syncs: bool) -> Answer:
         # What `last` prints after each line shows which line an output is of.
         given = lines.split(b"\n")
         mixed = b"".join(line + b"\nlast\n" for line in given)
-        answer = self._ran([b"batch", as_argument(path)], mixed, wait, syncs, [0, 1])
+        answer = self._ran([b"batch", path], mixed, wait, syncs, [0, 1])
         if answer.fault != OK:
             return answer
         output, refused = of_lines(given, answer.output)
         return answer._replace(output=output, refused=refused, explanation=of_every_second(answer.explanation))
 
     def _ran(self, words: List[bytes], given: bytes, wait: int, syncs: bool, ends: List[int]) -> Answer:
-        """Runs the program, which ends without a message with one of the statuses `ends`."""
+        """Runs the program, which ends without a message with one of the statuses `ends`, with a command, FILE and words."""
         import subprocess  # the library needs no process
+        name, path, *others = words
         env = {**os.environ, "RRDI_WAIT": str(wait // 1_000), "RRDI_SYNC": "1" if syncs else "0"}
         try:
             # In a session of its own, so that a key that ends a tool does not end a run that writes.
-            ran = subprocess.run([os.fsencode(self.program), *words], input=given, capture_output=True, env=env,
-                                 start_new_session=True)
+            ran = subprocess.run([os.fsencode(self.program), name, as_argument(path), *others], input=given, env=env,
+                                 capture_output=True, start_new_session=True, pass_fds=numbers_in(path))
         except OSError as error:
             raise NoAnswer(self.program, error.strerror or str(error)) from None
         # The first line is that of the fault, if there is one; after an explanation may follow how rrdi is used.

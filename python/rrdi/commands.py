@@ -161,21 +161,14 @@ def creation(definitions: Iterable[Words], step: Optional[Span], start: Optional
 def make_at(path: FilePath, fill: Callable[[str], Filled]) -> Optional[Filled]:
     """Calls `fill` with another name, gives the whole file its name `path`, and returns what `fill` returned.
 
-    Returns None if there is a file at `path`, which stays as it is. `fill` may leave no file.
+    Returns None if there is a file at `path`, which stays as it is. `fill` may leave the file empty: then there is none.
     """
     if os.path.exists(encoded_path(path)):
         return None
     from .making import make  # here, since most calls make no file
     the_library()  # that there is none is no fault of the file
-
-    def fill_named(new: str) -> Filled:
-        try:
-            return fill(new)
-        except Error as error:
-            error.path = os.fsdecode(path)
-            raise
     try:
-        return make(path, fill_named)
+        return make(path, fill)
     except Error:  # of which some are an OSError
         raise
     except OSError as error:
@@ -318,7 +311,7 @@ def lines_of(lines: Lines) -> List[str]:
     """
     if isinstance(lines, str):
         return lines.split("\n")
-    found = [line[:-1] if line.endswith("\n") else line for line in lines]
+    found = [line[:-1] if str.endswith(line, "\n") else line for line in lines]
     if any("\n" in line for line in found):
         raise Usage("usage", None, USAGE, detail="a line has a line feed inside")
     return found

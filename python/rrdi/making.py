@@ -2,7 +2,8 @@
 """Makes files, and never in place of another file.
 
 A file is filled under another name in the same folder, and a link gives it its own name when it is whole. A link fails if
-there is a file of this name. So nobody sees half a file, and of two programs that make one file the first one counts.
+there is a file of this name. So nobody sees half a file, and of two programs that make one file the first one counts. Whoever
+may write the folder may put a link to any file in place of the other name, so the file is filled by its number.
 """
 from __future__ import annotations
 
@@ -15,7 +16,8 @@ from contextlib import suppress
 from io import FileIO
 from typing import Callable, List, Optional, TypeVar, Union
 
-from .locks import EXCLUSIVE, check_regular, close, lock, open_file
+from .errors import Error
+from .locks import EXCLUSIVE, close, lock, open_file
 from .words import FilePath
 
 Filled = TypeVar("Filled")
@@ -66,40 +68,68 @@ def end_of_links(path: str) -> str:
 
 
 class NewFile:
-    """A file that is being made. What is left under `unfinished` is removed at the end.
+    """A file that is being made. It is removed at the end if it got no name.
 
         with NewFile("a/b.rrdi") as new:
             rrdi.create(new.unfinished, ..)
             is_made = new.appear()
 
     If `path` is a link to a file that does not exist, that file is made, unless `follows` is false. `makes_folder` makes the
-    folder too.
+    folder too, and `mode` says who may open the file, as far as the umask lets them.
 
     # Errors
-    `OSError` if the folder can't be made, or the system can't look at the path.
+    `OSError` if the file or its folder can't be made, or the system can't look at the path.
     """
 
-    def __init__(self, path: FilePath, makes_folder: bool = False, follows: bool = True):
-        self.path = end_of_links(os.fsdecode(path)) if follows else os.fsdecode(path)
+    unfinished: str  # a path at which there is an empty file, which is to be filled
+
+    def __init__(self, path: FilePath, makes_folder: bool = False, follows: bool = True, mode: int = 0o666):
+        self.path, self._mode = end_of_links(os.fsdecode(path)) if follows else os.fsdecode(path), mode
         folder = os.path.dirname(self.path)
-        self.unfinished = os.path.join(folder, f".rrdi-{secrets.token_hex(8)}.new")
+        self._name = os.path.join(folder, f".rrdi-{secrets.token_hex(8)}.new")
         if makes_folder and folder:
             os.makedirs(folder, exist_ok=True)
 
     def __enter__(self) -> NewFile:
+        try:
+            self._file = open_file(self._name, os.O_RDWR | os.O_CREAT | os.O_EXCL, self._mode)
+        except OSError as error:
+            raise self._of_name(error) from None
+        self.unfinished = path_of(self._file.fileno(), self._name)
         return self
 
     def __exit__(self, *_: object) -> None:
-        with suppress(OSError):  # it has its name, there never was one, or it stays: what was made counts all the same
-            os.unlink(self.unfinished)
+        with suppress(OSError):  # it has its name, or it stays: what was made counts all the same
+            os.unlink(self._name)
+        with suppress(OSError):
+            self._file.close()
 
     def is_filled(self) -> bool:
-        """Checks whether there is something under the other name: a refused `create` leaves no file.
+        """Checks whether there is something in the file: a refused `create` leaves it empty."""
+        return os.fstat(self._file.fileno()).st_size > 0
+
+    def flush(self) -> None:
+        """Waits until the file is on the disk.
 
         # Errors
-        `OSError` if the system can't look at it.
+        `OSError` if the system says that it is not.
         """
-        return is_there(self.unfinished)
+        os.fsync(self._file.fileno())
+
+    def take_owner(self, before: os.stat_result, old: Union[str, int]) -> None:
+        """Gives the file the owner and the mode of another one, `old`, a path or the number of an open file, with the status
+        `before`.
+
+        # Errors
+        `OSError` if the system refuses them.
+        """
+        found = os.fstat(self._file.fileno())
+        if (found.st_uid, found.st_gid) != (before.st_uid, before.st_gid):
+            try:
+                os.fchown(self._file.fileno(), before.st_uid, before.st_gid)
+            except OSError as error:
+                raise OSError(error.errno, f"the new file cannot get the owner of the old one: {error.strerror}") from None
+        take_mode(self._file.fileno(), before, old)
 
     def appear(self) -> bool:
         """Gives the file its name. Returns False if a file has that name: that file stays as it is.
@@ -108,7 +138,7 @@ class NewFile:
         `OSError` if the system refuses the name.
         """
         try:
-            os.link(self.unfinished, self.path)
+            os.link(self._name, self.path)
         except FileExistsError:
             return False
         except OSError as error:
@@ -124,7 +154,7 @@ class NewFile:
         `OSError` if the system refuses the name, also since another file is mounted there.
         """
         try:
-            os.rename(self.unfinished, self.path)
+            os.rename(self._name, self.path)
         except OSError as error:
             raise self._of_name(error) from None
 
@@ -136,7 +166,7 @@ class NewFile:
         """Gives the file its name where there are no links, by a renaming that replaces no file. Where the system has none, an
         empty file takes the name and is replaced, unless another program has begun to fill or has replaced it meanwhile.
         After a kill between these two steps the empty file has the name."""
-        renamed = rename_to_new(self.unfinished, self.path)
+        renamed = rename_to_new(self._name, self.path)
         if renamed in (0, errno.EEXIST):
             return renamed == 0
         try:
@@ -147,7 +177,7 @@ class NewFile:
             with suppress(BlockingIOError):
                 lock(empty, EXCLUSIVE, 0)
                 if is_empty_at(empty, self.path):
-                    os.rename(self.unfinished, self.path)
+                    os.rename(self._name, self.path)
                     return True
             return False
         except BaseException:
@@ -176,27 +206,16 @@ def is_empty_at(file: FileIO, path: str) -> bool:
     return found.st_size == 0 and os.path.samestat(found, os.lstat(path))
 
 
-def take_owner(new: str, before: os.stat_result, old: Union[str, int]) -> None:
-    """Gives a new file the owner and the mode of another one, `old`, a path or the number of an open file, with the status
-    `before`. The new file is opened first, since whoever may write the folder may put a link to any file in its place
-    meanwhile; a hard link to a file of others, too.
-
-    # Errors
-    `OSError` if the system refuses them, or the new file is a link by now, has another name too, or another owner than this
-    user.
-    """
-    with open_file(new, os.O_RDONLY | os.O_NOFOLLOW | os.O_NONBLOCK) as file:
-        found = os.fstat(file.fileno())
-        check_regular(found)
-        is_given = (found.st_uid, found.st_gid) != (before.st_uid, before.st_gid)
-        if found.st_nlink > 1 or is_given and found.st_uid != os.geteuid():
-            raise OSError(errno.EMLINK, "another file took the name of the new one")
-        if is_given:
-            try:
-                os.fchown(file.fileno(), before.st_uid, before.st_gid)
-            except OSError as error:
-                raise OSError(error.errno, f"the new file cannot get the owner of the old one: {error.strerror}") from None
-        take_mode(file.fileno(), before, old)
+def path_of(number: int, name: str) -> str:
+    """Returns a path that leads to an open file, whatever has its name. Without /proc it is the name; so it is where rrdi would
+    refuse the name, which is not in UTF-8."""
+    by_number = f"/proc/self/fd/{number}"
+    try:
+        name.encode()
+        os.stat(by_number)
+    except (OSError, UnicodeEncodeError):
+        return name
+    return by_number
 
 
 def take_mode(new: int, before: os.stat_result, old: Union[str, int]) -> None:
@@ -269,11 +288,15 @@ def remove_left_over(folder: str) -> List[str]:
 def make(path: FilePath, fill: Callable[[str], Filled], makes_folder: bool = False) -> Optional[Filled]:
     """Calls `fill` with another name, gives the file its name `path` when it is whole, and returns what `fill` returned.
 
-    Returns None if there is a file at `path`, which stays as it is. `fill` may leave no file.
+    Returns None if there is a file at `path`, which stays as it is. `fill` may leave the file empty: then there is none.
 
     # Errors
-    Those of `fill`, and `OSError` if the folder can't be made, or the system refuses the name or can't look at the file.
+    Those of `fill`, and `OSError` if the file or its folder can't be made, or the system refuses the name.
     """
     with NewFile(path, makes_folder) as new:
-        filled = fill(new.unfinished)
+        try:
+            filled = fill(new.unfinished)
+        except Error as error:
+            error.path = os.fsdecode(path)
+            raise
         return filled if not new.is_filled() or new.appear() else None

@@ -6,7 +6,7 @@ import os
 import re
 import sys
 from time import time as clock
-from typing import Iterable, List, Optional, Sequence, Union
+from typing import Iterable, List, Optional, Sequence, Tuple, Union
 
 from .errors import USAGE, Usage
 from .limits import LONGEST_LINE
@@ -31,6 +31,12 @@ def encoded_path(path: FilePath) -> bytes:
     if b"\0" in found:
         raise ValueError("embedded null byte")
     return found
+
+
+def numbers_in(path: bytes) -> Tuple[int, ...]:
+    """Returns the number of an open file of this process if the path leads to it: another program then needs it too."""
+    found = re.fullmatch(rb"/proc/self/fd/([0-9]+)", path)
+    return (int(found[1]),) if found else ()
 
 
 def as_bytes(text: str) -> bytes:

@@ -165,7 +165,7 @@ class KeepingLibrary(NothingStaysOpen):
         self.answers = list(answers)
 
     def batch_file(self, path: bytes, lines: bytes, now: int, wait: int, syncs: bool) -> Answer:
-        self.batches.append((path.decode(), lines.decode().split("\n")))
+        self.batches.append((os.path.realpath(path.decode()), lines.decode().split("\n")))
         answer = self.answers.pop(0) if self.answers else Answer(0, 0, 0, b"")
         if answer.fault == 0 and 1 not in answer.refused:
             Path(path.decode()).write_bytes(b"a database")

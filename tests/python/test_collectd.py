@@ -258,7 +258,7 @@ class Writing(WriterCase):
         self.writer.write(values(NOW, 1, type="derive"))
         self.now = 61
         self.writer.take_in(60)
-        self.assertRegex(self.collectd.lines[0], r"^rrdi: \S+\.new: cannot open: another program holds its lock; 1 samples wait$")
+        self.assertRegex(self.collectd.lines[0], r"^rrdi: \S+/here/load/derive\.rrdi: cannot open: another program holds its lock; 1 samples wait$")
         self.writer.write(values(NOW + 10, 2, type="derive"))
         self.writer.end()
         self.assertEqual(making.lines[1][1:], [f"update {NOW}:1", f"update {NOW + 10}:2"])

@@ -93,16 +93,16 @@ class InPlace(DataCase):
 
     def swap(self, fill: Callable[[], object] = lambda: None) -> str:
         def restore(database: Dict[str, Any], new: str) -> None:
-            self.assertEqual((len(database["sources"]), Path(new).parent, os.umask(0o022)), (2, self.folder, 0o077))
-            os.umask(0o077)
+            self.assertEqual((len(database["sources"]), Path(os.path.realpath(new)).parent), (2, Path(os.path.realpath(self.folder))))
+            self.assertEqual(os.stat(new).st_mode & 0o7777, 0o600)  # nobody else reads it before it has the mode of the old one
             Path(new).write_text("RRD")
             fill()
-        before, mask = sorted(os.listdir("/proc/self/fd")), os.umask(0o022)
+        before = sorted(os.listdir("/proc/self/fd"))
         try:
             with mock.patch.object(export_many, "restore_equal", restore):
                 return export_many.swap_in_place(str(self.path))
         finally:
-            self.assertEqual((sorted(os.listdir("/proc/self/fd")), os.umask(mask)), (before, 0o022))
+            self.assertEqual(sorted(os.listdir("/proc/self/fd")), before)
 
     def test_the_new_file(self) -> None:
         """It has the mode of the database, which has its other name; what is written is on the disk; and nothing stays open."""

@@ -27,7 +27,7 @@ class Making(DataCase):
 
     def made(self, text: str = "new") -> bool:
         with NewFile(str(self.path)) as new:
-            self.assertEqual((os.path.dirname(new.unfinished), new.is_filled()), (os.path.dirname(new.path), False))
+            self.assertEqual((Path(new.unfinished).read_text(), new.is_filled()), ("", False))
             with open(new.unfinished, "w", encoding="ascii") as file:
                 file.write(text)
             return new.is_filled() and new.appear()
@@ -38,10 +38,10 @@ class Making(DataCase):
 
     def test_an_owner_that_is_refused(self) -> None:
         """The message says what could not be done, since nobody knows the file's first name."""
-        self.path.write_text("new")
         before = mock.Mock(st_uid=os.geteuid() + 1, st_gid=os.getegid(), st_mode=0o644)
-        with mock.patch.object(os, "fchown", side_effect=PermissionError(errno.EPERM, "no", "x")), self.assertRaises(OSError) as raised:
-            making.take_owner(str(self.path), before, str(self.path))
+        with mock.patch.object(os, "fchown", side_effect=PermissionError(errno.EPERM, "no", "x")), \
+                NewFile(str(self.path)) as new, self.assertRaises(OSError) as raised:
+            new.take_owner(before, str(self.folder))
         self.assertEqual((raised.exception.errno, error_text(raised.exception)),
                          (errno.EPERM, "the new file cannot get the owner of the old one: no"))
 
@@ -82,9 +82,10 @@ class Making(DataCase):
                 self.assertTrue(self.made())
                 self.assertFalse(self.made("other"))
                 self.path.unlink()
-            with mock.patch.object(making, "open_file", side_effect=OSError(errno.EIO, "Input/output error")):
+            with mock.patch.object(making, "open_file", side_effect=locks.open_file) as opened:
                 self.assertTrue(self.made())  # in one step
                 self.assertFalse(self.made("other"))
+            self.assertNotIn(str(self.path), [call.args[0] for call in opened.call_args_list])
         self.assertEqual((self.files(), self.path.read_text()), (["data/f.rrdi"], "new"))
         with mock.patch("os.link", side_effect=OSError(errno.ENOSPC, "No space left")), self.assertRaises(OSError):
             self.made()
@@ -102,9 +103,10 @@ class Making(DataCase):
             (self.folder / "other").write_text("other")
             (self.folder / "other").rename(self.path)
         for act, wanted in ((lock_it, ""), (lambda: self.path.write_text("other"), "other"), (replace_it, "other")):
-            def open_file(path: str, flags: int) -> Any:
-                file = locks.open_file(path, flags)
-                act()
+            def open_file(path: str, flags: int, mode: int = 0o666) -> Any:
+                file = locks.open_file(path, flags, mode)
+                if path == str(self.path):
+                    act()
                 return file
             with mock.patch("os.link", side_effect=OSError(errno.EPERM, "Operation not permitted")), \
                     mock.patch.object(making, "rename_to_new", return_value=errno.EINVAL), \
@@ -127,6 +129,62 @@ class Making(DataCase):
             new.replace()
         self.assertEqual((self.files(), self.path.is_symlink(), self.path.read_text()), (["data/f.rrdi"], False, "new"))
 
+    def test_a_link_in_place_of_the_other_name(self) -> None:
+        """Whoever may write the folder may put it there: what it leads to stays as it is."""
+        other = self.folder / "other"
+        other.write_text("other")
+
+        def put_link() -> None:
+            (found,) = self.folder.glob(".rrdi-*.new")
+            found.unlink()
+            found.symlink_to(other)
+        for is_replaced in (False, True):
+            with NewFile(str(self.path)) as new:
+                put_link()
+                with open(new.unfinished, "w", encoding="ascii") as file:
+                    file.write("new")
+                new.take_owner(mock.Mock(st_uid=os.geteuid(), st_gid=os.getegid(), st_mode=0o604), str(self.folder))
+                new.flush()
+                self.assertEqual((new.is_filled(), Path(new.unfinished).read_text()), (True, "new"))
+                if is_replaced:
+                    new.replace()
+                else:
+                    new.appear()
+            self.assertEqual((other.read_text(), other.stat().st_mode & 0o7), ("other", 0o666 & ~self.mask() & 0o7))
+            self.path.unlink()
+
+    def mask(self) -> int:
+        mask = os.umask(0)
+        os.umask(mask)
+        return mask
+
+    def test_a_path_to_an_open_file(self) -> None:
+        """The name serves without /proc, and if the library would refuse it."""
+        number = os.open(self.folder, os.O_RDONLY)
+        self.addCleanup(os.close, number)
+        by_number = f"/proc/self/fd/{number}"
+        self.assertEqual([making.path_of(number, name) for name in ("name", "n\udcffme", "n\u00e4me")],
+                         [by_number, "n\udcffme", by_number])
+        with failing("stat", errno.ENOENT):
+            self.assertEqual(making.path_of(number, "name"), "name")
+
+    def test_who_may_open_it(self) -> None:
+        for mode in (0o666, 0o600):
+            with NewFile(str(self.path), mode=mode) as new:
+                self.assertEqual(os.stat(new.unfinished).st_mode & 0o7777, mode & ~self.mask())
+        with NewFile(str(self.path)) as new:
+            number = int(os.path.basename(new.unfinished))
+            self.assertEqual((number > 2, os.get_inheritable(number)), (True, False))
+        with self.assertRaises(OSError):
+            os.fstat(number)
+
+    def test_a_folder_that_is_not_there(self) -> None:
+        """The error names the file, and not the other name, which nobody knows."""
+        path = str(self.folder / "none/f")
+        with self.assertRaises(FileNotFoundError) as raised, NewFile(path):
+            pass
+        self.assertEqual(raised.exception.filename, path)
+
     def test_nothing_is_left(self) -> None:
         with self.assertRaises(ValueError), NewFile(str(self.path)) as new:
             with open(new.unfinished, "w", encoding="ascii"):
@@ -145,11 +203,11 @@ class Making(DataCase):
 
 
 def failing(name: str, number: int, suffix: str = "") -> Any:
-    """Replaces a function of `os` by one that fails with an error number for the paths with a suffix."""
+    """Replaces a function of `os` by one that fails with an error number for open files and for the paths with a suffix."""
     function = getattr(os, name)
 
     def fail(path: Any, *more: Any, **named: Any) -> Any:
-        if os.fsdecode(path).endswith(suffix):
+        if isinstance(path, int) or os.fsdecode(path).endswith(suffix):
             raise OSError(number, os.strerror(number))
         return function(path, *more, **named)
     return mock.patch.object(os, name, fail)
@@ -184,7 +242,7 @@ class CannotLook(DataCase):
     def test_a_file_that_was_filled(self) -> None:
         """It is not made, and nobody is told that it was."""
         for number in self.ERRORS:
-            with failing("stat", number, ".new"), self.assertRaises(OSError) as raised:
+            with failing("fstat", number), self.assertRaises(OSError) as raised:
                 make(self.path, self.fill)
             self.assertEqual((raised.exception.errno, self.files()), (number, []))
         self.assertEqual(make(self.path, self.fill), "filled")
@@ -228,6 +286,7 @@ class CannotLook(DataCase):
         """And not the other name, which nobody knows."""
         for act in ("appear", "replace"):
             with NewFile(str(self.path)) as new, self.assertRaises(FileNotFoundError) as raised:
+                next(self.folder.glob(".rrdi-*.new")).unlink()
                 getattr(new, act)()
             self.assertEqual((raised.exception.errno, raised.exception.strerror, raised.exception.filename), (errno.ENOENT, os.strerror(errno.ENOENT), str(self.path)))
 
@@ -264,7 +323,7 @@ class WithoutLinks(DataCase):
         with mock.patch("os.link", side_effect=OSError(errno.EPERM, "Operation not permitted")), \
                 mock.patch.object(making, "rename_to_new", return_value=errno.EINVAL), \
                 mock.patch("os.rename", rename), self.assertRaises(OSError) as raised:
-            make(str(self.path), lambda new: open(new, "w", encoding="ascii").close())
+            make(str(self.path), lambda new: Path(new).write_text("new"))
         self.assertEqual(raised.exception.errno, errno.EIO)
 
     def test_no_empty_file_is_left(self) -> None:
@@ -300,40 +359,25 @@ def access_list(*entries: Tuple[int, ...]) -> bytes:
 class Owners(DataCase):
     """What takes the owner and the mode of another file."""
 
-    def test_no_file_to_which_a_link_leads(self) -> None:
-        other, new = self.folder / "other", self.folder / "new"
-        other.write_text("other")
-        other.chmod(0o600)
-        new.symlink_to(other)
-        with self.assertRaises(OSError) as raised:
-            making.take_owner(str(new), os.stat(self.folder), str(self.folder))
-        self.assertEqual((raised.exception.errno, other.stat().st_mode & 0o7777), (errno.ELOOP, 0o600))
+    def take(self, old: Path, mode: int = 0o666) -> Path:
+        with NewFile(str(self.folder / "new"), mode=mode) as new:
+            new.take_owner(old.stat(), str(old))
+            new.replace()
+        return self.folder / "new"
 
-    def test_no_file_of_others(self) -> None:
-        """Whoever may write the folder may give the name to another file: to one that has two names then, or is of another user."""
-        other, new = self.folder / "other", self.folder / "new"
-        other.write_text("other")
-        other.chmod(0o640)
-        os.link(other, new)
-        with self.assertRaises(OSError) as raised:
-            making.take_owner(str(new), os.stat(self.folder), str(self.folder))
-        self.assertEqual(error_text(raised.exception), "another file took the name of the new one")
-        other.unlink()
-        before = mock.Mock(st_uid=os.geteuid(), st_gid=os.getegid() + 1, st_mode=0o600)
-        with mock.patch.object(os, "geteuid", return_value=os.geteuid() + 1), mock.patch.object(os, "fchown") as given:
-            with self.assertRaises(OSError):
-                making.take_owner(str(new), before, str(self.folder))
-            self.assertEqual((given.call_count, new.stat().st_mode & 0o777), (0, 0o640))
-            making.take_owner(str(new), mock.Mock(st_uid=new.stat().st_uid, st_gid=new.stat().st_gid, st_mode=0o600), str(new))
-        self.assertEqual((given.call_count, new.stat().st_mode & 0o777), (0, 0o600))
+    def test_the_owner(self) -> None:
+        """It is given only where it is another one: not every user may give it."""
+        mine = os.geteuid(), os.getegid()
+        for owner, count in ((mine, 0), ((mine[0] + 1, mine[1]), 1), ((mine[0], mine[1] + 1), 1)):
+            with mock.patch.object(os, "fchown") as given, NewFile(str(self.folder / "new")) as new:
+                new.take_owner(mock.Mock(st_uid=owner[0], st_gid=owner[1], st_mode=0o600), str(self.folder))
+            self.assertEqual([call.args[1:] for call in given.call_args_list], [owner] * count)
 
     def test_no_program_that_runs_as_its_owner(self) -> None:
-        old, new = self.folder / "old", self.folder / "new"
-        for path in (old, new):
-            path.write_text("text")
+        old = self.folder / "old"
+        old.write_text("text")
         old.chmod(0o6755)
-        making.take_owner(str(new), old.stat(), str(old))
-        self.assertEqual(new.stat().st_mode & 0o7777, 0o755)
+        self.assertEqual(self.take(old).stat().st_mode & 0o7777, 0o755)
 
     def test_access_control_lists(self) -> None:
         """The group has not what is the most for all in the list; and a list of the folder gives nobody more."""
@@ -351,24 +395,17 @@ class Owners(DataCase):
             elif wanted is not None:
                 os.setxattr(old, making.ACCESS_LIST, wanted)
             old.chmod(mode)
-            new.write_text("new")
-            with mock.patch.object(os, "fchmod", side_effect=os.chmod) as changed:
-                making.take_owner(str(new), old.stat(), str(old))
-            steps = [call.args[1] for call in changed.call_args_list]
-            self.assertEqual((making.access_list(str(new)), new.stat().st_mode & 0o7777, steps), (wanted, mode, [0o600, mode]))
-            making.take_owner(str(new), old.stat(), str(old))
-            self.assertEqual((making.access_list(str(new)), new.stat().st_mode & 0o7777), (wanted, mode))
-            new.unlink()
+            for first in (0o666, 0o600):
+                with mock.patch.object(os, "fchmod", side_effect=os.chmod) as changed, NewFile(str(new), mode=first) as made:
+                    self.assertEqual(os.stat(made.unfinished).st_mode & 0o077 == 0, first == 0o600)
+                    made.take_owner(old.stat(), str(old))
+                    made.take_owner(old.stat(), str(old))
+                    made.replace()
+                steps = [call.args[1] for call in changed.call_args_list]
+                self.assertEqual((making.access_list(str(new)), new.stat().st_mode & 0o7777), (wanted, mode))
+                self.assertEqual(steps, [0o600, mode, mode])
         with mock.patch.object(os, "getxattr", side_effect=OSError(errno.EIO, "no")), self.assertRaises(OSError):
             making.access_list(str(old))
-
-    def test_nothing_but_a_file(self) -> None:
-        """Nor does it wait for the other end of a pipe."""
-        os.mkfifo(self.folder / "pipe")
-        for name, number in (("pipe", errno.EINVAL), (".", errno.EISDIR)):
-            with self.assertRaises(OSError) as raised:
-                making.take_owner(str(self.folder / name), os.stat(self.folder), str(self.folder))
-            self.assertEqual(raised.exception.errno, number)
 
 
 class Modes(DataCase):

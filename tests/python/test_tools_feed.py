@@ -27,7 +27,7 @@ from rrdi.tools.feed import USAGE, rules_of
 CREATE = "--step 10 DS:v:GAUGE:60:U:U RRA:AVERAGE:0.5:1:9"
 # A program that notes what it is asked for. Its batch accepts all samples.
 NOTING = """case $1 in
-create) [ -n "${REFUSED-}" ] && { echo "ERROR: $REFUSED" >&2; exit 1; }; echo "$*" >>"$LOG"; : >"$2" ;;
+create) [ -n "${REFUSED-}" ] && { echo "ERROR: $REFUSED" >&2; exit 1; }; echo "$*" >>"$LOG"; echo a >"$2" ;;
 batch) while read -r word rest; do case $word in update) echo "$2 $rest" >>"$LOG" ;; last) echo 1 ;; esac; done ;;
 esac"""
 

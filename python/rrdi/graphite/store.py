@@ -153,7 +153,7 @@ class Store:
 
         def fill(fresh: str) -> Tried:
             tried = give(fresh, 0, lines, slots, {})
-            return tried if is_there(fresh) else Tried({}, {"refused": len(slots)}, tried.reason)
+            return tried if os.stat(fresh).st_size else Tried({}, {"refused": len(slots)}, tried.reason)
         return make(path, fill, makes_folder=True)
 
 

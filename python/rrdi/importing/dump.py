@@ -9,6 +9,8 @@ from array import array
 from dataclasses import dataclass
 from typing import IO, Callable
 
+from ..words import numbers_in
+
 
 SHORT, PRINTED = 10**6, 20  # bytes of a dump of any file, and bytes for a byte of the file: a row of 8 bytes has about 90
 
@@ -164,7 +166,8 @@ def read_rrd(rrdtool: str, file: str, progress: Callable[[int], None] = lambda c
     # Errors
     `Refusal` if rrdtool does not read the file to its end, or prints more than it has, or the file changes meanwhile.
     """
-    with subprocess.Popen([rrdtool, "dump", file], stdout=subprocess.PIPE, stderr=subprocess.PIPE) as dump:
+    numbers = numbers_in(os.fsencode(file))
+    with subprocess.Popen([rrdtool, "dump", file], stdout=subprocess.PIPE, stderr=subprocess.PIPE, pass_fds=numbers) as dump:
         assert dump.stdout and dump.stderr
         fault = "rrdtool did not read the file to its end"
         try:
@@ -177,7 +180,7 @@ def read_rrd(rrdtool: str, file: str, progress: Callable[[int], None] = lambda c
         reason = dump.stderr.read().decode(errors="replace").strip()
     if dump.returncode or old is None:
         raise Refusal(reason or fault)
-    asked = subprocess.run([rrdtool, "last", file], capture_output=True, text=True)
+    asked = subprocess.run([rrdtool, "last", file], capture_output=True, text=True, pass_fds=numbers)
     if asked.stdout.strip() != str(old.last):
         raise Refusal("the file changed while it was read")
     return old

@@ -171,6 +171,8 @@ def compare(words: List[str]) -> int:
     if len(words) != 2 or any(not word or word.startswith("-") for word in words):
         raise WrongArguments
     old, new = words
+    if os.path.exists(old) and not os.path.isfile(old):
+        raise Failure(f"{old} is no regular file")
     try:
         info = rrdtool_program.ask(["info", old])
     except Failure as failure:

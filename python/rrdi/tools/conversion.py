@@ -14,7 +14,7 @@ from ..importing.native import read_old
 from ..importing.whisper import WhisperFile, read_whisper, whisper_batch
 from ..kinds import WHISPER_END
 from ..locks import open_regular, state_of
-from ..making import NewFile, flush, take_owner
+from ..making import NewFile, flush
 from ..reader.selected import OpenFile
 from . import program, rrdtool_program
 from .command_line import Failure
@@ -181,14 +181,10 @@ def swap_in(old: str, kept: str, before: os.stat_result, fill: Callable[[str], N
     - `Failure` if the file has changed since `before`, or there is another file of the name `kept`; those of `fill`.
     - `OSError` if the system refuses the owner, the mode or a name.
     """
-    with NewFile(old) as made:
-        mask = os.umask(0o077)  # nobody else reads the new file before it has the mode of the old one
-        try:
-            fill(made.unfinished)
-        finally:
-            os.umask(mask)
-        take_owner(made.unfinished, before, old)
-        flush(made.unfinished)
+    with NewFile(old, mode=0o600) as made:  # nobody else reads the new file before it has the mode of the old one
+        fill(made.unfinished)
+        made.take_owner(before, old)
+        made.flush()
         if state_of(os.stat(old)) != state_of(before):
             raise Failure("it changed while it was converted; first stop what records into it")
         if not is_left_over(old, kept):

@@ -42,7 +42,7 @@ def make_new(new: str, fill: Callable[[str], None], makes_folder: bool = False) 
             fill(made.unfinished)
         except Failure as failure:
             raise Failure(str(failure).replace(made.unfinished, new)) from None
-        flush(made.unfinished)
+        made.flush()
         if not made.appear():
             raise Failure(f"{new} already exists")
     flush(os.path.dirname(made.path))

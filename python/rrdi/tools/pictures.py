@@ -11,7 +11,7 @@ from contextlib import contextmanager
 from typing import Iterator, List, Optional
 
 from ..kinds import is_of_rrdi, owner_of
-from ..making import MOST_LINKS, NewFile, take_owner
+from ..making import MOST_LINKS, NewFile
 from .command_line import Failure
 
 # What the system answers if this user may not make a file beside another one or replace it, or a file is mounted there.
@@ -72,10 +72,10 @@ def replaced(path: str, data: bytes) -> bool:
         return False
     with NewFile(path) as made:
         try:
-            with open(made.unfinished, "xb") as file:
+            with open(made.unfinished, "wb") as file:
                 file.write(data)
             if before is not None:
-                take_owner(made.unfinished, before, path)
+                made.take_owner(before, path)
             made.replace()
         except OSError as error:
             if before is None or error.errno not in NOT_REPLACED:

@@ -78,7 +78,7 @@ def write_page(path: str, text: str) -> None:
     """
     with NewFile(path, makes_folder=True) as made:
         try:
-            with open(made.unfinished, "x", encoding="utf-8") as written:
+            with open(made.unfinished, "w", encoding="utf-8") as written:
                 written.write(text)
         except OSError as error:
             raise OSError(error.errno, error.strerror, path) from None

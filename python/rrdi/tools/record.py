@@ -52,7 +52,7 @@ from ..damaged import held, is_being_made
 from ..errors import NOT_OURS, TRAILING, TRUNCATED, fault_of
 from ..limits import MOST_CHANGES
 from ..locks import EXCLUSIVE, close, lock, open_file, open_regular
-from ..making import NewFile, is_there, make, take_mode, take_owner
+from ..making import NewFile, is_there, make, take_mode
 from ..reader.stored import MARK
 from . import machine, program
 from .command_line import Failure, Tool, WrongArguments, called_name, error_text, say
@@ -92,29 +92,24 @@ def take_turn(file: FileIO, path: str) -> None:
 
 def copy(old: str, new: str) -> None:
     """Copies a file. The copy gets its name only when it is complete, and takes the place of a link of this name."""
-    with NewFile(new, follows=False) as made:
+    with NewFile(new, follows=False, mode=0o600) as made:
         fill_copy(old, new, made.unfinished)
         made.replace()
 
 
 def fill_copy(old: str, new: str, unfinished: str) -> None:
-    """Copies a file, with its mode and its access control list, to the name under which `new` is being made.
+    """Copies a file, with its mode and its access control list, to the path at which `new` is being made.
 
     # Errors
     `OSError` with the name of the file that cannot be read or made: Python's own names the old one if the disk is full, too.
     """
     try:
-        # By these numbers only: whoever may write the folder may put a link in the place of either file meanwhile.
-        with open_regular(old) as source, open(unfinished, "xb", opener=open_for_me) as copied:
+        # By this number only: whoever may write the folder may put a link in the place of the old file meanwhile.
+        with open_regular(old) as source, open(unfinished, "wb") as copied:
             shutil.copyfileobj(source, copied)
             take_mode(copied.fileno(), os.fstat(source.fileno()), source.fileno())
     except OSError as error:
         raise OSError(error.errno, error.strerror or str(error), old if error.filename == old else new) from None
-
-
-def open_for_me(path: str, flags: int) -> int:
-    """Opens a file as `open` does; nobody else may read it if it is new."""
-    return os.open(path, flags, 0o600)
 
 
 Fill = Callable[[str], object]  # creates an empty database
@@ -210,13 +205,13 @@ def restore(file: str, damage: str, fill: Fill) -> None:
             raise Failure(f"{file} has changed meanwhile")
         copy(file, file + ".refused")
         chosen = newest_copy(file)
-        with NewFile(file) as made:
+        with NewFile(file, mode=0o600 if chosen else 0o666) as made:
             if chosen:
                 fill_copy(chosen, file, made.unfinished)
             else:
                 fill(made.unfinished)
             with suppress(PermissionError):
-                take_owner(made.unfinished, os.stat(file), file)
+                made.take_owner(os.stat(file), file)
             made.replace()
     what = f"; restored from {chosen}" if chosen else " and no copy is readable; started an empty database"
     say(called_name(TOOL), f"{file} is damaged ({damage}){what}")
@@ -247,7 +242,7 @@ def keep_copies(file: str, last: int) -> None:
     """
     if 0 <= last - max(last_of_copy(f"{file}.1"), 0) < HOUR:
         return
-    with NewFile(f"{file}.1", follows=False) as made:  # a link of this name goes on with what it leads to
+    with NewFile(f"{file}.1", follows=False, mode=0o600) as made:  # a link of this name goes on with what it leads to
         fill_copy(file, f"{file}.1", made.unfinished)
         # Up to the first name that is free, as one is after a kill.
         free = next((number for number in range(1, COPIES) if not is_there(f"{file}.{number}")), COPIES)

@@ -21,13 +21,14 @@ Writing = Callable[[int], None]
 
 
 def restore(lines: Iterable[str], new: str, writing: Writing) -> None:
-    """Creates a file of RRDtool from the lines of its XML.
+    """Fills an empty file, as a file of RRDtool, from the lines of its XML.
 
     # Errors
     `Failure` if rrdtool is not installed, or does not create the file.
     """
-    restoring = [rrdtool_program.found(), "restore", "-", new if not new.startswith("-") else "./" + new]
-    with subprocess.Popen(restoring, stdin=subprocess.PIPE, stdout=subprocess.PIPE, stderr=subprocess.PIPE) as child:
+    restoring = [rrdtool_program.found(), "restore", "-", "-"]
+    with open(new, "wb") as file, subprocess.Popen(restoring, stdin=subprocess.PIPE, stdout=file,
+                                                   stderr=subprocess.PIPE) as child:
         assert child.stdin and child.stderr
         try:
             for count, line in enumerate(lines, 1):
@@ -43,7 +44,7 @@ def restore(lines: Iterable[str], new: str, writing: Writing) -> None:
 
 
 def restore_equal(database: Parts, new: str, writing: Writing = lambda count: None) -> None:
-    """Creates a file of RRDtool, and reads it back.
+    """Fills an empty file, as a file of RRDtool, and reads it back.
 
     # Errors
     `Failure` if rrdtool does not create the file, or what it reads back is not the database.

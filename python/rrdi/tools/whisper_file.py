@@ -125,7 +125,7 @@ def write_equal(copy: WhisperCopy, new: str) -> None:
     - `Failure` if what is read back is something else.
     - `OSError` if the file can't be written or read.
     """
-    with open(new, "xb") as file:
+    with open(new, "wb") as file:
         file.write(bytes_of(copy.file))
     try:
         found = read_whisper(new)
