@@ -21,7 +21,8 @@ from cases import HANG, DataCase, needs_program
 from doubles import PROGRAM, TOP
 from tool_case import NO_RRDTOOL, RRDTOOL, Ran, ToolCase
 
-from rrdi.tools import conversion, export_many
+from rrdi.making import NewFile
+from rrdi.tools import conversion, export_many, restoring, rrdtool_program
 from rrdi.tools.children import ChildAnswer, answers
 from rrdi.tools.command_line import Failure
 from rrdi.tools.export_many import make_new, swap_in_place
@@ -65,6 +66,19 @@ class NewFiles(ToolCase):
         with self.assertRaisesRegex(Failure, f"^{path} already exists$"):
             make_new(str(path), fill)
         self.assertEqual((path.read_text(), sorted(os.listdir(self.folder))), ("another's", sorted([*before, "new.rrd"])))
+
+    def test_a_failure_names_the_file(self) -> None:
+        """By its own name, which rrdtool does not know."""
+        path, reason = str(self.folder / "new.rrd"), "a file error occurred while creating '{}': No space left on device"
+        broken = self.stub("rrdtool-broken", f"cat >/dev/null; echo \"ERROR: {reason.format('-')}\" >&2; exit 1")
+
+        def fill(unfinished: str) -> None:
+            with mock.patch.object(rrdtool_program, "found", lambda: broken):
+                restoring.restore(["<rrd/>"], unfinished, lambda count: None)
+        with self.assertRaisesRegex(Failure, f"^ERROR: {reason.format(path)}$"):
+            make_new(path, fill)
+        with NewFile(path) as made, self.assertRaisesRegex(Failure, f"^ERROR: {reason.format(path)}$"):
+            conversion.fill_new(made, fill)
 
     def test_what_is_on_the_disk_and_when(self) -> None:
         """The new file, before it has its name, and then the name in its folder."""

@@ -172,6 +172,14 @@ def is_left_over(path: str, kept: str) -> bool:
     return True
 
 
+def fill_new(made: NewFile, fill: Callable[[str], None]) -> None:
+    """Fills a new file. A failure has the name that the file gets."""
+    try:
+        fill(made.unfinished)
+    except Failure as failure:
+        raise Failure(str(failure).replace(made.unfinished, made.path)) from None
+
+
 def swap_in(old: str, kept: str, before: os.stat_result, fill: Callable[[str], None]) -> None:
     """Puts a new file in the place of an old one, which keeps its content under the name `kept`. `fill` makes the new file
     under the name that it gets. The file then takes the owner and the mode of the old one, and its name when it is on the
@@ -182,7 +190,7 @@ def swap_in(old: str, kept: str, before: os.stat_result, fill: Callable[[str], N
     - `OSError` if the system refuses the owner, the mode or a name.
     """
     with NewFile(old, mode=0o600) as made:  # nobody else reads the new file before it has the mode of the old one
-        fill(made.unfinished)
+        fill_new(made, fill)
         made.take_owner(before, old)
         made.flush()
         if state_of(os.stat(old)) != state_of(before):

@@ -17,7 +17,7 @@ from ..reader.selected import OpenFile
 from ..reader.stored import Stored
 from . import rrdtool_program
 from .command_line import Failure
-from .conversion import Reading, is_left_over, swap_in
+from .conversion import Reading, fill_new, is_left_over, swap_in
 from .import_many import NEW_END, RRDTOOL_END
 from .many_files import (IS_THERE, NOTED, NOTED_THERE, PASSED_OVER, THERE, WHOLE, Conversions, OldFile, counted, files_of,
                          has)
@@ -38,10 +38,7 @@ def make_new(new: str, fill: Callable[[str], None], makes_folder: bool = False) 
     if os.path.lexists(new):
         raise Failure(f"{new} already exists")
     with NewFile(new, makes_folder) as made:
-        try:
-            fill(made.unfinished)
-        except Failure as failure:
-            raise Failure(str(failure).replace(made.unfinished, new)) from None
+        fill_new(made, fill)
         made.flush()
         if not made.appear():
             raise Failure(f"{new} already exists")

@@ -40,7 +40,7 @@ def restore(lines: Iterable[str], new: str, writing: Writing) -> None:
         reason = child.stderr.read().decode(errors="replace").strip()
         child.stdin = None
     if child.returncode != 0:
-        raise Failure(reason or f"rrdtool restore ended with status {child.returncode}")
+        raise Failure(reason.replace("'-'", f"'{new}'") or f"rrdtool restore ended with status {child.returncode}")
 
 
 def restore_equal(database: Parts, new: str, writing: Writing = lambda count: None) -> None:
