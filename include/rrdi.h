@@ -152,7 +152,7 @@ struct rrdi_file {
  * copy of the struct and one that was closed are refused with RRDI_CANNOT_OPEN and EBADF, and a struct that the parent of a forked
  * child has opened with RRDI_CANNOT_OPEN and ECHILD. Threads may share a struct under a lock of theirs.
  *
- * Each function returns its fault, an enum rrdi_fault: 0 if there is none. */
+ * A function that returns a number returns its fault, an enum rrdi_fault: 0 if there is none. */
 struct rrdi_db {
     const struct rrdi_db *self;
     int64_t process;           /* The number of the process that opened the database. */

@@ -33,7 +33,7 @@ options:
   --source NAME,..     draw these sources, in this order (default: all)
   --area               fill the area under each line
   --stack              draw the areas on top of each other
-  --fit                do not begin the axis at 0
+  --fit                let the axis of lines begin above 0
   --min N, --max N     let the axis begin at N or below, end at N or above
   --rigid              cut what is beyond --min and --max
   --cut-spikes         let a few values far from all others go beyond
