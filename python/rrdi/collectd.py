@@ -29,7 +29,7 @@ from collections import Counter
 from typing import Any, Callable, Dict, List, NamedTuple, Optional, Protocol, Sequence, Tuple, cast
 
 from .amounts import gauge_text
-from .commands import RefusedLine, batch
+from .commands import RefusedLine, batch_on_new
 from .errors import NO_FILE, Damaged, Usage
 from .escaping import escaped
 from .library import load_library
@@ -311,7 +311,7 @@ class Plugin:
     def begin(self, path: str, held: Held) -> Optional[Sequence[RefusedLine]]:
         """Makes a file with its first samples. Returns the refused ones, which are all if `create` is refused; None if
         another program has made the file."""
-        refused = make(path, lambda new: batch(new, [held.create, *held.lines]).refused, makes_folder=True)
+        refused = make(path, lambda new: batch_on_new(new, [held.create, *held.lines]).refused, makes_folder=True)
         return [refused[0]] * len(held.lines) if refused and refused[0].number == 1 else refused
 
     def keep(self, path: str, held: Held, reason: str) -> None:

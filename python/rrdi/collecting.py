@@ -5,7 +5,7 @@ from __future__ import annotations
 import os
 from typing import List, NamedTuple, Optional, Tuple
 
-from .commands import Batch, Lines, RefusedLine, batch, check_same, make_at, run_on
+from .commands import Batch, Lines, RefusedLine, batch, batch_on_new, check_same, make_at, run_on
 from .errors import REFUSED, Exists, Refused, error_of_line, reasons_in
 from .fetching import Asked
 from .results import Table
@@ -126,7 +126,7 @@ class Collected:
         creation = self._creation
         if creation is None:
             return self._batch(self.path, lines)
-        ran = make_at(self.path, lambda new: self._batch(new, lines))
+        ran = make_at(self.path, lambda new: batch_on_new(new, lines, self.now, self.sync))
         if ran is not None:
             return ran
         if not creation.exist_ok:

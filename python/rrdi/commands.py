@@ -322,6 +322,21 @@ def text_of_lines(lines: List[str]) -> bytes:
     return as_bytes("\n".join(lines))
 
 
+def batch_on_new(path: str, lines: Lines, now: Optional[Time] = None, sync: Optional[bool] = None) -> Batch:
+    """Runs lines as `batch` does where there is no file, and puts the database into an empty file that is being made. They
+    run in memory: a batch takes an empty file for a damaged one."""
+    given = lines_of(lines)
+    answer = the_library().batch(None, text_of_lines(given), moment(now))
+    found = batch_of(given, answer, path)
+    if answer.data is not None:
+        with open(path, "wb") as file:
+            file.write(answer.data)
+            if is_synced(sync):
+                file.flush()
+                os.fsync(file.fileno())
+    return found
+
+
 def batch_of(lines: List[str], answer: Answer, path: FilePath) -> Batch:
     """Returns the batch of an answer.
 

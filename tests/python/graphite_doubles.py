@@ -165,7 +165,7 @@ class KeepingLibrary(NothingStaysOpen):
         self.answers = list(answers)
 
     def batch_file(self, path: bytes, lines: bytes, now: int, wait: int, syncs: bool) -> Answer:
-        self.batches.append((os.path.realpath(path.decode()), lines.decode().split("\n")))
+        self.batches.append((path.decode(), lines.decode().split("\n")))
         answer = self.answers.pop(0) if self.answers else Answer(0, 0, 0, b"")
         if answer.fault == 0 and 1 not in answer.refused:
             Path(path.decode()).write_bytes(b"a database")
@@ -178,7 +178,10 @@ class KeepingLibrary(NothingStaysOpen):
         raise AssertionError("no command is run")
 
     def batch(self, data: Optional[bytes], lines: bytes, now: int) -> Answer:
-        raise AssertionError("no command is run")
+        """Makes a database in memory; the batch has no path."""
+        self.batches.append(("", lines.decode().split("\n")))
+        answer = self.answers.pop(0) if self.answers else Answer(0, 0, 0, b"")
+        return answer._replace(data=b"a database" if answer.fault == 0 and 1 not in answer.refused else None)
 
 
 def amount(value: Optional[float]) -> bytes:

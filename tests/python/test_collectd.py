@@ -178,7 +178,8 @@ class Writing(WriterCase):
                                   (1_120, "d", ["a", "b"]), (1_121, "c", ["a", "b", "c"])):
             self.now = float(at)
             self.writer.write(values(NOW + at, 1, type="derive", host=name))
-            self.assertEqual([path.split("/")[-3] for path, _ in making.batches], written, (at, name))
+            found = sorted(os.listdir(self.folder))
+            self.assertEqual((found, len(making.lines)), (written, len(found)), (at, name))
 
     def test_the_end(self) -> None:
         """What could not be written is lost then, once, and no file stays open."""
@@ -229,10 +230,9 @@ class Writing(WriterCase):
         path = self.folder / "here/load/derive.rrdi"
 
         class Racing(Making):
-            def batch_file(self, given: bytes, *more: Any) -> Answer:
-                if not path.exists():
-                    path.write_bytes(b"another program's")
-                return super().batch_file(given, *more)
+            def batch(self, *words: Any) -> Answer:
+                path.write_bytes(b"another program's")
+                return super().batch(*words)
         racing = self.use(Racing())
         self.writer.write(values(NOW, 1, type="derive"))
         self.writer.end()
@@ -269,10 +269,10 @@ class Writing(WriterCase):
         writer = self.writer
 
         class Slow(Making):
-            def batch_file(self, *words: Any) -> Answer:
+            def batch(self, *words: Any) -> Answer:
                 if not self.batches:
                     writer.write(values(NOW + 20, 3, type="derive"))
-                return super().batch_file(*words)
+                return super().batch(*words)
         making = self.use(Slow(graphite.BUSY))
         for at in (0, 10):
             writer.write(values(NOW + at, 1 + at // 10, type="derive"))
@@ -304,11 +304,11 @@ class Writing(WriterCase):
             is_writing, may_go_on, has_asked = threading.Event(), threading.Event(), threading.Event()
 
             class Slow(Making):
-                def batch_file(self, *words: Any) -> Answer:
+                def batch(self, *words: Any) -> Answer:
                     if not self.batches:
                         is_writing.set()
                         may_go_on.wait(HANG)
-                    return super().batch_file(*words)
+                    return super().batch(*words)
 
             class Turn:
                 def __init__(self, inner: Any) -> None:

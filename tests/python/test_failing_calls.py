@@ -9,7 +9,7 @@ import errno
 import io
 import os
 from pathlib import Path
-from typing import Any, Callable, Counter, Dict, Iterator, List, Set
+from typing import Any, Callable, Counter, Dict, Iterator, List, Optional, Set
 from unittest import mock
 
 import graphite_doubles as graphite
@@ -31,7 +31,6 @@ NOW = 1_700_000_000
 CALLS = ("stat", "lstat", "readlink", "mkdir", "link", "unlink", "open", "fstat", "rename")
 ERRORS: List[BaseException] = [*(OSError(number, os.strerror(number)) for number in (
     errno.EIO, errno.EACCES, errno.ESTALE, errno.ENOMEM, errno.EINTR, errno.ENOSPC, errno.EPERM)), MemoryError()]
-STAT = os.stat
 # Of the library; a read that failed, and an empty file that it found.
 FAULTS = [Answer(CANNOT_OPEN, errno.EIO, 0, b"cannot open"), Answer(CANNOT_WRITE, errno.ENOSPC, 0, b"cannot write"),
           Answer(NO_MEMORY, 0, 0, b"out of memory"), Answer(READ_FAILED, 0, 0, b"file: read failed"),
@@ -39,27 +38,32 @@ FAULTS = [Answer(CANNOT_OPEN, errno.EIO, 0, b"cannot open"), Answer(CANNOT_WRITE
 
 
 class Kept(graphite.KeepingLibrary):
-    """Keeps the times of the samples that each file has; a file that is made has those of the other name. Answers the next
-    batch by the next answer, and then changes nothing."""
+    """Keeps the times of the samples that each file has, and each database that was made in memory. Answers the next batch by
+    the next answer, and then changes nothing."""
 
     def __init__(self, *answers: Answer) -> None:
         super().__init__(*answers)
         self.times: Counter[int] = Counter()
-        self.unnamed: Dict[int, Set[int]] = {}  # by the inode
+        self.made: Dict[bytes, Set[int]] = {}  # by the bytes
 
     def batch_file(self, path: bytes, lines: bytes, now: int, wait: int, syncs: bool) -> Answer:
         if self.answers:
             return self.answers.pop(0)
-        name = os.fsdecode(path)
-        words = [word for line in lines.decode().split("\n") for word in line.split()[1:] if line.startswith("update ")]
-        times = {int(word.split(":")[0]) for word in words if not word.endswith(":U")}
-        with open(name, "wb") as file:
+        times = times_of(lines)
+        with contextlib.suppress(FileNotFoundError), open(path, "rb") as file:
+            self.times.update(self.made.get(file.read(), ()))
+        with open(path, "wb") as file:
             file.write(graphite.file_bytes(max(times, default=NOW)))
-        if name.endswith(".new"):
-            self.unnamed[STAT(name).st_ino] = times
-        else:
-            self.times.update(times)
+        self.times.update(times)
         return DONE
+
+    def batch(self, data: Optional[bytes], lines: bytes, now: int) -> Answer:
+        if self.answers:
+            return self.answers.pop(0)
+        times = times_of(lines)
+        made = graphite.file_bytes(max(times, default=NOW), partial=((0, float(len(self.made))),))
+        self.made[made] = times
+        return DONE._replace(data=made)
 
     def run_file(self, path: bytes, words: bytes, now: int, wait: int, syncs: bool) -> Answer:
         if self.answers:
@@ -67,6 +71,12 @@ class Kept(graphite.KeepingLibrary):
         with open(path, "wb") as file:
             file.write(graphite.file_bytes(NOW))
         return DONE
+
+
+def times_of(lines: bytes) -> Set[int]:
+    """The times of the known samples in the lines of a batch."""
+    words = [word for line in lines.decode().split("\n") for word in line.split()[1:] if line.startswith("update ")]
+    return {int(word.split(":")[0]) for word in words if not word.endswith(":U")}
 
 
 @contextlib.contextmanager
@@ -118,8 +128,7 @@ class EachCall(DataCase):
 
     def named(self, library: Kept, folder: Path) -> Set[int]:
         """The times of all samples in the files with a name."""
-        inodes = {STAT(path).st_ino for path in folder.rglob("*.rrdi")}
-        return set(library.times).union(*(times for inode, times in library.unnamed.items() if inode in inodes))
+        return set(library.times).union(*(library.made.get(path.read_bytes(), ()) for path in folder.rglob("*.rrdi")))
 
     def test_graphite(self) -> None:
         def look(library: Kept, folder: Path, fault: Callable[[], Any]) -> None:

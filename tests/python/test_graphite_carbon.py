@@ -57,9 +57,8 @@ class Lines(CarbonCase):
         database.create("a.b", RETENTIONS, 0.5, "average")
         self.assertTrue(database.exists("a.b"))
         database.write("a.b", {NOW + 30: 3.0, NOW + 3: 1.0, NOW + 5: 2.0}.items())
-        path, lines = keeping.batches[0]
-        self.assertEqual(self.files(), ["data/a/b.rrdi"])
-        self.assertEqual(os.path.dirname(path), str(self.folder / "a"))
+        (_, lines), = keeping.batches
+        self.assertEqual((self.files(), (self.folder / "a/b.rrdi").read_bytes()), (["data/a/b.rrdi"], b"a database"))
         self.assertEqual(lines, [f"create --start {NOW} --step 10 --journal 16 DS:average:GAUGE:10:U:U "
                                  "RRA:AVERAGE:0.500000:1:60 RRA:AVERAGE:0.500000:6:60", f"update {NOW + 10}:2.000000",
                                  f"update {NOW + 30}:U {NOW + 40}:3.000000"])

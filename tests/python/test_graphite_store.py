@@ -58,7 +58,7 @@ class Edges(DataCase):
                             (RuntimeError("x"), "RuntimeError: x")):
             library, said = self.use(), []  # type: graphite.KeepingLibrary, List[str]
             store = self.store(said)
-            with mock.patch.object(library, "batch_file", side_effect=fault):
+            with mock.patch.object(library, "batch", side_effect=fault):
                 store.write("m", [(NOW - 20, 1.0)])
             self.assertEqual((store.waiting, said), (1, [f"rrdi: m: {text}; 1 points wait for the next ones"]))
             store.create("m", template([(10, 100)], 0.5, "average", 16))

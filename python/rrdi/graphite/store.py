@@ -8,7 +8,7 @@ from collections import Counter
 from functools import partial
 from typing import Callable, Dict, Iterable, List, Mapping, NamedTuple, Optional, Tuple
 
-from ..commands import Batch, batch
+from ..commands import Batch, batch, batch_on_new
 from ..kept_file import KeptFile
 from ..locks import identity_at, identity_of
 from ..making import is_there, make
@@ -152,7 +152,7 @@ class Store:
         lines += lines_of(slots, start, new.step, new.has_zeros, self.options.journal)
 
         def fill(fresh: str) -> Tried:
-            tried = give(fresh, 0, lines, slots, {})
+            tried = give(fresh, 0, lines, slots, {}, run=partial(batch_on_new, fresh))
             return tried if os.stat(fresh).st_size else Tried({}, {"refused": len(slots)}, tried.reason)
         return make(path, fill, makes_folder=True)
 

@@ -138,7 +138,7 @@ def make_or_find(new: str, lines: Iterable[str], look: Callable[[str], None]) ->
 
 def fill_by_batch(unfinished: str, new: str, lines: Iterable[str], look: Callable[[str], None]) -> None:
     try:
-        program.batch(unfinished, lines)
+        program.batch_on_new(unfinished, lines)
     except program.CommandFailed as failed:
         raise Failure(failed.of_file(new, os.path.dirname(new) or ".")) from None
     look(unfinished)

@@ -108,17 +108,38 @@ def ask(words: List[str]) -> str:
     return as_text(answered(chosen().run_file, file, as_bytes("\0".join([name, *others]))).output)
 
 
-def batch(file: str, lines: Iterable[str]) -> List[str]:
-    """Runs the lines of a batch on a file and returns their output.
+def checked(lines: Iterable[str]) -> List[str]:
+    """Returns the lines of a batch.
 
     # Errors
-    Those of `answered`, with the first refusal if a line was refused, and `Failure` if a line is no text of a batch, for
-    example because a line feed in it begins another line.
+    `Failure` if one is no text of a batch, for example because a line feed in it begins another line.
     """
     given = list(lines)
     for line in given:
         if len(line) > LONGEST_LINE or not OF_A_LINE.fullmatch(line):
             raise Failure(f"a line of a batch has a character that it cannot have, or is too long: {line[:60]!r}")
+    return given
+
+
+def batch_on_new(file: str, lines: Iterable[str]) -> None:
+    """Runs lines, of which the first one creates the database, on an empty file that is being made. That one runs alone: a
+    batch takes an empty file for a damaged one.
+
+    # Errors
+    Those of `batch`.
+    """
+    first, *others = checked(lines)
+    answered(chosen().run_file, file, as_bytes("\0".join(first.split())))
+    batch(file, others)
+
+
+def batch(file: str, lines: Iterable[str]) -> List[str]:
+    """Runs the lines of a batch on a file and returns their output.
+
+    # Errors
+    Those of `answered` and of `checked`, with the first refusal if a line was refused.
+    """
+    given = checked(lines)
     answer = answered(chosen().batch_file, file, as_bytes("".join(line + "\n" for line in given)))
     printed = as_text(answer.output)
     refused = reasons_in(printed)
