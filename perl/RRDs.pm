@@ -57,7 +57,10 @@ sub _start {
         POSIX::dup2(fileno $child_reads, 0);
         POSIX::dup2(fileno $child_writes, 1);
         if (${^TAINT}) {
+            # How long to wait and whether to flush is no danger, if it is a number.
+            my %kept = map { ($ENV{$_} // '') =~ /^([0-9]+)\z/ ? ($_, $1) : () } qw(RRDI_SYNC RRDI_WAIT);
             delete @ENV{qw(IFS CDPATH ENV BASH_ENV), grep { /^(RRDI|PYTHON|LD_)/ } keys %ENV};
+            @ENV{keys %kept} = values %kept;
             $ENV{PATH} = '/usr/local/bin:/usr/bin:/bin';
         }
         no warnings 'exec';

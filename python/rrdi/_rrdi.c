@@ -346,26 +346,30 @@ static PyObject *file_update(PyObject *self, PyObject *given) {
     return found;
 }
 
-/* Reads samples from one on, which have the same number of values each. Returns whether all are in numbers or texts. */
+/* Reads samples from one on, up to the first that is not in numbers or texts, or has another number of values. Returns whether there
+ * are some. */
 static bool read_many(PyObject *samples, Py_ssize_t first, struct job *job) {
-    size_t count = (size_t)(PyTuple_Size(samples) - first);
-    job->times = calloc(count, sizeof *job->times);
-    for (size_t at = 0; at < count; at++) {
+    size_t count = (size_t)(PyTuple_Size(samples) - first), at;
+    for (at = 0; at < count; at++) {
         struct sample sample = {0};
         PyObject *given = PyTuple_GetItem(samples, first + (Py_ssize_t)at);
-        if (!job->times || !(PyUnicode_CheckExact(given) ? read_text(given, &sample) : read_sample(given, &sample)))
-            return false;
+        if (!(PyUnicode_CheckExact(given) ? read_text(given, &sample) : read_sample(given, &sample)))
+            break;
         if (!at) {
             job->sources = sample.count;
+            job->times = calloc(count, sizeof *job->times);
             job->many = calloc(count * sample.count, sizeof *job->many);
         }
-        if (!job->many || sample.count != job->sources)
+        if (!job->times || !job->many)
             return false;
+        if (sample.count != job->sources)
+            break;
         job->times[at] = sample.is_now ? job->now : sample.time;
         memcpy(job->many + at * job->sources, sample.values, job->sources * sizeof *job->many);
     }
-    job->count = count;
-    return count;
+    PyErr_Clear(); /* of the sample that ended it */
+    job->count = at;
+    return at;
 }
 
 /* Adds the samples of a tuple from one on, each as a change of its own, up to the first that is refused. Returns the answer and how

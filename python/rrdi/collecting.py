@@ -3,11 +3,14 @@
 from __future__ import annotations
 
 import os
+import threading
 from typing import List, NamedTuple, Optional, Tuple
+from weakref import WeakValueDictionary
 
 from .commands import Batch, Lines, RefusedLine, batch, batch_on_new, check_same, make_at, run_on
 from .errors import REFUSED, Exists, Refused, error_of_line, reasons_in
 from .fetching import Asked
+from .locks import still_there
 from .results import Table
 from .times import moment
 from .words import line_of
@@ -42,8 +45,11 @@ class Collected:
         self.path, self.now, self.busy_timeout, self.sync = path, now, busy_timeout, sync
         self.refused: List[RefusedLine] = []
         self._waiting: List[str] = []
+        self._taken = 0  # the waiting lines that run now, while a handler of a signal may call
         self._creation: Optional[_Creation] = None
         self._count = 0  # the lines that were run
+        self.guard = threading.RLock()
+        _collected[id(self)] = self
 
     def time_of_samples(self) -> Optional[int]:
         return moment(self.now)
@@ -52,15 +58,16 @@ class Collected:
         pass
 
     def create(self, words: List[str], overwrite: bool, exist_ok: bool) -> None:
-        if not overwrite:
-            if self._is_created() or os.path.exists(self.path):
-                if not exist_ok:
-                    raise Exists(self.path)
-                if not self._is_created():
-                    check_same(self.path, words, self.now, self.busy_timeout)
-                return
-            self._creation = _Creation(len(self._waiting), exist_ok)
-        self.change(words)
+        with self.guard:
+            if not overwrite:
+                if self._is_created() or os.path.exists(self.path):
+                    if not exist_ok:
+                        raise Exists(self.path)
+                    if not self._is_created():
+                        check_same(self.path, words, self.now, self.busy_timeout)
+                    return
+                self._creation = _Creation(len(self._waiting), exist_ok)
+            self.change(words)
 
     def _is_created(self) -> bool:
         """Returns whether a `create` waits."""
@@ -76,63 +83,83 @@ class Collected:
         return None
 
     def change(self, words: List[str]) -> None:
-        self._waiting.append(line_of(words))
+        line = line_of(words)
+        with self.guard:
+            self._waiting.append(line)
 
     def ask(self, words: List[str]) -> str:
         """Runs the waiting changes and then a query; returns the output of the query."""
-        if not self._waiting:
-            return run_on(self.path, words, self.now, self.busy_timeout, None)
-        before = len(self.refused)
-        output = self._run([line_of(words)])
-        if len(self.refused) > before and self.refused[-1].number == self._count + 1:
-            question = self.refused.pop()
-            raise error_of_line(question.reason, self.path, question.detail)
+        with self.guard:
+            if len(self._waiting) == self._taken:
+                return run_on(self.path, words, self.now, self.busy_timeout, None)
+            before = len(self.refused)
+            output = self._run([line_of(words)])
+            if len(self.refused) > before and self.refused[-1].number == self._count + 1:
+                question = self.refused.pop()
+                raise error_of_line(question.reason, self.path, question.detail)
         return "\n".join(output.splitlines()[len(reasons_in(output)):])
 
     def batch(self, lines: Lines) -> Batch:
-        if self._waiting:
-            self._run([])
-        return self._batch(self.path, lines)
+        with self.guard:
+            if len(self._waiting) > self._taken:
+                self._run([])
+            return self._batch(self.path, lines)
 
     def flush(self) -> None:
-        while self._waiting:
-            self._run([])
-        refused, self.refused = tuple(self.refused), []
+        with self.guard:
+            while len(self._waiting) > self._taken:
+                self._run([])
+            refused, self.refused = tuple(self.refused), []
         if refused:
             raise RefusedLines(self.path, refused)
 
     def end(self, is_whole: bool) -> None:
         if is_whole:
             self.flush()
-        else:
-            self._waiting.clear()
+            return
+        with self.guard:
+            del self._waiting[self._taken:]
             self._creation = None
 
     def _run(self, question: List[str]) -> str:
         """Runs the waiting changes and then a query; returns the output of all. Keeps the refused lines."""
-        waiting, self._waiting = self._waiting, []  # for the changes that come meanwhile
+        start = self._taken
         try:
-            ran = self._ran(waiting + question)
-        except BaseException:
-            self._waiting[:0] = waiting
-            raise
-        self._creation = None
+            waiting = self._waiting[start:]
+            self._taken = start + len(waiting)
+            ran = self._ran(waiting + question, start)
+            del self._waiting[start:start + len(waiting)]
+        finally:
+            self._taken = start
         self.refused += [one._replace(number=one.number + self._count) for one in ran.refused]
         self._count += len(waiting)
         return ran.output
 
-    def _ran(self, lines: List[str]) -> Batch:
-        """Runs lines. If they create a file that did not exist, they run under another name, until it is whole."""
+    def _ran(self, lines: List[str], start: int) -> Batch:
+        """Runs lines, of which the first one waits at `start`. If they create a file that did not exist, they run on a new
+        file, which gets its name when it is whole."""
         creation = self._creation
-        if creation is None:
+        if creation is None or creation.place < start:
             return self._batch(self.path, lines)
         ran = make_at(self.path, lambda new: batch_on_new(new, lines, self.now, self.sync))
-        if ran is not None:
-            return ran
-        if not creation.exist_ok:
-            raise Exists(self.path)
-        lines[creation.place] = ""  # an empty line does nothing
-        return self._batch(self.path, lines)
+        if ran is None:
+            if not creation.exist_ok:
+                raise Exists(self.path)
+            lines[creation.place - start] = ""  # an empty line does nothing
+            ran = self._batch(self.path, lines)
+        self._creation = None
+        return ran
 
     def _batch(self, path: str, lines: Lines) -> Batch:
         return batch(path, lines, now=self.now, busy_timeout=self.busy_timeout, sync=self.sync)
+
+
+_collected: WeakValueDictionary[int, Collected] = WeakValueDictionary()
+
+
+def _after_fork_in_child() -> None:
+    for one in still_there(_collected):
+        one.guard = threading.RLock()  # another thread may have held it, and is not in the child
+
+
+os.register_at_fork(after_in_child=_after_fork_in_child)

@@ -194,8 +194,8 @@ class Database:
             if not more:
                 try:
                     self.update(given[stored])
-                except Error as error:
-                    error.stored = stored
+                except Exception as error:  # a sample of a wrong type, too
+                    setattr(error, "stored", stored)
                     raise
             stored += more or 1
         return stored

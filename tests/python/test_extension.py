@@ -470,12 +470,17 @@ class ManySamples(FastCase):
         for first in range(3):
             self.assertEqual(opened.update_many(samples, first, 5), (DONE, 3 - first))
         self.assertEqual(self.said(), ["many 10:1.5 20:2.5 30:U", "many 20:2.5 30:U", "many 30:U"])
-        # From none on, with another number of values, and with what is no sample.
-        wrong: List[Tuple[Tuple[object, ...], int]] = [
-            (samples, -1), (samples, 3), ((*samples, (40, 1, 2)), 0), ((*samples, object()), 0)]
+        wrong: List[Tuple[Tuple[object, ...], int]] = [(samples, -1), (samples, 3), ((object(), *samples), 0)]
         for given, first in wrong:
             self.assertIsNone(opened.update_many(given, first, 5))
         self.assertEqual(self.said(), [])
+
+    def test_up_to_which_one(self) -> None:
+        """One with another number of values, or what is no sample: those before it are added, and nothing is raised."""
+        opened = self.opened()
+        for last in ((40, 1, 2), object(), (2**70, 1)):
+            self.assertEqual(opened.update_many(((10, 1.5), "20:2.5", last, (50, 1.5)), 0, 5), (DONE, 2))
+            self.assertEqual(self.said(), ["many 10:1.5 20:2.5"])
 
     def test_a_file_that_is_no_longer_open(self) -> None:
         opened = self.opened()

@@ -120,6 +120,16 @@ class Finding(FolderCase):
             self.assertEqual({*((path, True) for path in metrics), *((path, False) for path in folders)},
                              {node for node in found if not node[0].startswith(".")}, pattern)
 
+    def test_a_pattern_that_is_too_much(self) -> None:
+        """Nothing is found then, also not what came before."""
+        self.assertNotEqual(self.nodes("**.cpu"), ([], []))
+
+        def find(*words: Any) -> Any:
+            yield from finding.find(*words)
+            raise finding.TooMuch("too many links")
+        with mock.patch.object(web, "find", find):
+            self.assertEqual(self.nodes("**.cpu"), ([], []))
+
     def test_an_unreadable_folder(self) -> None:
         self.assertEqual(finding.entries(str(self.folder / "none")), ([], []))
 

@@ -308,6 +308,20 @@ package main; use RRDs; tie *STDOUT, 'Kept'; my $last = RRDs::last('f.rrdi'); un
         self.assertEqual((ran.status, ran.err), (0, ""))
         self.assertIn(ran.out, ("0", "cannot run rrdi: No such file or directory"))
 
+    def test_numbers_in_taint_mode(self) -> None:
+        """Whether to flush and how long to wait are passed on; what is no number is not."""
+        assert PERL
+        for name in ("perl", "tools"):
+            (self.folder / name).mkdir()
+        shutil.copy(f"{TOP}/perl/RRDs.pm", self.folder / "perl")
+        program = self.folder / "tools/rrdi-rrdtool"
+        program.write_text(f"#!/bin/sh\nenv | grep ^RRDI | sort >'{self.folder}/seen'\n")
+        program.chmod(0o755)
+        for given, seen in (({"RRDI_SYNC": "1", "RRDI_WAIT": "20", "RRDI": "/nowhere"}, b"RRDI_SYNC=1\nRRDI_WAIT=20\n"),
+                            ({"RRDI_SYNC": "1\n", "RRDI_WAIT": "-1"}, b"")):
+            self.run_command([PERL, "-T", f"-I{self.folder}/perl", "-e", "use RRDs; RRDs::last('f.rrdi')"], env=given)
+            self.assertEqual(self.read("seen"), seen)
+
     def test_it_can_be_read_as_a_page(self) -> None:
         ran = self.run_command(["podchecker", f"{TOP}/perl/RRDs.pm"])
         self.assertEqual(ran.status, 0, ran.err)

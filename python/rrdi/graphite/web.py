@@ -93,7 +93,7 @@ class RrdiFinder(BaseFinder):  # type: ignore[misc]
 
     def find_matching(self, folder: str, pattern: str) -> Iterable[Any]:
         try:
-            for found in find(folder, pattern):
+            for found in list(find(folder, pattern)):  # all or none
                 metric = metric_of(found.relative)
                 if found.is_file:
                     yield LeafNode(metric, RrdiReader(os.path.join(folder, found.relative), metric))
