@@ -7,8 +7,8 @@
  * function frees all memory that it allocates before it returns; it allocates by malloc, realloc and free, which must belong to
  * one allocator, and align blocks to 16 bytes. A call needs less than 64 KiB of stack, and 10 more to create a database.
  * Files. A function locks the file by flock, as the program does, and closes all files that it opens; only an open file stays
- * open and locked until rrdi_close. The lock is released even if the process was forked in the meantime; if the process is
- * killed before that, the child keeps the lock until it ends or calls exec. If the process has locks of its own on the file,
+ * open and locked until rrdi_close. The lock is released even if the process was forked in the meantime; if the process
+ * ends before that, the child keeps the lock until it ends or calls exec. If the process has locks of its own on the file,
  * set by fcntl (F_SETLK), it loses them: the system drops them when the call closes the file.
  * Streams. If a descriptor from 0 to 2 is closed, a call does not use it for the file, except for the moment of the opening.
  * Other threads must not write to a closed descriptor.
@@ -23,9 +23,10 @@
  * be there. No two buffers may overlap. Nothing may change the bytes that a call reads while it runs: no other thread, and no other
  * process through a shared mapping. So do not pass a mapping (MAP_SHARED) of a database's file. No length, and no room, is greater
  * than PTRDIFF_MAX. A bool is 0 or 1, also if the caller is written in another language.
- * Room. What does not fit its room is not written at all, and is a fault: RRDI_NO_ROOM, unless there is another one. No length in an
- * answer but file_length, output_needed and refused is greater than the room that it is of. A call with RRDI_NO_ROOM has changed
- * nothing: commands that change a file print nothing, and a batch changes the file only if there is room for all that it prints. */
+ * Room. What does not fit its room (except refused_lines) is not written at all, and is a fault: RRDI_NO_ROOM, unless there is
+ * another. No length in an answer but file_length, output_needed and refused is greater than the room that it is of. A call
+ * with RRDI_NO_ROOM has changed nothing: commands that change a file print nothing, and a batch changes the file only if there
+ * is room for all that it prints. */
 #ifndef RRDI_H
 #define RRDI_H
 
@@ -55,14 +56,14 @@ enum rrdi_fault {
                                room. */
     RRDI_NO_MEMORY = 2,      /* An allocation failed. The output's text is `out of memory`, or `write failed` if there was no memory
                                for the printed text. */
-    RRDI_USAGE = 10,         /* The words are not a command. */
+    RRDI_USAGE = 10,         /* The words are not a command, or there is no such option. */
     RRDI_BAD_WORD = 11,      /* A word, or a value, cannot be read. The output names the word. */
     RRDI_REFUSED = 13,       /* The database refuses the command. The output gives the reason. */
     RRDI_CANNOT_OPEN = 14,   /* The file does not exist, is no regular file, or cannot be opened or locked; or another process holds
                                its lock. In memory: the command needs a file, and there is none. */
     RRDI_CANNOT_WRITE = 15,  /* The file cannot be written. */
-    RRDI_NOT_OURS = 20,      /* The file is not a database of rrdi. In memory also: a change of the file was interrupted. Only a call
-                               on the file at its path repairs the file. */
+    RRDI_NOT_OURS = 20,      /* The file is not a database of rrdi. In memory also: a change of the file was interrupted, or a program
+                               has the file open. Calls at its path read it. */
     RRDI_OTHER_VERSION = 21, /* The file has a layout version that this library does not know. */
     RRDI_TRUNCATED = 22,     /* The file ends after the answer's `at` bytes, before the database does. */
     RRDI_BAD_BLOCK = 23,     /* The block that begins after the answer's `at` bytes is invalid. */
@@ -82,8 +83,8 @@ enum rrdi_fault {
  * that is not refused makes no explanation. The texts are for people, and may change: programs use `fault` and `system_error`. */
 struct rrdi_answer {
     uint32_t fault;         /* enum rrdi_fault. A batch whose lines were refused has no fault. */
-    uint32_t system_error;  /* With RRDI_CANNOT_OPEN, RRDI_CANNOT_WRITE and RRDI_READ: the errno of the call that failed, or the
-                               one that comes closest; EAGAIN if another process holds the lock. Otherwise 0. */
+    uint32_t system_error;  /* On a file, with RRDI_CANNOT_OPEN, RRDI_CANNOT_WRITE and RRDI_READ: the errno of the call that failed,
+                               or the one that comes closest; EAGAIN if another process holds the lock. Otherwise 0. */
     bool is_changed;        /* In memory: new_file begins with the new file. On a file: the file has the new database. false with a
                                fault. */
     bool is_cut;            /* The output is longer than its room, and was not written: not even the text of a fault. */
@@ -92,7 +93,8 @@ struct rrdi_answer {
     uint64_t output_length; /* The number of bytes that were written to the output, never more than its room: all, or 0. */
     uint64_t output_needed; /* The number of bytes of the output, even if there is no room for it. */
     uint64_t at;            /* The position of a file's fault in the file, or the number of the journal entry. */
-    /* The number of bytes of the explanation, 0 if there is none; and the explanation, in UTF-8, without a control character. */
+    /* The number of bytes of the explanation, 0 if there is none; and the explanation, in UTF-8, with no control character but line
+     * feeds. */
     uint64_t explanation_length;
     uint8_t explanation[RRDI_EXPLANATION];
     uint64_t reserved[31]; /* Nothing yet. */
@@ -138,7 +140,7 @@ struct rrdi_rows {
  * In a forked child the file stays the parent's: a call reports RRDI_CANNOT_OPEN with ECHILD, and rrdi_close and rrdi_open only forget
  * the file, whose memory stays with the child. */
 struct rrdi_file {
-    bool is_open;     /* Whether the file is open. */
+    bool is_open;     /* Whether there is a file. */
     uint32_t process; /* The number of the process that opened the file. */
     void *reserved;   /* What the library keeps. */
 };
@@ -239,7 +241,8 @@ void rrdi_batch_file(const char *path, size_t path_length, const uint8_t *lines,
 
 /* Creates a database at a path, as rrdi_run_file does where there is no file. If there is a file, the file stays as it is, and
  * the fault is RRDI_CANNOT_WRITE with EEXIST as its system_error; also if the file appears during the call, and if it is a
- * directory or a symbolic link, even one that leads nowhere. With a fault the call leaves no new file.
+ * directory or a symbolic link, even one that leads nowhere. With a fault the call leaves no new file, unless the disk
+ * has not stored its name, for which a call with syncs waits. The path has 4,070 bytes at most, its last name 220.
  *
  * Nobody sees half a database at the path. A kill may leave a file whose name is that of the database and `.new-` with two numbers;
  * you may remove it. On a file system that has neither links nor a rename that replaces no file, there is an empty file for a moment,
@@ -357,8 +360,8 @@ static inline const char *rrdi_version(void) {
 /* Returns the version of the library. */
 const char *rrdi_libversion(void);
 
-/* Returns a short text for a fault, as it begins in docs/errors.md, or "unknown fault". An answer's output says more: which
- * word, which line, which byte. The text is never null, and lasts as long as the program. */
+/* Returns a short text for a fault, such as "cannot open", or "unknown fault". An answer's output and its explanation say more:
+ * which word, which line, which byte. The text is never null, and lasts as long as the program. */
 const char *rrdi_strerror(uint32_t fault);
 
 /* ---- words */

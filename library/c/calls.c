@@ -137,6 +137,8 @@ void rrdi_update_many(struct rrdi_file *file, const uint64_t *times, const struc
 void rrdi_fetch_open(struct rrdi_file *file, uint32_t function, uint64_t resolution, uint64_t start, uint64_t end,
                      struct rrdi_rows *rows, struct rrdi_value *values, size_t values_room, uint8_t *output, size_t output_room,
                      struct rrdi_answer *answer) {
+    struct rrdi_rows ignored;
+    rows = rows ? rows : &ignored;
     memset(rows, 0, sizeof *rows);
     if (!is_refused(file, output, output_room, answer))
         rrdi_c_fetch_open(file, function, resolution, start, end, rows, ROOM(struct rrdi_value, values), ROOM(uint8_t, output),

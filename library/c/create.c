@@ -46,8 +46,8 @@ static void explain(const char *path, size_t path_length, int error, struct rrdi
 }
 
 /* Puts the path in place of the one by which the file was made, which tells nobody anything, where an explanation begins with
- * that. */
-static void name_path(const char *path, size_t path_length, const char *made, struct rrdi_answer *answer) {
+ * that. Its room on the stack is not that of rrdi_run_file's callers. */
+__attribute__((noinline)) static void name_path(const char *path, size_t path_length, const char *made, struct rrdi_answer *answer) {
     char why[RRDI_EXPLANATION], *text = (char *)answer->explanation;
     size_t at = 0, begin = strlen(made) + 2, length;
     if (answer->explanation_length < begin || memcmp(text, made, begin - 2))
@@ -149,6 +149,7 @@ static int rename_to_new(const char *other, const char *name) {
         if (!is_taken(descriptor, name))
             unlink(name);
     }
+    flock(descriptor, LOCK_UN); /* a forked child may have the descriptor */
     close(descriptor);
     return error;
 }
@@ -160,6 +161,20 @@ static int give_name(const char *other, const char *name) {
     if (error == EPERM || error == EOPNOTSUPP || error == ENOSYS || error == EMLINK)
         error = rename_to_new(other, name);
     unlink(other);
+    return error;
+}
+
+/* Waits until the disk has stored the names of the directory of a file. Returns 0 or an errno. */
+static int flush_directory(char *name) {
+    char *end = strrchr(name, '/');
+    int descriptor, error;
+    if (end)
+        end[1] = 0;
+    descriptor = open(end ? name : ".", O_RDONLY | O_DIRECTORY | O_CLOEXEC);
+    if (descriptor < 0)
+        return errno;
+    error = fsync(descriptor) && errno != EINVAL ? errno : 0; /* some file systems store names at once */
+    close(descriptor);
     return error;
 }
 
@@ -186,6 +201,8 @@ void rrdi_create_new(const char *path, size_t path_length, const uint8_t *words,
             return;
         }
         error = give_name(other, name);
+        if (!error && syncs)
+            error = flush_directory(name);
     }
     if (error) {
         rrdi_refuse(RRDI_CANNOT_WRITE, error, "", output, output_room, answer);

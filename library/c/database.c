@@ -104,7 +104,7 @@ uint32_t rrdi_db_open(struct rrdi_db *db, const char *path, const char *definiti
     db->self = db;
     db->process = getpid();
     if (options & ~(uint32_t)RRDI_SYNCS)
-        return refuse(db, RRDI_USAGE, EINVAL, "no such option");
+        return refuse(db, RRDI_USAGE, 0, "no such option");
     if (!path)
         return refuse(db, RRDI_CANNOT_OPEN, EINVAL, "the path is a null pointer");
     if (definition && create(db, path, definition, syncs))

@@ -30,6 +30,7 @@ from typing import Any, Callable, Dict, List, NamedTuple, Optional, Protocol, Se
 
 from .amounts import gauge_text
 from .commands import RefusedLine, batch_on_new
+from .environment import is_synced
 from .errors import NO_FILE, Damaged, Usage
 from .escaping import escaped
 from .library import load_library
@@ -311,7 +312,8 @@ class Plugin:
     def begin(self, path: str, held: Held) -> Optional[Sequence[RefusedLine]]:
         """Makes a file with its first samples. Returns the refused ones, which are all if `create` is refused; None if
         another program has made the file."""
-        refused = make(path, lambda new: batch_on_new(new, [held.create, *held.lines]).refused, makes_folder=True)
+        refused = make(path, lambda new: batch_on_new(new, [held.create, *held.lines]).refused, makes_folder=True,
+                       syncs=is_synced(None))
         return [refused[0]] * len(held.lines) if refused and refused[0].number == 1 else refused
 
     def keep(self, path: str, held: Held, reason: str) -> None:

@@ -141,7 +141,7 @@ class Collected:
         creation = self._creation
         if creation is None or creation.place < start:
             return self._batch(self.path, lines)
-        ran = make_at(self.path, lambda new: batch_on_new(new, lines, self.now, self.sync))
+        ran = make_at(self.path, lambda new: batch_on_new(new, lines, self.now, self.sync), self.sync)
         if ran is None:
             if not creation.exist_ok:
                 raise Exists(self.path)

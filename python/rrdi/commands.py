@@ -123,7 +123,7 @@ def made(path: FilePath, words: List[str], overwrite: bool, exist_ok: bool, now:
     """Runs the words of a creation: makes the file, replaces it, or keeps it."""
     if overwrite:
         run_on(path, words, now, busy_timeout, sync)
-    elif make_at(path, lambda new: run_on(new, words, now, busy_timeout, sync)) is None:
+    elif make_at(path, lambda new: run_on(new, words, now, busy_timeout, sync), sync) is None:
         if not exist_ok:
             raise Exists(os.fsdecode(path))
         check_same(path, words, now, busy_timeout)
@@ -158,8 +158,8 @@ def creation(definitions: Iterable[Words], step: Optional[Span], start: Optional
     return ["create", *options(step=span_word(step), start=time_word(start), journal=journal), *flat(definitions)]
 
 
-def make_at(path: FilePath, fill: Callable[[str], Filled]) -> Optional[Filled]:
-    """Calls `fill` with another name, gives the whole file its name `path`, and returns what `fill` returned.
+def make_at(path: FilePath, fill: Callable[[str], Filled], sync: Optional[bool]) -> Optional[Filled]:
+    """Calls `fill` with another path, gives the whole file its name `path`, and returns what `fill` returned.
 
     Returns None if there is a file at `path`, which stays as it is. `fill` may leave the file empty: then there is none.
     """
@@ -168,7 +168,7 @@ def make_at(path: FilePath, fill: Callable[[str], Filled]) -> Optional[Filled]:
     from .making import make  # here, since most calls make no file
     the_library()  # that there is none is no fault of the file
     try:
-        return make(path, fill)
+        return make(path, fill, syncs=is_synced(sync))
     except Error:  # of which some are an OSError
         raise
     except OSError as error:

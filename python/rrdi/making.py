@@ -285,8 +285,9 @@ def remove_left_over(folder: str) -> List[str]:
     return removed
 
 
-def make(path: FilePath, fill: Callable[[str], Filled], makes_folder: bool = False) -> Optional[Filled]:
-    """Calls `fill` with another name, gives the file its name `path` when it is whole, and returns what `fill` returned.
+def make(path: FilePath, fill: Callable[[str], Filled], makes_folder: bool = False, syncs: bool = False) -> Optional[Filled]:
+    """Calls `fill` with another path, gives the file its name `path` when it is whole, and returns what `fill` returned. With
+    `syncs` the name is on the disk then.
 
     Returns None if there is a file at `path`, which stays as it is. `fill` may leave the file empty: then there is none.
 
@@ -299,4 +300,10 @@ def make(path: FilePath, fill: Callable[[str], Filled], makes_folder: bool = Fal
         except Error as error:
             error.path = os.fsdecode(path)
             raise
-        return filled if not new.is_filled() or new.appear() else None
+        if not new.is_filled():
+            return filled
+        if not new.appear():
+            return None
+        if syncs:
+            flush(os.path.dirname(new.path))
+        return filled

@@ -109,7 +109,7 @@ class Waiting(DataCase):
         held, done = threading.Event(), threading.Event()
 
         def hold() -> None:
-            with self.database._way.guard:  # type: ignore[union-attr]
+            with self.database._way.guard:  # type: ignore[attr-defined]
                 held.set()
                 done.wait(HANG)
         thread = threading.Thread(target=hold)

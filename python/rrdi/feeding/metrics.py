@@ -10,6 +10,7 @@ from typing import Dict, Iterable, List, Sequence, Tuple
 
 from ..amounts import WITH_EXPONENT
 from ..compat.syntax import read_number
+from ..environment import is_synced
 from ..errors import NO_FILE
 from ..making import is_there, make
 from .feeder import Feeder, FeedOptions
@@ -118,7 +119,7 @@ class Creating:
             if reason:
                 raise NotCreated(reason)
         try:
-            make(file, fill, makes_folder=True)
+            make(file, fill, makes_folder=True, syncs=is_synced(None))
             return ""
         except NotCreated as refused:
             return refused.reason

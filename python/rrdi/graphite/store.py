@@ -9,6 +9,7 @@ from functools import partial
 from typing import Callable, Dict, Iterable, List, Mapping, NamedTuple, Optional, Tuple
 
 from ..commands import Batch, batch, batch_on_new
+from ..environment import is_synced
 from ..kept_file import KeptFile
 from ..locks import identity_at, identity_of
 from ..making import is_there, make
@@ -154,7 +155,7 @@ class Store:
         def fill(fresh: str) -> Tried:
             tried = give(fresh, 0, lines, slots, {}, run=partial(batch_on_new, fresh))
             return tried if os.stat(fresh).st_size else Tried({}, {"refused": len(slots)}, tried.reason)
-        return make(path, fill, makes_folder=True)
+        return make(path, fill, makes_folder=True, syncs=is_synced(None))
 
 
 def summed(counts: Iterable[Mapping[str, int]]) -> Mapping[str, int]:
