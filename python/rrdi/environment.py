@@ -6,16 +6,15 @@ import os
 from typing import Optional
 
 LONGEST_WAIT = 3_600.0  # seconds
-LONGEST_WHOLE = 20  # digits of a number below 2^64
+LONGEST_WHOLE = 20  # digits of a number that rrdi reads, zeros in front included
 
 
 def wait_of_environment() -> int:
     """Returns the milliseconds to wait for a lock: those of RRDI_WAIT, or 5 seconds."""
     text = os.environ.get("RRDI_WAIT", "")
-    digits = text.lstrip("0")
-    if not (text.isascii() and text.isdigit()) or len(digits) > LONGEST_WHOLE or int(digits or "0") >= 1 << 64:
+    if not (text.isascii() and text.isdigit()) or len(text) > LONGEST_WHOLE or int(text) >= 1 << 64:
         return 5_000
-    return min(int(digits or "0"), int(LONGEST_WAIT)) * 1_000
+    return min(int(text), int(LONGEST_WAIT)) * 1_000
 
 
 def sync_of_environment() -> bool:

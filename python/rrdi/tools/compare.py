@@ -10,11 +10,12 @@ options:
   -h, --help           show this help and exit
   --version            show the version and exit
 
-For each archive that rrdi can have, a line counts the cells that agree, those
+For each archive that can be compared, a line counts the cells that agree, those
 known in only one of the files and those that differ, and has the time of the
 newest row that does not agree. Cells differ if they are farther apart than a
-millionth plus a ten-billionth of the value (rrdtool prints eleven digits). A last line names the
-data sources that only the old file has. rrdtool must be installed.
+millionth plus a ten-billionth of the value (rrdtool prints eleven digits). A
+last line names the data sources that only the old file has. rrdtool must be
+installed.
 
 environment:
   RRDI                 the program to run instead of the C library

@@ -14,8 +14,8 @@ examples:
 The first form makes NEW.rrd, which must not exist, with `rrdtool restore`. The
 second prints the XML for it, without RRDtool. A new file gets its name when it
 is on the disk, was read back, and is equal. The last two forms convert many
-files: those named, and all below the directories TREE whose names end in .rrdi
-or .rrd. First stop the programs that record into the files.
+files: those named, and all below directories TREE that end in .rrd or with
+--into .rrdi. First stop the programs that record into the files.
 
 options, anywhere on the line:
   --into DIRECTORY     make DIRECTORY/NAME.rrd (or NAME.wsp) of NAME.rrdi, and

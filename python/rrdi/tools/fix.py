@@ -15,7 +15,7 @@ such as 21.5:U. Without VALUE the file is as if the sample had never come.
 
 The tool reverts to the sample and sends the later changes again, all as one
 change of the file. It reaches as far as the journal (rrdi-show --journal FILE).
-If it cannot do all of it, it says why and leaves FILE as it was.
+If it cannot do all of it, it says why and usually leaves FILE alone.
 
 options, anywhere on the line:
   --source NAME        change the value of this source only

@@ -20,7 +20,7 @@ options, besides those of rrdtool graph:
 environment:
   RRDI                 the program to run instead of the C library
 
-Exit status: 0; 1 if nothing was drawn; 2 after wrong arguments.
+Exit status: 0; 1 after a failure; 2 after wrong arguments.
 """
 from __future__ import annotations
 

@@ -30,13 +30,13 @@ options:
   --version            show the version and exit
 
 No existing file is replaced by another one's database; a stopped run can be
-repeated: what is there stays. rrdtool must be installed only for an OLD.rrd
-with a COMPUTE source, a forecast, or another layout. A file whose name ends in
-.wsp gets the layout of Graphite's storage over rrdi (docs/graphite.md). What
-cannot be converted is listed on standard error; docs/moving-files.md says why.
+repeated: what is there stays. rrdtool is needed for an OLD.rrd with a COMPUTE
+source, a forecast, or another layout. A file whose name ends in .wsp gets the
+layout of Graphite's storage over rrdi (docs/graphite.md). What cannot be
+converted is listed; docs/moving-files.md says why.
 
 Exit status: 0 if all files are there with all their data sources; 1 and a
-reason on standard error if not; 2 after wrong arguments.
+reason if not; 2 after wrong arguments.
 """
 from __future__ import annotations
 

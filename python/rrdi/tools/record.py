@@ -23,8 +23,8 @@ files:
   FILE                 the database, which the first run creates, with a year
                        of what its options record
   FILE.1, .2, .3       copies, an hour apart, the newest first
-  FILE.refused         a damaged database, which the newest readable copy
-                       has replaced
+  FILE.refused         a damaged database, which a copy, or an empty one,
+                       replaced
   FILE.lock            held while rrdi-record runs
 
 Each change is flushed to the disk, as with RRDI_SYNC=1. A FILE of another

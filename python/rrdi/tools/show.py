@@ -12,10 +12,10 @@ examples:
   rrdi-show load.rrdi MAX -s 'yesterday 08:00' -e 'yesterday 18:00' --csv
   rrdi-show --journal load.rrdi
 
-The first form shows the data sources and the archives; the second the rows of
-the archive that `rrdi fetch` would read, with times of your zone. The third
-form is for programs, and without FUNCTION it prints all archives. --journal
-shows what the next reverts would take back.
+The first form shows the data sources and the archives; the second rows of the
+archive that `rrdi fetch` of these times reads, in your zone. The third form is
+for programs, and for FILE alone it prints all archives. --journal shows what
+the next reverts would take back.
 
 options, anywhere on the line:
   -s, --start START    show rows after START (default: a day before END)
@@ -26,7 +26,7 @@ options, anywhere on the line:
   -r, --resolution N   choose the archive whose rows cover about N seconds
   -a, --archive N      choose the archive by its number instead
   --csv                print a line of CSV for each row with a known cell
-  --json               print JSON: with FUNCTION the rows, else everything
+  --json               print JSON: for FILE alone everything, else rows
   --openmetrics        print OpenMetrics, for Prometheus
   --journal            show the changes that can be reverted, newest first
   -h, --help           show this help and exit

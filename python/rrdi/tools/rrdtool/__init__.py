@@ -9,7 +9,7 @@ examples:
   rrdi-rrdtool --show update room.rrdi 'now@2.05e1'
 
 COMMAND is create, update, updatev, tune, resize, fetch, first, last,
-lastupdate, info, graph, graphv or xport, with RRDtool's options, times such as
+lastupdate, info, graph, graphv or xport, with most options, times such as
 now-1h, durations such as 5m, and exponents. graph, graphv and xport need
 RRDtool's library (rrdi-graph --help).
 
