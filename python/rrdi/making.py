@@ -71,7 +71,7 @@ class NewFile:
     """A file that is being made. It is removed at the end if it got no name.
 
         with NewFile("a/b.rrdi") as new:
-            rrdi.create(new.unfinished, ..)
+            rrdi.create(new.unfinished, .., overwrite=True)
             is_made = new.appear()
 
     If `path` is a link to a file that does not exist, that file is made, unless `follows` is false. `makes_folder` makes the

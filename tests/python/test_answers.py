@@ -250,7 +250,7 @@ class Defaults(unittest.TestCase):
         for wrong in (-0.001, -1, math.nan):
             with self.assertRaisesRegex(ValueError, "^busy_timeout must be 0 or more seconds, not "):
                 milliseconds(wrong)
-        for text, seconds in (("18446744073709551615", 3_600), ("18446744073709551616", 5), ("00000000000000000000000000000000000007", 7), ("99999999999999999999", 5), ("100000000000000000000", 5),
+        for text, seconds in (("18446744073709551615", 3_600), ("18446744073709551616", 5), ("00000000000000000007", 7), ("000000000000000000007", 5), ("99999999999999999999", 5), ("100000000000000000000", 5),
                               ("3599", 3_599), ("3600", 3_600), ("3601", 3_600), ("000", 0), ("", 5), ("\u0661", 5), ("1 ", 5), ("+1", 5), ("5.5", 5), ("9" * 5_000, 5)):
             with mock.patch.dict(os.environ, {"RRDI_WAIT": text}):
                 self.assertEqual(wait_of_environment(), 1_000 * seconds, text)

@@ -416,7 +416,7 @@ class Modes(DataCase):
         makers: Dict[str, Callable[[str], object]] = {
             "create": lambda path: commands.create(path, *DEFINITIONS, start=0),
             "a batch": lambda path: commands.batch(path, [f"create --start 0 {' '.join(DEFINITIONS)}"]),
-            "made": lambda path: make(path, lambda new: commands.create(new, *DEFINITIONS, start=0), makes_folder=True),
+            "made": lambda path: make(path, lambda new: commands.create(new, *DEFINITIONS, start=0, overwrite=True), makes_folder=True),
             "locked": lambda path: self.lock(path)}
         for mask in (0o000, 0o002, 0o022, 0o027, 0o077):
             before = os.umask(mask)
