@@ -417,7 +417,7 @@ class Many(ToolCase):
                             "RRA:AVERAGE:0.5:1:3"], cwd=self.folder, check=True)
             subprocess.run([RRDTOOL, "update", f"{name}.rrd", "1600000010:1", "1600000020:2"], cwd=self.folder, check=True)
         env = {"PATH": os.environ["PATH"], "TZ": "UTC"}
-        slow = self.stub("slow", f'case $2 in *.new) [ -e done ] || {RRDTOOL} update b.rrd 1600000030:3; touch done ;; esac; '
+        slow = self.stub("slow", f'case $2 in /proc/*) [ -e done ] || {RRDTOOL} update b.rrd 1600000030:3; touch done ;; esac; '
                                  f'exec {self.env.get("RRDI", "rrdi")} "$@"')
         ran = self.tool("rrdi-import", "--in-place", "b.rrd", env={**env, "RRDI": slow})
         self.assertEqual((ran.status, "changed while" in ran.err), (1, True), ran)

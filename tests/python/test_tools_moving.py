@@ -109,9 +109,11 @@ class Import(ToolCase):
         self.assertEqual([path.name for path in self.folder.iterdir() if ".new" in path.name], [])
 
     def test_a_refusing_program(self) -> None:
-        for text, reason in (("cat >/dev/null; echo 'ERROR: too large'; touch $2; exit 1", "too large"),
-                             ("cat >/dev/null; echo 'ERROR: cannot write' >&2; touch $2; exit 1", "cannot write"),
-                             ("touch $2; kill -9 $$", "ended with status -9")):
+        made = "[ $1 = create ] && echo made >$2 && exit; cat >/dev/null; "
+        for text, reason in ((made + "echo 'ERROR: too large'; exit 1", "too large"),
+                             (made + "echo 'ERROR: cannot write' >&2; exit 1", "cannot write"),
+                             ("echo 'ERROR: bad step' >&2; echo made >$2; exit 1", "bad step"),
+                             (made + "kill -9 $$", "ended with status -9"), ("echo made >$2; kill -9 $$", "ended with status -9")):
             ran = self.tool("rrdi-import", "old.rrd", "new.rrdi", env={"RRDI": self.stub("refuses", text)})
             self.assertEqual(ran.status, 1)
             self.assertTrue(ran.err.endswith(f"{reason}\n"), ran.err)
@@ -147,7 +149,7 @@ class Import(ToolCase):
                          Ran(1, "", NOTE + "rrdi-import: new.rrdi: cannot write: No space left on device\n"))
         self.assertEqual([path.name for path in self.folder.glob("new.rrdi*")], [])
         self.assertEqual(self.tool("rrdi-import", "old.rrd", "/nowhere/new.rrdi").err,
-                         NOTE + "rrdi-import: /nowhere/new.rrdi: cannot open: No such file or directory\n")
+                         NOTE + "rrdi-import: /nowhere/new.rrdi: No such file or directory\n")
 
     def test_a_link_is_no_rrdtool(self) -> None:
         (self.bin / "rrdtool").unlink()
@@ -190,7 +192,7 @@ class LongMoves(ToolCase):
     @needs_program
     def test_export(self) -> None:
         self.create("f.rrdi", "DS:g:GAUGE:100:-5:U", "RRA:AVERAGE:0.5:1:20000")
-        self.stub("rrdtool", "case $1 in restore) sleep 1.3; cat >$3 ;; dump) cat $2 ;; last) echo 0 ;; esac")
+        self.stub("rrdtool", "case $1 in restore) sleep 1.3; cat ;; dump) cat $2 ;; last) echo 0 ;; esac")
         self.is_shown("rrdi-export", "f.rrdi", "new.rrd", shown="lines of XML: [0-9,]+")
         slow = f"{sys.executable} {TOP}/tools/rrdi-export f.rrdi | (head -c 1 >/dev/null; sleep 1.3; cat >/dev/null)"
         status, seen = self.on_terminal(["sh", "-c", slow])
@@ -263,7 +265,7 @@ class Export(ToolCase):
 
     def test_restore_gets_the_xml(self) -> None:
         wanted = self.tool("rrdi-export", "f.rrdi").out
-        self.stub("rrdtool", 'case $1 in restore) cat >$3 ;; dump) cat $2 ;; last) echo 27 ;; esac')
+        self.stub("rrdtool", 'case $1 in restore) cat ;; dump) cat $2 ;; last) echo 27 ;; esac')
         self.assertEqual(self.tool("rrdi-export", "f.rrdi", "new.rrd"), Ran(0, "", ""))
         self.assertEqual(self.read("new.rrd").decode(), wanted)
         self.assertEqual(self.tool("rrdi-export", "f.rrdi", "new.rrd"), Ran(1, "", "rrdi-export: new.rrd already exists\n"))

@@ -508,7 +508,7 @@ class Record(ToolCase):
         self.assertEqual(self.record("a.rrdi", RRDI=shown), Ran(0, "", ""))
         self.assertEqual(self.read("seen"), b"1 last a.rrdi\n1 last a.rrdi.1\n1 update a.rrdi\n")
         self.assertEqual(self.record("new.rrdi", RRDI=shown), Ran(0, "", ""))
-        self.assertRegex(self.read("seen"), rb"1 create \.rrdi-[0-9a-f]{16}\.new\n")
+        self.assertRegex(self.read("seen"), rb"1 create /proc/self/fd/[0-9]+\n")
         self.assertEqual({line[:2] for line in self.read("seen").splitlines()}, {b"1 "})
 
     def test_copies(self) -> None:
