@@ -57,11 +57,11 @@ def judge_kill(what: str, left: Left, following: str, then: Left, whole: bytes, 
     check((following, then) == wanted, f"{what}, then {following!r}, {str(then)[:200]}")
 
 
-def judge_fault(what: str, said: str, left: Left, whole: bytes, why: int, keeps: bool, check: Check) -> None:
+def judge_fault(what: str, said: str, left: Left, whole: bytes, why: int, keeps: bool, is_named: bool, check: Check) -> None:
     """Checks that the file is made, or the reason is told and nothing left, except the other file if it can't be taken
-    away."""
+    away, or the file if it has its name, which the disk does not store."""
     check.count("calls that failed")
-    is_told = said == f"15 {why}\n" and left.new is None
+    is_told = said == f"15 {why}\n" and left.new == (whole if is_named else None)
     is_right = said == MADE and left.new == whole or is_told
     check(is_right and (not left.others or keeps and left.has_other), f"{what}: {said!r}, {str(left)[:200]}")
 
@@ -114,6 +114,8 @@ class Creator:
         check(self.run(**links) == MADE, "rrdi_create_new makes no file")
         calls = calls_of(events_of(self.log))
         check(any(call.kind == "link" for call in calls), "rrdi_create_new makes no link")
+        named = max((number for number, call in enumerate(calls, 1) if call.kind == "unlink"), default=0)
+        check([call.kind for call in calls[named:]] == ["open", "fsync"], "rrdi_create_new does not store the name")
         for number, call in enumerate(calls, 1):
             what = f"rrdi_create_new {way}, call {number}, {call.kind},"
             self.empty()
@@ -123,7 +125,7 @@ class Creator:
             for why in () if links and call.kind == "link" else FAILS:
                 self.empty()
                 said = self.run(**links, CALL=number, WHY=why)
-                judge_fault(f"{what} error {why}", said, self.left(), whole, why, call.kind == "unlink", check)
+                judge_fault(f"{what} error {why}", said, self.left(), whole, why, call.kind == "unlink", number > named, check)
 
 
 @pytest.fixture

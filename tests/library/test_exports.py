@@ -21,7 +21,7 @@ LEAST = {"comparisons": 94}
 MAY_CALL = frozenset({
     "malloc", "realloc", "free", "memcpy", "memmove", "memset", "memcmp", "bcmp", "strlen", "__errno_location", "open",
     "open64", "close", "read", "pread", "pread64", "pwrite", "pwrite64", "lseek", "lseek64", "ftruncate", "ftruncate64",
-    "fdatasync", "flock", "fcntl", "fcntl64", "statx", "realpath", "nanosleep", "clock_gettime", "__xpg_strerror_r",
+    "fdatasync", "fsync", "strrchr", "flock", "fcntl", "fcntl64", "statx", "realpath", "nanosleep", "clock_gettime", "__xpg_strerror_r",
     # And what the part in plain C calls: the name of a new file, the time of its creation, and numbers.
     "getpid", "access", "link", "unlink", "rename", "renameat2", "fstat", "fstat64", "lstat", "lstat64", "memchr", "snprintf",
     "__snprintf_chk", "strerrordesc_np", "time", "strtoull", "__isoc23_strtoull"})

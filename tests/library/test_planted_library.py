@@ -69,6 +69,8 @@ KILL = ((Left(None, ONE), MADE, Left(WHOLE, ONE), False, True),
         (Left(None), IS_THERE, Left(None), False, False), (Left(WHOLE), MADE, Left(WHOLE), False, False),
         (Left(None, ONE), MADE, Left(WHOLE), False, False), (Left(WHOLE), IS_THERE, Left(HALF), False, False))
 # The answer after a fault, what is left, whether the other file may stay, and whether that is right.
+# The same of a file that has its name, without the third.
+NAMED = ((LATE, Left(WHOLE), True), (MADE, Left(WHOLE), True), (LATE, Left(None), False), (LATE, Left(WHOLE, ONE), False))
 FAULT = ((MADE, Left(WHOLE), False, True), (LATE, Left(None), False, True), (LATE, Left(None, ONE), True, True),
          (LATE, Left(b"", ONE), True, False), (LATE, Left(b""), False, False), (LATE, Left(None, ONE), False, False), (LATE, Left(WHOLE), False, False),
          (LATE, Left(HALF), True, False), (MADE, Left(None), False, False), (IS_THERE, Left(None), False, False))
@@ -81,7 +83,9 @@ def test_files_that_are_made(rejects: Callable[..., bool]) -> None:
         found = rejects(judge_kill, "a kill", left, following, then, WHOLE, is_empty)
         assert found != is_right, (left, following, then)
     for said, left, keeps, is_right in FAULT:
-        assert rejects(judge_fault, "a fault", said, left, WHOLE, errno.EIO, keeps) != is_right, (said, left)
+        assert rejects(judge_fault, "a fault", said, left, WHOLE, errno.EIO, keeps, False) != is_right, (said, left)
+    for said, left, is_right in NAMED:
+        assert rejects(judge_fault, "a fault", said, left, WHOLE, errno.EIO, False, True) != is_right, (said, left)
 
 
 def test_a_program_that_makes_no_file(folder: Path, between: str, rejects: Callable[..., bool]) -> None:
