@@ -197,13 +197,17 @@ install-program: $(PROGRAM) install-directories
 		install -m $$mode "$$file" "$(SHARED)/examples" || exit 1; \
 	done
 
+# Not all of the directory: below a PREFIX of $HOME/.local it is the one in which a user may have databases.
+REMOVE_SHARED = (cd "$(SHARED)" 2>/dev/null && rm -rf docs examples perl python tools && \
+	rm -f CHANGELOG.md README.md LICENSE LICENSE-APACHE LICENSE-MIT VERSION directories)
+
 uninstall: ## removes what was installed below PREFIX
 	rm -f "$(BINARIES)/rrdi" "$(MANUALS)/rrdi.1" "$(MANUALS)/rrdi.1.gz" "$(COMPLETIONS)/rrdi" "$(MODULES)/rrdi"
 	rm -f "$(HEADERS)/rrdi.h" "$(HEADERS)/rrdi_create.h" "$(LIBRARIES)/pkgconfig/rrdi.pc" "$(LIBRARIES)/librrdi.a" \
 		"$(LIBRARIES)/librrdi.so" "$(LIBRARIES)/librrdi.so.0" "$(MANUALS_OF_C)/rrdi.3" $(EXPORTS:%="$(MANUALS_OF_C)/%.3") \
 		"$(MANUALS_OF_C)/rrdi.3.gz" $(EXPORTS:%="$(MANUALS_OF_C)/%.3.gz") \
 		$(INLINE:%="$(MANUALS_OF_C)/%.3.gz")
-	@made=$$(LC_ALL=C sort -r "$(NOTED)" 2>/dev/null); rm -rf "$(SHARED)"; \
+	@made=$$(LC_ALL=C sort -r "$(NOTED)" 2>/dev/null); $(REMOVE_SHARED); \
 	echo "$$made" | while read -r directory; do \
 		[ -z "$$directory" ] || rmdir "$(DESTDIR)$$directory" 2>/dev/null || :; \
 	done

@@ -48,7 +48,7 @@ uninstall-tools:
 	rm -f $(TOOLS:%="$(BINARIES)/%") $(TOOLS:%="$(MANUALS)/%.1.gz") $(TOOLS:%="$(COMPLETIONS)/%")
 	rm -f "$(COMPLETIONS_OF_ZSH)/_rrdi" "$(COMPLETIONS_OF_FISH)/rrdi.fish" $(TOOLS:%="$(COMPLETIONS_OF_FISH)/%.fish")
 	rm -f $(UNIT_NAMES:%="$(UNITS)/%") "$(ACCOUNTS)/rrdi.conf" "$(FOLDERS)/rrdi.conf"
-	rm -rf "$(PRIVATE)"
+	rm -f "$(PRIVATE)/_rrdi.abi3.so" "$(PRIVATE)/librrdi-record.so"
 
 .PHONY: record install-tools uninstall-tools
 

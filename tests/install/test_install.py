@@ -46,7 +46,7 @@ WAYS = {
     "DESTDIR": Way(destination="a folder/new", mask=0o077),
     "LIBDIR": Way("/usr", "there/", places=tuple(DEBIAN.items()),
                   before=("usr/share/man/man1/other.1", "usr/lib/python3/", "etc/a")),
-    "PREFIX": Way("local", mask=0o077, before=("bin/other", "lib/pkgconfig/", "share/rrdi-other/file"),
+    "PREFIX": Way("local", mask=0o077, before=("bin/other", "lib/pkgconfig/", "share/rrdi-other/file", "share/rrdi/room.rrdi", "lib/rrdi/own"),
                   replaced=("share/man/man1/rrdi.1", "share/man/man3/rrdi.3", "share/man/man3/rrdi_run.3")),
     "no library": Way("opt", has_library=False),
 }
